@@ -1,0 +1,52 @@
+use super::*;
+use std::test::Fail;
+
+fn settings(rt: &HostRuntime) -> Result<Settings, Fail> {
+    Ok(Settings {
+        retries: 2,
+        age: 21600,
+        timeout: 3,
+        concurrency: 10,
+        environments: 1,
+        events: 4,
+        payload: 1024,
+        response: 1024,
+        name: Text::from_vec(b"my-function".to_vec(rt.alloc())?),
+        handler: Text::from_vec(b"app.main".to_vec(rt.alloc())?),
+        arn: Text::from_vec(
+            b"arn:aws:lambda:us-east-2:123456789012:function:my-function".to_vec(rt.alloc())?,
+        ),
+    })
+}
+
+#[test]
+fn push_backs_double_up_to_five_minutes(rt: HostRuntime) {
+    assert_eq!(rt; after_pushback(1), 1000);
+    assert_eq!(rt; after_pushback(2), 2000);
+    assert_eq!(rt; after_pushback(9), 256000);
+    assert_eq!(rt; after_pushback(10), 300000);
+    assert_eq!(rt; after_pushback(40), 300000);
+}
+
+#[test]
+fn the_first_bad_field_is_printed(rt: HostRuntime) -> Result<(), Fail> {
+    let mut bad = settings(&rt)?;
+    bad.age = 59;
+    bad.events = 0;
+    let Err(why) = bad.check() else {
+        return Err("the age is too small".into());
+    };
+    assert_eq!(rt;
+        format!(in rt.alloc(); "{why}")?.as_str(),
+        "bad settings: age"
+    );
+    Ok(())
+}
+
+#[test]
+fn good_settings_are_copied(rt: HostRuntime) -> Result<(), Fail> {
+    let copy = settings(&rt)?.copy()?;
+    assert!(rt; copy.check().is_ok());
+    assert_eq!(rt; copy.name.as_bytes(), b"my-function".as_slice());
+    Ok(())
+}
