@@ -1,0 +1,23 @@
+use Rattle.invoke_records.specs.RowLaws.{counts_put}
+use Rattle.invoke_records.proofs.row_writing.add_counts.Goals as goal
+
+pub returns-clause-ok : goal.returns-clause-ok
+returns-clause-ok c =
+    let r = c.args.row.now in
+    rw (
+      c.in_ok-add-6.ensures.ok,
+      c.in_ok-add-5.ensures.ok,
+      c.in_ok-add-4.ensures.ok,
+      c.in_ok-add-3.ensures.ok,
+      c.in_ok-add-2.ensures.ok,
+      c.in_ok-add.ensures.ok,
+      c.to_be_bytes-5.ensures,
+      c.to_be_bytes-4.ensures,
+      c.to_be_bytes-3.ensures,
+      c.to_be_bytes-2.ensures,
+      c.to_be_bytes.ensures,
+      c.answer_bytes_of.ensures,
+      c.len-payload_size.ensures,
+      c.answer_byte_of.ensures,
+    )
+    (counts_put c.args.out.now.items r.starts r.failures r.push_backs r.payload r.answer)

@@ -1,0 +1,40 @@
+//! The records of the disk: commands, rows of the table of events, snapshots and settings, each with one spelling.
+//!
+//! A record is seen as the record of its fields, its texts as lists of bytes, a snapshot's rows as a list. The crates
+//! above use that `encode` gives the one spelling, that `decode` is Ok exactly where the bytes begin with a spelling,
+//! and that no spelling begins another.
+#![tactic(auto)]
+
+mod bytes;
+mod command;
+mod command_reading;
+mod command_writing;
+mod error;
+mod field;
+mod head;
+mod laws;
+mod limit;
+mod limits;
+mod order;
+mod row;
+mod row_fields;
+mod row_reading;
+mod row_record;
+mod row_writing;
+mod settings_reading;
+mod settings_record;
+mod settings_writing;
+mod snapshot;
+mod snapshot_record;
+mod snapshot_writing;
+
+pub use bytes::{Bytes, MOST_BYTES};
+pub use command::{Cause, Command, GREATEST_MOMENT, Kind};
+pub use error::RecordError;
+pub use laws::{spellings_are_apart, spellings_are_short};
+pub use row::{Answer, EventRow, Outcome, Standing};
+pub use settings_record::SettingsRecord;
+pub use snapshot::{GREATEST_NUMBER, MOST_ROWS, Rows, Snapshot};
+
+#[cfg(test)]
+mod tests;

@@ -1,0 +1,47 @@
+// The record of a row.
+ghost use Rattle.std.specs.Prelude.{◌≡◌, ◌++◌, IfOk, IfErr, OnOk, MatchResult, drop, length, List, ℕ, Ok};
+ghost use Rattle.invoke_records.specs.declared.row.EventRow.{EventRow};
+ghost use Rattle.invoke_records.specs.Spelling.{row_text, row_fault, IsRow};
+ghost use Rattle.invoke_records.specs.Reading.{Gives, FailsBy, row_at};
+ghost use Rattle.invoke_records.specs.declared.error.RecordError.TheVariants.{OutOfMemory};
+
+use crate::row_reading::read_row;
+use crate::row_writing::{add_row, check_row, row_is_within};
+use crate::{EventRow, RecordError};
+use std::alloc::Global;
+
+impl EventRow {
+    /// The one spelling of the row.
+    ///
+    /// A row has none where its accepted moment is past the greatest, its standing is `Unknown`, its environment is
+    /// above 16, its payload or answer is longer than 262144 bytes (`TooLong`) or its payload empty; then where it
+    /// runs in environment 0 or ended past the greatest moment. The first of these is the refusal, `BadKind` where no
+    /// other is named.
+    pub fn encode(&self, alloc: Global) -> Result<Vec<u8>, RecordError>
+        ensures ok { IfOk result (λ text. text.items ≡ row_text self.now) }
+        ensures spelled { OnOk result (IsRow self.now) }
+        ensures refused { IfErr result (FailsBy (row_fault self.now)) }
+    {
+        check_row(self)?;
+        row_is_within(self);
+        let mut out = Vec::new(alloc);
+        add_row(&mut out, self)?;
+        Ok(out)
+    }
+
+    /// The row at the front of the bytes, and how many bytes it takes. Bytes after it are left.
+    ///
+    /// The first bad field from the left is the refusal: one that is cut off is `Truncated`, a length above its
+    /// greatest is `TooLong`, any other `BadKind`; then the rules between fields, which are `BadKind`.
+    pub fn decode(alloc: Global, bytes: &[u8]) -> Result<(EventRow, usize), RecordError>
+        ensures exact { Gives (λ x. (x.0, drop x.1 bytes.now)) result (row_at bytes.now) }
+        ensures spelled { IfOk result (λ x. IsRow x.0) }
+        ensures size { IfOk result (λ x. x.1 ≡ length (row_text x.0)) }
+        ensures found { IfOk result (λ x. bytes.now ≡ row_text x.0 ++ drop x.1 bytes.now) }
+        ensures only { (r : EventRow) (rest : List ℕ) → IsRow r → bytes.now ≡ row_text r ++ rest → MatchResult result (λ x. (x.0 ≡ r) × (drop x.1 bytes.now ≡ rest)) (λ e. e ≡ OutOfMemory) }
+    {
+        let (row, rest) = read_row(alloc, bytes)?;
+        let len = bytes.len() - rest.len();
+        Ok((row, len))
+    }
+}

@@ -1,0 +1,187 @@
+// Writing a row.
+ghost use Rattle.std.specs.Prelude.{◌≡◌, ◌<◌, ◌≤◌, ◌^◌, ◌++◌, IfErr, OnOk, length};
+ghost use Rattle.invoke_records.specs.Spelling.{life_text, counts_text, row_text, row_fault, standing_byte, ended_byte, environment_in, moment_in, answer_byte, answer_bytes, is_unknown, breaks_rule, IsBytes, IsWithinWidth};
+ghost use Rattle.invoke_records.specs.Reading.{sound};
+ghost use Rattle.invoke_records.specs.declared.error.RecordError.TheVariants.{OutOfMemory};
+
+use crate::command::GREATEST_MOMENT;
+use crate::command_writing::{are_bytes, id_has_16};
+use crate::settings_writing::add;
+use crate::{Answer, EventRow, MOST_BYTES, Outcome, RecordError, Standing};
+
+fn standing_byte_of(standing: &Standing) -> u8
+    ensures { result ≡ standing_byte standing.now }
+{
+    match standing {
+        Standing::Unknown => 0,
+        Standing::Waiting { .. } => 1,
+        Standing::DueAgain { .. } => 2,
+        Standing::Running { .. } => 3,
+        Standing::Ended { .. } => 4,
+    }
+}
+
+fn ended_byte_of(standing: &Standing) -> u8
+    ensures { result ≡ ended_byte standing.now }
+{
+    match standing {
+        Standing::Ended { outcome, .. } => match outcome {
+            Outcome::Success => 1,
+            Outcome::RetriesExhausted => 2,
+            Outcome::EventAgeExceeded => 3,
+        },
+        _ => 0,
+    }
+}
+
+fn environment_of(standing: &Standing) -> u16
+    ensures { result ≡ environment_in standing.now }
+{
+    match standing {
+        Standing::Running { environment, .. } => *environment,
+        _ => 0,
+    }
+}
+
+fn moment_of(standing: &Standing) -> u64
+    ensures value { result ≡ moment_in standing.now }
+    ensures fits { moment_in standing.now < 2 ^ 64 }
+{
+    match standing {
+        Standing::Unknown => 0,
+        Standing::Waiting { due } => *due,
+        Standing::DueAgain { due } => *due,
+        Standing::Running { deadline, .. } => *deadline,
+        Standing::Ended { at, .. } => *at,
+    }
+}
+
+fn is_broken(standing: &Standing) -> bool
+    ensures { result ≡ breaks_rule standing.now }
+{
+    match standing {
+        Standing::Running { environment, .. } => *environment < 1,
+        Standing::Ended { at, .. } => GREATEST_MOMENT < *at,
+        _ => false,
+    }
+}
+
+fn answer_byte_of(answer: &Answer) -> u8
+    ensures { result ≡ answer_byte answer.now }
+{
+    match answer {
+        Answer::None => 0,
+        Answer::Response(_) => 1,
+        Answer::Error(_) => 2,
+    }
+}
+
+fn answer_bytes_of(answer: &Answer) -> &[u8]
+    ensures { result.now ≡ answer_bytes answer.now }
+{
+    match answer {
+        Answer::None => &[],
+        Answer::Response(bytes) => bytes.as_slice(),
+        Answer::Error(bytes) => bytes.as_slice(),
+    }
+}
+
+fn is_unknown_standing(standing: &Standing) -> bool
+    ensures { result ≡ is_unknown standing.now }
+{
+    match standing {
+        Standing::Unknown => true,
+        _ => false,
+    }
+}
+
+pub fn check_row(row: &EventRow) -> Result<(), RecordError>
+    ensures { result ≡ sound (row_fault row.now) tt }
+{
+    let payload = row.payload.len();
+    let answer = answer_bytes_of(&row.answer).len();
+    if row.accepted > GREATEST_MOMENT
+        || (is_unknown_standing(&row.standing) || environment_of(&row.standing) > 16)
+    {
+        return Err(RecordError::BadKind);
+    }
+    if payload > MOST_BYTES as usize {
+        return Err(RecordError::TooLong);
+    }
+    if payload < 1 {
+        return Err(RecordError::BadKind);
+    }
+    if answer > MOST_BYTES as usize {
+        return Err(RecordError::TooLong);
+    }
+    if is_broken(&row.standing) {
+        return Err(RecordError::BadKind);
+    }
+    Ok(())
+}
+
+// What the types say of a row's numbers and bytes.
+pub fn row_is_within(row: &EventRow)
+    ensures { IsWithinWidth row.now }
+{
+    let _number = row.number;
+    let _last_number = row.last_number;
+    let _moment = moment_of(&row.standing);
+    let _starts = row.starts;
+    let _failures = row.failures;
+    let _push_backs = row.push_backs;
+    id_has_16(&row.id);
+    let payload = row.payload.as_slice();
+    are_bytes(payload);
+    let answer = answer_bytes_of(&row.answer);
+    are_bytes(answer);
+}
+
+fn add_life(out: &mut Vec<u8>, row: &EventRow) -> Result<(), RecordError>
+    ensures ok { OnOk result (out.new.items ≡ out.old.items ++ life_text row.now.id row.now.accepted row.now.number row.now.last_number row.now.standing) }
+    ensures memory { IfErr result (λ e. e ≡ OutOfMemory) }
+{
+    add(out, &row.id)?;
+    add(out, &row.accepted.to_be_bytes())?;
+    add(out, &row.number.to_be_bytes())?;
+    add(out, &row.last_number.to_be_bytes())?;
+    let bytes = [
+        standing_byte_of(&row.standing),
+        ended_byte_of(&row.standing),
+    ];
+    add(out, &bytes)?;
+    add(out, &environment_of(&row.standing).to_be_bytes())?;
+    add(out, &moment_of(&row.standing).to_be_bytes())?;
+    Ok(())
+}
+
+fn add_counts(out: &mut Vec<u8>, row: &EventRow) -> Result<(), RecordError>
+    requires payload { length row.now.payload ≤ 262144 }
+    requires answer { length (answer_bytes row.now.answer) ≤ 262144 }
+    ensures ok { OnOk result (out.new.items ≡ out.old.items ++ counts_text row.now.starts row.now.failures row.now.push_backs row.now.payload row.now.answer) }
+    ensures memory { IfErr result (λ e. e ≡ OutOfMemory) }
+{
+    add(out, &row.starts.to_be_bytes())?;
+    add(out, &row.failures.to_be_bytes())?;
+    add(out, &row.push_backs.to_be_bytes())?;
+    add(out, &[answer_byte_of(&row.answer)])?;
+    let payload_size = row.payload.len() as u32;
+    add(out, &payload_size.to_be_bytes())?;
+    let answer_size = answer_bytes_of(&row.answer).len() as u32;
+    add(out, &answer_size.to_be_bytes())?;
+    Ok(())
+}
+
+#[tactic(auto, unfolding(crate::specs::Spelling::row_text))]
+pub fn add_row(out: &mut Vec<u8>, row: &EventRow) -> Result<(), RecordError>
+    requires payload { length row.now.payload ≤ 262144 }
+    requires answer { length (answer_bytes row.now.answer) ≤ 262144 }
+    ensures ok { OnOk result (out.new.items ≡ out.old.items ++ row_text row.now) }
+    ensures memory { IfErr result (λ e. e ≡ OutOfMemory) }
+{
+    add_life(out, row)?;
+    add_counts(out, row)?;
+    add(out, row.payload.as_slice())?;
+    add(out, answer_bytes_of(&row.answer))?;
+    Ok(())
+}

@@ -1,0 +1,79 @@
+// The record of a snapshot.
+ghost use Rattle.std.specs.Prelude.{◌≡◌, ◌++◌, IfOk, IfErr, OnOk, MatchResult, drop, length, List, ℕ, Ok};
+ghost use Rattle.invoke_records.specs.declared.snapshot.Snapshot.{Snapshot};
+ghost use Rattle.invoke_records.specs.Spelling.{snapshot_text, snapshot_fault, IsSnapshot};
+ghost use Rattle.invoke_records.specs.Reading.{Gives, FailsBy, rows_at, snapshot_at};
+ghost use Rattle.invoke_records.specs.declared.error.RecordError.TheVariants.{OutOfMemory};
+
+use crate::command::GREATEST_MOMENT;
+use crate::limit::{take_limit64, take_sized};
+use crate::order::are_in_order;
+use crate::row_reading::read_row;
+use crate::snapshot::{GREATEST_NUMBER, MOST_ROWS};
+use crate::{EventRow, RecordError, Rows, Snapshot};
+use std::alloc::Global;
+
+fn read_rows(alloc: Global, count: u32, bytes: &[u8]) -> Result<(Vec<EventRow>, &[u8]), RecordError>
+    ensures { Gives (λ x. (x.0.items, x.1.now)) result (rows_at count bytes.now) }
+{
+    let mut rows = Vec::new(alloc);
+    let mut rest = bytes;
+    for _ in 0..count {
+        let (row, after) = read_row(alloc, rest)?;
+        rows.push(row)?;
+        rest = after;
+    }
+    Ok((rows, rest))
+}
+
+#[tactic(auto, unfolding(crate::specs::Reading::snapshot_at))]
+fn read_snapshot(alloc: Global, bytes: &[u8]) -> Result<(Snapshot, &[u8]), RecordError>
+    ensures { Gives (λ x. (x.0, x.1.now)) result (snapshot_at bytes.now) }
+{
+    let (number, rest) = take_limit64(0, GREATEST_NUMBER, bytes)?;
+    let (last_moment, rest) = take_limit64(0, GREATEST_MOMENT, rest)?;
+    let (count, rest) = take_sized(0, MOST_ROWS, rest)?;
+    let (rows, rest) = read_rows(alloc, count, rest)?;
+    if !are_in_order(&rows) {
+        return Err(RecordError::BadKind);
+    }
+    let rows = Rows::from_vec(rows);
+    let snapshot = Snapshot {
+        number,
+        last_moment,
+        rows,
+    };
+    Ok((snapshot, rest))
+}
+
+impl Snapshot {
+    /// The snapshot at the front of the bytes, and how many bytes it takes. Bytes after it are left.
+    ///
+    /// The first bad field from the left is the refusal: one that is cut off is `Truncated`, a length or a count above
+    /// its greatest is `TooLong`, any other `BadKind`. The rules of a row come at its end, and at the end of all that
+    /// the acceptance numbers rise and that the ids are distinct, which are `BadKind`.
+    pub fn decode(alloc: Global, bytes: &[u8]) -> Result<(Snapshot, usize), RecordError>
+        ensures exact { Gives (λ x. (x.0, drop x.1 bytes.now)) result (snapshot_at bytes.now) }
+        ensures spelled { IfOk result (λ x. IsSnapshot x.0) }
+        ensures size { IfOk result (λ x. x.1 ≡ length (snapshot_text x.0)) }
+        ensures found { IfOk result (λ x. bytes.now ≡ snapshot_text x.0 ++ drop x.1 bytes.now) }
+        ensures only { (s : Snapshot) (rest : List ℕ) → IsSnapshot s → bytes.now ≡ snapshot_text s ++ rest → MatchResult result (λ x. (x.0 ≡ s) × (drop x.1 bytes.now ≡ rest)) (λ e. e ≡ OutOfMemory) }
+    {
+        let (snapshot, rest) = read_snapshot(alloc, bytes)?;
+        let len = bytes.len() - rest.len();
+        Ok((snapshot, len))
+    }
+
+    /// The one spelling of the snapshot.
+    ///
+    /// A snapshot has none where its number is above 2^62 or its last moment past the greatest (`BadKind`), where it
+    /// has more than 1024 rows (`TooLong`), where a row has none, and where the rows' acceptance numbers do not rise or
+    /// two ids are equal (`BadKind`). The first of these is the refusal.
+    pub fn encode(&self, alloc: Global) -> Result<Vec<u8>, RecordError>
+        ensures ok { IfOk result (λ text. text.items ≡ snapshot_text self.now) }
+        ensures spelled { OnOk result (IsSnapshot self.now) }
+        ensures refused { IfErr result (FailsBy (snapshot_fault self.now)) }
+    {
+        crate::snapshot_writing::encode_snapshot(alloc, self)
+    }
+}
