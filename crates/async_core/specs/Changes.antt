@@ -1,0 +1,337 @@
+-- Lemmas: the rows of a legal history after one command more.
+use Rattle.std.proofs.Common.{◌≡◌, ℕ, ◌+◌, ◌≤◌, List, [], ◌∷◌, ◌++◌, length, Bool, true, false, not, ◌&&◌, cond, refl, sym, ap, ◌∙◌, arith, filter, map, add-zero, None, subst}
+use Rattle.std.specs.Str.{bytes_eq}
+use Rattle.std.proofs.lemmas.Bool.{true≢false}
+use Rattle.std.proofs.lemmas.List.{map-append, append-nil}
+use Rattle.retry_rules.specs.Settings.{bad_field}
+use Rattle.retry_rules.specs.declared.settings.Settings.{Settings}
+use Rattle.invoke_records.specs.declared.command.Command.{Command}
+use Rattle.invoke_records.specs.declared.command.Kind.{Kind}
+use Rattle.invoke_records.specs.declared.command.Kind.TheVariants.{Accept, Start, Succeed, Fail, Throttle, Interrupt, Expire, Collect}
+use Rattle.invoke_records.specs.declared.row.Outcome.{Outcome}
+use Rattle.invoke_records.specs.declared.row.Outcome.TheVariants.{Success, EventAgeExceeded}
+use Rattle.invoke_records.specs.declared.row.Standing.TheVariants as standing
+use Rattle.invoke_records.specs.declared.row.EventRow.{EventRow}
+use Rattle.async_core.specs.Lives.{kind_is_accept, kind_is_start, kind_is_failure, kind_is_push_back, kind_is_collect, is_accept, is_start, is_failure, names, life, accepted, payload_of, starts, failures, push_backs, answer_of}
+use Rattle.async_core.specs.Standings.{Rules, rules_in, standing_by}
+use Rattle.async_core.specs.History.{held, standing_in, standing_of, row_of, refusal_of, situation_of, last_moment, last_number, IsLegal}
+use Rattle.async_core.specs.Rules.{one_more, starts_by, failures_by, push_backs_by, accepted_row, row_after, change_row, remove_row, rows_after}
+use Rattle.async_core.specs.More.{life-snoc, life-nil, last_moment-snoc, last_number-snoc, last_or-snoc, held-snoc, count_by-cons, count_by-snoc, push_backs-snoc, answer_of-snoc}
+use Rattle.async_core.specs.Passing.{clock_passes, state_passes}
+use Rattle.async_core.specs.Shapes.{limits}
+use Rattle.async_core.specs.Pace.{Paced, Paced-later, runs_failing, paced_start, paced_throttle, paced_interrupt, paced_failure}
+use Rattle.async_core.specs.Held.{times_held, size, is_nil, bytes_eq-true, bytes_eq-refl, bytes_eq-sym, held_once, nil_before, legally}
+
+pub times_held-cons : (id : List ℕ) (e : ℕ × List ℕ) (events : List (ℕ × List ℕ)) (b : Bool) → bytes_eq id e.1 ≡ b → times_held id (e ∷ events) ≡ cond b 1 0 + times_held id events
+times_held-cons id e events b same = count_by-cons (λ (e : ℕ × List ℕ). bytes_eq id e.1) e events ∙ ap (λ v. cond v 1 0 + times_held id events) same
+
+-- ## The rows after a command
+
+kept_life : (collecting named : Bool) (l : List Command) (c : Command) → named ≡ false → cond (collecting && named) [] (l ++ cond named (c ∷ []) []) ≡ l
+kept_life true true l c e = absurd (true≢false e)
+kept_life true false l c e = append-nil l
+kept_life false true l c e = absurd (true≢false e)
+kept_life false false l c e = append-nil l
+
+-- the row of an event, by its life and its last command's number
+row_by : Settings → ℕ × List ℕ → List Command → ℕ → EventRow
+row_by s event l last = record {
+  id = event.1;
+  accepted = accepted l;
+  number = event.0;
+  last_number = last;
+  standing = standing_of (rules_in s) l;
+  starts = starts l;
+  failures = failures l;
+  push_backs = push_backs l;
+  payload = payload_of l;
+  answer = answer_of l;
+}
+
+row_of-by : (s : Settings) (h : List Command) (e : ℕ × List ℕ) → row_of s h e ≡ row_by s e (life e.1 h) (last_number e.1 h)
+unfolding standing_in row_by
+row_of-by s h e = refl
+
+module _ (s : Settings) (h : List Command) (c : Command) where
+  -- an event that the command does not name keeps its row
+  row_of-kept : (e : ℕ × List ℕ) → names e.1 c ≡ false → row_of s (h ++ c ∷ []) e ≡ row_of s h e
+  row_of-kept e other =
+      row_of-by s (h ++ c ∷ []) e
+      ∙ ap (λ l. row_by s e l (last_number e.1 (h ++ c ∷ []))) (life-snoc e.1 h c ∙ kept_life (kind_is_collect c.kind) (names e.1 c) (life e.1 h) c other)
+      ∙ ap (row_by s e (life e.1 h)) (last_number-snoc e.1 h c ∙ ap (λ b. cond b (length h + 1) (last_number e.1 h)) other)
+      ∙ sym (row_of-by s h e)
+
+  kept_here : (b : Bool) (e : ℕ × List ℕ) (events : List (ℕ × List ℕ)) → bytes_eq c.id e.1 ≡ b
+      → (times_held c.id events ≡ 0 → map (row_of s (h ++ c ∷ [])) events ≡ map (row_of s h) events)
+      → times_held c.id (e ∷ events) ≡ 0 → map (row_of s (h ++ c ∷ [])) (e ∷ events) ≡ map (row_of s h) (e ∷ events)
+  kept_here true e events same kept never = absurd (omega (arith, times_held-cons c.id e events true same))
+  kept_here false e events same kept never =
+      rw (row_of-kept e (bytes_eq-sym e.1 c.id ∙ same), kept (omega (arith, times_held-cons c.id e events false same))) refl
+
+  rows_kept : (events : List (ℕ × List ℕ)) → times_held c.id events ≡ 0 → map (row_of s (h ++ c ∷ [])) events ≡ map (row_of s h) events
+  rows_kept [] never = refl
+  rows_kept (e ∷ events) never = kept_here (bytes_eq c.id e.1) e events refl (rows_kept events) never
+
+-- ## The row of an event that a command names
+
+accepted-snoc : (l : List Command) (c : Command) → is_nil l ≡ false → accepted (l ++ c ∷ []) ≡ accepted l
+accepted-snoc [] c h = absurd (true≢false h)
+accepted-snoc (x ∷ l) c h = refl
+
+payload_of-snoc : (l : List Command) (c : Command) → is_nil l ≡ false → payload_of (l ++ c ∷ []) ≡ payload_of l
+payload_of-snoc [] c h = absurd (true≢false h)
+payload_of-snoc (x ∷ l) c h = refl
+
+one_more-below : (n : ℕ) → n ≤ 21600 → one_more n ≡ n + 1
+one_more-below n le = omega arith
+
+starts_by-is : (k : Kind) (n : ℕ) → n ≤ 21600 → n + cond (kind_is_start k) 1 0 ≡ starts_by k n
+starts_by-is Accept n le = omega arith
+starts_by-is Start n le = sym (one_more-below n le)
+starts_by-is Succeed n le = omega arith
+starts_by-is (Fail cause) n le = omega arith
+starts_by-is Throttle n le = omega arith
+starts_by-is Interrupt n le = omega arith
+starts_by-is Expire n le = omega arith
+starts_by-is Collect n le = omega arith
+
+failures_by-is : (k : Kind) (n : ℕ) → n ≤ 21600 → n + cond (kind_is_failure k) 1 0 ≡ failures_by k n
+failures_by-is Accept n le = omega arith
+failures_by-is Start n le = omega arith
+failures_by-is Succeed n le = omega arith
+failures_by-is (Fail cause) n le = sym (one_more-below n le)
+failures_by-is Throttle n le = omega arith
+failures_by-is Interrupt n le = omega arith
+failures_by-is Expire n le = omega arith
+failures_by-is Collect n le = omega arith
+
+push_backs_by-is : (k : Kind) (n : ℕ) → n ≤ 21600 → cond (kind_is_failure k) 0 (n + cond (kind_is_push_back k) 1 0) ≡ push_backs_by k n
+push_backs_by-is Accept n le = omega arith
+push_backs_by-is Start n le = omega arith
+push_backs_by-is Succeed n le = omega arith
+push_backs_by-is (Fail cause) n le = refl
+push_backs_by-is Throttle n le = sym (one_more-below n le)
+push_backs_by-is Interrupt n le = sym (one_more-below n le)
+push_backs_by-is Expire n le = omega arith
+push_backs_by-is Collect n le = omega arith
+
+-- few of each
+record Few (l : List Command) : Type 0 where
+  pub few_starts : starts l ≤ 21600
+  pub few_failures : failures l ≤ 21600
+  pub few_push_backs : push_backs l ≤ 21600
+
+standing_of-snoc : (rules : Rules) (l : List Command) (c : Command) → standing_of rules (l ++ c ∷ []) ≡ standing_by rules (failures (l ++ c ∷ [])) (push_backs (l ++ c ∷ [])) c c.kind
+standing_of-snoc rules l c = rw (last_or-snoc None l c) refl
+
+row_by-snoc : (s : Settings) (e : ℕ × List ℕ) (l : List Command) (c : Command) (last n : ℕ) → is_nil l ≡ false → Few l → row_by s e (l ++ c ∷ []) n ≡ row_after (rules_in s) n c c.kind (row_by s e l last)
+unfolding row_by
+row_by-snoc s e l c last n known few =
+    let a : starts (l ++ c ∷ []) ≡ starts_by c.kind (starts l) = count_by-snoc is_start l c ∙ starts_by-is c.kind (starts l) few.few_starts in
+    let b : failures (l ++ c ∷ []) ≡ failures_by c.kind (failures l) = count_by-snoc is_failure l c ∙ failures_by-is c.kind (failures l) few.few_failures in
+    let d : push_backs (l ++ c ∷ []) ≡ push_backs_by c.kind (push_backs l) = push_backs-snoc l c ∙ push_backs_by-is c.kind (push_backs l) few.few_push_backs in
+    rw (standing_of-snoc (rules_in s) l c, accepted-snoc l c known, payload_of-snoc l c known, answer_of-snoc l c, a, b, d) refl
+
+-- ## The counters stay small
+
+abbrev PacedLife : Settings → ℕ → List Command → Type 0
+PacedLife s last l = Paced (rules_in s) last (accepted l) (starts l) (failures l) (push_backs l) (standing_of (rules_in s) l)
+
+paced_nil : (s : Settings) (last : ℕ) → PacedLife s last []
+paced_nil s last = record { starts_bound = omega arith; push_backs_bound = omega arith; failures_bound = omega arith; pace = tt }
+
+paced_accept : (s : Settings) (c : Command) → c.kind ≡ Accept → PacedLife s c.time (c ∷ [])
+paced_accept s c is = rw is record { starts_bound = omega arith; push_backs_bound = omega arith; failures_bound = omega arith; pace = (omega arith, omega arith) }
+
+paced_snoc : (s : Settings) (l : List Command) (c : Command) → is_nil l ≡ false
+    → Paced (rules_in s) c.time (accepted l) (starts l + cond (kind_is_start c.kind) 1 0) (failures l + cond (kind_is_failure c.kind) 1 0) (cond (kind_is_failure c.kind) 0 (push_backs l + cond (kind_is_push_back c.kind) 1 0))
+    (standing_by (rules_in s) (failures l + cond (kind_is_failure c.kind) 1 0) (cond (kind_is_failure c.kind) 0 (push_backs l + cond (kind_is_push_back c.kind) 1 0)) c c.kind)
+    → PacedLife s c.time (l ++ c ∷ [])
+paced_snoc s l c known p = rw (standing_of-snoc (rules_in s) l c, accepted-snoc l c known, count_by-snoc is_start l c, count_by-snoc is_failure l c, push_backs-snoc l c) p
+
+-- a command by its fields
+abbrev pub command : Kind → List ℕ → ℕ → ℕ → List ℕ → Command
+command kind id environment time bytes = record { kind = kind; id = id; environment = environment; time = time; bytes = bytes }
+
+nil_is : (l : List Command) → is_nil l ≡ true → l ≡ []
+nil_is [] h = refl
+nil_is (x ∷ l) h = absurd (true≢false (sym h))
+
+ended_pace : (s : Settings) (h : List Command) (c : Command) (l : List Command) → PacedLife s (last_moment h) l → (outcome : Outcome) → Paced (rules_in s) c.time (accepted l) (starts l) (failures l) (push_backs l) (standing.Ended outcome c.time)
+ended_pace s h c l p outcome = record { starts_bound = p.starts_bound; push_backs_bound = p.push_backs_bound; failures_bound = p.failures_bound; pace = tt }
+
+module _ (s : Settings) (h : List Command) (id : List ℕ) (environment time : ℕ) (bytes : List ℕ) where
+  paced_named : (k : Kind) → refusal_of s h (command k id environment time bytes) ≡ None → PacedLife s (last_moment h) (life id h)
+      → PacedLife s time (cond (kind_is_collect k && true) [] (life id h ++ command k id environment time bytes ∷ []))
+  unfolding refusal_of standing_in
+  paced_named Collect passes p = paced_nil s time
+  paced_named Accept passes p =
+      let c = command Accept id environment time bytes in
+      let none : life id h ≡ [] = nil_is (life id h) (nil_before s h c passes id (bytes_eq-refl id)) in
+      rw none (paced_accept s c refl)
+  paced_named Start passes p =
+      let c = command Start id environment time bytes in
+      let l = life id h in
+      paced_snoc s l c (nil_before s h c passes id (bytes_eq-refl id))
+      (rw (add-zero (failures l), add-zero (push_backs l)) (paced_start s (situation_of s h c) c (accepted l) (starts l) (failures l) (push_backs l) refl (clock_passes s (situation_of s h c) c passes) p (state_passes s (situation_of s h c) c passes)))
+  paced_named Succeed passes p =
+      let c = command Succeed id environment time bytes in
+      let l = life id h in
+      paced_snoc s l c (nil_before s h c passes id (bytes_eq-refl id))
+      (rw (add-zero (starts l), add-zero (failures l), add-zero (push_backs l)) (ended_pace s h c l p Success))
+  paced_named Expire passes p =
+      let c = command Expire id environment time bytes in
+      let l = life id h in
+      paced_snoc s l c (nil_before s h c passes id (bytes_eq-refl id))
+      (rw (add-zero (starts l), add-zero (failures l), add-zero (push_backs l)) (ended_pace s h c l p EventAgeExceeded))
+  paced_named Throttle passes p =
+      let c = command Throttle id environment time bytes in
+      let l = life id h in
+      paced_snoc s l c (nil_before s h c passes id (bytes_eq-refl id))
+      (rw (add-zero (starts l), add-zero (failures l)) (paced_throttle s (situation_of s h c) c (accepted l) (starts l) (failures l) (push_backs l) refl (clock_passes s (situation_of s h c) c passes) p (state_passes s (situation_of s h c) c passes)))
+  paced_named Interrupt passes p =
+      let c = command Interrupt id environment time bytes in
+      let l = life id h in
+      paced_snoc s l c (nil_before s h c passes id (bytes_eq-refl id))
+      (rw (add-zero (starts l), add-zero (failures l)) (paced_interrupt s (situation_of s h c) c (accepted l) (starts l) (failures l) (push_backs l) refl (clock_passes s (situation_of s h c) c passes) p (state_passes s (situation_of s h c) c passes)))
+  paced_named (Fail cause) passes p =
+      let c = command (Fail cause) id environment time bytes in
+      let l = life id h in
+      paced_snoc s l c (nil_before s h c passes id (bytes_eq-refl id))
+      (rw (add-zero (starts l)) (paced_failure s (situation_of s h c) c (accepted l) (starts l) (failures l) (push_backs l) refl (clock_passes s (situation_of s h c) c passes) p cause (runs_failing s (situation_of s h c) c cause (state_passes s (situation_of s h c) c passes))))
+
+paced_other : (s : Settings) (last : ℕ) (c : Command) (l : List Command) (collecting named : Bool) → named ≡ false → last ≤ c.time → PacedLife s last l → PacedLife s c.time (cond (collecting && named) [] (l ++ cond named (c ∷ []) []))
+paced_other s last c l collecting named other le p =
+    rw (kept_life collecting named l c other) (Paced-later (rules_in s) last c.time (accepted l) (starts l) (failures l) (push_backs l) (standing_of (rules_in s) l) le p)
+
+paced_by : (s : Settings) (h : List Command) (c : Command) (id : List ℕ) → refusal_of s h c ≡ None → PacedLife s (last_moment h) (life id h) → (named : Bool) → names id c ≡ named → PacedLife s c.time (cond (kind_is_collect c.kind && named) [] (life id h ++ cond named (c ∷ []) []))
+unfolding refusal_of
+paced_by s h c id passes p true is =
+    let same : id ≡ c.id = bytes_eq-true id c.id is in
+    subst (λ a. PacedLife s c.time (cond (kind_is_collect c.kind && true) [] (life a h ++ c ∷ []))) (sym same)
+    (paced_named s h c.id c.environment c.time c.bytes c.kind passes (subst (λ a. PacedLife s (last_moment h) (life a h)) same p))
+paced_by s h c id passes p false is = paced_other s (last_moment h) c (life id h) (kind_is_collect c.kind) false refl (clock_passes s (situation_of s h c) c passes) p
+
+paced : (s : Settings) (h : List Command) → IsLegal s h → (id : List ℕ) → PacedLife s (last_moment h) (life id h)
+paced s h legal id = legally s (λ h. PacedLife s (last_moment h) (life id h)) (rw life-nil (paced_nil s 0))
+    (λ h c _ passes ih. rw (last_moment-snoc h c, life-snoc id h c) (paced_by s h c id passes ih (names id c) refl)) h legal
+
+few : (s : Settings) (h : List Command) → bad_field s ≡ None → IsLegal s h → (id : List ℕ) → Few (life id h)
+few s h good legal id =
+    let p = paced s h legal id in
+    let most : s.age ≤ 21600 = (limits s good).age in
+    let a : starts (life id h) ≤ s.age = p.starts_bound in
+    let b : failures (life id h) ≤ starts (life id h) = p.failures_bound in
+    let d : push_backs (life id h) ≤ s.age = p.push_backs_bound in
+    record { few_starts = omega arith; few_failures = omega arith; few_push_backs = omega arith }
+
+filter_all : {X : Type 0} (xs : List X) → filter (λ x. true) xs ≡ xs
+filter_all [] = refl
+filter_all (x ∷ xs) = ap (λ ys. x ∷ ys) (filter_all xs)
+
+module _ (s : Settings) (h : List Command) (legal : IsLegal s h) (id : List ℕ) (environment time : ℕ) (bytes : List ℕ) where
+  -- the rows after an Accept
+  rows_accepted : refusal_of s h (command Accept id environment time bytes) ≡ None
+      → map (row_of s h) (held h) ++ accepted_row (length h + 1) (command Accept id environment time bytes) ∷ [] ≡ map (row_of s (h ++ command Accept id environment time bytes ∷ [])) (held (h ++ command Accept id environment time bytes ∷ []))
+  unfolding row_by
+  rows_accepted passes =
+      let c = command Accept id environment time bytes in
+      let none : life id h ≡ [] = nil_is (life id h) (nil_before s h c passes id (bytes_eq-refl id)) in
+      let never : times_held id (held h) ≡ 0 = held_once s h legal id ∙ ap size none in
+      let grown : life id (h ++ c ∷ []) ≡ c ∷ [] = life-snoc id h c ∙ rw (bytes_eq-refl id, none) refl in
+      let last : last_number id (h ++ c ∷ []) ≡ length h + 1 = last_number-snoc id h c ∙ rw (bytes_eq-refl id) refl in
+      let row : row_of s (h ++ c ∷ []) (length h + 1, id) ≡ accepted_row (length h + 1) c = row_of-by s (h ++ c ∷ []) (length h + 1, id) ∙ rw (grown, last) refl in
+      sym (ap (map (row_of s (h ++ c ∷ []))) (held-snoc h c ∙ ap (λ events. events ++ (length h + 1, id) ∷ []) (filter_all (held h)))
+      ∙ map-append (row_of s (h ++ c ∷ [])) (held h) ((length h + 1, id) ∷ [])
+      ∙ rw (rows_kept s h c (held h) never, row) refl)
+
+-- ## The rows after any command
+
+module _ (s : Settings) (h : List Command) (good : bad_field s ≡ None) (legal : IsLegal s h) (c : Command) (passes : refusal_of s h c ≡ None) (known : is_accept c ≡ false) (stays : kind_is_collect c.kind ≡ false) where
+  -- the row of an event that the command names
+  row_of-named : (e : ℕ × List ℕ) → names e.1 c ≡ true → row_of s (h ++ c ∷ []) e ≡ row_after (rules_in s) (length h + 1) c c.kind (row_of s h e)
+  row_of-named e named =
+      let grown : life e.1 (h ++ c ∷ []) ≡ life e.1 h ++ c ∷ [] = life-snoc e.1 h c ∙ rw (stays, named) refl in
+      let last : last_number e.1 (h ++ c ∷ []) ≡ length h + 1 = last_number-snoc e.1 h c ∙ rw named refl in
+      row_of-by s (h ++ c ∷ []) e
+      ∙ ap (λ l. row_by s e l (last_number e.1 (h ++ c ∷ []))) grown
+      ∙ ap (row_by s e (life e.1 h ++ c ∷ [])) last
+      ∙ row_by-snoc s e (life e.1 h) c (last_number e.1 h) (length h + 1) (nil_before s h c passes e.1 named ∙ known) (few s h good legal e.1)
+      ∙ ap (row_after (rules_in s) (length h + 1) c c.kind) (sym (row_of-by s h e))
+
+  change_here : (b : Bool) (e : ℕ × List ℕ) (events : List (ℕ × List ℕ)) → bytes_eq c.id e.1 ≡ b
+      → (times_held c.id events ≤ 1 → change_row c.id (row_after (rules_in s) (length h + 1) c c.kind) (map (row_of s h) events) ≡ map (row_of s (h ++ c ∷ [])) events)
+      → times_held c.id (e ∷ events) ≤ 1
+      → cond b (row_after (rules_in s) (length h + 1) c c.kind (row_of s h e) ∷ map (row_of s h) events) (row_of s h e ∷ change_row c.id (row_after (rules_in s) (length h + 1) c c.kind) (map (row_of s h) events)) ≡ map (row_of s (h ++ c ∷ [])) (e ∷ events)
+  change_here true e events same rest once =
+      rw (row_of-named e (bytes_eq-sym e.1 c.id ∙ same), rows_kept s h c events (omega (arith, times_held-cons c.id e events true same))) refl
+  change_here false e events same rest once =
+      rw (row_of-kept s h c e (bytes_eq-sym e.1 c.id ∙ same), rest (omega (arith, times_held-cons c.id e events false same))) refl
+
+  rows_changed : (events : List (ℕ × List ℕ)) → times_held c.id events ≤ 1 → change_row c.id (row_after (rules_in s) (length h + 1) c c.kind) (map (row_of s h) events) ≡ map (row_of s (h ++ c ∷ [])) events
+  rows_changed [] once = refl
+  rows_changed (e ∷ events) once = change_here (bytes_eq c.id e.1) e events refl (rows_changed events) once
+
+module _ (s : Settings) (h : List Command) (c : Command) where
+  others_here : (b : Bool) (e : ℕ × List ℕ) (events : List (ℕ × List ℕ)) → bytes_eq c.id e.1 ≡ b
+      → (times_held c.id events ≡ 0 → filter (λ (e : ℕ × List ℕ). not (names e.1 c)) events ≡ events)
+      → times_held c.id (e ∷ events) ≡ 0 → filter (λ (e : ℕ × List ℕ). not (names e.1 c)) (e ∷ events) ≡ e ∷ events
+  others_here true e events same rest never = absurd (omega (arith, times_held-cons c.id e events true same))
+  others_here false e events same rest never =
+      let other : names e.1 c ≡ false = bytes_eq-sym e.1 c.id ∙ same in
+      rw (other, rest (omega (arith, times_held-cons c.id e events false same))) refl
+
+  others_kept : (events : List (ℕ × List ℕ)) → times_held c.id events ≡ 0 → filter (λ (e : ℕ × List ℕ). not (names e.1 c)) events ≡ events
+  others_kept [] never = refl
+  others_kept (e ∷ events) never = others_here (bytes_eq c.id e.1) e events refl (others_kept events) never
+
+  remove_here : (b : Bool) (e : ℕ × List ℕ) (events : List (ℕ × List ℕ)) → bytes_eq c.id e.1 ≡ b
+      → (times_held c.id events ≤ 1 → remove_row c.id (map (row_of s h) events) ≡ map (row_of s (h ++ c ∷ [])) (filter (λ (e : ℕ × List ℕ). not (names e.1 c)) events))
+      → times_held c.id (e ∷ events) ≤ 1
+      → cond b (map (row_of s h) events) (row_of s h e ∷ remove_row c.id (map (row_of s h) events)) ≡ map (row_of s (h ++ c ∷ [])) (filter (λ (e : ℕ × List ℕ). not (names e.1 c)) (e ∷ events))
+  remove_here true e events same rest once =
+      let named : names e.1 c ≡ true = bytes_eq-sym e.1 c.id ∙ same in
+      let never : times_held c.id events ≡ 0 = omega (arith, times_held-cons c.id e events true same) in
+      rw (named, others_kept events never, rows_kept s h c events never) refl
+  remove_here false e events same rest once =
+      let other : names e.1 c ≡ false = bytes_eq-sym e.1 c.id ∙ same in
+      rw (other, row_of-kept s h c e other, rest (omega (arith, times_held-cons c.id e events false same))) refl
+
+  rows_removed : (events : List (ℕ × List ℕ)) → times_held c.id events ≤ 1 → remove_row c.id (map (row_of s h) events) ≡ map (row_of s (h ++ c ∷ [])) (filter (λ (e : ℕ × List ℕ). not (names e.1 c)) events)
+  rows_removed [] once = refl
+  rows_removed (e ∷ events) once = remove_here (bytes_eq c.id e.1) e events refl (rows_removed events) once
+
+size-le : (l : List Command) → size l ≤ 1
+size-le [] = omega arith
+size-le (x ∷ l) = omega arith
+
+at_most_once : (s : Settings) (h : List Command) → IsLegal s h → (id : List ℕ) → times_held id (held h) ≤ 1
+at_most_once s h legal id = omega (arith, held_once s h legal id, size-le (life id h))
+
+module _ (s : Settings) (h : List Command) (good : bad_field s ≡ None) (legal : IsLegal s h) (id : List ℕ) (environment time : ℕ) (bytes : List ℕ) where
+  -- the rows after a command that changes one
+  rows_of_change : (k : Kind) → refusal_of s h (command k id environment time bytes) ≡ None → kind_is_accept k ≡ false → kind_is_collect k ≡ false
+      → change_row id (row_after (rules_in s) (length h + 1) (command k id environment time bytes) k) (map (row_of s h) (held h)) ≡ map (row_of s (h ++ command k id environment time bytes ∷ [])) (held (h ++ command k id environment time bytes ∷ []))
+  rows_of_change k passes known stays =
+      let c = command k id environment time bytes in
+      let same : held (h ++ c ∷ []) ≡ held h = held-snoc h c ∙ rw (known, stays) (append-nil _ ∙ filter_all (held h)) in
+      rows_changed s h good legal c passes known stays (held h) (at_most_once s h legal id) ∙ ap (map (row_of s (h ++ c ∷ []))) (sym same)
+
+  rows_of_collect : map (row_of s (h ++ command Collect id environment time bytes ∷ [])) (filter (λ (e : ℕ × List ℕ). not (names e.1 (command Collect id environment time bytes))) (held h)) ≡ map (row_of s (h ++ command Collect id environment time bytes ∷ [])) (held (h ++ command Collect id environment time bytes ∷ []))
+  rows_of_collect =
+      let c = command Collect id environment time bytes in
+      ap (map (row_of s (h ++ c ∷ []))) (sym (held-snoc h c ∙ append-nil _))
+
+-- the rows after a command that is not refused
+pub rows_by : (s : Settings) (h : List Command) (good : bad_field s ≡ None) (legal : IsLegal s h) (kind : Kind) (id : List ℕ) (environment time : ℕ) (bytes : List ℕ) → refusal_of s h (command kind id environment time bytes) ≡ None
+    → rows_after (rules_in s) (length h + 1) (command kind id environment time bytes) kind (map (row_of s h) (held h)) ≡ map (row_of s (h ++ command kind id environment time bytes ∷ [])) (held (h ++ command kind id environment time bytes ∷ []))
+rows_by s h good legal Accept id environment time bytes passes = rows_accepted s h legal id environment time bytes passes
+rows_by s h good legal Start id environment time bytes passes = rows_of_change s h good legal id environment time bytes Start passes refl refl
+rows_by s h good legal Succeed id environment time bytes passes = rows_of_change s h good legal id environment time bytes Succeed passes refl refl
+rows_by s h good legal (Fail cause) id environment time bytes passes = rows_of_change s h good legal id environment time bytes (Fail cause) passes refl refl
+rows_by s h good legal Throttle id environment time bytes passes = rows_of_change s h good legal id environment time bytes Throttle passes refl refl
+rows_by s h good legal Interrupt id environment time bytes passes = rows_of_change s h good legal id environment time bytes Interrupt passes refl refl
+rows_by s h good legal Expire id environment time bytes passes = rows_of_change s h good legal id environment time bytes Expire passes refl refl
+rows_by s h good legal Collect id environment time bytes passes =
+    rows_removed s h (command Collect id environment time bytes) (held h) (at_most_once s h legal id)
+    ∙ rows_of_collect s h good legal id environment time bytes

@@ -1,0 +1,85 @@
+-- Why a command is refused, by what it meets: the checks of each kind of command, in their order.
+use Rattle.std.specs.Prelude.{ℕ, Bool, not, ◌||◌, List, [], ◌∷◌, ◌++◌, length, Option, Some, None, if◌then◌else◌, nat_lt, nat_le}
+use Rattle.retry_rules.specs.declared.settings.Settings.{Settings}
+use Rattle.invoke_records.specs.declared.command.Command.{Command}
+use Rattle.invoke_records.specs.declared.command.Kind.{Kind}
+use Rattle.invoke_records.specs.declared.command.Kind.TheVariants.{Accept, Start, Succeed, Fail, Throttle, Interrupt, Expire, Collect}
+use Rattle.invoke_records.specs.declared.command.Cause.TheVariants.{Reported, Timeout}
+use Rattle.invoke_records.specs.Spelling.{greatest_moment}
+use Rattle.async_core.specs.declared.illegal.Illegal.{Illegal}
+use Rattle.async_core.specs.declared.illegal.Illegal.TheVariants as illegal
+use Rattle.async_core.specs.declared.situation.Situation.{Situation}
+use Rattle.async_core.specs.Standings.{is_unknown, is_ended, is_running, is_due, is_past_deadline}
+
+-- the first check that fails
+abbrev pub first_failed : List (Bool × Illegal) → Option Illegal
+first_failed [] = None
+first_failed (check ∷ checks) = if check.0 then Some check.1 else first_failed checks
+
+-- a command of this kind: whether its environment is wrong, and how many bytes it has at least and at most
+abbrev pub shape_by : Bool → ℕ → ℕ → Command → List (Bool × Illegal)
+shape_by bad_environment least most c =
+    (bad_environment, illegal.BadKind)
+    ∷ (nat_lt greatest_moment c.time, illegal.BadKind)
+    ∷ (nat_lt most (length c.bytes), illegal.TooLong)
+    ∷ (nat_lt (length c.bytes) least, illegal.BadKind)
+    ∷ []
+
+abbrev pub has_environment : Command → Bool
+has_environment c = nat_lt 0 c.environment
+
+-- what a command of this kind must look like
+abbrev pub shape_checks : Settings → Command → Kind → List (Bool × Illegal)
+shape_checks s c Accept = shape_by (has_environment c) 1 s.payload c
+shape_checks s c Start = shape_by (not (has_environment c) || nat_lt s.environments c.environment) 0 0 c
+shape_checks s c Succeed = shape_by (has_environment c) 0 s.response c
+shape_checks s c (Fail Reported) = shape_by (has_environment c) 0 s.response c
+shape_checks s c kind = shape_by (has_environment c) 0 0 c
+
+abbrev pub clock_check : Situation → Command → Bool × Illegal
+clock_check x c = (nat_lt c.time x.last_moment, illegal.ClockBack)
+
+-- what a command of this kind asks of the events
+abbrev pub state_checks : Settings → Situation → Command → Kind → List (Bool × Illegal)
+state_checks s x c Accept =
+    (not (is_unknown x.standing), illegal.InUse) ∷ (nat_le s.events x.held, illegal.Full) ∷ []
+state_checks s x c Start =
+    (is_unknown x.standing, illegal.Unknown)
+    ∷ (not (is_due c.time x.standing), illegal.NotDue)
+    ∷ (nat_le x.too_old_from c.time, illegal.TooOld)
+    ∷ (nat_le s.concurrency x.running, illegal.AtLimit)
+    ∷ (x.is_busy, illegal.EnvBusy)
+    ∷ []
+state_checks s x c Succeed =
+    (is_unknown x.standing, illegal.Unknown)
+    ∷ (not (is_running x.standing), illegal.NotRunning)
+    ∷ (is_past_deadline c.time x.standing, illegal.Late)
+    ∷ []
+state_checks s x c (Fail Timeout) =
+    (is_unknown x.standing, illegal.Unknown)
+    ∷ (not (is_running x.standing), illegal.NotRunning)
+    ∷ (not (is_past_deadline c.time x.standing), illegal.NotDue)
+    ∷ []
+state_checks s x c (Fail cause) =
+    (is_unknown x.standing, illegal.Unknown)
+    ∷ (not (is_running x.standing), illegal.NotRunning)
+    ∷ (is_past_deadline c.time x.standing, illegal.Late)
+    ∷ []
+state_checks s x c Throttle =
+    (is_unknown x.standing, illegal.Unknown)
+    ∷ (not (is_due c.time x.standing), illegal.NotDue)
+    ∷ (nat_le x.too_old_from c.time, illegal.TooOld)
+    ∷ (nat_lt x.running s.concurrency, illegal.BelowLimit)
+    ∷ []
+state_checks s x c Interrupt =
+    (is_unknown x.standing, illegal.Unknown) ∷ (not (is_running x.standing), illegal.NotRunning) ∷ []
+state_checks s x c Expire =
+    (is_unknown x.standing, illegal.Unknown)
+    ∷ (is_running x.standing || is_ended x.standing || nat_lt c.time x.too_old_from, illegal.NotDue)
+    ∷ []
+state_checks s x c Collect =
+    (is_unknown x.standing, illegal.Unknown) ∷ (not (is_ended x.standing), illegal.NotEnded) ∷ []
+
+-- why a command is refused in this situation, if it is
+unfoldable pub refusal_in : Settings → Situation → Command → Option Illegal
+refusal_in s x c = first_failed (shape_checks s c c.kind ++ clock_check x c ∷ state_checks s x c c.kind)

@@ -1,0 +1,49 @@
+-- What a table says of one event.
+use Rattle.std.specs.Prelude.{ℕ, List, [], ◌∷◌, Option, Some, None}
+use Rattle.invoke_records.specs.declared.command.Command.{Command}
+use Rattle.invoke_records.specs.declared.row.Outcome.{Outcome}
+use Rattle.invoke_records.specs.declared.row.Answer.{Answer}
+use Rattle.invoke_records.specs.declared.row.EventRow.{EventRow}
+use Rattle.invoke_records.specs.declared.row.Standing.{Standing}
+use Rattle.invoke_records.specs.declared.row.Standing.TheVariants as standing
+use Rattle.async_core.specs.Lives.{starts, failures, push_backs, payload_of, answer_of}
+
+-- this, of an event that is held: of one whose life is not empty
+abbrev pub where_held : {A : Type 0} → List Command → A → Option A
+where_held [] x = None
+where_held (c ∷ commands) x = Some x
+
+-- how an event ended, if it has
+abbrev pub outcome_by : Standing → Option Outcome
+outcome_by (standing.Ended outcome at) = Some outcome
+outcome_by other = None
+
+-- how often it was started, failed, and was pushed back since it failed
+abbrev pub counts_of : EventRow → ℕ × ℕ × ℕ
+counts_of r = (r.starts, r.failures, r.push_backs)
+
+abbrev pub counts_in : List Command → ℕ × ℕ × ℕ
+counts_in commands = (starts commands, failures commands, push_backs commands)
+
+-- what is told of an event that has ended: its id, payload and answer, how and when it ended, and its starts
+pub record Ending : Type 0 where
+  pub id : List ℕ
+  pub payload : List ℕ
+  pub answer : Answer
+  pub outcome : Outcome
+  pub at : ℕ
+  pub starts : ℕ
+
+abbrev pub ending_by : List ℕ → List ℕ → Answer → ℕ → Standing → Option Ending
+ending_by id payload answer starts (standing.Ended outcome at) =
+    Some (record { id = id; payload = payload; answer = answer; outcome = outcome; at = at; starts = starts })
+ending_by id payload answer starts other = None
+
+-- by the row of the event
+abbrev pub ending_at : Option EventRow → Option Ending
+ending_at None = None
+ending_at (Some r) = ending_by r.id r.payload r.answer r.starts r.standing
+
+-- by its life, and where it stands
+abbrev pub ending_in : List ℕ → List Command → Standing → Option Ending
+ending_in id commands stands = ending_by id (payload_of commands) (answer_of commands) (starts commands) stands

@@ -1,0 +1,232 @@
+// What a command that is legal does to the rows.
+ghost use Rattle.std.specs.Prelude.{◌≡◌, ◌+◌, ◌*◌, ◌++◌, ◌∷◌, [], ◌<◌, ◌≤◌, ◌^◌, ◌-◌, min, ℕ, length, slice_index_or, slice_set, position, unwrap_or, Some, OnOk, OnErr, IfOk, IfErr};
+ghost use Rattle.std.specs.List.{remove};
+ghost use Rattle.async_core.specs.Lives.{answer_by};
+ghost use Rattle.async_core.specs.Rules as meant;
+ghost use Rattle.async_core.specs.Standings as ruled;
+
+use invoke_records::{Answer, Cause, Command, EventRow, Kind, Outcome, Standing};
+use retry_rules::{Settings, after_pushback};
+use std::alloc::AllocError;
+
+fn push_row(rows: &mut Vec<EventRow>, row: EventRow) -> Result<(), AllocError>
+    ensures ok { OnOk result (rows.new.items ≡ rows.old.items ++ row ∷ []) }
+    ensures err { OnErr result (rows.new.items ≡ rows.old.items) }
+{
+    rows.push(row)?;
+    Ok(())
+}
+
+/// The event that command number `number` accepts.
+fn accepted_event(number: u64, command: &Command) -> Result<EventRow, AllocError>
+    ensures { IfOk result (λ row. row ≡ meant.accepted_row number command.now) }
+{
+    let payload = command.bytes.copy()?;
+    Ok(EventRow {
+        id: command.id,
+        accepted: command.time,
+        number,
+        last_number: number,
+        standing: Standing::Waiting { due: command.time },
+        starts: 0,
+        failures: 0,
+        push_backs: 0,
+        payload,
+        answer: Answer::None,
+    })
+}
+
+/// Adds the event that command number `number` accepts.
+fn accept(rows: &mut Vec<EventRow>, number: u64, command: &Command) -> Result<(), AllocError>
+    ensures ok { OnOk result (rows.new.items ≡ rows.old.items ++ meant.accepted_row number command.now ∷ []) }
+    ensures err { OnErr result (rows.new.items ≡ rows.old.items) }
+{
+    let row = accepted_event(number, command)?;
+    push_row(rows, row)
+}
+
+fn one_more(n: u32) -> u32
+    ensures { result ≡ meant.one_more n }
+{
+    if n < u32::MAX { n + 1 } else { u32::MAX }
+}
+
+fn starts_by(kind: Kind, n: u32) -> u32
+    ensures { result ≡ meant.starts_by kind n }
+{
+    match kind {
+        Kind::Start => one_more(n),
+        _ => n,
+    }
+}
+
+fn failures_by(kind: Kind, n: u32) -> u32
+    ensures { result ≡ meant.failures_by kind n }
+{
+    match kind {
+        Kind::Fail(_) => one_more(n),
+        _ => n,
+    }
+}
+
+fn push_backs_by(kind: Kind, n: u32) -> u32
+    ensures { result ≡ meant.push_backs_by kind n }
+{
+    match kind {
+        Kind::Throttle | Kind::Interrupt => one_more(n),
+        Kind::Fail(_) => 0,
+        _ => n,
+    }
+}
+
+fn failed_at(retries: u8, failures: u32, time: u64) -> Standing
+    requires { time < 2 ^ 63 }
+    ensures { (rules : ruled.Rules) → rules.retries ≡ retries → result ≡ ruled.failed_at rules failures time }
+{
+    if failures > u32::from(retries) {
+        return Standing::Ended {
+            outcome: Outcome::RetriesExhausted,
+            at: time,
+        };
+    }
+    Standing::DueAgain {
+        due: time + 60000 * u64::from(failures),
+    }
+}
+
+fn pushed_back_at(push_backs: u32, time: u64) -> Standing
+    requires some { 1 ≤ push_backs }
+    requires time { time < 2 ^ 63 }
+    ensures { result ≡ Standing.DueAgain (time + ruled.after_pushback push_backs) }
+{
+    Standing::DueAgain {
+        due: time + after_pushback(push_backs),
+    }
+}
+
+/// Where an event stands after the command, where it had failed and was pushed back so often before.
+fn standing_after(
+    settings: &Settings,
+    command: &Command,
+    failures: u32,
+    push_backs: u32,
+) -> Standing
+    requires { command.now.time < 2 ^ 63 }
+    ensures { result ≡ ruled.standing_by (ruled.rules_in settings.now) (meant.failures_by command.now.kind failures) (meant.push_backs_by command.now.kind push_backs) command.now command.now.kind }
+{
+    let time = command.time;
+    match command.kind {
+        Kind::Accept => Standing::Waiting { due: time },
+        Kind::Start => Standing::Running {
+            environment: command.environment,
+            deadline: time + 1000 * u64::from(settings.timeout),
+        },
+        Kind::Succeed => Standing::Ended {
+            outcome: Outcome::Success,
+            at: time,
+        },
+        Kind::Fail(_) => failed_at(settings.retries, one_more(failures), time),
+        Kind::Throttle => pushed_back_at(one_more(push_backs), time),
+        Kind::Interrupt => pushed_back_at(one_more(push_backs), time),
+        Kind::Expire => Standing::Ended {
+            outcome: Outcome::EventAgeExceeded,
+            at: time,
+        },
+        Kind::Collect => Standing::Unknown,
+    }
+}
+
+/// The answer that the command brings, if it brings one.
+fn new_answer(command: &Command) -> Result<Option<Answer>, AllocError>
+    ensures { IfOk result (λ answer. (before : _) → answer_by before command.now.kind command.now.bytes ≡ unwrap_or answer before) }
+{
+    match command.kind {
+        Kind::Succeed => {
+            let bytes = command.bytes.copy()?;
+            Ok(Some(Answer::Response(bytes)))
+        }
+        Kind::Fail(Cause::Reported) => {
+            let bytes = command.bytes.copy()?;
+            Ok(Some(Answer::Error(bytes)))
+        }
+        _ => Ok(None),
+    }
+}
+
+/// Changes the row of the event that command number `number` names.
+fn update(
+    row: &mut EventRow,
+    settings: &Settings,
+    number: u64,
+    command: &Command,
+    answer: Option<Answer>,
+)
+    requires { command.now.time < 2 ^ 63 }
+    ensures { answer_by row.old.answer command.now.kind command.now.bytes ≡ unwrap_or answer row.old.answer → row.new ≡ meant.row_after (ruled.rules_in settings.now) number command.now command.now.kind row.old }
+{
+    let kind = command.kind;
+    row.standing = standing_after(settings, command, row.failures, row.push_backs);
+    row.last_number = number;
+    row.starts = starts_by(kind, row.starts);
+    row.failures = failures_by(kind, row.failures);
+    row.push_backs = push_backs_by(kind, row.push_backs);
+    if let Some(answer) = answer {
+        row.answer = answer;
+    }
+}
+
+/// The place of an event's row.
+fn place_of(rows: &[EventRow], id: &[u8; 16]) -> Option<usize>
+    ensures { result ≡ position (meant.has_id id.now) rows.now }
+{
+    rows.iter().position(|row| *id == row.id)
+}
+
+fn remove_event(rows: &mut Vec<EventRow>, id: &[u8; 16])
+    ensures { rows.new.items ≡ meant.remove_row id.now rows.old.items }
+{
+    if let Some(place) = place_of(rows, id) {
+        let _row = rows.remove(place);
+    }
+}
+
+fn change_event(
+    rows: &mut Vec<EventRow>,
+    settings: &Settings,
+    number: u64,
+    command: &Command,
+    answer: Option<Answer>,
+)
+    requires time { command.now.time < 2 ^ 63 }
+    requires answer { (before : _) → answer_by before command.now.kind command.now.bytes ≡ unwrap_or answer before }
+    ensures { rows.new.items ≡ meant.change_row command.now.id (meant.row_after (ruled.rules_in settings.now) number command.now command.now.kind) rows.old.items }
+{
+    if let Some(place) = place_of(rows, &command.id) {
+        update(&mut rows[place], settings, number, command, answer);
+    }
+}
+
+/// Does what command number `number` does to the rows.
+pub fn change(
+    rows: &mut Vec<EventRow>,
+    settings: &Settings,
+    number: u64,
+    command: &Command,
+) -> Result<(), AllocError>
+    requires { command.now.time < 2 ^ 63 }
+    ensures ok { OnOk result (rows.new.items ≡ meant.rows_after (ruled.rules_in settings.now) number command.now command.now.kind rows.old.items) }
+    ensures err { OnErr result (rows.new.items ≡ rows.old.items) }
+{
+    match command.kind {
+        Kind::Accept => accept(rows, number, command),
+        Kind::Collect => {
+            remove_event(rows, &command.id);
+            Ok(())
+        }
+        _ => {
+            let answer = new_answer(command)?;
+            change_event(rows, settings, number, command, answer);
+            Ok(())
+        }
+    }
+}

@@ -1,0 +1,26 @@
+//! The table of events: which commands are legal, and where each event stands after them.
+//!
+//! A table is seen as its settings and a snapshot, the rows in the order of acceptance. What is meant is said over the
+//! whole history of commands; the crates above use that a table which stands for a history accepts exactly what is
+//! legal after it, and then stands for the history with that command.
+#![tactic(auto)]
+
+mod changes;
+mod choice;
+mod copies;
+pub mod examples;
+mod illegal;
+mod legality;
+mod next;
+mod readers;
+mod situation;
+mod standings;
+mod table;
+
+pub use choice::{Move, Side};
+pub use illegal::{ApplyError, Illegal};
+pub use readers::Ended;
+pub use table::Table;
+
+#[cfg(test)]
+mod tests;

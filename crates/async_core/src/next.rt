@@ -1,0 +1,115 @@
+// Which event goes next. No reader takes memory.
+ghost use Rattle.std.specs.Prelude.{◌≡◌, ◌+◌, ◌*◌, ◌≤◌, ℕ, List, option_map, is_some, nat_le};
+ghost use Rattle.retry_rules.specs.declared.settings.Settings.{Settings};
+ghost use Rattle.invoke_records.specs.declared.row.EventRow.{EventRow};
+ghost use Rattle.async_core.specs.Choice.{IsChosenAs, IsNextAt, IsNextMove, IsFirstRunning, IsOldestEnded, IsFree, IsLegalMove, environment_for, move_at};
+ghost use Rattle.async_core.specs.Rules.{running_at};
+ghost use Rattle.async_core.specs.History.{table_of, last_moment};
+ghost use Rattle.invoke_records.specs.declared.command.Command.{Command};
+
+use crate::Table;
+use crate::choice::{Move, Order, Side, first_row, move_by};
+use crate::situation::{count_running, too_old_from};
+use invoke_records::{EventRow, Kind};
+
+fn environment_for(ready_env: Option<u16>, kind: Kind) -> u16
+    ensures { result ≡ environment_for ready_env kind }
+{
+    match kind {
+        Kind::Start => match ready_env {
+            Some(environment) => environment,
+            None => 0,
+        },
+        _ => 0,
+    }
+}
+
+fn move_of_row(
+    row: &EventRow,
+    age: u32,
+    is_full: bool,
+    now: u64,
+    ready_env: Option<u16>,
+) -> Option<Move>
+    ensures { (s : Settings) (rows : List EventRow) → s.age ≡ age → nat_le s.concurrency (running_at rows) ≡ is_full → result ≡ move_at s rows now ready_env row.now }
+{
+    let too_old = too_old_from(row.accepted, age);
+    match move_by(is_full, ready_env.is_some(), too_old, now, row.standing) {
+        Some(kind) => Some(Move {
+            kind,
+            id: row.id,
+            environment: environment_for(ready_env, kind),
+        }),
+        None => None,
+    }
+}
+
+fn next_move_in(
+    rows: &[EventRow],
+    concurrency: u8,
+    age: u32,
+    now: u64,
+    ready_env: Option<u16>,
+) -> Option<Move>
+    ensures { (s : Settings) → s.age ≡ age → s.concurrency ≡ concurrency → IsNextAt s rows.now now ready_env result }
+{
+    let is_full = concurrency as usize <= count_running(rows);
+    let order = Order::Moving(now, ready_env.is_some(), is_full, age);
+    match first_row(rows, order) {
+        Some(row) => move_of_row(row, age, is_full, now, ready_env),
+        None => None,
+    }
+}
+
+fn first_running(rows: &[EventRow], after: u64) -> Option<(u64, [u8; 16])>
+    ensures { IsChosenAs (Order.Running after) rows.now (λ (r : EventRow). (r.number, r.id)) result }
+{
+    match first_row(rows, Order::Running(after)) {
+        Some(row) => Some((row.number, row.id)),
+        None => None,
+    }
+}
+
+fn first_ended(rows: &[EventRow], side: Side) -> Option<[u8; 16]>
+    ensures { IsChosenAs (Order.Ended side) rows.now (λ (r : EventRow). r.id) result }
+{
+    match first_row(rows, Order::Ended(side)) {
+        Some(row) => Some(row.id),
+        None => None,
+    }
+}
+
+impl Table {
+    /// The running event that was accepted first after this command number: the number of the command that accepted
+    /// it, and its id.
+    pub fn next_running(&self, after: u64) -> Option<(u64, [u8; 16])>
+        ensures by_row { IsChosenAs (Order.Running after) self.now.table.rows (λ (r : EventRow). (r.number, r.id)) result }
+        ensures by_history { (history : List Command) → self.now.table ≡ table_of self.now.settings history → IsFirstRunning self.now.settings history after result }
+    {
+        first_running(&self.rows, after)
+    }
+
+    /// The event that ended first of those held that ended on this side.
+    pub fn oldest_ended(&self, side: Side) -> Option<[u8; 16]>
+        ensures by_row { IsChosenAs (Order.Ended side) self.now.table.rows (λ (r : EventRow). r.id) result }
+        ensures by_history { (history : List Command) → self.now.table ≡ table_of self.now.settings history → IsOldestEnded self.now.settings history side result }
+    {
+        first_ended(&self.rows, side)
+    }
+
+    /// What is to be done next at this moment, where this environment is ready or none is: the move of the event that
+    /// has something to do since the earliest moment, and of those the one that was accepted first.
+    pub fn next_move(&self, now: u64, ready_env: Option<u16>) -> Option<Move>
+        ensures by_row { IsNextAt self.now.settings self.now.table.rows now ready_env result }
+        ensures by_history { (history : List Command) → self.now.table ≡ table_of self.now.settings history → IsNextMove self.now.settings history now ready_env result }
+        ensures legal { (history : List Command) → self.now.table ≡ table_of self.now.settings history → now ≤ 253402300799999 → last_moment history ≤ now → IsFree self.now.settings history ready_env → IsLegalMove self.now.settings history now result }
+    {
+        next_move_in(
+            &self.rows,
+            self.settings.concurrency,
+            self.settings.age,
+            now,
+            ready_env,
+        )
+    }
+}

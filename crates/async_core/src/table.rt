@@ -1,0 +1,170 @@
+// The table of events.
+ghost use Rattle.std.specs.Prelude.{◌≡◌, ◌<◌, ◌^◌, ◌+◌, ◌++◌, ◌∷◌, List, [], None, Some, Err, IfOk, OnOk, OnErr, IfErr};
+ghost use Rattle.std.specs.Result.{result_err};
+ghost use Rattle.retry_rules.specs.Settings.{bad_field};
+ghost use Rattle.retry_rules.specs.declared.settings.Settings.{Settings};
+ghost use Rattle.invoke_records.specs.declared.command.Command.{Command};
+
+use crate::changes::change;
+use crate::copies::copy_rows;
+use crate::legality::refuse;
+use crate::situation::{
+    Situation, accepted_in_rows, count_running, is_busy, standing_in_rows, too_old_from,
+};
+use crate::{ApplyError, Illegal};
+use invoke_records::{Command, EventRow, Rows, Snapshot, Standing};
+use retry_rules::Settings;
+use std::alloc::{AllocError, Global};
+use std::marker::Model;
+
+/// The table of events.
+#[derive(Drop)]
+pub struct Table {
+    alloc: Global,
+    pub(crate) settings: Settings,
+    number: u64,
+    last_moment: u64,
+    /// In the order of their acceptance.
+    pub(crate) rows: Vec<EventRow>,
+}
+
+impl Model for Table {
+    ghost use Rattle.async_core.specs.State.{State};
+
+    ghost Value = { State };
+
+    ghost view = { λ t. record { settings = t.settings; table = record { number = t.number; last_moment = t.last_moment; rows = t.rows.items } } };
+}
+
+impl Table {
+    ghost use Rattle.async_core.specs.State.{State};
+    ghost use Rattle.async_core.specs.Rules.{refusal_at, table_after, standing_at, situation_at, empty_table, replay};
+    ghost use Rattle.async_core.specs.History.{IsLegal, table_of, refusal_of, standing_in};
+    ghost use Rattle.async_core.specs.declared.illegal.ApplyError.TheVariants as apply_error;
+
+    /// The table with no command. It takes no memory.
+    pub fn new(alloc: Global, settings: Settings) -> Table
+        ensures { result ≡ record { settings = settings; table = empty_table } }
+    {
+        Table {
+            alloc,
+            settings,
+            number: 0,
+            last_moment: 0,
+            rows: Vec::new(alloc),
+        }
+    }
+
+    /// The table that a snapshot holds.
+    pub fn from_snapshot(
+        alloc: Global,
+        snapshot: Snapshot,
+        settings: Settings,
+    ) -> Result<Table, AllocError>
+        ensures { IfOk result (λ table. table ≡ record { settings = settings; table = snapshot }) }
+    {
+        let Snapshot {
+            number,
+            last_moment,
+            rows,
+        } = snapshot;
+        Ok(Table {
+            alloc,
+            settings,
+            number,
+            last_moment,
+            rows: rows.into_vec(),
+        })
+    }
+
+    /// Its snapshot, in memory of its own.
+    pub fn snapshot(&self) -> Result<Snapshot, AllocError>
+        ensures { IfOk result (λ snapshot. snapshot ≡ self.now.table) }
+    {
+        let rows = copy_rows(self.alloc, &self.rows)?;
+        Ok(Snapshot {
+            number: self.number,
+            last_moment: self.last_moment,
+            rows: Rows::from_vec(rows),
+        })
+    }
+
+    pub fn settings(&self) -> &Settings
+        ensures { result.now ≡ self.now.settings }
+    {
+        &self.settings
+    }
+
+    /// How many commands it stands for.
+    pub fn number(&self) -> u64
+        ensures { result ≡ self.now.table.number }
+    {
+        self.number
+    }
+
+    /// The last command's moment, 0 where there is none.
+    pub fn last_moment(&self) -> u64
+        ensures { result ≡ self.now.table.last_moment }
+    {
+        self.last_moment
+    }
+
+    /// Where an event stands.
+    #[tactic(auto, unfolding(crate::specs::Rules::standing_at))]
+    pub fn standing(&self, id: &[u8; 16]) -> Standing
+        ensures by_row { result ≡ standing_at self.now.table id.now }
+        ensures by_history { (history : List Command) → IsLegal self.now.settings history → self.now.table ≡ table_of self.now.settings history → result ≡ standing_in self.now.settings history id.now }
+    {
+        standing_in_rows(&self.rows, id)
+    }
+
+    /// What a command meets in the table.
+    #[tactic(auto, unfolding(crate::specs::Rules::standing_at))]
+    fn situation(&self, command: &Command) -> Situation
+        ensures { result ≡ situation_at self.now.settings self.now.table command.now }
+    {
+        let accepted = accepted_in_rows(&self.rows, &command.id);
+        Situation {
+            last_moment: self.last_moment,
+            held: self.rows.len(),
+            running: count_running(&self.rows),
+            is_busy: is_busy(command.environment, &self.rows),
+            standing: standing_in_rows(&self.rows, &command.id),
+            too_old_from: too_old_from(accepted, self.settings.age),
+        }
+    }
+
+    /// Why a command is refused now, if it is: the first check that fails.
+    #[tactic(auto, unfolding(crate::specs::Rules::refusal_at))]
+    pub fn judge(&self, command: &Command) -> Result<(), Illegal>
+        ensures exact { result_err result ≡ refusal_at self.now.settings self.now.table command.now }
+        ensures legal { OnOk result (refusal_at self.now.settings self.now.table command.now ≡ None) }
+        ensures refused { IfErr result (λ why. refusal_at self.now.settings self.now.table command.now ≡ Some why) }
+        ensures by_history { (history : List Command) → bad_field self.now.settings ≡ None → IsLegal self.now.settings history → self.now.table ≡ table_of self.now.settings history → result_err result ≡ refusal_of self.now.settings history command.now }
+    {
+        let situation = self.situation(command);
+        refuse(&self.settings, &situation, command)
+    }
+
+    /// Applies a command that is legal now. A refused command changes nothing, and one that is illegal is refused as
+    /// that, also where memory is short.
+    pub fn apply(&mut self, command: &Command) -> Result<(), ApplyError>
+        requires { self.old.table.number < 2 ^ 62 }
+        ensures legal { OnOk result (refusal_at self.old.settings self.old.table command.now ≡ None) }
+        ensures applied { OnOk result (self.new ≡ record self.old { table = table_after self.old.settings self.old.table command.now }) }
+        ensures number { OnOk result (self.new.table.number ≡ self.old.table.number + 1) }
+        ensures refused { (why : _) → result ≡ Err (apply_error.Illegal why) → refusal_at self.old.settings self.old.table command.now ≡ Some why }
+        ensures illegal { (why : _) → refusal_at self.old.settings self.old.table command.now ≡ Some why → result ≡ Err (apply_error.Illegal why) }
+        ensures err { OnErr result (self.new ≡ self.old) }
+        ensures by_history { (history : List Command) → bad_field self.old.settings ≡ None → IsLegal self.old.settings history → self.old.table ≡ table_of self.old.settings history → OnOk result ((refusal_of self.old.settings history command.now ≡ None) × (self.new.table ≡ table_of self.old.settings (history ++ command.now ∷ []))) }
+    {
+        if let Err(why) = self.judge(command) {
+            return Err(ApplyError::Illegal(why));
+        }
+        let number = self.number + 1;
+        change(&mut self.rows, &self.settings, number, command)?;
+        self.number = number;
+        self.last_moment = command.time;
+        Ok(())
+    }
+}
