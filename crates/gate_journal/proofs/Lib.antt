@@ -1,0 +1,10 @@
+pub mod Parts
+pub mod Bodies
+pub mod Frames
+pub mod Written
+pub mod Placed
+pub mod Append
+pub mod Decoding
+pub mod Next
+pub mod Spelled
+pub mod Taken

@@ -1,0 +1,42 @@
+use Rattle.std.proofs.Common.{◌≡◌, ◌+◌, ℕ, arith, length, length-append, refl}
+use Rattle.invoke_records.specs.declared.command.Cause.{Cause}
+use Rattle.invoke_records.specs.declared.command.Cause.TheVariants.{Reported, Timeout, Exited}
+use Rattle.invoke_records.specs.declared.command.Kind.{Kind}
+use Rattle.invoke_records.specs.declared.command.Kind.TheVariants.{Accept, Start, Succeed, Fail, Throttle, Interrupt, Expire, Collect}
+use Rattle.invoke_records.specs.declared.command.Command.{Command}
+use Rattle.invoke_records.specs.Spelling.{command_text, cause_text}
+use Rattle.invoke_records.specs.Laws.{command_length}
+use Rattle.gate_journal.proofs.writing.command_size.Goals as goal
+use Rattle.gate_journal.proofs.writing.command_size.Goals.{in-Fail, in_default}
+
+fail_size : (k : Kind) (x : Cause) → k ≡ Fail x → length (cause_text k) ≡ 1
+fail_size (Fail Reported) x is = refl
+fail_size (Fail Timeout) x is = refl
+fail_size (Fail Exited) x is = refl
+fail_size Accept x is = absurd (cc)
+fail_size Start x is = absurd (cc)
+fail_size Succeed x is = absurd (cc)
+fail_size Throttle x is = absurd (cc)
+fail_size Interrupt x is = absurd (cc)
+fail_size Expire x is = absurd (cc)
+fail_size Collect x is = absurd (cc)
+
+other_size : (k : Kind) → ((x : Cause) → k ≡ Fail x → ⊥) → length (cause_text k) ≡ 0
+other_size (Fail x) other = absurd (other x refl)
+other_size Accept other = refl
+other_size Start other = refl
+other_size Succeed other = refl
+other_size Throttle other = refl
+other_size Interrupt other = refl
+other_size Expire other = refl
+other_size Collect other = refl
+
+text_size : (c : Command) (cause : ℕ) → length c.id ≡ 16 → length (cause_text c.kind) ≡ cause → length (command_text c) ≡ 31 + cause + length c.bytes
+text_size c cause id is = omega (arith, command_length c id, length-append (cause_text c.kind) c.bytes, is)
+
+pub returns-clause-size : goal.returns-clause-size
+returns-clause-size c =
+    elim c.match-command.branch [
+      | in-Fail w ↦ omega (arith, text_size c.args.command.now 1 (omega arith) (fail_size c.args.command.now.kind w.in-Fail.field-0 w.in-Fail.is))
+      | in_default w ↦ omega (arith, text_size c.args.command.now 0 (omega arith) (other_size c.args.command.now.kind w.in_default.not-Fail))
+    ]

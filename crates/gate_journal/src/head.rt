@@ -1,0 +1,75 @@
+// The fields at the front of a body.
+ghost use Rattle.std.specs.Prelude.{◌≡◌, ◌*◌, ◌+◌, ◌<◌, ◌≤◌, ◌^◌, true, length, take};
+ghost use Rattle.std.specs.Int.{w32, w64, from_be_bytes};
+ghost use Rattle.gate_journal.specs.Frames.{head_of, is_head, body_sectors};
+
+use sector_disk::SECTOR_SIZE;
+
+// What a body's first bytes say of it.
+#[derive(Clone, Copy)]
+pub(crate) struct Head {
+    pub(crate) generation: u64,
+    pub(crate) number: u64,
+    pub(crate) count: u32,
+    pub(crate) size: u32,
+    pub(crate) zero_field: u64,
+}
+
+// The number after the greatest that a command may have.
+const END_OF_NUMBERS: u64 = (1 << 62) + 1;
+
+impl Head {
+    ghost use Rattle.gate_journal.specs.Reading.{head_fields};
+
+    // The head of a body.
+    pub(crate) fn read(bytes: &[u8]) -> Head
+        requires { 32 ≤ length bytes.now }
+        ensures { head_fields result ≡ head_of bytes.now }
+    {
+        Head {
+            generation: first_u64(bytes),
+            number: first_u64(&bytes[8..]),
+            count: first_u32(&bytes[16..]),
+            size: first_u32(&bytes[20..]),
+            zero_field: first_u64(&bytes[24..]),
+        }
+    }
+
+    // How many sectors its body has.
+    pub(crate) fn sectors(&self) -> u64
+        ensures { result ≡ body_sectors self.now.size }
+    {
+        (32 + self.size as u64).div_ceil(SECTOR_SIZE as u64)
+    }
+
+    // Whether it is one of this generation and number, whose body leaves a sector of so many.
+    pub(crate) fn is_of(&self, generation: u64, number: u64, room: u64) -> bool
+        requires { number ≤ 2 ^ 62 + 1 }
+        ensures exact { result ≡ is_head generation number (512 * room) (head_fields self.now) }
+        ensures room { result ≡ true → body_sectors self.now.size + 1 ≤ room }
+        ensures numbers { result ≡ true → number + self.now.count ≤ 2 ^ 62 + 1 }
+    {
+        let fields = self.generation == generation && self.number == number && self.zero_field == 0;
+        fields && self.sectors() < room && number + self.count as u64 <= END_OF_NUMBERS
+    }
+}
+
+// The number in the first 8 bytes.
+fn first_u64(bytes: &[u8]) -> u64
+    requires { 8 ≤ length bytes.now }
+    ensures { result ≡ from_be_bytes w64 (take 8 bytes.now) }
+{
+    let (front, _) = bytes.split_at(8);
+    u64::from_be_bytes([
+        front[0], front[1], front[2], front[3], front[4], front[5], front[6], front[7],
+    ])
+}
+
+// The number in the first 4 bytes.
+fn first_u32(bytes: &[u8]) -> u32
+    requires { 4 ≤ length bytes.now }
+    ensures { result ≡ from_be_bytes w32 (take 4 bytes.now) }
+{
+    let (front, _) = bytes.split_at(4);
+    u32::from_be_bytes([front[0], front[1], front[2], front[3]])
+}

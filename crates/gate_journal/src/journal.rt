@@ -1,0 +1,125 @@
+// A journal: reading it whole, and a batch appended to it.
+ghost use Rattle.std.specs.Prelude.{◌≡◌, ◌↔◌, ◌*◌, ◌+◌, ◌-◌, ◌<◌, ◌≤◌, ◌^◌, ◌++◌, [], ◌∷◌, List, ℕ, length, false, true, All, None, Ok, Err, IsErrOf, OnOk, OnErr, IfOk, IfErr, IsOk};
+ghost use Rattle.sector_disk.specs.Disk.{IsSameDisk, HasRisen, IsUntouched, HasOneImage};
+ghost use Rattle.sector_disk.specs.Moments.{LeavesOnly};
+ghost use Rattle.invoke_records.specs.Spelling.{commands_text, command_fault};
+ghost use Rattle.gate_journal.specs.declared.area.Area.{Area};
+ghost use Rattle.gate_journal.specs.declared.error.ReadError.TheVariants as read_error;
+ghost use Rattle.gate_journal.specs.declared.error.AppendError.TheVariants as append_error;
+ghost use Rattle.gate_journal.specs.Frames.{Frames, frames_in, frames_with, SameOutside};
+ghost use Rattle.gate_journal.specs.Journal.{generation_of, number_of, next_of, end_of, fits, Holds, IsBeforeOrAfter};
+
+use crate::reading::read_frame;
+use crate::writing::{batch_size, spell_frame};
+use crate::{AppendError, Area, ReadError};
+use invoke_records::Command;
+use sector_disk::{Disk, SECTOR_SIZE};
+use std::alloc::Global;
+
+/// The journal of a segment, at the closed gate after its last frame.
+#[derive(Debug, Drop)]
+pub struct Journal {
+    generation: u64,
+    number: u64,
+    next: u64,
+    end: u64,
+}
+
+impl Journal {
+    /// Whether a frame of commands that fill so many bytes fits behind the last one.
+    pub fn fits(&self, size: u64) -> bool
+        ensures { result ≡ fits self.now size }
+    {
+        let sectors = size / 512 + (size % 512 + 543) / 512;
+        sectors + 2 <= self.end.saturating_sub(self.next)
+    }
+
+    /// Reads the frames of an area: each command with the sector of its frame's gate. It only reads.
+    ///
+    /// `Damaged` names the first open gate that stands before no body of the area's generation and the next number.
+    pub fn read_all<D: Disk>(
+        alloc: Global,
+        disk: &mut D,
+        area: Area,
+    ) -> Result<(Journal, Vec<(u64, Command)>), ReadError>
+        requires forward { area.start ≤ area.end }
+        requires inside { area.end ≤ (D.view disk.old).sectors }
+        requires number { area.number ≤ 2 ^ 62 + 1 }
+
+        ensures same { IsSameDisk (D.view disk.old) (D.view disk.new) }
+        ensures later { D.fault_count disk.old ≤ D.fault_count disk.new }
+        ensures fault { IsErrOf result ReadError.Fault → HasRisen (D.fault_count disk.old) (D.fault_count disk.new) }
+        ensures untouched { (D.view disk.old).honest → IsUntouched (D.view disk.old) (D.view disk.new) }
+
+        ensures generation { IfOk result (λ r. generation_of r.0 ≡ area.generation) }
+        ensures end { IfOk result (λ r. end_of r.0 ≡ area.end) }
+        ensures numbers { IfOk result (λ r. number_of r.0 ≡ area.number + length r.1.items) }
+        ensures below { IfOk result (λ r. number_of r.0 ≤ 2 ^ 62 + 1) }
+
+        ensures read { (D.view disk.old).honest → IfOk result (λ r. (frames : Frames) × (frames.commands ≡ r.1.items) × Holds area frames r.0 (D.view disk.old).content) }
+        ensures damaged { (D.view disk.old).honest → (sector : ℕ) → result ≡ Err (read_error.Damaged sector) → frames_in area (D.view disk.old).content ≡ Err sector }
+    {
+        let mut found = Vec::new(alloc);
+        let mut left = area;
+        while let Some(next) = read_frame(alloc, disk, left, &mut found)? {
+            left = next;
+        }
+        let journal = Journal {
+            generation: area.generation,
+            number: left.number,
+            next: left.start,
+            end: area.end,
+        };
+        Ok((journal, found))
+    }
+
+    /// Appends a batch as one frame: its body with a closed gate behind it, a barrier, its open gate, a barrier.
+    ///
+    /// `NoRoom` comes exactly where the frame does not fit; it and `OutOfMemory` come before any call of the disk. After
+    /// `Fault` the area has to be read again.
+    pub fn append<D: Disk>(
+        &mut self,
+        alloc: Global,
+        disk: &mut D,
+        commands: &[Command],
+    ) -> Result<(), AppendError>
+        requires room { end_of self.old ≤ (D.view disk.old).sectors }
+        requires count { length commands.now ≤ 256 }
+        requires numbers { number_of self.old + length commands.now ≤ 2 ^ 62 + 1 }
+        requires spelled { All (λ c. command_fault c ≡ None) commands.now }
+
+        ensures same { IsSameDisk (D.view disk.old) (D.view disk.new) }
+        ensures later { D.fault_count disk.old ≤ D.fault_count disk.new }
+        ensures fault { IsErrOf result AppendError.Fault → HasRisen (D.fault_count disk.old) (D.fault_count disk.new) }
+        ensures no_room { IsErrOf result AppendError.NoRoom ↔ (fits self.old (length (commands_text commands.now)) ≡ false) }
+        ensures no_call { IsErrOf result AppendError.NoRoom → disk.new ≡ disk.old }
+        ensures no_call_either { IsErrOf result AppendError.OutOfMemory → disk.new ≡ disk.old }
+
+        ensures err { OnErr result (self.new ≡ self.old) }
+        ensures end { end_of self.new ≡ end_of self.old }
+        ensures generation { generation_of self.new ≡ generation_of self.old }
+        ensures number { OnOk result (number_of self.new ≡ number_of self.old + length commands.now) }
+
+        ensures acknowledged { (D.view disk.old).honest → HasOneImage (D.view disk.old) → (area : Area) (frames : Frames) → Holds area frames self.old (D.view disk.old).content
+            → OnOk result (HasOneImage (D.view disk.new) × Holds area (frames_with frames commands.now) self.new (D.view disk.new).content × SameOutside area (D.view disk.old).content (D.view disk.new).content) }
+
+        // A stop at any moment of the call leaves the commands from before it, or those and the whole batch.
+        ensures any_moment { (D.view disk.old).honest → HasOneImage (D.view disk.old) → (area : Area) (frames : Frames) → Holds area frames self.old (D.view disk.old).content
+            → LeavesOnly (D.view disk.old) (D.view disk.new) (IsBeforeOrAfter area frames commands.now (D.view disk.old).content) }
+    {
+        let size = batch_size(commands);
+        if !self.fits(size) {
+            return Err(AppendError::NoRoom);
+        }
+        let frame = spell_frame(alloc, self.generation, self.number, size, commands)?;
+        let mut gate = [0; SECTOR_SIZE];
+        gate[0] = 1;
+        disk.write(self.next + 1, &frame)?;
+        disk.barrier()?;
+        disk.write(self.next, &gate)?;
+        disk.barrier()?;
+        self.next += (frame.len() / SECTOR_SIZE) as u64;
+        self.number += commands.len() as u64;
+        Ok(())
+    }
+}
