@@ -1,0 +1,10 @@
+pub mod Judging
+pub mod Segments
+pub mod Images
+pub mod Folds
+pub mod Lives
+pub mod Appends
+pub mod Spelled
+pub mod Formatted
+pub mod Firsts
+pub mod Stops

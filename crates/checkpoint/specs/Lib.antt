@@ -1,0 +1,4 @@
+pub mod Image
+pub mod Reads
+pub mod Live
+pub mod Formatting

@@ -1,0 +1,91 @@
+// Why a disk cannot be formatted or opened.
+ghost use Rattle.std.specs.Prelude.{◌≡◌};
+ghost use Rattle.checkpoint.specs.Reads.{open_error_of};
+ghost use Rattle.checkpoint.specs.declared.error.FormatError.TheVariants as format_error;
+ghost use Rattle.checkpoint.specs.declared.error.OpenError.TheVariants as open_error;
+
+use gate_journal::ReadError;
+use sector_disk::Fault;
+use std::alloc::{AllocError, AllocFailed};
+use thiserror::Error;
+
+/// Why a disk was not formatted.
+#[derive(Clone, Copy, Debug, PartialEq, Eq, Error)]
+pub enum FormatError {
+    /// The disk has fewer sectors than the settings need: the least number.
+    #[error("too small, least {least}")]
+    TooSmall { least: u64 },
+    #[error("out of memory")]
+    OutOfMemory,
+    /// The device failed.
+    #[error("device fault")]
+    Fault,
+}
+
+impl From<AllocError> for FormatError {
+    ghost from_gives = { λ _ e. e ≡ format_error.OutOfMemory };
+
+    fn from(_: AllocError) -> Self {
+        FormatError::OutOfMemory
+    }
+}
+
+impl From<Fault> for FormatError {
+    ghost from_gives = { λ _ e. e ≡ format_error.Fault };
+
+    fn from(_: Fault) -> Self {
+        FormatError::Fault
+    }
+}
+
+/// Why a disk was not opened.
+#[derive(Clone, Copy, Debug, PartialEq, Eq, Error)]
+pub enum OpenError {
+    /// The device failed.
+    #[error("device fault")]
+    Fault,
+    #[error("out of memory")]
+    OutOfMemory,
+    /// No segment's gate is open, or the disk has fewer than 6 sectors.
+    #[error("not formatted")]
+    NotFormatted,
+    /// What stands at this sector is no part of a formatted disk.
+    #[error("damaged at sector {sector}")]
+    Damaged { sector: u64 },
+}
+
+impl From<AllocError> for OpenError {
+    ghost from_gives = { λ _ e. e ≡ open_error.OutOfMemory };
+
+    fn from(_: AllocError) -> Self {
+        OpenError::OutOfMemory
+    }
+}
+
+impl<T: Drop> From<AllocFailed<T>> for OpenError {
+    ghost from_gives = { λ _ e. e ≡ open_error.OutOfMemory };
+
+    fn from(_: AllocFailed<T>) -> Self {
+        OpenError::OutOfMemory
+    }
+}
+
+impl From<Fault> for OpenError {
+    ghost from_gives = { λ _ e. e ≡ open_error.Fault };
+
+    fn from(_: Fault) -> Self {
+        OpenError::Fault
+    }
+}
+
+impl From<ReadError> for OpenError {
+    ghost from_gives = { λ why e. e ≡ open_error_of why };
+
+    fn from(why: ReadError) -> Self {
+        match why {
+            ReadError::Fault => OpenError::Fault,
+            ReadError::OutOfMemory => OpenError::OutOfMemory,
+            ReadError::Damaged { sector } => OpenError::Damaged { sector },
+        }
+    }
+}

@@ -1,0 +1,76 @@
+// Formatting a disk.
+ghost use Rattle.std.specs.Prelude.{◌≡◌, ◌+◌, ◌*◌, ◌<◌, ◌≤◌, List, ℕ, length, None, Ok, Err, IsErrOf, IfErr, OnOk};
+ghost use Rattle.sector_disk.specs.Disk.{IsSameDisk, HasRisen, HasCause, HasOneImage, IsOnDisk};
+ghost use Rattle.retry_rules.specs.Settings.{bad_field};
+ghost use Rattle.async_core.specs.Rules.{empty_table};
+ghost use Rattle.checkpoint.specs.declared.error.FormatError.TheVariants as format_error;
+ghost use Rattle.checkpoint.specs.Image.{least_sectors, HoldsFirst, HasGeneration};
+ghost use Rattle.checkpoint.specs.Live.{RecoversTo};
+ghost use Rattle.checkpoint.specs.Formatting.{IsBeingFormatted, IsFormatting};
+ghost use Rattle.sector_disk.specs.Moments.{LeavesOnly};
+
+use crate::FormatError;
+use crate::sizes::segment_sectors;
+use crate::writing::spell_segment;
+use invoke_records::{Rows, Snapshot};
+use retry_rules::Settings;
+use sector_disk::{Disk, Fault, SECTOR_SIZE};
+use std::alloc::Global;
+
+// Makes this segment A the live one, where segment B begins at this sector.
+fn write_first<D: Disk>(disk: &mut D, second: u64, segment: &[u8]) -> Result<(), Fault>
+    requires whole { IsOnDisk (D.view disk.old).sectors 1 (length segment.now) }
+    requires before { 512 + length segment.now ≤ 512 * second }
+    requires inside { second < (D.view disk.old).sectors }
+    ensures same { IsSameDisk (D.view disk.old) (D.view disk.new) }
+    ensures cause { HasCause (D.fault_count disk.old) (D.fault_count disk.new) result }
+    ensures written { (D.view disk.old).honest → OnOk result (HasOneImage (D.view disk.new) × HoldsFirst second segment.now (D.view disk.new).content) }
+    ensures any_moment { (D.view disk.old).honest → LeavesOnly (D.view disk.old) (D.view disk.new) (IsBeingFormatted (D.view disk.old) second segment.now) }
+{
+    let closed = [0; SECTOR_SIZE];
+    let mut open = [0; SECTOR_SIZE];
+    open[0] = 1;
+    disk.write(0, &closed)?;
+    disk.write(second, &closed)?;
+    disk.barrier()?;
+    disk.write(1, segment)?;
+    disk.barrier()?;
+    disk.write(0, &open)?;
+    disk.barrier()
+}
+
+/// Formats a disk with good settings: it then recovers to the table with no command. What the disk held is lost.
+///
+/// Both gates are closed and settled first, then segment A is written with generation 1, an empty snapshot and a closed
+/// first gate, and settled, and then its gate is opened and settled. `TooSmall` names the least number of sectors; it
+/// and `OutOfMemory` come before any call of the disk.
+pub fn format<D: Disk>(alloc: Global, disk: &mut D, settings: &Settings) -> Result<(), FormatError>
+    requires { bad_field settings.now ≡ None }
+    ensures same { IsSameDisk (D.view disk.old) (D.view disk.new) }
+    ensures later { D.fault_count disk.old ≤ D.fault_count disk.new }
+    ensures fault { IsErrOf result FormatError.Fault → HasRisen (D.fault_count disk.old) (D.fault_count disk.new) }
+    ensures least { (least : ℕ) → result ≡ Err (format_error.TooSmall least) → (least ≡ least_sectors settings.now) × ((D.view disk.old).sectors < least_sectors settings.now) }
+    ensures too_small { (D.view disk.old).sectors < least_sectors settings.now → result ≡ Err (format_error.TooSmall (least_sectors settings.now)) }
+    ensures no_call { (least : ℕ) → result ≡ Err (format_error.TooSmall least) → disk.new ≡ disk.old }
+    ensures no_call_either { IsErrOf result FormatError.OutOfMemory → disk.new ≡ disk.old }
+
+    // A stop at any moment of the call leaves the old disk but for its gates, no formatted disk, or a disk with the empty table.
+    ensures any_moment { (D.view disk.old).honest → LeavesOnly (D.view disk.old) (D.view disk.new) (IsFormatting (D.view disk.old) settings.now) }
+
+    ensures generation { (D.view disk.old).honest → OnOk result (HasGeneration 1 (D.view disk.new).content) }
+    ensures formatted { (D.view disk.old).honest → OnOk result (HasOneImage (D.view disk.new) × RecoversTo settings.now empty_table (D.view disk.new).content) }
+{
+    let sectors = disk.sectors();
+    let least = 2 * segment_sectors(settings);
+    if sectors < least {
+        return Err(FormatError::TooSmall { least });
+    }
+    let empty = Snapshot {
+        number: 0,
+        last_moment: 0,
+        rows: Rows::empty(alloc),
+    };
+    let segment = spell_segment(alloc, 1, settings, &empty)?;
+    write_first(disk, sectors / 2, &segment)?;
+    Ok(())
+}

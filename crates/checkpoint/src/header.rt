@@ -1,0 +1,80 @@
+// The header of a segment.
+ghost use Rattle.std.specs.Prelude.{◌≡◌, ◌+◌, ◌≤◌, ◌<◌, ◌^◌, length, drop, None, Some, Ok, IfOk, IfSome, List, ℕ};
+ghost use Rattle.retry_rules.specs.Settings.{bad_field};
+ghost use Rattle.invoke_records.specs.Spelling.{settings_text};
+ghost use Rattle.gate_journal.specs.Frames.{sectors_for};
+ghost use Rattle.checkpoint.specs.Image.{header_with, header_at, most_snapshot, segment_sectors};
+
+use crate::reading::{are_zeros, u32_at, u64_at, unread};
+use crate::sizes::{most_snapshot, segment_sectors};
+use invoke_records::SettingsRecord;
+use retry_rules::Settings;
+use std::alloc::{AllocError, Global};
+
+// `AINVOKE` and the version.
+pub(crate) const MAGIC: [u8; 8] = *b"AINVOKE\x01";
+
+/// What the header of a segment says.
+#[derive(Debug, Drop)]
+pub(crate) struct Header {
+    /// The generation of the segment, from 1 to 2^62.
+    pub(crate) generation: u64,
+    /// How many bytes the snapshot has.
+    pub(crate) size: u64,
+    pub(crate) settings: Settings,
+}
+
+// The header with these settings, behind which these bytes are left, if a segment of so many sectors is large enough.
+fn with_settings(bytes: &[u8], sectors: u64, settings: Settings, rest: &[u8]) -> Option<Header>
+    requires whole { length bytes.now ≡ 512 }
+    requires left { length rest.now ≤ 512 }
+    requires good { bad_field settings ≡ None }
+    ensures exact { result ≡ header_with sectors bytes.now (Ok (settings, rest.now)) }
+    ensures good { IfSome result (λ header. bad_field header.settings ≡ None) }
+    ensures size { IfSome result (λ header. header.size < 2 ^ 50) }
+    ensures room { IfSome result (λ header. sectors_for header.size + 5 ≤ sectors) }
+{
+    let generation = u64_at(bytes, 8);
+    let size = u64_at(bytes, 16);
+    let told = u32_at(bytes, 24) as usize;
+    let fits = told + rest.len() == 484
+        && are_zeros(rest)
+        && size <= most_snapshot(&settings)
+        && segment_sectors(&settings) <= sectors;
+    if fits {
+        Some(Header {
+            generation,
+            size,
+            settings,
+        })
+    } else {
+        None
+    }
+}
+
+// The header that this sector is, in a segment of so many sectors, if it is one.
+#[tactic(auto, unfolding(crate::specs::Image::header_at))]
+pub(crate) fn read_header(
+    alloc: Global,
+    bytes: &[u8],
+    sectors: u64,
+) -> Result<Option<Header>, AllocError>
+    requires { length bytes.now ≡ 512 }
+    ensures exact { IfOk result (λ found. found ≡ header_at sectors bytes.now) }
+    ensures good { IfOk result (λ found. IfSome found (λ header. bad_field header.settings ≡ None)) }
+    ensures size { IfOk result (λ found. IfSome found (λ header. header.size < 2 ^ 50)) }
+    ensures room { IfOk result (λ found. IfSome found (λ header. sectors_for header.size + 5 ≤ sectors)) }
+{
+    let generation = u64_at(bytes, 8);
+    if !bytes.starts_with(&MAGIC) || generation < 1 || generation > 1 << 62 {
+        return Ok(None);
+    }
+    let (_, behind) = bytes.split_at(28);
+    match Settings::decode(alloc, behind) {
+        Ok((settings, taken)) => {
+            let (_, rest) = behind.split_at(taken.min(484));
+            Ok(with_settings(bytes, sectors, settings, rest))
+        }
+        Err(why) => unread(why),
+    }
+}

@@ -1,0 +1,27 @@
+//! The segments of a disk: a header with the settings, a snapshot of the table, and a journal behind it.
+//!
+//! A disk is seen by what an image of it recovers to: the settings and the table after the snapshot and each command
+//! behind an open gate, or what is wrong and where. The crates above use that `open` gives just this, and that a stop
+//! at any moment of `append` leaves the table from before it or after the whole batch.
+#![tactic(auto)]
+
+mod error;
+mod formatting;
+mod header;
+mod legality;
+mod opened;
+mod opening;
+mod reading;
+mod segment;
+mod sizes;
+mod snapshot;
+mod writing;
+
+pub use error::{FormatError, OpenError};
+pub use formatting::format;
+pub use gate_journal::AppendError;
+pub use opened::Opened;
+pub use opening::open;
+
+#[cfg(test)]
+mod tests;

@@ -1,0 +1,70 @@
+// A disk that was opened: its live segment.
+ghost use Rattle.std.specs.Prelude.{◌≡◌, ◌⊎◌, ◌↔◌, ◌+◌, ◌≤◌, ◌^◌, List, ℕ, length, false, All, None, Some, Ok, Err, IsErrOf, OnOk, OnErr, IfOk};
+ghost use Rattle.sector_disk.specs.Disk.{IsSameDisk, HasRisen};
+ghost use Rattle.sector_disk.specs.Moments.{LeavesOnly};
+ghost use Rattle.retry_rules.specs.declared.settings.Settings.{Settings};
+ghost use Rattle.invoke_records.specs.declared.snapshot.Snapshot.{Snapshot};
+ghost use Rattle.invoke_records.specs.Spelling.{commands_text, command_fault};
+ghost use Rattle.async_core.specs.Rules.{replay};
+
+use gate_journal::{AppendError, Journal};
+use invoke_records::Command;
+use retry_rules::Settings;
+use sector_disk::Disk;
+use std::alloc::Global;
+
+/// The live segment of a disk that was opened.
+#[derive(Debug, Drop)]
+pub struct Opened {
+    pub(crate) settings: Settings,
+    pub(crate) generation: u64,
+    pub(crate) journal: Journal,
+}
+
+impl Opened {
+    ghost use Rattle.checkpoint.specs.Live.{settings_of, number_of, end_of, fits, RecoversTo, IsLive};
+
+    /// The settings that the disk was formatted with.
+    pub fn settings(&self) -> &Settings
+        ensures { result.now ≡ settings_of self.now }
+    {
+        &self.settings
+    }
+
+    /// Appends a batch of commands as one frame.
+    ///
+    /// `NoRoom` comes exactly where the frame does not fit; it and `OutOfMemory` come before any call of the disk. After
+    /// `Fault` the disk has to be opened again.
+    pub fn append<D: Disk>(
+        &mut self,
+        alloc: Global,
+        disk: &mut D,
+        commands: &[Command],
+    ) -> Result<(), AppendError>
+        requires room { end_of self.old ≤ (D.view disk.old).sectors }
+        requires count { length commands.now ≤ 256 }
+        requires numbers { number_of self.old + length commands.now ≤ 2 ^ 62 + 1 }
+        requires spelled { All (λ c. command_fault c ≡ None) commands.now }
+
+        ensures same { IsSameDisk (D.view disk.old) (D.view disk.new) }
+        ensures later { D.fault_count disk.old ≤ D.fault_count disk.new }
+        ensures fault { IsErrOf result AppendError.Fault → HasRisen (D.fault_count disk.old) (D.fault_count disk.new) }
+        ensures no_room { IsErrOf result AppendError.NoRoom ↔ (fits self.old (length (commands_text commands.now)) ≡ false) }
+        ensures no_call { IsErrOf result AppendError.NoRoom → disk.new ≡ disk.old }
+        ensures no_call_either { IsErrOf result AppendError.OutOfMemory → disk.new ≡ disk.old }
+
+        ensures err { OnErr result (self.new ≡ self.old) }
+        ensures settings { settings_of self.new ≡ settings_of self.old }
+        ensures end { end_of self.new ≡ end_of self.old }
+        ensures number { OnOk result (number_of self.new ≡ number_of self.old + length commands.now) }
+
+        ensures acknowledged { (D.view disk.old).honest → (before after : Snapshot) → IsLive (D.view disk.old) self.old before → replay (settings_of self.old) before commands.now ≡ Some after
+            → OnOk result (IsLive (D.view disk.new) self.new after) }
+
+        // A stop at any moment of the call leaves the table from before it, or after the whole batch.
+        ensures any_moment { (D.view disk.old).honest → (before after : Snapshot) → IsLive (D.view disk.old) self.old before → replay (settings_of self.old) before commands.now ≡ Some after
+            → LeavesOnly (D.view disk.old) (D.view disk.new) (λ image. RecoversTo (settings_of self.old) before image ⊎ RecoversTo (settings_of self.old) after image) }
+    {
+        self.journal.append(alloc, disk, commands)
+    }
+}

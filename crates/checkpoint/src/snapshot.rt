@@ -1,0 +1,78 @@
+// The snapshot of a segment, and whether it is within the settings' limits.
+ghost use Rattle.std.specs.Prelude.{◌≡◌, ◌+◌, ◌*◌, ◌≤◌, ◌<◌, ◌^◌, length, IfOk, IfSome};
+ghost use Rattle.std.specs.List.{list_all};
+ghost use Rattle.gate_journal.specs.Frames.{sectors_for};
+ghost use Rattle.checkpoint.specs.Image.{answer_size, environment_of, is_row_within, is_within, snapshot_of};
+
+use crate::header::Header;
+use crate::reading::{are_zeros, unread};
+use invoke_records::{Answer, EventRow, Snapshot, Standing};
+use retry_rules::Settings;
+use std::alloc::{AllocError, Global};
+
+fn answer_size(answer: &Answer) -> usize
+    ensures { result ≡ answer_size answer.now }
+{
+    match answer {
+        Answer::None => 0,
+        Answer::Response(bytes) => bytes.len(),
+        Answer::Error(bytes) => bytes.len(),
+    }
+}
+
+// The environment that an event runs in, 0 where it does not run.
+fn environment_of(standing: Standing) -> u16
+    ensures { result ≡ environment_of standing }
+{
+    match standing {
+        Standing::Running { environment, .. } => environment,
+        _ => 0,
+    }
+}
+
+fn is_row_within(settings: &Settings, row: &EventRow) -> bool
+    ensures { result ≡ is_row_within settings.now row.now }
+{
+    row.payload.len() <= settings.payload as usize
+        && answer_size(&row.answer) <= settings.response as usize
+        && environment_of(row.standing) <= settings.environments as u16
+}
+
+fn are_within(settings: &Settings, rows: &[EventRow]) -> bool
+    ensures { result ≡ list_all (is_row_within settings.now) rows.now }
+{
+    rows.iter().all(|row| is_row_within(settings, row))
+}
+
+// There are no more rows than events, and each is within the limits.
+fn is_within(settings: &Settings, snapshot: &Snapshot) -> bool
+    ensures { result ≡ is_within settings.now snapshot.now }
+{
+    let rows = snapshot.rows.as_slice();
+    rows.len() <= settings.events as usize && are_within(settings, rows)
+}
+
+// The snapshot that fills these sectors, of which the header speaks, if it is one.
+#[tactic(auto, using(crate::proofs::Segments::number_most), unfolding(crate::specs::Image::snapshot_of))]
+pub(crate) fn read_snapshot(
+    alloc: Global,
+    header: &Header,
+    bytes: &[u8],
+) -> Result<Option<Snapshot>, AllocError>
+    requires size { header.now.size < 2 ^ 50 }
+    requires whole { length bytes.now ≡ 512 * sectors_for header.now.size }
+    ensures exact { IfOk result (λ found. found ≡ snapshot_of header.now bytes.now) }
+    ensures number { IfOk result (λ found. IfSome found (λ snapshot. snapshot.number ≤ 2 ^ 62)) }
+{
+    let (text, rest) = bytes.split_at(header.size as usize);
+    if !are_zeros(rest) {
+        return Ok(None);
+    }
+    match Snapshot::decode(alloc, text) {
+        Ok((snapshot, taken)) => {
+            let is_whole = taken >= text.len() && is_within(&header.settings, &snapshot);
+            Ok(if is_whole { Some(snapshot) } else { None })
+        }
+        Err(why) => unread(why),
+    }
+}
