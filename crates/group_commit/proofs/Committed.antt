@@ -1,0 +1,115 @@
+-- What a commit makes of a broker that stands for a history.
+use Rattle.std.proofs.Common.{◌≡◌, ◌⊎◌, ℕ, ◌+◌, ◌≤◌, Bool, true, false, Some, List, [], ◌∷◌, ◌++◌, length, take, drop, Result, Ok, Err, refl, sym, ap, subst, ◌∙◌, arith, inl, inr, ⊎_elim}
+use Rattle.std.specs.Prelude.{IfOk, OnOk, OnErr}
+use Rattle.std.proofs.lemmas.List.{take_all}
+use Rattle.std.proofs.Math.ListN.{drop_of_length-le}
+use Rattle.sector_disk.specs.Disk.{DiskView, IsDisk, IsSameDisk}
+use Rattle.sector_disk.specs.declared.disk.Disk.{Ghosts}
+use Rattle.sector_disk.specs.Moments.{LeavesOnly}
+use Rattle.retry_rules.specs.declared.settings.Settings.{Settings}
+use Rattle.invoke_records.specs.declared.snapshot.Snapshot.{Snapshot}
+use Rattle.invoke_records.specs.declared.command.Command.{Command}
+use Rattle.async_core.specs.Rules.{replay}
+use Rattle.async_core.specs.History.{table_of}
+use Rattle.async_core.specs.Laws.{replay-history, number-table_of}
+use Rattle.checkpoint.specs.Live.{RecoversTo, IsLive, live_recovers}
+use Rattle.group_commit.specs.declared.broker.Broker.{Broker}
+use Rattle.group_commit.specs.declared.error.CommitError.{CommitError}
+use Rattle.group_commit.specs.declared.error.CommitError.TheVariants.{Fault}
+use Rattle.group_commit.specs.History.{IsLegalStop}
+use Rattle.group_commit.specs.Broker.{disk_of, settings_of, table_in, issued_of, pending_of, durable_of, is_broken, opened_of, StandsBy, Stands, IsSameBroker, Commits, Breaks}
+use Rattle.group_commit.proofs.Issued.{stands_along}
+
+-- what holds of each image holds of what follows from it
+pub weaker : {old new : DiskView} {P Q : List ℕ → Type 0} → ((image : List ℕ) → P image → Q image) → LeavesOnly old new P → LeavesOnly old new Q
+weaker step leaves = record {
+  later = leaves.later;
+  each = λ image left. step image (leaves.each image left);
+  before = λ t image le left. ⊎_elim (λ was. inl was) (λ is. inr (step image is)) (leaves.before t image le left);
+}
+
+-- the durable commands are a legal stop
+pub stop_before : (s : Settings) (history : List Command) (durable : ℕ) (image : List ℕ) → durable ≤ length history → RecoversTo s (table_of s (take durable history)) image → IsLegalStop s history durable image
+stop_before s history durable image within is = record { size = durable; least = omega arith; most = within; recovers = is }
+
+-- and so is the whole history
+pub stop_after : (s : Settings) (history : List Command) (durable : ℕ) (image : List ℕ) → durable ≤ length history → RecoversTo s (table_of s history) image → IsLegalStop s history durable image
+stop_after s history durable image within is = record {
+  size = length history;
+  least = within;
+  most = omega arith;
+  recovers = subst (λ (h : List Command). RecoversTo s (table_of s h) image) (sym (take_all (length history) history (omega arith))) is;
+}
+
+module _ {D : Type 0} {g : Ghosts D} (view : D → DiskView) (laws : (disk : D) → (view disk).honest → IsDisk (view disk)) (old new : Broker D g) (history : List Command)
+    (stands : Stands view old history) (whole : is_broken old ≡ false) where
+  abbrev s : Settings
+  s = settings_of old
+
+  abbrev before : Snapshot
+  before = table_of s (take (durable_of old) history)
+
+  -- what is pending leads from the durable commands to the whole history
+  pub replays : replay s before (pending_of old) ≡ Some (table_of s history)
+  replays =
+      ap (λ (l : List Command). replay s before l) stands.pending_is ∙ replay-history s history (durable_of old) stands.good.check stands.legal stands.durable_is
+
+  pub number : issued_of old ≡ length history
+  number = ap (λ (t : Snapshot). t.number) stands.table_is ∙ number-table_of s history
+
+  -- each image of a commit is a legal stop
+  pub is_stop : (image : List ℕ) → RecoversTo s before image ⊎ RecoversTo s (table_of s history) image → IsLegalStop s history (durable_of old) image
+  is_stop image = ⊎_elim (stop_before s history (durable_of old) image stands.durable_is) (stop_after s history (durable_of old) image stands.durable_is)
+
+  -- all is durable
+  pub stands_committed : (durable : ℕ) → IsSameDisk (view (disk_of old)) (view (disk_of new)) → Commits old new durable
+      → ((view (disk_of old)).honest → IsLive (view (disk_of new)) (opened_of new) (table_of s history)) → Stands view new history
+  stands_committed durable same commits live =
+      let there = λ (honest : (view (disk_of new)).honest). live (same.honest.0 honest) in
+      let all : take (issued_of old) history ≡ history = take_all (issued_of old) history (omega (arith, number)) in
+      let kept : s ≡ (opened_of new).settings = sym commits.settings ∙ new.settings in
+      let base : StandsBy (view (disk_of new)) (opened_of new) s (table_in old) [] (issued_of old) (is_broken old) history =
+      record {
+        good = stands.good;
+        legal = stands.legal;
+        table_is = stands.table_is;
+        durable_is = omega (arith, number);
+        pending_is = sym (drop_of_length-le history (omega (arith, number)));
+        stops = λ honest image left.
+            stop_after s history (issued_of old) image (omega (arith, number))
+            (subst (λ (r : Settings). RecoversTo r (table_of s history) image) (sym kept) (live_recovers _ _ _ (there honest) image left));
+        live = λ sound honest. subst (λ (h : List Command). IsLive (view (disk_of new)) (opened_of new) (table_of s h)) (sym all) (there honest);
+      } in
+      stands_along view (disk_of new) (disk_of new) (opened_of new) (opened_of new) s (settings_of new) (table_in old) (table_in new) [] (pending_of new)
+      (issued_of old) (durable_of new) (is_broken old) (is_broken new) history refl refl commits.settings commits.table commits.pending commits.all commits.broken base
+
+  -- a fault leaves a legal stop
+  pub stands_broken : IsSameDisk (view (disk_of old)) (view (disk_of new)) → Breaks old new
+      → ((view (disk_of old)).honest → LeavesOnly (view (disk_of old)) (view (disk_of new)) (IsLegalStop s history (durable_of old))) → Stands view new history
+  stands_broken same breaks leaves =
+      let base : StandsBy (view (disk_of new)) (opened_of new) s (table_in old) (pending_of old) (durable_of old) true history =
+      record {
+        good = stands.good;
+        legal = stands.legal;
+        table_is = stands.table_is;
+        durable_is = stands.durable_is;
+        pending_is = stands.pending_is;
+        stops = λ honest image left.
+            let moments = leaves (same.honest.0 honest) in
+            moments.each image ((laws (disk_of new) honest).counts_now (view (disk_of old)).moment image moments.later left);
+        live = λ sound honest. absurd cc;
+      } in
+      stands_along view (disk_of new) (disk_of new) (opened_of new) (opened_of new) s (settings_of new) (table_in old) (table_in new) (pending_of old) (pending_of new)
+      (durable_of old) (durable_of new) true (is_broken new) history refl refl breaks.settings breaks.table breaks.pending breaks.durable breaks.broken base
+
+  pub stands_same : IsSameBroker old new → Stands view new history
+  stands_same same =
+      stands_along view (disk_of old) (disk_of new) (opened_of old) (opened_of new) s (settings_of new) (table_in old) (table_in new) (pending_of old) (pending_of new)
+      (durable_of old) (durable_of new) (is_broken old) (is_broken new) history same.disk same.opened same.settings same.table same.pending same.durable same.broken stands
+
+  -- whatever the commit answers
+  pub stands_after : (result : Result ℕ CommitError) → IsSameDisk (view (disk_of old)) (view (disk_of new)) → IfOk result (λ durable. Commits old new durable) → (result ≡ Err Fault → Breaks old new)
+      → OnErr result ((result ≡ Err Fault) ⊎ IsSameBroker old new) → ((view (disk_of old)).honest → OnOk result (IsLive (view (disk_of new)) (opened_of new) (table_of s history)))
+      → ((view (disk_of old)).honest → LeavesOnly (view (disk_of old)) (view (disk_of new)) (IsLegalStop s history (durable_of old))) → Stands view new history
+  stands_after (Ok durable) same ok breaks kept live leaves = stands_committed durable same ok live
+  stands_after (Err why) same ok breaks kept live leaves = ⊎_elim (λ fault. stands_broken same (breaks fault) leaves) stands_same kept

@@ -1,0 +1,6 @@
+pub mod Committed
+pub mod Drilled
+pub mod Issued
+pub mod Reopening
+pub mod Results
+pub mod Resumed

@@ -1,0 +1,26 @@
+use Rattle.std.proofs.Common.{◌≡◌, ℕ, min, List, Option, Result, refl, subst, ap}
+use Rattle.sector_disk.specs.Memory.{memory_view}
+use Rattle.invoke_records.specs.declared.command.Command.{Command}
+use Rattle.group_commit.specs.declared.error.IssueError.{IssueError}
+use Rattle.group_commit.specs.Broker.{settings_of, durable_of, Stands}
+use Rattle.group_commit.specs.Resume.{IsResumed}
+use Rattle.group_commit.proofs.drilling.resume.Goals as goal
+
+pub returns : goal.returns
+returns c = record {
+  step = λ history stands.
+      let old = c.args.broker.now in
+      let resumed = c.resume.ensures.resumes history stands in
+      record {
+        next = record { history = resumed.0; durable = durable_of old };
+        step_is = (
+          c.resume.result,
+          c.answer_to.ensures,
+          subst (λ (now : ℕ). IsResumed (settings_of old) history now c.resume.result resumed.0) c.min.ensures resumed.1,
+          refl,
+        );
+        settings = c.resume.ensures.settings;
+        durable = c.resume.ensures.durable;
+        stands = resumed.2;
+      };
+}

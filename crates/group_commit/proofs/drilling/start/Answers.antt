@@ -1,0 +1,23 @@
+use Rattle.std.proofs.Common.{ℕ, take, sym, subst, arith}
+use Rattle.sector_disk.specs.Memory.{memory_view}
+use Rattle.group_commit.specs.Broker.{Stands}
+use Rattle.group_commit.proofs.Results.{if_ok_both, ok_from, err_from}
+use Rattle.group_commit.proofs.drilling.start.Goals as goal
+
+pub returns-clause-recovers : goal.returns-clause-recovers
+returns-clause-recovers c s history durable legal stops =
+    ok_from _ c.open.result c.opened.result c.opened.ensures.ok
+    (if_ok_both _ _ _ c.open.result
+    (λ b fresh facts. (
+      omega (arith, fresh.2, facts.0),
+      omega (arith, fresh.2, facts.1),
+      facts.2,
+      subst (λ (n : ℕ). Stands memory_view b (take n history)) (sym fresh.2) facts.3,
+    ))
+    c.open.ensures.fresh
+    (c.open.ensures.stands tt s history durable legal stops))
+
+pub returns-clause-refused : goal.returns-clause-refused
+returns-clause-refused c s history durable legal stops =
+    err_from (λ failure. failure.cause) _ c.open.result c.opened.result c.opened.ensures.err c.opened.ensures.same
+    (c.open.ensures.refused tt s history durable legal stops)

@@ -1,0 +1,56 @@
+-- What the answers of a script say of one history and of how much of it is durable.
+use Rattle.std.specs.Prelude.{◌≡◌, ℕ, ◌+◌, ◌-◌, ◌^◌, ◌≤◌, List, [], ◌∷◌, ◌++◌, length, take, min, Option, Some, None, Result, Ok, Err}
+use Rattle.retry_rules.specs.declared.settings.Settings.{Settings}
+use Rattle.invoke_records.specs.declared.command.Command.{Command}
+use Rattle.async_core.specs.History.{refusal_of}
+use Rattle.group_commit.specs.Resume.{IsResumed}
+use Rattle.group_commit.specs.declared.error.IssueError.{IssueError}
+use Rattle.group_commit.specs.declared.error.IssueError.TheVariants as issue_error
+use Rattle.group_commit.specs.declared.error.CommitError.{CommitError}
+use Rattle.group_commit.specs.declared.script.Step.{Step}
+use Rattle.group_commit.specs.declared.script.Step.TheVariants as step
+use Rattle.group_commit.specs.declared.script.StepAnswer.{StepAnswer}
+use Rattle.group_commit.specs.declared.script.StepAnswer.TheVariants as answer
+
+-- a history, and how many of its commands are durable
+pub record Log : Type 0 where
+  pub history : List Command
+  pub durable : ℕ
+
+-- why a command is refused after this history: it is not legal, or the broker has one of its own four reasons
+abbrev pub IsRefused : Settings → Log → Command → IssueError → Type 0
+IsRefused s log c (issue_error.Illegal why) = refusal_of s log.history c ≡ Some why
+IsRefused s log c issue_error.WornOut = 2 ^ 62 ≤ length log.history
+IsRefused s log c issue_error.Backlog = (refusal_of s log.history c ≡ None) × (length log.history ≡ log.durable + 256)
+IsRefused s log c issue_error.OutOfMemory = refusal_of s log.history c ≡ None
+IsRefused s log c issue_error.Broken = Unit {0}
+
+-- what a step says of a resumption's answer
+abbrev pub answer_to : Result (Option ℕ) IssueError → StepAnswer
+answer_to (Ok None) = answer.Number 0
+answer_to (Ok (Some number)) = answer.Number number
+answer_to (Err why) = answer.IssueRefused why
+
+-- the step that answers so leads from one log to the other
+abbrev pub IsStep : Settings → Log → Step → StepAnswer → Log → Type 0
+-- a legal command is the history's next
+IsStep s log (step.Issue c) (answer.Number n) next =
+    (refusal_of s log.history c ≡ None) × (n ≡ length log.history + 1) × (next ≡ record { history = log.history ++ c ∷ []; durable = log.durable })
+IsStep s log (step.Issue c) (answer.IssueRefused why) next = IsRefused s log c why × (next ≡ log)
+-- a commit makes the whole history durable
+IsStep s log step.Commit (answer.Number n) next = (n ≡ length log.history) × (next ≡ record { history = log.history; durable = n })
+IsStep s log step.Commit (answer.CommitRefused why) next = next ≡ log
+-- a resumption marks the running event that was accepted first, if one runs
+IsStep s log (step.Resume now) answer next =
+    (result : Result (Option ℕ) IssueError) × (answer ≡ answer_to result) × IsResumed s log.history (min now 253402300799999) result next.history
+    × (next.durable ≡ log.durable)
+-- a stop leaves a prefix that has the durable commands
+IsStep s log (step.Stop choice) (answer.Number n) next =
+    (log.durable ≤ n) × (n ≤ length log.history) × (next ≡ record { history = take n log.history; durable = n })
+IsStep s log step answer next = ⊥
+
+-- one step after another
+abbrev pub IsRun : Settings → Log → List Step → List StepAnswer → Log → Type 0
+IsRun s log [] [] end = end ≡ log
+IsRun s log (step ∷ steps) (answer ∷ answers) end = (next : Log) × IsStep s log step answer next × IsRun s next steps answers end
+IsRun s log steps answers end = ⊥

@@ -1,0 +1,38 @@
+-- A step of a script, by the brokers before and after it.
+use Rattle.std.specs.Prelude.{◌≡◌, ◌⊎◌, ℕ, ◌≤◌, List, length, take}
+use Rattle.sector_disk.specs.declared.disk.Disk.{Ghosts}
+use Rattle.sector_disk.specs.declared.memory.MemDisk.{MemDisk}
+use Rattle.sector_disk.specs.Memory.{memory_view}
+use Rattle.retry_rules.specs.declared.settings.Settings.{Settings}
+use Rattle.invoke_records.specs.declared.command.Command.{Command}
+use Rattle.checkpoint.specs.declared.error.OpenError.{OpenError}
+use Rattle.checkpoint.specs.declared.error.OpenError.TheVariants.{Fault, OutOfMemory}
+use Rattle.group_commit.specs.declared.broker.Broker.{Broker}
+use Rattle.group_commit.specs.declared.script.Step.{Step}
+use Rattle.group_commit.specs.declared.script.StepAnswer.{StepAnswer}
+use Rattle.group_commit.specs.Broker.{settings_of, durable_of, Stands}
+use Rattle.group_commit.specs.Drill.{Log, IsStep, IsRun}
+
+-- the step that answers so leads from a broker that stands for the history to one that stands for the next log
+pub record LeadsOn {g : Ghosts MemDisk} (old : Broker MemDisk g) (history : List Command) (step : Step) (answer : StepAnswer) (new : Broker MemDisk g) : Type 0 where
+  pub next : Log
+  pub step_is : IsStep (settings_of old) (record { history = history; durable = durable_of old }) step answer next
+  pub settings : settings_of new ≡ settings_of old
+  pub durable : durable_of new ≡ next.durable
+  pub stands : Stands memory_view new next.history
+
+-- a script was run on a disk of which each image was a legal stop: its answers are those of one history, which begins with
+-- what the opening recovered, and the broker stands for what that history came to
+pub record IsDrilled {g : Ghosts MemDisk} (s : Settings) (history : List Command) (durable : ℕ) (steps : List Step) (answers : List StepAnswer) (broker : Broker MemDisk g) : Type 0 where
+  pub opened : ℕ
+  pub least : durable ≤ opened
+  pub most : opened ≤ length history
+  pub end : Log
+  pub run : IsRun s (record { history = take opened history; durable = opened }) steps answers end
+  pub settings : settings_of broker ≡ s
+  pub durable_is : durable_of broker ≡ end.durable
+  pub stands : Stands memory_view broker end.history
+
+-- what may cut a script off: the device, which is memory here too, or memory
+abbrev pub IsCutOff : OpenError → Type 0
+IsCutOff why = (why ≡ Fault) ⊎ (why ≡ OutOfMemory)

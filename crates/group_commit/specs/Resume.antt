@@ -1,0 +1,41 @@
+-- What marks an attempt that a stop cut off.
+use Rattle.std.specs.Prelude.{◌≡◌, ℕ, ◌+◌, ◌^◌, ◌≤◌, true, List, [], ◌∷◌, ◌++◌, length, max, Option, Some, None, Result, Ok, Err}
+use Rattle.retry_rules.specs.declared.settings.Settings.{Settings}
+use Rattle.invoke_records.specs.declared.command.Command.{Command}
+use Rattle.invoke_records.specs.declared.command.Kind.TheVariants.{Interrupt}
+use Rattle.async_core.specs.History.{refusal_of, last_moment}
+use Rattle.async_core.specs.Choice.{IsFirstRunning}
+use Rattle.sector_disk.specs.declared.disk.Disk.{Ghosts}
+use Rattle.group_commit.specs.declared.broker.Broker.{Broker}
+use Rattle.group_commit.specs.declared.error.IssueError.{IssueError}
+use Rattle.group_commit.specs.declared.error.IssueError.TheVariants as issue_error
+use Rattle.group_commit.specs.Broker.{issued_of, pending_of, is_broken}
+
+-- the command that says that an event's attempt was cut off
+abbrev pub interrupt_at : List ℕ → ℕ → Command
+interrupt_at id time = record { kind = Interrupt; id = id; environment = 0; time = time; bytes = [] }
+
+-- that of an event, at this moment or the history's last one, whichever is later
+abbrev pub interrupt_of : List Command → ℕ → ℕ × List ℕ → Command
+interrupt_of history now event = interrupt_at event.1 (max now (last_moment history))
+
+-- a refusal of the broker's own
+abbrev pub IsOwn : IssueError → Type 0
+IsOwn (issue_error.Illegal why) = ⊥
+IsOwn why = Unit {0}
+
+-- what a resumption answers after this history, and the history behind it: nothing where nothing runs, else the number of
+-- the Interrupt for the running event that was accepted first
+abbrev pub IsResumed : Settings → List Command → ℕ → Result (Option ℕ) IssueError → List Command → Type 0
+IsResumed s history now (Ok None) next = IsFirstRunning s history 0 None × (next ≡ history)
+IsResumed s history now (Ok (Some number)) next =
+    (event : ℕ × List ℕ) × IsFirstRunning s history 0 (Some event) × (refusal_of s history (interrupt_of history now event) ≡ None)
+    × (number ≡ length history + 1) × (next ≡ history ++ interrupt_of history now event ∷ [])
+IsResumed s history now (Err why) next = IsOwn why × (next ≡ history)
+
+-- why a resumption was refused, by the broker alone
+abbrev pub IsOwnReason : {D : Type 0} {g : Ghosts D} → Broker D g → IssueError → Type 0
+IsOwnReason broker issue_error.Broken = is_broken broker ≡ true
+IsOwnReason broker issue_error.WornOut = 2 ^ 62 ≤ issued_of broker
+IsOwnReason broker issue_error.Backlog = length (pending_of broker) ≡ 256
+IsOwnReason broker why = Unit {0}

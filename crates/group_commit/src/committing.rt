@@ -1,0 +1,90 @@
+// Committing: all that is pending becomes durable by one frame.
+ghost use Rattle.std.specs.Prelude.{◌≡◌, ◌⊎◌, ◌≤◌, ◌↔◌, [], List, ℕ, length, true, false, Some, Ok, Err, IsTrue, IsErrOf, OnOk, OnErr, IfOk};
+ghost use Rattle.sector_disk.specs.Disk.{IsSameDisk, HasRisen};
+ghost use Rattle.sector_disk.specs.Moments.{LeavesOnly};
+ghost use Rattle.invoke_records.specs.declared.command.Command.{Command};
+ghost use Rattle.invoke_records.specs.declared.snapshot.Snapshot.{Snapshot};
+ghost use Rattle.invoke_records.specs.Spelling.{commands_text};
+ghost use Rattle.async_core.specs.Rules.{replay};
+ghost use Rattle.checkpoint.specs.Live.{fits, RecoversTo, IsLive};
+ghost use Rattle.group_commit.specs.declared.error.CommitError.TheVariants as commit_error;
+ghost use Rattle.group_commit.specs.Broker.{disk_of, settings_of, table_in, issued_of, pending_of, durable_of, is_broken, opened_of, Stands, IsSameBroker, Commits, Breaks};
+ghost use Rattle.group_commit.specs.History.{IsLegalStop};
+
+use crate::{Broker, CommitError, Durable};
+use checkpoint::AppendError;
+use sector_disk::Disk;
+
+impl<D: Disk> Broker<D> {
+    // `commit` of a broker that is not broken, by its live segment.
+    fn write(&mut self) -> Result<Durable, CommitError>
+        requires { is_broken self.old ≡ false }
+        ensures same { IsSameDisk (D.view (disk_of self.old)) (D.view (disk_of self.new)) }
+        ensures later { D.fault_count (disk_of self.old) ≤ D.fault_count (disk_of self.new) }
+        ensures fault { IsErrOf result CommitError.Fault → HasRisen (D.fault_count (disk_of self.old)) (D.fault_count (disk_of self.new)) }
+        ensures nothing { pending_of self.old ≡ [] → (result ≡ Ok (durable_of self.old)) × (disk_of self.new ≡ disk_of self.old) }
+        ensures ok { IfOk result (λ durable. Commits self.old self.new durable) }
+        ensures breaks { result ≡ Err commit_error.Fault → Breaks self.old self.new }
+        ensures no_room { result ≡ Err commit_error.NoRoom → fits (opened_of self.old) (length (commands_text (pending_of self.old))) ≡ false }
+        ensures not_broken { result ≡ Err commit_error.Broken → is_broken self.old ≡ true }
+        ensures kept { OnErr result (result ≡ Err commit_error.Fault ⊎ IsSameBroker self.old self.new) }
+
+        ensures acknowledged { (D.view (disk_of self.old)).honest → (before after : Snapshot) → IsLive (D.view (disk_of self.old)) (opened_of self.old) before
+            → replay (settings_of self.old) before (pending_of self.old) ≡ Some after → OnOk result (IsLive (D.view (disk_of self.new)) (opened_of self.new) after) }
+        ensures any_moment { (D.view (disk_of self.old)).honest → (before after : Snapshot) → IsLive (D.view (disk_of self.old)) (opened_of self.old) before
+            → replay (settings_of self.old) before (pending_of self.old) ≡ Some after
+            → LeavesOnly (D.view (disk_of self.old)) (D.view (disk_of self.new)) (λ image. RecoversTo (settings_of self.old) before image ⊎ RecoversTo (settings_of self.old) after image) }
+    {
+        if self.pending.is_empty() {
+            return Ok(Durable::new(self.durable));
+        }
+        match self
+            .opened
+            .append(self.alloc, &mut self.disk, &self.pending)
+        {
+            Ok(()) => {
+                self.durable = self.table.number();
+                self.pending.clear();
+                Ok(Durable::new(self.durable))
+            }
+            Err(AppendError::NoRoom) => Err(CommitError::NoRoom),
+            Err(AppendError::OutOfMemory) => Err(CommitError::OutOfMemory),
+            Err(AppendError::Fault) => {
+                self.broken = true;
+                Err(CommitError::Fault)
+            }
+        }
+    }
+
+    /// Makes all that is pending durable, by one frame: two writes and two barriers, whatever the number of commands. With
+    /// nothing pending the disk is not called.
+    ///
+    /// It is refused, and then all that was pending stays so: `Broken`, `NoRoom` (the frame does not fit into the
+    /// segment), `OutOfMemory`, and `Fault`, after which the broker is broken until its disk is closed and opened again.
+    pub fn commit(&mut self) -> Result<Durable, CommitError>
+        ensures same { IsSameDisk (D.view (disk_of self.old)) (D.view (disk_of self.new)) }
+        ensures later { D.fault_count (disk_of self.old) ≤ D.fault_count (disk_of self.new) }
+        ensures fault { IsErrOf result CommitError.Fault → HasRisen (D.fault_count (disk_of self.old)) (D.fault_count (disk_of self.new)) }
+        ensures broken { (result ≡ Err commit_error.Broken) ↔ (is_broken self.old ≡ true) }
+        ensures nothing { is_broken self.old ≡ false → pending_of self.old ≡ [] → (result ≡ Ok (durable_of self.old)) × (disk_of self.new ≡ disk_of self.old) }
+        ensures no_room { result ≡ Err commit_error.NoRoom → fits (opened_of self.old) (length (commands_text (pending_of self.old))) ≡ false }
+
+        // At Ok all that was pending is durable. A fault breaks the broker, and any other refusal changes nothing.
+        ensures ok { IfOk result (λ durable. Commits self.old self.new durable) }
+        ensures breaks { result ≡ Err commit_error.Fault → Breaks self.old self.new }
+        ensures kept { OnErr result (result ≡ Err commit_error.Fault ⊎ IsSameBroker self.old self.new) }
+
+        // The broker stands for the same history after it, also after a fault, and after an Ok with all of it durable.
+        ensures stands { (history : List Command) → Stands D.view self.old history → Stands D.view self.new history }
+        ensures acknowledged { (history : List Command) → Stands D.view self.old history → IfOk result (λ durable. (durable ≡ length history) × (durable_of self.new ≡ length history)) }
+
+        // A stop at any moment of the call leaves a legal stop of the history.
+        ensures any_moment { (D.view (disk_of self.old)).honest → (history : List Command) → Stands D.view self.old history
+            → LeavesOnly (D.view (disk_of self.old)) (D.view (disk_of self.new)) (IsLegalStop (settings_of self.old) history (durable_of self.old)) }
+    {
+        if self.broken {
+            return Err(CommitError::Broken);
+        }
+        self.write()
+    }
+}

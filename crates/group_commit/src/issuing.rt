@@ -1,0 +1,94 @@
+// Issuing commands: they are applied to the table and pending until they are committed.
+ghost use Rattle.std.specs.Prelude.{◌≡◌, ◌⊎◌, ◌+◌, ◌<◌, ◌≤◌, ◌^◌, ◌++◌, [], ◌∷◌, List, ℕ, length, false, None, Some, Err, IsTrue, IsOkUnless, OnErr, IfOk, IfErr};
+ghost use Rattle.sector_disk.specs.Moments.{LeavesOnly};
+ghost use Rattle.invoke_records.specs.declared.command.Command.{Command};
+ghost use Rattle.async_core.specs.declared.illegal.Illegal.{Illegal};
+ghost use Rattle.async_core.specs.Rules.{refusal_at};
+ghost use Rattle.async_core.specs.History.{refusal_of};
+ghost use Rattle.group_commit.specs.declared.error.IssueError.TheVariants as issue_error;
+ghost use Rattle.group_commit.specs.Broker.{disk_of, settings_of, table_in, issued_of, pending_of, durable_of, is_broken, Stands, IsSameBroker, Issues, IsReason};
+ghost use Rattle.group_commit.specs.History.{IsLegalStop};
+
+use crate::broker::{MOST_COMMANDS, MOST_PENDING};
+use crate::{Broker, IssueError, Ticket};
+use async_core::{ApplyError, Table};
+use invoke_records::Command;
+use sector_disk::Disk;
+
+// Why a command is refused: it is not legal now, or else this.
+fn refusal(table: &Table, command: &Command, otherwise: IssueError) -> IssueError
+    ensures either { ((result ≡ otherwise) × (refusal_at table.now.settings table.now.table command.now ≡ None)) ⊎ ((why : Illegal) × (result ≡ issue_error.Illegal why) × (refusal_at table.now.settings table.now.table command.now ≡ Some why)) }
+    ensures illegal { (why : Illegal) → refusal_at table.now.settings table.now.table command.now ≡ Some why → result ≡ issue_error.Illegal why }
+    ensures legal { refusal_at table.now.settings table.now.table command.now ≡ None → result ≡ otherwise }
+{
+    match table.judge(command) {
+        Ok(()) => otherwise,
+        Err(why) => IssueError::Illegal(why),
+    }
+}
+
+impl<D: Disk> Broker<D> {
+    // `issue`, by the table alone.
+    fn take(&mut self, command: Command) -> Result<Ticket, IssueError>
+        ensures broken { IsTrue (is_broken self.old) → result ≡ Err issue_error.Broken }
+        ensures worn_out { is_broken self.old ≡ false → 2 ^ 62 ≤ issued_of self.old → result ≡ Err issue_error.WornOut }
+        ensures illegal { is_broken self.old ≡ false → issued_of self.old < 2 ^ 62 → (why : Illegal) → refusal_at (settings_of self.old) (table_in self.old) command ≡ Some why → result ≡ Err (issue_error.Illegal why) }
+        ensures backlog { is_broken self.old ≡ false → issued_of self.old < 2 ^ 62 → refusal_at (settings_of self.old) (table_in self.old) command ≡ None → length (pending_of self.old) ≡ 256 → result ≡ Err issue_error.Backlog }
+        ensures accepted { is_broken self.old ≡ false → issued_of self.old < 2 ^ 62 → refusal_at (settings_of self.old) (table_in self.old) command ≡ None → length (pending_of self.old) < 256 → IsOkUnless result issue_error.OutOfMemory }
+
+        ensures reason { IfErr result (IsReason self.old command) }
+        ensures no_call { disk_of self.new ≡ disk_of self.old }
+        ensures ok { IfOk result (λ ticket. Issues self.old self.new command ticket) }
+        ensures err { OnErr result (IsSameBroker self.old self.new) }
+    {
+        if self.broken {
+            return Err(IssueError::Broken);
+        }
+        if self.table.number() >= MOST_COMMANDS {
+            return Err(IssueError::WornOut);
+        }
+        if self.pending.len() >= MOST_PENDING {
+            return Err(refusal(&self.table, &command, IssueError::Backlog));
+        }
+        if self.pending.reserve(1).is_err() {
+            return Err(refusal(&self.table, &command, IssueError::OutOfMemory));
+        }
+        match self.table.apply(&command) {
+            Ok(()) => {
+                self.pending.push_reserved(command);
+                Ok(Ticket::new(self.table.number()))
+            }
+            Err(ApplyError::Illegal(why)) => Err(IssueError::Illegal(why)),
+            Err(ApplyError::OutOfMemory) => Err(IssueError::OutOfMemory),
+        }
+    }
+
+    /// Applies a command that is legal now, and keeps it pending: it is not durable before it is committed.
+    ///
+    /// It is refused, and then changes nothing: `Broken`, `WornOut` (2^62 commands were issued), `Illegal` with the first
+    /// check that fails, `Backlog` (256 commands are pending), `OutOfMemory`, in that order. The disk is not called.
+    pub fn issue(&mut self, command: Command) -> Result<Ticket, IssueError>
+        ensures broken { IsTrue (is_broken self.old) → result ≡ Err issue_error.Broken }
+        ensures worn_out { is_broken self.old ≡ false → 2 ^ 62 ≤ issued_of self.old → result ≡ Err issue_error.WornOut }
+        ensures illegal { is_broken self.old ≡ false → issued_of self.old < 2 ^ 62 → (why : Illegal) → refusal_at (settings_of self.old) (table_in self.old) command ≡ Some why → result ≡ Err (issue_error.Illegal why) }
+        ensures backlog { is_broken self.old ≡ false → issued_of self.old < 2 ^ 62 → refusal_at (settings_of self.old) (table_in self.old) command ≡ None → length (pending_of self.old) ≡ 256 → result ≡ Err issue_error.Backlog }
+        ensures accepted { is_broken self.old ≡ false → issued_of self.old < 2 ^ 62 → refusal_at (settings_of self.old) (table_in self.old) command ≡ None → length (pending_of self.old) < 256 → IsOkUnless result issue_error.OutOfMemory }
+
+        ensures reason { IfErr result (IsReason self.old command) }
+        ensures no_call { disk_of self.new ≡ disk_of self.old }
+        ensures ok { IfOk result (λ ticket. Issues self.old self.new command ticket) }
+        ensures err { OnErr result (IsSameBroker self.old self.new) }
+
+        // Where the broker stands for a history, it accepts what is legal after it, and then stands for it with the command.
+        ensures stands { (history : List Command) → Stands D.view self.old history → IfOk result (λ ticket. (refusal_of (settings_of self.old) history command ≡ None)
+            × (ticket ≡ length history + 1) × Stands D.view self.new (history ++ command ∷ [])) }
+        ensures refused { (history : List Command) → Stands D.view self.old history → (why : Illegal) → result ≡ Err (issue_error.Illegal why) → refusal_of (settings_of self.old) history command ≡ Some why }
+        ensures stands_refused { (history : List Command) → Stands D.view self.old history → OnErr result (Stands D.view self.new history) }
+
+        // A stop at any moment of the call leaves a legal stop of the history.
+        ensures any_moment { (D.view (disk_of self.old)).honest → (history : List Command) → Stands D.view self.old history
+            → LeavesOnly (D.view (disk_of self.old)) (D.view (disk_of self.new)) (IsLegalStop (settings_of self.old) history (durable_of self.old)) }
+    {
+        self.take(command)
+    }
+}

@@ -1,0 +1,23 @@
+//! The broker: commands are issued into memory, committed in groups, and recovered after a stop.
+//!
+//! A broker stands for a history, the list of all commands issued since the disk was formatted, and a durable number.
+//! The crates above use that at each moment of each call every image of the disk recovers to a legal stop: the table
+//! after a prefix of that history with at least the durable commands.
+#![tactic(auto)]
+
+mod broker;
+mod committing;
+mod drilling;
+mod error;
+mod issuing;
+mod recovery;
+mod resuming;
+mod script;
+mod token;
+
+pub use broker::Broker;
+pub use checkpoint::{FormatError, OpenError, format};
+pub use drilling::drill;
+pub use error::{CommitError, IssueError, OpenFailure};
+pub use script::{Drill, DrillFailure, Step, StepAnswer};
+pub use token::{Durable, Receipt, Ticket};

@@ -1,0 +1,63 @@
+// What a disk recovers to, as a table.
+ghost use Rattle.std.specs.Prelude.{◌≡◌, ◌+◌, ◌≤◌, ◌^◌, List, length, None, Some, Err, IsErrOf, IsSome, OnOk, IfOk};
+ghost use Rattle.sector_disk.specs.Disk.{IsSameDisk, HasRisen};
+ghost use Rattle.sector_disk.specs.Moments.{LeavesOnly};
+ghost use Rattle.group_commit.specs.History.{AreGood};
+ghost use Rattle.async_core.specs.Rules.{replay};
+ghost use Rattle.checkpoint.specs.declared.error.OpenError.TheVariants as open_error;
+ghost use Rattle.checkpoint.specs.Image.{recovered};
+ghost use Rattle.checkpoint.specs.Live.{settings_of, number_of, end_of, RecoversTo, IsLive};
+
+use async_core::{ApplyError, Table};
+use checkpoint::{OpenError, Opened};
+use invoke_records::Command;
+use sector_disk::Disk;
+use std::alloc::{AllocError, Global};
+
+// Applies commands that are legal, each after those before it.
+fn apply_all(table: &mut Table, commands: &[Command]) -> Result<(), AllocError>
+    requires legal { IsSome (replay table.old.settings table.old.table commands.now) }
+    requires below { table.old.table.number + length commands.now ≤ 2 ^ 62 }
+    ensures settings { table.new.settings ≡ table.old.settings }
+    ensures replayed { OnOk result (replay table.old.settings table.old.table commands.now ≡ Some table.new.table) }
+    ensures number { OnOk result (table.new.table.number ≡ table.old.table.number + length commands.now) }
+{
+    for command in commands {
+        match table.apply(command) {
+            Ok(()) => {}
+            Err(ApplyError::OutOfMemory) => return Err(AllocError),
+            Err(ApplyError::Illegal(_)) => unreachable!(),
+        }
+    }
+    Ok(())
+}
+
+// Opens a disk: its live segment, and the table after each command behind an open gate.
+pub(crate) fn recover<D: Disk>(alloc: Global, disk: &mut D) -> Result<(Opened, Table), OpenError>
+    ensures same { IsSameDisk (D.view disk.old) (D.view disk.new) }
+    ensures later { D.fault_count disk.old ≤ D.fault_count disk.new }
+    ensures fault { IsErrOf result OpenError.Fault → HasRisen (D.fault_count disk.old) (D.fault_count disk.new) }
+    ensures any_moment { (D.view disk.old).honest → LeavesOnly (D.view disk.old) (D.view disk.new) (D.view disk.old).may_leave }
+
+    ensures settings { IfOk result (λ r. r.1.settings ≡ settings_of r.0) }
+    ensures good { IfOk result (λ r. AreGood (settings_of r.0)) }
+    ensures end { IfOk result (λ r. end_of r.0 ≤ (D.view disk.new).sectors) }
+    ensures number { IfOk result (λ r. number_of r.0 ≡ r.1.table.number + 1) }
+    ensures below { IfOk result (λ r. r.1.table.number ≤ 2 ^ 62) }
+
+    ensures live { (D.view disk.old).honest → IfOk result (λ r. RecoversTo (settings_of r.0) r.1.table (D.view disk.old).content × IsLive (D.view disk.new) r.0 r.1.table) }
+    ensures not_formatted { (D.view disk.old).honest → IsErrOf result OpenError.NotFormatted → recovered (D.view disk.old).content ≡ Err open_error.NotFormatted }
+    ensures damaged { (D.view disk.old).honest → (sector : _) → result ≡ Err (open_error.Damaged sector) → recovered (D.view disk.old).content ≡ Err (open_error.Damaged sector) }
+{
+    let (opened, snapshot, commands) = checkpoint::open(alloc, disk)?;
+    let Ok(settings) = opened.settings().copy() else {
+        return Err(OpenError::OutOfMemory);
+    };
+    let Ok(mut table) = Table::from_snapshot(alloc, snapshot, settings) else {
+        return Err(OpenError::OutOfMemory);
+    };
+    match apply_all(&mut table, &commands) {
+        Ok(()) => Ok((opened, table)),
+        Err(AllocError) => Err(OpenError::OutOfMemory),
+    }
+}

@@ -1,0 +1,60 @@
+// Resuming after a stop: attempts that it cut off are marked as interrupted.
+ghost use Rattle.std.specs.Prelude.{◌≡◌, ◌≤◌, List, ℕ, max, true, Err, IfErr, IsTrue};
+ghost use Rattle.sector_disk.specs.Moments.{LeavesOnly};
+ghost use Rattle.invoke_records.specs.declared.command.Command.{Command};
+ghost use Rattle.group_commit.specs.declared.error.IssueError.TheVariants as issue_error;
+ghost use Rattle.group_commit.specs.Broker.{disk_of, settings_of, durable_of, is_broken, Stands};
+ghost use Rattle.group_commit.specs.History.{IsLegalStop};
+ghost use Rattle.group_commit.specs.Resume.{interrupt_at, IsResumed, IsOwnReason};
+
+use crate::{Broker, IssueError, Ticket};
+use invoke_records::{Bytes, Command, Kind};
+use sector_disk::Disk;
+use std::alloc::Global;
+
+// The command that says that an event's attempt was cut off.
+fn interrupt(alloc: Global, id: [u8; 16], time: u64) -> Command
+    ensures { result ≡ interrupt_at id time }
+{
+    Command {
+        kind: Kind::Interrupt,
+        id,
+        environment: 0,
+        time,
+        bytes: Bytes::empty(alloc),
+    }
+}
+
+impl<D: Disk> Broker<D> {
+    /// Issues an Interrupt for the running event that was accepted first, at `now` (milliseconds since 1970) or at the last
+    /// command's moment, whichever is later; answers None exactly where nothing runs. Called until then after an opening, it
+    /// leaves each event waiting, due again or ended: the attempts that a stop cut off are pushed back and use no retry.
+    ///
+    /// It is refused as `issue` is, but never as `Illegal`, and then changes nothing.
+    pub fn resume(&mut self, now: u64) -> Result<Option<Ticket>, IssueError>
+        requires { now ≤ 253402300799999 }
+        ensures broken { IsTrue (is_broken self.old) → result ≡ Err issue_error.Broken }
+        ensures reason { IfErr result (IsOwnReason self.old) }
+        ensures settings { settings_of self.new ≡ settings_of self.old }
+        ensures durable { durable_of self.new ≡ durable_of self.old }
+        ensures no_call { disk_of self.new ≡ disk_of self.old }
+        ensures resumes { (history : List Command) → Stands D.view self.old history → (next : List Command) × IsResumed (settings_of self.old) history now result next × Stands D.view self.new next }
+
+        // A stop at any moment of the call leaves a legal stop of the history.
+        ensures any_moment { (D.view (disk_of self.old)).honest → (history : List Command) → Stands D.view self.old history
+            → LeavesOnly (D.view (disk_of self.old)) (D.view (disk_of self.new)) (IsLegalStop (settings_of self.old) history (durable_of self.old)) }
+    {
+        if self.broken {
+            return Err(IssueError::Broken);
+        }
+        let Some(first) = self.table.next_running(0) else {
+            return Ok(None);
+        };
+        let id = first.1;
+        let time = now.max(self.table.last_moment());
+        match self.issue(interrupt(self.alloc, id, time)) {
+            Ok(ticket) => Ok(Some(ticket)),
+            Err(why) => Err(why),
+        }
+    }
+}

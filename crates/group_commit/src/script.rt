@@ -1,0 +1,43 @@
+// Scripts of steps, and what they answer.
+use crate::{Broker, CommitError, IssueError};
+use checkpoint::OpenError;
+use invoke_records::Command;
+use sector_disk::MemDisk;
+
+/// A step of a script.
+#[derive(Debug, Drop)]
+pub enum Step {
+    Issue(Command),
+    Commit,
+    /// The running event that was accepted first is marked as interrupted, at this moment (milliseconds since 1970, one past
+    /// the greatest is taken as that) or the last command's, whichever is later.
+    Resume(u64),
+    /// The disk stops: an unsettled sector that is listed takes the listed bytes. Then it is opened again.
+    Stop(Vec<(u64, [u8; 512])>),
+}
+
+/// What a step answered.
+#[derive(Clone, Copy, Debug, PartialEq, Eq)]
+pub enum StepAnswer {
+    /// The number of the command that was issued (0 where a resumption found nothing that runs), how many commands are
+    /// durable after a commit, or how many were recovered after a stop.
+    Number(u64),
+    IssueRefused(IssueError),
+    CommitRefused(CommitError),
+}
+
+/// A script that was run to its end.
+#[derive(Drop)]
+pub struct Drill {
+    /// One for each step.
+    pub answers: Vec<StepAnswer>,
+    pub broker: Broker<MemDisk>,
+}
+
+/// A script that was cut off, since a disk was not opened or memory ran out.
+#[derive(Clone, Copy, Debug, PartialEq, Eq)]
+pub struct DrillFailure {
+    /// How many steps were done before: 0 also for the first opening.
+    pub step: usize,
+    pub cause: OpenError,
+}
