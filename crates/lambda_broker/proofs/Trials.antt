@@ -1,0 +1,38 @@
+-- The history of the trial, step by step.
+use Rattle.std.proofs.Common.{◌≡◌, ℕ, ◌≤◌, List, [], ◌∷◌, length, take, Result, Ok, Err, refl, sym, ap, subst, ◌∙◌, arith}
+use Rattle.std.specs.Prelude.{IfOk}
+use Rattle.sector_disk.specs.Disk.{DiskView, HasOneImage}
+use Rattle.invoke_records.specs.declared.command.Command.{Command}
+use Rattle.invoke_records.specs.declared.snapshot.Snapshot.{Snapshot}
+use Rattle.invoke_records.specs.declared.row.Standing.TheVariants as standing
+use Rattle.async_core.specs.Rules.{empty_table}
+use Rattle.async_core.specs.History.{standing_in, table_of}
+use Rattle.async_core.specs.Laws.{table_of-nil}
+use Rattle.async_core.specs.Lives.{life}
+use Rattle.checkpoint.specs.Live.{RecoversTo}
+use Rattle.group_commit.specs.History.{IsLegalStop}
+use Rattle.lambda_broker.specs.Trial.{trial_settings, trial_acceptance}
+
+-- what is Ok was Ok before
+pub ok_from : {T E F : Type 0} (P : T → Type 0) (before : Result T F) (after : Result T E) → IfOk after (λ x. before ≡ Ok x) → IfOk before P → IfOk after P
+ok_from P before (Ok x) same is = subst (λ (r : Result _ _). IfOk r P) same is
+ok_from P before (Err e) same is = tt
+
+-- each image of a formatted disk is a legal stop of nothing
+pub formatted_stops : (disk : DiskView) → HasOneImage disk → RecoversTo trial_settings empty_table disk.content → (image : List ℕ) → disk.may_leave image → IsLegalStop trial_settings [] 0 image
+formatted_stops disk one recovers image left = record {
+  size = 0;
+  least = omega arith;
+  most = omega arith;
+  recovers = subst (λ (x : List ℕ). RecoversTo trial_settings (table_of trial_settings []) x) (sym (one image left)) (subst (λ (t : Snapshot). RecoversTo trial_settings t disk.content) (sym (table_of-nil trial_settings)) recovers);
+}
+
+-- where the accepted event stands
+pub accepted_standing : standing_in trial_settings (trial_acceptance ∷ []) trial_acceptance.id ≡ standing.Waiting 1573755365568
+unfolding standing_in life
+accepted_standing = refl
+
+-- two facts of what is Ok
+pub if_ok_both : {T E : Type 0} (P Q R : T → Type 0) (r : Result T E) → ((x : T) → P x → Q x → R x) → IfOk r P → IfOk r Q → IfOk r R
+if_ok_both P Q R (Ok x) step p q = step x p q
+if_ok_both P Q R (Err e) step p q = tt

@@ -1,0 +1,128 @@
+// The words of the command line, and what is printed for them.
+use crate::trial::{Trial, TrialError, run_trial};
+use clap::{Command, Error};
+use invoke_records::Standing;
+use std::alloc::{AllocError, Global};
+use std::io;
+use std::io::Write;
+use uuid::Uuid;
+
+/// The command did what it was asked to.
+const DONE: u8 = 0;
+/// The disk is damaged, or the request was refused.
+const REFUSED: u8 = 1;
+/// The words are no command.
+const USAGE: u8 = 2;
+/// The device failed.
+const DEVICE: u8 = 3;
+
+// A command of the program.
+enum Task {
+    Trial,
+}
+
+fn commands<'a>(alloc: Global) -> Result<Command<'a>, AllocError> {
+    let trial = Command::new(alloc, "trial").about(
+        "Accept, commit and recover one event on a disk in memory",
+    );
+    Command::new(alloc, "lambda_broker")
+        .about("A broker for asynchronous invocations of one function")
+        .subcommand_required(true)
+        .subcommand(trial)
+}
+
+fn read_task(alloc: Global, words: &[String]) -> Result<Option<Task>, Error> {
+    let matches = commands(alloc)?.try_get_matches_from(words)?;
+    match matches.subcommand() {
+        Some(("trial", _)) => Ok(Some(Task::Trial)),
+        _ => Ok(None),
+    }
+}
+
+/// Does what the words say, the first of which is the program's name, prints it to `out`, and answers the status: 0 done,
+/// 1 damaged or refused, 2 usage, 3 device.
+pub fn run<W: Write>(alloc: Global, words: &[String], out: &mut W) -> io::Result<u8> {
+    match read_task(alloc, words) {
+        Ok(Some(Task::Trial)) => print_trial(run_trial(alloc), out),
+        Ok(None) => Ok(USAGE),
+        Err(fault) => {
+            write!(out, "{fault}")?;
+            Ok(if fault.exit_code() == 0 { DONE } else { USAGE })
+        }
+    }
+}
+
+fn print_trial<W: Write>(outcome: Result<Trial, TrialError>, out: &mut W) -> io::Result<u8> {
+    match outcome {
+        Ok(done) => {
+            let mut buffer = Uuid::encode_buffer();
+            let id = Uuid::from_bytes(done.id)
+                .hyphenated()
+                .encode_lower(&mut buffer);
+            let accepted = done.accepted;
+            let durable = done.durable;
+            writeln!(out, "accepted {accepted} {id}")?;
+            writeln!(out, "durable {durable}")?;
+            print_standing(done.standing, out)?;
+            Ok(DONE)
+        }
+        Err(TrialError::Fault) => {
+            writeln!(out, "device fault")?;
+            Ok(DEVICE)
+        }
+        Err(fault) => {
+            writeln!(out, "refused: {fault}")?;
+            Ok(REFUSED)
+        }
+    }
+}
+
+// Where the event stood after its disk was opened again.
+fn print_standing<W: Write>(standing: Standing, out: &mut W) -> io::Result<()> {
+    match standing {
+        Standing::Unknown => writeln!(out, "recovered unknown"),
+        Standing::Waiting { due } => writeln!(out, "recovered waiting due {due}"),
+        Standing::DueAgain { due } => writeln!(out, "recovered due again due {due}"),
+        Standing::Running { deadline, .. } => writeln!(out, "recovered running until {deadline}"),
+        Standing::Ended { at, .. } => writeln!(out, "recovered ended at {at}"),
+    }
+}
+
+#[cfg(test)]
+mod tests {
+    use super::*;
+    use std::test::Fail;
+
+    // What is printed for these words behind the program's name, and the status.
+    fn printed(alloc: Global, words: &[&str]) -> Result<(u8, String), Fail> {
+        let mut all = Vec::new(alloc);
+        for word in words {
+            all.push(String::from_str(alloc, word)?)?;
+        }
+        let mut out: Vec<u8> = Vec::new(alloc);
+        let status = run(alloc, all.as_slice(), &mut out)?;
+        Ok((status, String::from_utf8_lossy(alloc, out.as_slice())?))
+    }
+
+    #[test]
+    fn the_trial_prints_three_lines(rt: HostRuntime) -> Result<(), Fail> {
+        let (status, text) = printed(rt.alloc(), &["lambda_broker", "trial"])?;
+        assert_eq!(rt; status, 0);
+        assert_eq!(rt;
+            text.as_str(),
+            "accepted 1 00000000-0000-4000-8000-000000000001\ndurable 1\nrecovered waiting due 1573755365568\n"
+        );
+        Ok(())
+    }
+
+    #[test]
+    fn no_words_and_unknown_ones_are_a_usage_fault(rt: HostRuntime) -> Result<(), Fail> {
+        let (status, text) = printed(rt.alloc(), &["lambda_broker"])?;
+        assert_eq!(rt; status, 2);
+        assert!(rt; !text.is_empty());
+        let (status, text) = printed(rt.alloc(), &["lambda_broker", "juggle"])?;
+        assert_eq!(rt; status, 2);
+        assert!(rt; !text.is_empty());
+        Ok(())
+    }
+}

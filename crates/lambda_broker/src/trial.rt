@@ -1,0 +1,180 @@
+// One event accepted, committed and recovered, on a disk in memory.
+ghost use Rattle.std.specs.Prelude.{◌≡◌, List, ℕ, length, Ok, IfOk};
+ghost use Rattle.sector_disk.specs.Memory.{memory_view};
+ghost use Rattle.invoke_records.specs.declared.command.Command.{Command};
+ghost use Rattle.invoke_records.specs.declared.row.Standing.TheVariants as standing;
+ghost use Rattle.async_core.specs.History.{IsLegal};
+ghost use Rattle.group_commit.specs.History.{IsLegalStop};
+ghost use Rattle.group_commit.specs.Broker.{settings_of, durable_of, Stands};
+ghost use Rattle.lambda_broker.specs.Trial.{trial_settings, trial_acceptance};
+
+use group_commit::{Broker, CommitError, FormatError, IssueError, OpenError, OpenFailure, format};
+use invoke_records::{Bytes, Command, Kind, Standing};
+use retry_rules::{Settings, Text};
+use sector_disk::MemDisk;
+use std::alloc::{AllocError, Global};
+use thiserror::Error;
+
+/// The event's id.
+const ID: [u8; 16] = [0, 0, 0, 0, 0, 0, 64, 0, 128, 0, 0, 0, 0, 0, 0, 1];
+
+/// When it is accepted, in milliseconds since 1970.
+const ACCEPTED_AT: u64 = 1573755365568;
+
+/// How many sectors the disk has.
+const SECTORS: u64 = 64;
+
+/// What became of the event.
+#[derive(Clone, Copy, Debug)]
+pub struct Trial {
+    pub id: [u8; 16],
+    /// The number of the command that accepted it.
+    pub accepted: u64,
+    /// How many commands were durable after the commit.
+    pub durable: u64,
+    /// Where it stood after the disk was opened again.
+    pub standing: Standing,
+}
+
+/// Why the trial was not carried out.
+#[derive(Clone, Copy, Debug, Error)]
+pub enum TrialError {
+    #[error("device fault")]
+    Fault,
+    #[error("out of memory")]
+    OutOfMemory,
+    #[error("{0}")]
+    Format(FormatError),
+    #[error("{0}")]
+    Open(OpenError),
+    #[error("{0}")]
+    Issue(IssueError),
+    #[error("{0}")]
+    Commit(CommitError),
+}
+
+impl From<AllocError> for TrialError {
+    fn from(_: AllocError) -> Self {
+        TrialError::OutOfMemory
+    }
+}
+
+impl From<FormatError> for TrialError {
+    fn from(error: FormatError) -> Self {
+        match error {
+            FormatError::Fault => TrialError::Fault,
+            FormatError::OutOfMemory => TrialError::OutOfMemory,
+            other => TrialError::Format(other),
+        }
+    }
+}
+
+impl From<OpenError> for TrialError {
+    fn from(error: OpenError) -> Self {
+        match error {
+            OpenError::Fault => TrialError::Fault,
+            OpenError::OutOfMemory => TrialError::OutOfMemory,
+            other => TrialError::Open(other),
+        }
+    }
+}
+
+impl From<IssueError> for TrialError {
+    fn from(error: IssueError) -> Self {
+        match error {
+            IssueError::OutOfMemory => TrialError::OutOfMemory,
+            other => TrialError::Issue(other),
+        }
+    }
+}
+
+impl From<CommitError> for TrialError {
+    fn from(error: CommitError) -> Self {
+        match error {
+            CommitError::Fault => TrialError::Fault,
+            CommitError::OutOfMemory => TrialError::OutOfMemory,
+            other => TrialError::Commit(other),
+        }
+    }
+}
+
+fn text(alloc: Global, bytes: &[u8]) -> Result<Text, AllocError>
+    ensures { IfOk result (λ text. text ≡ bytes.now) }
+{
+    Ok(Text::from_vec(Vec::from_slice(alloc, bytes)?))
+}
+
+// The settings of the trial's function.
+fn settings(alloc: Global) -> Result<Settings, AllocError>
+    ensures { IfOk result (λ s. s ≡ trial_settings) }
+{
+    Ok(Settings {
+        retries: 2,
+        age: 21600,
+        timeout: 3,
+        concurrency: 10,
+        environments: 1,
+        events: 4,
+        payload: 1024,
+        response: 1024,
+        name: text(alloc, b"my-function")?,
+        handler: text(alloc, b"app.main")?,
+        arn: text(
+            alloc,
+            b"arn:aws:lambda:us-east-2:123456789012:function:my-function",
+        )?,
+    })
+}
+
+// The command that accepts the trial's event, with the payload `{}`.
+fn acceptance(alloc: Global) -> Result<Command, AllocError>
+    ensures { IfOk result (λ c. c ≡ trial_acceptance) }
+{
+    Ok(Command {
+        kind: Kind::Accept,
+        id: ID,
+        environment: 0,
+        time: ACCEPTED_AT,
+        bytes: Bytes::from_vec(Vec::from_slice(alloc, b"{}")?),
+    })
+}
+
+// The broker, or why its disk was not opened.
+fn opened(
+    outcome: Result<Broker<MemDisk>, OpenFailure<MemDisk>>,
+) -> Result<Broker<MemDisk>, OpenError>
+    ensures { IfOk result (λ b. outcome ≡ Ok b) }
+{
+    match outcome {
+        Ok(broker) => Ok(broker),
+        Err(OpenFailure { cause, .. }) => Err(cause),
+    }
+}
+
+// Opens the disk; where that fails, the disk is given up.
+fn open(alloc: Global, disk: MemDisk) -> Result<Broker<MemDisk>, OpenError>
+    ensures { (history : List Command) → IsLegal trial_settings history → ((image : List ℕ) → (memory_view disk).may_leave image → IsLegalStop trial_settings history (length history) image)
+        → IfOk result (λ b. (settings_of b ≡ trial_settings) × (durable_of b ≡ length history) × Stands memory_view b history) }
+{
+    opened(Broker::open(alloc, disk))
+}
+
+/// Accepts one event, commits it, closes the disk and opens it again: it is the first command, which is durable after the
+/// commit, and it waits from its acceptance on.
+pub fn run_trial(alloc: Global) -> Result<Trial, TrialError>
+    ensures { IfOk result (λ t. (t.accepted ≡ 1) × (t.durable ≡ 1) × (t.standing ≡ standing.Waiting 1573755365568)) }
+{
+    let mut disk = MemDisk::new(alloc, SECTORS)?;
+    let settings = settings(alloc)?;
+    format(alloc, &mut disk, &settings)?;
+    let mut broker = open(alloc, disk)?;
+    let accepted = broker.issue(acceptance(alloc)?)?.number();
+    let durable = broker.commit()?.number();
+    let recovered = open(alloc, broker.close())?;
+    Ok(Trial {
+        id: ID,
+        accepted,
+        durable,
+        standing: recovered.table().standing(&ID),
+    })
+}
