@@ -5,14 +5,4 @@
 #![tactic(auto)]
 
 #[cfg(test)]
-mod accepted;
-#[cfg(test)]
-mod every_stop;
-#[cfg(test)]
-mod faults;
-#[cfg(test)]
-mod groups;
-#[cfg(test)]
-mod scripts;
-#[cfg(test)]
-mod support;
+mod tests;

@@ -1,8 +1,11 @@
--- What the trial does: its settings and its one command.
-use Rattle.std.specs.Prelude.{codes, [], ◌∷◌}
+-- What the trial does: its settings and its one command, and the program's status for what it came to.
+use Rattle.std.specs.Prelude.{ℕ, codes, [], ◌∷◌, Result, Ok, Err}
 use Rattle.retry_rules.specs.declared.settings.Settings.{Settings}
 use Rattle.invoke_records.specs.declared.command.Command.{Command}
 use Rattle.invoke_records.specs.declared.command.Kind.TheVariants.{Accept}
+use Rattle.lambda_broker.specs.declared.trial.Trial.{Trial}
+use Rattle.lambda_broker.specs.declared.trial.TrialError.{TrialError}
+use Rattle.lambda_broker.specs.declared.trial.TrialError.TheVariants.{Fault}
 
 abbrev pub trial_settings : Settings
 trial_settings = record {
@@ -27,3 +30,9 @@ trial_acceptance = record {
   time = 1573755365568;
   bytes = codes "{}";
 }
+
+-- 0 done, 3 the device failed, 1 refused
+abbrev pub status_of : Result Trial TrialError → ℕ
+status_of (Ok trial) = 0
+status_of (Err Fault) = 3
+status_of (Err refusal) = 1

@@ -1,4 +1,7 @@
 // The words of the command line, and what is printed for them.
+ghost use Rattle.std.specs.Prelude.{◌≡◌, ◌≤◌, IfOk};
+ghost use Rattle.lambda_broker.specs.Trial.{status_of};
+
 use crate::trial::{Trial, TrialError, run_trial};
 use clap::{Command, Error};
 use invoke_records::Standing;
@@ -41,7 +44,9 @@ fn read_task(alloc: Global, words: &[String]) -> Result<Option<Task>, Error> {
 
 /// Does what the words say, the first of which is the program's name, prints it to `out`, and answers the status: 0 done,
 /// 1 damaged or refused, 2 usage, 3 device.
-pub fn run<W: Write>(alloc: Global, words: &[String], out: &mut W) -> io::Result<u8> {
+pub fn run<W: Write>(alloc: Global, words: &[String], out: &mut W) -> io::Result<u8>
+    ensures { IfOk result (λ status. status ≤ 3) }
+{
     match read_task(alloc, words) {
         Ok(Some(Task::Trial)) => print_trial(run_trial(alloc), out),
         Ok(None) => Ok(USAGE),
@@ -52,7 +57,9 @@ pub fn run<W: Write>(alloc: Global, words: &[String], out: &mut W) -> io::Result
     }
 }
 
-fn print_trial<W: Write>(outcome: Result<Trial, TrialError>, out: &mut W) -> io::Result<u8> {
+fn print_trial<W: Write>(outcome: Result<Trial, TrialError>, out: &mut W) -> io::Result<u8>
+    ensures { IfOk result (λ status. status ≡ status_of outcome) }
+{
     match outcome {
         Ok(done) => {
             let mut buffer = Uuid::encode_buffer();

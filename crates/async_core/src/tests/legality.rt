@@ -1,7 +1,5 @@
 // Which commands are refused, and by which check: each at both sides of its boundary.
-use crate::tests::support::{
-    REPORTED, TIMEOUT, command, judged, judged_at, judged_with, settings, steps,
-};
+use super::{REPORTED, TIMEOUT, command, judged, judged_at, judged_with, settings, steps};
 use crate::{Illegal, Table};
 use invoke_records::Kind;
 use std::alloc::Global;

@@ -1,5 +1,5 @@
 // Lives of events: retries, age, push-backs, stops, and an id that is accepted anew.
-use crate::tests::support::{
+use super::{
     REPORTED, counted, ended_as, id, judged, keeps, leaves, moves, numbered, oldest, runs,
     settings, stands, steps,
 };

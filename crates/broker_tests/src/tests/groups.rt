@@ -1,5 +1,5 @@
 // Several commands in one frame.
-use crate::support::{T, accept, formatted, fresh_disk, id, opened, sector, settings};
+use super::{T, accept, formatted, fresh_disk, id, opened, sector, settings};
 use group_commit::IssueError;
 use invoke_records::{Bytes, Command, Kind};
 use std::alloc::{AllocError, Global};

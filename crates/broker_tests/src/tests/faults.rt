@@ -1,5 +1,5 @@
 // Devices that fail.
-use crate::support::{T, accept, fresh_disk, opened, standing};
+use super::{T, accept, fresh_disk, opened, standing};
 use group_commit::{Broker, CommitError, OpenError, OpenFailure};
 use invoke_records::Standing;
 use sector_disk::{CallKind, FaultOnceDisk, FuseDisk, MemDisk};

@@ -7,11 +7,17 @@ use sector_disk::{Disk, MemDisk};
 use std::alloc::{AllocError, Global};
 use std::test::Fail;
 
+mod accepted;
+mod every_stop;
+mod faults;
+mod groups;
+mod scripts;
+
 /// The moment of most commands, in milliseconds since 1970.
-pub const T: u64 = 1573755365568;
+const T: u64 = 1573755365568;
 
 /// 00000000-0000-4000-8000- and this number.
-pub fn id(n: u8) -> [u8; 16] {
+fn id(n: u8) -> [u8; 16] {
     [0, 0, 0, 0, 0, 0, 64, 0, 128, 0, 0, 0, 0, 0, 0, n]
 }
 
@@ -20,7 +26,7 @@ fn text(alloc: Global, bytes: &[u8]) -> Result<Text, AllocError> {
 }
 
 /// The settings of most tests.
-pub fn settings(alloc: Global) -> Result<Settings, AllocError> {
+fn settings(alloc: Global) -> Result<Settings, AllocError> {
     Ok(Settings {
         retries: 2,
         age: 21600,
@@ -40,7 +46,7 @@ pub fn settings(alloc: Global) -> Result<Settings, AllocError> {
 }
 
 /// A command of an event with these bytes.
-pub fn command(
+fn command(
     alloc: Global,
     kind: Kind,
     n: u8,
@@ -57,12 +63,12 @@ pub fn command(
 }
 
 /// The command that accepts an event with the payload `{}`.
-pub fn accept(alloc: Global, n: u8, time: u64) -> Result<Command, AllocError> {
+fn accept(alloc: Global, n: u8, time: u64) -> Result<Command, AllocError> {
     command(alloc, Kind::Accept, n, time, b"{}")
 }
 
 /// A disk in memory with these settings.
-pub fn formatted(alloc: Global, sectors: u64, settings: &Settings) -> Result<MemDisk, Fail> {
+fn formatted(alloc: Global, sectors: u64, settings: &Settings) -> Result<MemDisk, Fail> {
     let mut disk = MemDisk::new(alloc, sectors)?;
     if settings.check().is_err() {
         return Err(Fail::from("bad settings"));
@@ -72,12 +78,12 @@ pub fn formatted(alloc: Global, sectors: u64, settings: &Settings) -> Result<Mem
 }
 
 /// A disk of 64 sectors with the settings of most tests.
-pub fn fresh_disk(alloc: Global) -> Result<MemDisk, Fail> {
+fn fresh_disk(alloc: Global) -> Result<MemDisk, Fail> {
     formatted(alloc, 64, &settings(alloc)?)
 }
 
 /// A broker on a disk.
-pub fn opened<D: Disk + Drop>(alloc: Global, disk: D) -> Result<Broker<D>, Fail> {
+fn opened<D: Disk + Drop>(alloc: Global, disk: D) -> Result<Broker<D>, Fail> {
     match Broker::open(alloc, disk) {
         Ok(broker) => Ok(broker),
         Err(OpenFailure { cause, .. }) => Err(Fail::from(cause)),
@@ -85,12 +91,12 @@ pub fn opened<D: Disk + Drop>(alloc: Global, disk: D) -> Result<Broker<D>, Fail>
 }
 
 /// Where an event stands.
-pub fn standing(table: &Table, n: u8) -> Standing {
+fn standing(table: &Table, n: u8) -> Standing {
     table.standing(&id(n))
 }
 
 /// The bytes of a sector, where it is on the disk and can be read.
-pub fn sector<D: Disk>(disk: &mut D, at: u64) -> Option<[u8; 512]> {
+fn sector<D: Disk>(disk: &mut D, at: u64) -> Option<[u8; 512]> {
     let mut bytes = [0; 512];
     if at >= disk.sectors() || disk.read(at, &mut bytes).is_err() {
         return None;

@@ -1,5 +1,5 @@
 // Every stop of a short script: each fuse length, and each outcome of each sector that may be unsettled.
-use crate::support::{T, accept, fresh_disk, opened};
+use super::{T, accept, fresh_disk, opened};
 use sector_disk::{FuseDisk, MemDisk};
 use std::alloc::Global;
 use std::test::Fail;

@@ -1,5 +1,5 @@
 // Scripts with stops.
-use crate::support::{T, accept, command, fresh_disk, id, standing};
+use super::{T, accept, command, fresh_disk, id, standing};
 use group_commit::{Step, StepAnswer, drill};
 use invoke_records::{Kind, Standing};
 use std::test::Fail;

@@ -1,5 +1,5 @@
 // One event: its bytes on the disk, its receipt, and its standing after the disk was opened again.
-use crate::support::{T, accept, fresh_disk, opened, sector, standing};
+use super::{T, accept, fresh_disk, opened, sector, standing};
 use invoke_records::Standing;
 use std::test::Fail;
 
