@@ -100,3 +100,20 @@ fn a_body_of_six_sectors_fills_eight(rt: HostRuntime) -> Result<(), Fail> {
     assert!(rt; matches!(done, Some(Err(AppendError::NoRoom))));
     Ok(())
 }
+
+#[test]
+fn a_frame_fits_up_to_the_last_sector(rt: HostRuntime) -> Result<(), Fail> {
+    let mut disk = MemDisk::new(rt.alloc(), 11)?;
+    let area = Area {
+        generation: 1,
+        number: 1,
+        start: 3,
+        end: 11,
+    };
+    assert!(rt; disk.sectors() == 11);
+    let (journal, found) = Journal::read_all(rt.alloc(), &mut disk, area)?;
+    assert!(rt; found.is_empty());
+    assert!(rt; journal.fits(2931));
+    assert!(rt; !journal.fits(3057));
+    Ok(())
+}

@@ -171,5 +171,8 @@ fn a_snapshot_is_spelled_and_read(rt: HostRuntime) -> Result<(), Fail> {
     let (read, len) = Snapshot::decode(rt.alloc(), &text)?;
     assert_eq!(rt; len, 97);
     assert_eq!(rt; read.rows.as_slice().len(), 1);
+    assert_eq!(rt; read.rows.into_vec().len(), 1);
+    assert!(rt; Rows::empty(rt.alloc()).as_slice().is_empty());
+    assert!(rt; Bytes::empty(rt.alloc()).into_vec().is_empty());
     Ok(())
 }

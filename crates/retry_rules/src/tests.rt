@@ -61,5 +61,6 @@ fn good_settings_are_copied(rt: HostRuntime) -> Result<(), Fail> {
     let copy = settings(&rt)?.copy()?;
     assert!(rt; copy.check().is_ok());
     assert_eq!(rt; copy.name.as_bytes(), b"my-function".as_slice());
+    assert_eq!(rt; copy.handler.into_vec().as_slice(), b"app.main".as_slice());
     Ok(())
 }

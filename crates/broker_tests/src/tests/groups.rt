@@ -1,7 +1,8 @@
 // Several commands in one frame.
-use super::{T, accept, formatted, fresh_disk, id, opened, sector, settings};
-use group_commit::IssueError;
+use super::{T, accept, command, formatted, fresh_disk, id, opened, sector, settings};
+use group_commit::{CommitError, IssueError};
 use invoke_records::{Bytes, Command, Kind};
+use sector_disk::MemDisk;
 use std::alloc::{AllocError, Global};
 use std::test::Fail;
 
@@ -23,7 +24,8 @@ fn two_events_share_one_commit(rt: HostRuntime) -> Result<(), Fail> {
         Some(2)
     );
     // one barrier of the opening, two of the commit
-    assert_eq!(rt; broker.close().barriers(), before + 3);
+    let after = broker.close().barriers();
+    assert_eq!(rt; after.saturating_sub(before), 3);
     Ok(())
 }
 
@@ -69,5 +71,31 @@ fn a_backlog_is_refused_and_committed_by_one_frame(rt: HostRuntime) -> Result<()
     assert_eq!(rt; behind, [0; 512]);
     assert_eq!(rt; &body[16..20], [0, 0, 1, 0].as_slice());
     assert_eq!(rt; &body[20..24], [0, 0, 0x21, 0].as_slice());
+    Ok(())
+}
+
+// A disk whose frames have 8 sectors, for one event of at most 2900 bytes.
+fn small_disk(alloc: Global) -> Result<MemDisk, Fail> {
+    let mut small = settings(alloc)?;
+    small.events = 1;
+    small.payload = 2900;
+    small.response = 64;
+    formatted(alloc, 22, &small)
+}
+
+#[test]
+fn a_frame_may_fill_the_segment_and_no_more(rt: HostRuntime) -> Result<(), Fail> {
+    let alloc = rt.alloc();
+    let payload = vec![in alloc; 0x20; 2900]?;
+    let mut broker = opened(alloc, small_disk(alloc)?)?;
+    let _ = broker.issue(command(alloc, Kind::Accept, 1, 1000, &payload)?)?;
+    assert_eq!(rt; broker.commit()?.number(), 1);
+    let mut broker = opened(alloc, small_disk(alloc)?)?;
+    let _ = broker.issue(command(alloc, Kind::Accept, 1, 1000, &payload)?)?;
+    let _ = broker.issue(command(alloc, Kind::Start, 1, 1000, b"")?)?;
+    let _ = broker.issue(command(alloc, Kind::Succeed, 1, 1500, &payload[..64])?)?;
+    assert_eq!(rt; broker.commit().err(), Some(CommitError::NoRoom));
+    assert_eq!(rt; broker.issued(), 3);
+    assert_eq!(rt; broker.durable().number(), 0);
     Ok(())
 }

@@ -1,5 +1,5 @@
 // Scripts with stops.
-use super::{T, accept, command, fresh_disk, id, standing};
+use super::{T, accept, command, fresh_disk, id, opened, standing};
 use group_commit::{Step, StepAnswer, drill};
 use invoke_records::{Kind, Standing};
 use std::test::Fail;
@@ -67,5 +67,24 @@ fn a_cut_off_attempt_is_pushed_back_and_uses_no_retry(rt: HostRuntime) -> Result
     let _ = broker.issue(command(alloc, Kind::Start, 1, 6000, b"")?)?;
     let _ = broker.issue(command(alloc, Kind::Succeed, 1, 6500, b"")?)?;
     assert_eq!(rt; broker.table().counts(&id(1)), Some((2, 0, 1)));
+    Ok(())
+}
+
+#[test]
+fn an_opened_broker_resumes_what_was_cut_off(rt: HostRuntime) -> Result<(), Fail> {
+    let alloc = rt.alloc();
+    let mut broker = opened(alloc, fresh_disk(alloc)?)?;
+    let _ = broker.issue(accept(alloc, 1, 1000)?)?;
+    let _ = broker.issue(command(alloc, Kind::Start, 1, 1000, b"")?)?;
+    assert_eq!(rt; broker.commit()?.number(), 2);
+    let mut broker = opened(alloc, broker.close())?;
+    let ticket = broker.resume(5000)?.ok_or("an attempt was cut off")?;
+    assert_eq!(rt; ticket.number(), 3);
+    assert!(rt; broker.redeem(&ticket).is_none());
+    assert_eq!(rt;
+        standing(broker.table(), 1),
+        Standing::DueAgain { due: 6000 }
+    );
+    assert!(rt; broker.resume(5000)?.is_none());
     Ok(())
 }
