@@ -1,8 +1,7 @@
 -- What an image reads that differs from another in the journal's area alone.
 use Rattle.std.proofs.Common.{◌≡◌, ◌⊎◌, inl, inr, ⊎_elim, ℕ, ◌+◌, ◌-◌, ◌*◌, ◌/◌, ◌≤◌, true, false, List, length, take, drop, Option, Some, None, Result, Ok, Err, refl, sym, ◌∙◌, ap, subst, arith}
-use Rattle.std.proofs.lemmas.List.{take-take, drop-take}
 use Rattle.sector_disk.specs.Disk.{DiskView, HasOneImage}
-use Rattle.sector_disk.specs.Moments.{LeavesOnly}
+use Rattle.sector_disk.specs.Written.{same_part}
 use Rattle.retry_rules.specs.declared.settings.Settings.{Settings}
 use Rattle.invoke_records.specs.declared.command.Command.{Command}
 use Rattle.invoke_records.specs.declared.snapshot.Snapshot.{Snapshot}
@@ -19,12 +18,6 @@ use Rattle.checkpoint.specs.Live.{IsLive, RecoversTo, settings_of}
 use Rattle.checkpoint.proofs.Segments.{snapshot_same, behind_snapshot}
 use Rattle.checkpoint.proofs.Images.{is_open_at, live_image, image_live}
 use Rattle.checkpoint.proofs.Folds.{folds_more}
-
--- lists with one front agree in each part of it
-pub part : (m k j : ℕ) (xs ys : List ℕ) → take m xs ≡ take m ys → k + j ≤ m → take j (drop k xs) ≡ take j (drop k ys)
-part m k j xs ys same within =
-    sym (drop-take k j xs) ∙ ap (λ (l : List ℕ). drop k l) (sym (take-take (k + j) m xs within) ∙ ap (λ (l : List ℕ). take (k + j) l) same ∙ take-take (k + j) m ys within)
-    ∙ drop-take k j ys
 
 -- ## How a segment was read
 
@@ -79,7 +72,7 @@ module _ (old new : List ℕ) (header : Header) (snapshot : Snapshot) (outside :
 
   sector_same : (sector : ℕ) → sector ≤ 1 → sector_at sector new ≡ sector_at sector old
   unfolding room
-  sector_same sector low = part room (512 * sector) 512 new old outside.front (omega (arith, low))
+  sector_same sector low = same_part room (512 * sector) 512 new old outside.front (omega (arith, low))
 
   half_same : half new ≡ half old
   half_same = ap (λ (n : ℕ). n / 512 / 2) outside.size
@@ -89,7 +82,7 @@ module _ (old new : List ℕ) (header : Header) (snapshot : Snapshot) (outside :
   snapshot_there some is =
       let all = 512 * sectors_for header.size in
       let within : 512 * (0 + 2) + all ≤ room = omega arith in
-      snapshot_same header (drop (512 * (0 + 2)) new) (drop (512 * (0 + 2)) old) (part room (512 * (0 + 2)) all new old outside.front within) ∙ is
+      snapshot_same header (drop (512 * (0 + 2)) new) (drop (512 * (0 + 2)) old) (same_part room (512 * (0 + 2)) all new old outside.front within) ∙ is
 
   module _ (frames : Frames) (is_header : header_at (half old - 0) (sector_at (0 + 1) old) ≡ Some header) (is_snapshot : snapshot_of header (drop (512 * (0 + 2)) old) ≡ Some snapshot)
       (read : frames_in (area_of 0 (half old) header snapshot) new ≡ Ok frames) where
@@ -152,11 +145,3 @@ module _ (disk : DiskView) (opened : Opened) (before after : Snapshot) (batch : 
     holds = holds;
     folds = folds_longer;
   }
-
--- what a stop leaves has less asked of it
-pub leaves_weaker : {old new : DiskView} {P : List ℕ → Type 0} (Q : List ℕ → Type 0) → ((image : List ℕ) → P image → Q image) → LeavesOnly old new P → LeavesOnly old new Q
-leaves_weaker Q weaker leaves = record {
-  later = leaves.later;
-  each = λ image left. weaker image (leaves.each image left);
-  before = λ t image le left. ⊎_elim (λ was. inl was) (λ is. inr (weaker image is)) (leaves.before t image le left);
-}

@@ -5,10 +5,10 @@ use Rattle.std.proofs.lemmas.Bool.{cases_Bool}
 use Rattle.sector_disk.specs.declared.disk.Fault.{Fault}
 use Rattle.sector_disk.specs.Disk.{DiskView, IsDisk, IsSameDisk, HasOneImage, IsWrite, MayDiffer}
 use Rattle.sector_disk.specs.Moments.{Run, started, writes}
+use Rattle.sector_disk.specs.Written.{same_part, leaves_weaker}
 use Rattle.gate_journal.specs.Frames.{is_open}
 use Rattle.checkpoint.specs.Image.{sector_at, HoldsFirst}
 use Rattle.checkpoint.specs.Formatting.{DiffersInGates, IsOldButForGates, IsClosed, IsBeingFormatted}
-use Rattle.checkpoint.proofs.Appends.{part, leaves_weaker}
 
 -- nothing was written yet
 pub unchanged : (old : DiskView) {second : ℕ} (image : List ℕ) → old.may_leave image → IsOldButForGates old second image
@@ -31,7 +31,7 @@ module _ (second : ℕ) (second_is : 512 ≤ 512 * second) where
   gate_b_differs : (earlier mid image : List ℕ) → DiffersInGates second earlier mid → MayDiffer (512 * second) 512 mid image → DiffersInGates second earlier image
   gate_b_differs earlier mid image was differ = record {
     size = differ.size ∙ was.size;
-    between = part (512 * second) 512 (512 * second - 512) image mid differ.before (omega (arith, second_is)) ∙ was.between;
+    between = same_part (512 * second) 512 (512 * second - 512) image mid differ.before (omega (arith, second_is)) ∙ was.between;
     behind = differ.after ∙ was.behind;
   }
 

@@ -7,12 +7,13 @@ use Rattle.invoke_records.specs.Spelling.{commands_text}
 use Rattle.sector_disk.specs.declared.disk.Fault.{Fault}
 use Rattle.sector_disk.specs.Disk.{DiskView, IsDisk, IsSameDisk, HasOneImage, IsWrite, IsBarrier, Holds, MayDiffer}
 use Rattle.sector_disk.specs.Moments.{Run, started, writes, settles}
+use Rattle.sector_disk.specs.Written.{same_part, written_front, written_from, written_differs}
 use Rattle.gate_journal.specs.declared.area.Area.{Area}
 use Rattle.gate_journal.specs.Frames.{Frames, is_open, body_sectors, frames_in, frames_with, SameOutside}
 use Rattle.gate_journal.specs.Journal.{IsBeforeOrAfter}
-use Rattle.gate_journal.proofs.Parts.{part, byte, first_of}
+use Rattle.gate_journal.proofs.Parts.{byte, first_of}
 use Rattle.gate_journal.proofs.Written.{IsSpelled}
-use Rattle.gate_journal.proofs.Placed.{written_front, written_behind, written_differs, outside, outside_twice, place, closed, reads_before, reads_after}
+use Rattle.gate_journal.proofs.Placed.{outside, outside_twice, place, closed, reads_before, reads_after}
 
 -- an area of some content that holds these frames, a batch, its body's bytes and a closed gate
 pub record Batch (content : List ℕ) : Type 0 where
@@ -62,7 +63,7 @@ module _ (content : List ℕ) (b : Batch content) where
   -- a body behind the closed gate leaves the frames as they were
   pub staged : (c : List ℕ) → MayDiffer (at + 512) (length frame) content c → P c
   staged c differ = record {
-    reads = inl (reads_before b.area content b.frames b.reads b.inside b.commands b.text b.spelled b.room c differ.size (part (at + 512) 0 at c content differ.before (omega arith))
+    reads = inl (reads_before b.area content b.frames b.reads b.inside b.commands b.text b.spelled b.room c differ.size (same_part (at + 512) 0 at c content differ.before (omega arith))
         (ap (λ (x : ℕ). x == 1) (first_of at c ∙ byte (at + 512) at c content differ.before (omega arith) ∙ sym (first_of at content))
         ∙ closed b.area content b.frames b.reads b.inside b.commands b.text b.spelled b.room));
     outside = outside b.area (at + 512) (length frame) content c differ (omega (arith, starts)) fits;
@@ -74,10 +75,10 @@ module _ (content : List ℕ) (b : Batch content) where
     size = differ.size ∙ (written_differs content (at + 512) frame body within holds).size
 
     front : take at c ≡ take at content
-    front = differ.before ∙ part (at + 512) 0 at body content (written_front content (at + 512) frame body within holds) (omega arith)
+    front = differ.before ∙ same_part (at + 512) 0 at body content (written_front content (at + 512) frame body within holds) (omega arith)
 
     behind : drop (at + 512) c ≡ frame ++ drop (at + 512 + length frame) content
-    behind = differ.after ∙ written_behind content (at + 512) frame body within holds
+    behind = differ.after ∙ written_from content (at + 512) frame body within holds
 
     only_there : SameOutside b.area content c
     only_there =
@@ -105,7 +106,7 @@ module _ (content : List ℕ) (b : Batch content) where
       let fits_in : at + length gate ≤ length body = omega (arith, whole, within, long) in
       let differ : MayDiffer at 512 body c = subst (λ (n : ℕ). MayDiffer at n body c) whole (written_differs body at gate c fits_in wrote) in
       let is_open_there : is_open (drop at c) ≡ true =
-      ap is_open (written_behind body at gate c fits_in wrote)
+      ap is_open (written_from body at gate c fits_in wrote)
       ∙ ap (λ (x : ℕ). x == 1) (get_or_append_left gate (drop (at + length gate) body) 0 0 (omega (arith, whole))) ∙ open_gate in
       (opened_reads body holds c differ is_open_there, only_there body holds c differ)
 

@@ -5,17 +5,18 @@ use Rattle.std.specs.Prelude.{if◌then◌else◌}
 use Rattle.std.specs.List.{list_all}
 use Rattle.std.specs.Int.{w32, w64, from_be_bytes}
 use Rattle.invoke_records.specs.declared.command.Command.{Command}
+use Rattle.sector_disk.specs.Written.{same_part}
 use Rattle.gate_journal.specs.Frames.{Head, head_of, body_sectors, is_head, body_at, commands_at, whole}
-use Rattle.gate_journal.proofs.Parts.{part, front_of}
+use Rattle.gate_journal.proofs.Parts.{front_of}
 
 -- the head is the first 32 bytes
 pub head_same : (c b : List ℕ) → take 32 c ≡ take 32 b → head_of c ≡ head_of b
 head_same c b same =
     let generation : take 8 c ≡ take 8 b = front_of 32 8 c b same (omega arith) in
-    let number : take 8 (drop 8 c) ≡ take 8 (drop 8 b) = part 32 8 8 c b same (omega arith) in
-    let count : take 4 (drop 16 c) ≡ take 4 (drop 16 b) = part 32 16 4 c b same (omega arith) in
-    let size : take 4 (drop 20 c) ≡ take 4 (drop 20 b) = part 32 20 4 c b same (omega arith) in
-    let zero_field : take 8 (drop 24 c) ≡ take 8 (drop 24 b) = part 32 24 8 c b same (omega arith) in
+    let number : take 8 (drop 8 c) ≡ take 8 (drop 8 b) = same_part 32 8 8 c b same (omega arith) in
+    let count : take 4 (drop 16 c) ≡ take 4 (drop 16 b) = same_part 32 16 4 c b same (omega arith) in
+    let size : take 4 (drop 20 c) ≡ take 4 (drop 20 b) = same_part 32 20 4 c b same (omega arith) in
+    let zero_field : take 8 (drop 24 c) ≡ take 8 (drop 24 b) = same_part 32 24 8 c b same (omega arith) in
     λ i. record {
       generation = from_be_bytes w64 (generation i);
       number = from_be_bytes w64 (number i);
@@ -42,8 +43,8 @@ body_same g m b c size same =
     let s = (head_of b).size in
     let whole_body = 512 * body_sectors s in
     let head : head_of c ≡ head_of b = head_same c b (front_of whole_body 32 c b same (omega arith)) in
-    let padding : padding_of c s ≡ padding_of b s = part whole_body (32 + s) (whole_body - (32 + s)) c b same (omega arith) in
-    let text : take s (drop 32 c) ≡ take s (drop 32 b) = part whole_body 32 s c b same (omega arith) in
+    let padding : padding_of c s ≡ padding_of b s = same_part whole_body (32 + s) (whole_body - (32 + s)) c b same (omega arith) in
+    let text : take s (drop 32 c) ≡ take s (drop 32 b) = same_part whole_body 32 s c b same (omega arith) in
     body_is g m c
     ∙ ap (λ (h : Head). body_by g m h (length c) (padding_of c h.size) (take h.size (drop 32 c))) head
     ∙ (λ i. body_by g m (head_of b) (size i) (padding i) (text i))

@@ -4,8 +4,9 @@ use Rattle.std.proofs.lemmas.Bool.{cases_Bool, and_parts, and_left, and_from, le
 use Rattle.std.proofs.lemmas.List.{append-nil, drop-drop}
 use Rattle.invoke_records.specs.declared.command.Command.{Command}
 use Rattle.invoke_records.specs.Spelling.{commands_text}
+use Rattle.sector_disk.specs.Written.{same_part}
 use Rattle.gate_journal.specs.Frames.{Frames, Head, head_of, is_open, body_sectors, body_at, behind_gate, with_first, goes_on, frame_size, from_body, no_frames, frames_at, frames_with}
-use Rattle.gate_journal.proofs.Parts.{part, byte}
+use Rattle.gate_journal.proofs.Parts.{byte}
 use Rattle.gate_journal.proofs.Bodies.{head_same, body_same, body_facts}
 
 -- what is read behind the first gate
@@ -104,7 +105,7 @@ module _ (n g m gate : ℕ) (area : List ℕ) (more : goes_on area ≡ true) (co
         (λ i. (first i == 1) && nat_le 1536 (same_size i)) ∙ more
 
     head_c : head_of (drop 512 c) ≡ head_of (drop 512 area)
-    head_c = head_same (drop 512 c) (drop 512 area) (part (512 * (later.next - gate)) 512 32 c area front (omega (arith, span, sectors)))
+    head_c = head_same (drop 512 c) (drop 512 area) (same_part (512 * (later.next - gate)) 512 32 c area front (omega (arith, span, sectors)))
 
     size_c : frame_size c ≡ size
     size_c = ap (λ (h : Head). 512 + 512 * body_sectors h.size) head_c
@@ -112,14 +113,14 @@ module _ (n g m gate : ℕ) (area : List ℕ) (more : goes_on area ≡ true) (co
     body_c : body_at g m (drop 512 c) ≡ Some commands
     body_c =
         body_same g m (drop 512 area) (drop 512 c) (length-drop 512 c ∙ ap (λ (k : ℕ). k - 512) same_size ∙ sym (length-drop 512 area))
-        (part (512 * (later.next - gate)) 512 (512 * body_sectors (head_of (drop 512 area)).size) c area front (omega (arith, span, sectors)))
+        (same_part (512 * (later.next - gate)) 512 (512 * body_sectors (head_of (drop 512 area)).size) c area front (omega (arith, span, sectors)))
         ∙ body
 
     rest_c : rest_read n g m gate c commands ≡ with_first later.commands (frames_at ends.left g later.number later.next (drop (512 * (later.next - gate)) c))
     rest_c =
         ap (λ (s : ℕ). frames_at n g (m + length commands) (gate + s / 512) (drop s c)) size_c
         ∙ ends.reads (drop size c) (length-drop size c ∙ ap (λ (k : ℕ). k - size) same_size ∙ sym (length-drop size area))
-        (part (512 * (later.next - gate)) size (512 * (later.next - (gate + size / 512))) c area front (omega (arith, span)))
+        (same_part (512 * (later.next - gate)) size (512 * (later.next - (gate + size / 512))) c area front (omega (arith, span)))
         ∙ ap (λ (l : List ℕ). with_first later.commands (frames_at ends.left g later.number later.next l))
         (drop-drop (512 * (later.next - (gate + size / 512))) size c ∙ ap (λ (k : ℕ). drop k c) (sym span))
 

@@ -2,12 +2,6 @@
 use Rattle.std.proofs.Common.{◌≡◌, ℕ, ◌+◌, ◌<◌, ◌≤◌, List, ◌++◌, take-append-drop, take, drop, get_or, sym, ◌∙◌, ap, arith}
 use Rattle.std.proofs.lemmas.List.{take-take, drop-take, get_or-take, get_or-drop}
 
--- lists with one front agree in each part of it
-pub part : (m k j : ℕ) (xs ys : List ℕ) → take m xs ≡ take m ys → k + j ≤ m → take j (drop k xs) ≡ take j (drop k ys)
-part m k j xs ys same within =
-    sym (drop-take k j xs) ∙ ap (λ (l : List ℕ). drop k l) (sym (take-take (k + j) m xs within) ∙ ap (λ (l : List ℕ). take (k + j) l) same ∙ take-take (k + j) m ys within)
-    ∙ drop-take k j ys
-
 pub byte : (m k : ℕ) (xs ys : List ℕ) → take m xs ≡ take m ys → k < m → get_or xs k 0 ≡ get_or ys k 0
 byte m k xs ys same within = sym (get_or-take m xs k 0 within) ∙ ap (λ (l : List ℕ). get_or l k 0) same ∙ get_or-take m ys k 0 within
 

@@ -1,38 +1,17 @@
 -- What images hold in an area before and after a frame.
 use Rattle.std.proofs.Common.{◌≡◌, ⊎_elim, ℕ, ◌+◌, ◌-◌, ◌*◌, ◌≤◌, true, false, ◌==◌, nat_le, List, ◌++◌, length, take, drop, Ok, refl, sym, ◌∙◌, ap, arith, length-append, length-drop, append_assoc}
 use Rattle.std.proofs.lemmas.Bool.{and_cases, leb-false}
-use Rattle.std.proofs.lemmas.List.{take-take, take_at, drop_at, drop-take, drop-drop, get_or-take, get_or_append_left, length-take-le}
+use Rattle.std.proofs.lemmas.List.{take-take, drop_at, drop-take, drop-drop, get_or-take, get_or_append_left, length-take-le}
 use Rattle.std.proofs.Math.Seq.{take-append-add}
 use Rattle.invoke_records.specs.declared.command.Command.{Command}
 use Rattle.invoke_records.specs.Spelling.{commands_text}
-use Rattle.sector_disk.specs.Disk.{Holds, MayDiffer}
+use Rattle.sector_disk.specs.Disk.{MayDiffer}
+use Rattle.sector_disk.specs.Written.{same_part}
 use Rattle.gate_journal.specs.declared.area.Area.{Area}
 use Rattle.gate_journal.specs.Frames.{Frames, head_of, is_open, body_sectors, body_at, frame_size, frames_at, area_bytes, frames_in, frames_with, SameOutside}
-use Rattle.gate_journal.proofs.Parts.{part, front_of}
+use Rattle.gate_journal.proofs.Parts.{front_of}
 use Rattle.gate_journal.proofs.Frames.{Ends, ends, before, after}
 use Rattle.gate_journal.proofs.Written.{IsSpelled}
-
--- what a list holds after a write
-module _ (old : List ℕ) (at : ℕ) (bytes new : List ℕ) (within : at + length bytes ≤ length old) (holds : Holds old at bytes new) where
-  front_size : length (take at old) ≡ at
-  front_size = length-take-le at old (omega (arith, within))
-
-  split : new ≡ take at old ++ (bytes ++ drop (at + length bytes) old)
-  split = holds ∙ append_assoc (take at old) bytes (drop (at + length bytes) old)
-
-  pub written_front : take at new ≡ take at old
-  written_front = ap (λ (l : List ℕ). take at l) split ∙ take_at (take at old) (bytes ++ drop (at + length bytes) old) at front_size
-
-  pub written_behind : drop at new ≡ bytes ++ drop (at + length bytes) old
-  written_behind = ap (λ (l : List ℕ). drop at l) split ∙ drop_at (take at old) (bytes ++ drop (at + length bytes) old) at front_size
-
-  pub written_differs : MayDiffer at (length bytes) old new
-  written_differs = record {
-    size = omega (arith, ap length holds, length-append (take at old ++ bytes) (drop (at + length bytes) old), length-append (take at old) bytes, front_size, length-drop (at + length bytes) old);
-    before = written_front;
-    after = ap (λ (l : List ℕ). drop (at + length bytes) l) holds
-        ∙ drop_at (take at old ++ bytes) (drop (at + length bytes) old) (at + length bytes) (omega (arith, length-append (take at old) bytes, front_size));
-  }
 
 -- what differs within an area is the same outside it
 pub outside : (area : Area) (at n : ℕ) (old new : List ℕ) → MayDiffer at n old new → 512 * area.start ≤ at → at + n ≤ 512 * area.end → SameOutside area old new
@@ -78,7 +57,7 @@ module _ (area : Area) (content : List ℕ) (frames : Frames) (reads : frames_in
   front_in : (c : List ℕ) → take (512 * frames.next) c ≡ take (512 * frames.next) content → take (512 * (frames.next - area.start)) (area_bytes area c) ≡ take (512 * (frames.next - area.start)) (area_bytes area content)
   front_in c front =
       take-take (512 * (frames.next - area.start)) (512 * (area.end - area.start)) (drop (512 * area.start) c) (omega (arith, three))
-      ∙ part (512 * frames.next) (512 * area.start) (512 * (frames.next - area.start)) c content front (omega (arith, place))
+      ∙ same_part (512 * frames.next) (512 * area.start) (512 * (frames.next - area.start)) c content front (omega (arith, place))
       ∙ sym (take-take (512 * (frames.next - area.start)) (512 * (area.end - area.start)) (drop (512 * area.start) content) (omega (arith, three)))
 
   behind_in : (c : List ℕ) → drop (512 * (frames.next - area.start)) (area_bytes area c) ≡ take (512 * (area.end - frames.next)) (drop (512 * frames.next) c)

@@ -5,3 +5,4 @@ pub mod Images
 pub mod Memory
 pub mod Moments
 pub mod Replay
+pub mod Written
