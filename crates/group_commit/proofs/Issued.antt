@@ -1,5 +1,5 @@
 -- What one command more does to a broker that stands for a history.
-use Rattle.std.proofs.Common.{◌≡◌, ℕ, ◌+◌, ◌≤◌, Bool, false, None, List, [], ◌∷◌, ◌++◌, length, take, drop, Result, Ok, Err, sym, ap, subst, ◌∙◌, arith, length-append}
+use Rattle.std.proofs.Common.{◌≡◌, ℕ, Bool, None, List, [], ◌∷◌, ◌++◌, Result, Ok, Err, sym, ap, subst, ◌∙◌, arith, length-append}
 use Rattle.std.specs.Prelude.{IfOk}
 use Rattle.std.proofs.lemmas.List.{take-append-le, drop-append-le}
 use Rattle.sector_disk.specs.Disk.{DiskView}
@@ -7,7 +7,7 @@ use Rattle.retry_rules.specs.declared.settings.Settings.{Settings}
 use Rattle.invoke_records.specs.declared.snapshot.Snapshot.{Snapshot}
 use Rattle.invoke_records.specs.declared.command.Command.{Command}
 use Rattle.async_core.specs.Rules.{refusal_at, table_after}
-use Rattle.async_core.specs.History.{refusal_of, IsLegal, table_of}
+use Rattle.async_core.specs.History.{refusal_of, table_of}
 use Rattle.async_core.specs.Laws.{refusal-of_table, table_of-more, IsLegal-more}
 use Rattle.checkpoint.specs.declared.opened.Opened.{Opened}
 use Rattle.checkpoint.specs.Live.{IsLive, RecoversTo}

@@ -3,4 +3,5 @@ pub mod Drilled
 pub mod Issued
 pub mod Reopening
 pub mod Results
+pub mod Rested
 pub mod Resumed

@@ -1,6 +1,6 @@
 -- What an opened disk says of the history that its images are legal stops of.
-use Rattle.std.proofs.Common.{◌≡◌, ◌⊎◌, ℕ, ◌+◌, ◌≤◌, List, length, take, drop, Result, Ok, Err, refl, sym, ap, subst, ◌∙◌, arith, inl, inr}
-use Rattle.std.proofs.lemmas.List.{take-take, length-take, take_all}
+use Rattle.std.proofs.Common.{◌≡◌, ℕ, ◌≤◌, List, length, take, Result, Ok, sym, ap, subst, ◌∙◌, arith}
+use Rattle.std.proofs.lemmas.List.{length-take, take_all}
 use Rattle.retry_rules.specs.declared.settings.Settings.{Settings}
 use Rattle.invoke_records.specs.declared.snapshot.Snapshot.{Snapshot}
 use Rattle.invoke_records.specs.declared.command.Command.{Command}
@@ -8,7 +8,6 @@ use Rattle.async_core.specs.State.{State}
 use Rattle.async_core.specs.History.{IsLegal, table_of}
 use Rattle.async_core.specs.Laws.{IsLegal-take, number-table_of}
 use Rattle.checkpoint.specs.declared.error.OpenError.{OpenError}
-use Rattle.checkpoint.specs.Image.{recovered}
 use Rattle.checkpoint.specs.Live.{RecoversTo}
 use Rattle.group_commit.specs.History.{IsLegalStop}
 

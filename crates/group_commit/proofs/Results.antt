@@ -1,5 +1,5 @@
 -- Facts of what a call answered, carried over to what its caller answers.
-use Rattle.std.proofs.Common.{◌≡◌, Result, Ok, Err, sym, subst}
+use Rattle.std.proofs.Common.{◌≡◌, Result, Ok, Err, subst}
 use Rattle.std.specs.Prelude.{IfOk, IfErr, is_ok}
 
 -- two facts of what is Ok

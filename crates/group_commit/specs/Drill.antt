@@ -1,12 +1,11 @@
 -- What the answers of a script say of one history and of how much of it is durable.
-use Rattle.std.specs.Prelude.{◌≡◌, ℕ, ◌+◌, ◌-◌, ◌^◌, ◌≤◌, List, [], ◌∷◌, ◌++◌, length, take, min, Option, Some, None, Result, Ok, Err}
+use Rattle.std.specs.Prelude.{◌≡◌, ℕ, ◌+◌, ◌^◌, ◌≤◌, List, [], ◌∷◌, ◌++◌, length, take, min, Option, Some, None, Result, Ok, Err}
 use Rattle.retry_rules.specs.declared.settings.Settings.{Settings}
 use Rattle.invoke_records.specs.declared.command.Command.{Command}
 use Rattle.async_core.specs.History.{refusal_of}
 use Rattle.group_commit.specs.Resume.{IsResumed}
 use Rattle.group_commit.specs.declared.error.IssueError.{IssueError}
 use Rattle.group_commit.specs.declared.error.IssueError.TheVariants as issue_error
-use Rattle.group_commit.specs.declared.error.CommitError.{CommitError}
 use Rattle.group_commit.specs.declared.script.Step.{Step}
 use Rattle.group_commit.specs.declared.script.Step.TheVariants as step
 use Rattle.group_commit.specs.declared.script.StepAnswer.{StepAnswer}

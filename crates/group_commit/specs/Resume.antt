@@ -1,9 +1,11 @@
 -- What marks an attempt that a stop cut off.
-use Rattle.std.specs.Prelude.{◌≡◌, ℕ, ◌+◌, ◌^◌, ◌≤◌, true, List, [], ◌∷◌, ◌++◌, length, max, Option, Some, None, Result, Ok, Err}
+use Rattle.std.specs.Prelude.{◌≡◌, ℕ, ◌+◌, ◌^◌, ◌≤◌, true, List, [], ◌∷◌, ◌++◌, length, max, All, Option, Some, None, Result, Ok, Err}
 use Rattle.retry_rules.specs.declared.settings.Settings.{Settings}
 use Rattle.invoke_records.specs.declared.command.Command.{Command}
 use Rattle.invoke_records.specs.declared.command.Kind.TheVariants.{Interrupt}
-use Rattle.async_core.specs.History.{refusal_of, last_moment}
+use Rattle.invoke_records.specs.declared.row.Standing.{Standing}
+use Rattle.invoke_records.specs.declared.row.Standing.TheVariants as standing
+use Rattle.async_core.specs.History.{refusal_of, last_moment, held, standing_in}
 use Rattle.async_core.specs.Choice.{IsFirstRunning}
 use Rattle.sector_disk.specs.declared.disk.Disk.{Ghosts}
 use Rattle.group_commit.specs.declared.broker.Broker.{Broker}
@@ -32,6 +34,16 @@ IsResumed s history now (Ok (Some number)) next =
     (event : ℕ × List ℕ) × IsFirstRunning s history 0 (Some event) × (refusal_of s history (interrupt_of history now event) ≡ None)
     × (number ≡ length history + 1) × (next ≡ history ++ interrupt_of history now event ∷ [])
 IsResumed s history now (Err why) next = IsOwn why × (next ≡ history)
+
+-- where an event that is held stands once nothing runs: it waits, is due again, or has ended
+abbrev pub IsAtRest : Standing → Type 0
+IsAtRest standing.Unknown = ⊥
+IsAtRest (standing.Running environment deadline) = ⊥
+IsAtRest other = Unit {0}
+
+-- each event that was accepted and is not collected is at rest
+abbrev pub AllAtRest : Settings → List Command → Type 0
+AllAtRest s history = All (λ event. IsAtRest (standing_in s history event.1)) (held history)
 
 -- why a resumption was refused, by the broker alone
 abbrev pub IsOwnReason : {D : Type 0} {g : Ghosts D} → Broker D g → IssueError → Type 0

@@ -1,11 +1,11 @@
 // Resuming after a stop: attempts that it cut off are marked as interrupted.
-ghost use Rattle.std.specs.Prelude.{◌≡◌, ◌≤◌, List, ℕ, max, true, Err, IfErr, IsTrue};
+ghost use Rattle.std.specs.Prelude.{◌≡◌, ◌≤◌, List, ℕ, max, true, None, Err, IfOk, IfErr, IsTrue};
 ghost use Rattle.sector_disk.specs.Moments.{LeavesOnly};
 ghost use Rattle.invoke_records.specs.declared.command.Command.{Command};
 ghost use Rattle.group_commit.specs.declared.error.IssueError.TheVariants as issue_error;
 ghost use Rattle.group_commit.specs.Broker.{disk_of, settings_of, durable_of, is_broken, Stands};
 ghost use Rattle.group_commit.specs.History.{IsLegalStop};
-ghost use Rattle.group_commit.specs.Resume.{interrupt_at, IsResumed, IsOwnReason};
+ghost use Rattle.group_commit.specs.Resume.{interrupt_at, IsResumed, IsOwnReason, AllAtRest};
 
 use crate::{Broker, IssueError, Ticket};
 use invoke_records::{Bytes, Command, Kind};
@@ -39,6 +39,7 @@ impl<D: Disk> Broker<D> {
         ensures durable { durable_of self.new ≡ durable_of self.old }
         ensures no_call { disk_of self.new ≡ disk_of self.old }
         ensures resumes { (history : List Command) → Stands D.view self.old history → (next : List Command) × IsResumed (settings_of self.old) history now result next × Stands D.view self.new next }
+        ensures rested { (history : List Command) → Stands D.view self.old history → IfOk result (λ ticket. ticket ≡ None → AllAtRest (settings_of self.old) history) }
 
         // A stop at any moment of the call leaves a legal stop of the history.
         ensures any_moment { (D.view (disk_of self.old)).honest → (history : List Command) → Stands D.view self.old history

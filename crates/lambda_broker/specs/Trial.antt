@@ -1,11 +1,14 @@
 -- What the trial does: its settings and its one command, and the program's status for what it came to.
-use Rattle.std.specs.Prelude.{ℕ, codes, [], ◌∷◌, Result, Ok, Err}
+use Rattle.std.specs.Prelude.{ℕ, Bool, true, false, codes, [], ◌∷◌, Result, Ok, Err, if◌then◌else◌}
 use Rattle.retry_rules.specs.declared.settings.Settings.{Settings}
 use Rattle.invoke_records.specs.declared.command.Command.{Command}
 use Rattle.invoke_records.specs.declared.command.Kind.TheVariants.{Accept}
+use Rattle.checkpoint.specs.declared.error.FormatError.TheVariants as format_error
+use Rattle.checkpoint.specs.declared.error.OpenError.TheVariants as open_error
+use Rattle.group_commit.specs.declared.error.CommitError.TheVariants as commit_error
 use Rattle.lambda_broker.specs.declared.trial.Trial.{Trial}
 use Rattle.lambda_broker.specs.declared.trial.TrialError.{TrialError}
-use Rattle.lambda_broker.specs.declared.trial.TrialError.TheVariants.{Fault}
+use Rattle.lambda_broker.specs.declared.trial.TrialError.TheVariants.{Format, Open, Commit}
 
 abbrev pub trial_settings : Settings
 trial_settings = record {
@@ -31,8 +34,13 @@ trial_acceptance = record {
   bytes = codes "{}";
 }
 
+abbrev pub is_device_fault : TrialError → Bool
+is_device_fault (Format format_error.Fault) = true
+is_device_fault (Open open_error.Fault) = true
+is_device_fault (Commit commit_error.Fault) = true
+is_device_fault refusal = false
+
 -- 0 done, 3 the device failed, 1 refused
 abbrev pub status_of : Result Trial TrialError → ℕ
 status_of (Ok trial) = 0
-status_of (Err Fault) = 3
-status_of (Err refusal) = 1
+status_of (Err why) = if is_device_fault why then 3 else 1

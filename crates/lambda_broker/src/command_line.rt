@@ -73,8 +73,8 @@ fn print_trial<W: Write>(outcome: Result<Trial, TrialError>, out: &mut W) -> io:
             print_standing(done.standing, out)?;
             Ok(DONE)
         }
-        Err(TrialError::Fault) => {
-            writeln!(out, "device fault")?;
+        Err(fault) if fault.is_device_fault() => {
+            writeln!(out, "{fault}")?;
             Ok(DEVICE)
         }
         Err(fault) => {

@@ -6,7 +6,7 @@ ghost use Rattle.invoke_records.specs.declared.row.Standing.TheVariants as stand
 ghost use Rattle.async_core.specs.History.{IsLegal};
 ghost use Rattle.group_commit.specs.History.{IsLegalStop};
 ghost use Rattle.group_commit.specs.Broker.{settings_of, durable_of, Stands};
-ghost use Rattle.lambda_broker.specs.Trial.{trial_settings, trial_acceptance};
+ghost use Rattle.lambda_broker.specs.Trial.{trial_settings, trial_acceptance, is_device_fault};
 
 use group_commit::{Broker, CommitError, FormatError, IssueError, OpenError, OpenFailure, format};
 use invoke_records::{Bytes, Command, Kind, Standing};
@@ -39,62 +39,29 @@ pub struct Trial {
 /// Why the trial was not carried out.
 #[derive(Clone, Copy, Debug, Error)]
 pub enum TrialError {
-    #[error("device fault")]
-    Fault,
     #[error("out of memory")]
-    OutOfMemory,
+    OutOfMemory(#[from] AllocError),
     #[error("{0}")]
-    Format(FormatError),
+    Format(#[from] FormatError),
     #[error("{0}")]
-    Open(OpenError),
+    Open(#[from] OpenError),
     #[error("{0}")]
-    Issue(IssueError),
+    Issue(#[from] IssueError),
     #[error("{0}")]
-    Commit(CommitError),
+    Commit(#[from] CommitError),
 }
 
-impl From<AllocError> for TrialError {
-    fn from(_: AllocError) -> Self {
-        TrialError::OutOfMemory
-    }
-}
-
-impl From<FormatError> for TrialError {
-    fn from(error: FormatError) -> Self {
-        match error {
-            FormatError::Fault => TrialError::Fault,
-            FormatError::OutOfMemory => TrialError::OutOfMemory,
-            other => TrialError::Format(other),
-        }
-    }
-}
-
-impl From<OpenError> for TrialError {
-    fn from(error: OpenError) -> Self {
-        match error {
-            OpenError::Fault => TrialError::Fault,
-            OpenError::OutOfMemory => TrialError::OutOfMemory,
-            other => TrialError::Open(other),
-        }
-    }
-}
-
-impl From<IssueError> for TrialError {
-    fn from(error: IssueError) -> Self {
-        match error {
-            IssueError::OutOfMemory => TrialError::OutOfMemory,
-            other => TrialError::Issue(other),
-        }
-    }
-}
-
-impl From<CommitError> for TrialError {
-    fn from(error: CommitError) -> Self {
-        match error {
-            CommitError::Fault => TrialError::Fault,
-            CommitError::OutOfMemory => TrialError::OutOfMemory,
-            other => TrialError::Commit(other),
-        }
+impl TrialError {
+    /// Whether the device failed.
+    pub fn is_device_fault(&self) -> bool
+        ensures { result ≡ is_device_fault self.now }
+    {
+        matches!(
+            self,
+            TrialError::Format(FormatError::Fault)
+                | TrialError::Open(OpenError::Fault)
+                | TrialError::Commit(CommitError::Fault)
+        )
     }
 }
 

@@ -1,4 +1,4 @@
-use Rattle.std.proofs.Common.{◌≡◌, ◌≤◌, ℕ, List, length, take}
+use Rattle.std.proofs.Common.{ℕ, List, take}
 use Rattle.sector_disk.specs.Memory.{memory_view}
 use Rattle.retry_rules.specs.declared.settings.Settings.{Settings}
 use Rattle.invoke_records.specs.declared.command.Command.{Command}

@@ -1,9 +1,9 @@
-use Rattle.std.proofs.Common.{◌≡◌, sym, subst, refl}
+use Rattle.std.proofs.Common.{subst, refl}
 use Rattle.sector_disk.specs.Memory.{memory_view}
 use Rattle.invoke_records.specs.declared.command.Command.{Command}
 use Rattle.group_commit.specs.declared.script.Step.TheVariants as step
 use Rattle.group_commit.specs.declared.script.StepAnswer.TheVariants as answer
-use Rattle.group_commit.specs.Broker.{settings_of, durable_of}
+use Rattle.group_commit.specs.Broker.{durable_of}
 use Rattle.group_commit.specs.DrillBroker.{LeadsOn}
 use Rattle.group_commit.proofs.Drilled.{reason_is}
 use Rattle.group_commit.proofs.drilling.issue.Goals as goal

@@ -1,8 +1,5 @@
-use Rattle.std.proofs.Common.{◌≡◌, ℕ, min, List, Option, Result, refl, subst, ap}
-use Rattle.sector_disk.specs.Memory.{memory_view}
-use Rattle.invoke_records.specs.declared.command.Command.{Command}
-use Rattle.group_commit.specs.declared.error.IssueError.{IssueError}
-use Rattle.group_commit.specs.Broker.{settings_of, durable_of, Stands}
+use Rattle.std.proofs.Common.{ℕ, refl, subst}
+use Rattle.group_commit.specs.Broker.{settings_of, durable_of}
 use Rattle.group_commit.specs.Resume.{IsResumed}
 use Rattle.group_commit.proofs.drilling.resume.Goals as goal
 

@@ -1,4 +1,4 @@
-use Rattle.std.proofs.Common.{◌≡◌, ℕ, List, [], ◌∷◌, ◌++◌, length, sym, ap, ◌∙◌, subst, arith}
+use Rattle.std.proofs.Common.{◌≡◌, ℕ, List, [], ◌∷◌, sym, ap, ◌∙◌, subst}
 use Rattle.sector_disk.specs.declared.memory.MemDisk.{MemDisk}
 use Rattle.sector_disk.specs.Memory.{memory_view}
 use Rattle.retry_rules.specs.declared.settings.Settings.{Settings}
@@ -9,7 +9,7 @@ use Rattle.async_core.specs.History.{IsLegal, standing_in, table_of}
 use Rattle.async_core.specs.Laws.{IsLegal-nil}
 use Rattle.checkpoint.specs.Live.{RecoversTo}
 use Rattle.group_commit.specs.History.{IsLegalStop}
-use Rattle.group_commit.specs.Broker.{settings_of, durable_of, Stands}
+use Rattle.group_commit.specs.Broker.{settings_of, Stands}
 use Rattle.lambda_broker.specs.Trial.{trial_settings, trial_acceptance}
 use Rattle.lambda_broker.proofs.Trials.{formatted_stops, accepted_standing}
 use Rattle.lambda_broker.proofs.trial.run_trial.Goals as goal

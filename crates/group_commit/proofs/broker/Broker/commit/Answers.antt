@@ -1,5 +1,5 @@
-use Rattle.std.proofs.Common.{◌≡◌, ◌⊎◌, ◌∙◌, sym, length}
-use Rattle.group_commit.specs.Broker.{settings_of, durable_of, issued_of, Commits}
+use Rattle.std.proofs.Common.{◌≡◌, ◌∙◌, length}
+use Rattle.group_commit.specs.Broker.{issued_of, Commits}
 use Rattle.group_commit.proofs.Issued.{if_ok}
 use Rattle.group_commit.proofs.Committed.{weaker, replays, number, is_stop, stands_after}
 use Rattle.group_commit.proofs.broker.Broker.commit.Goals as goal

@@ -1,4 +1,4 @@
-use Rattle.std.proofs.Common.{◌≡◌, ◌≤◌, None, List, [], ℕ, length, take, drop, refl, sym, ap, subst, ◌∙◌, arith}
+use Rattle.std.proofs.Common.{◌≡◌, ℕ, length, take, sym, ap, subst, ◌∙◌, arith}
 use Rattle.std.proofs.lemmas.List.{take_all, length-take}
 use Rattle.invoke_records.specs.declared.snapshot.Snapshot.{Snapshot}
 use Rattle.retry_rules.specs.declared.settings.Settings.{Settings}

@@ -1,12 +1,13 @@
-use Rattle.std.proofs.Common.{◌≡◌, ◌+◌, ℕ, max, List, [], ◌∷◌, ◌++◌, None, length, refl, sym, ap, ◌∙◌, subst}
+use Rattle.std.proofs.Common.{◌≡◌, ◌+◌, max, [], ◌∷◌, ◌++◌, None, length, refl, ap, ◌∙◌, subst}
 use Rattle.invoke_records.specs.declared.command.Command.{Command}
 use Rattle.invoke_records.specs.declared.snapshot.Snapshot.{Snapshot}
 use Rattle.async_core.specs.Rules.{refusal_at}
 use Rattle.async_core.specs.History.{last_moment, refusal_of}
-use Rattle.group_commit.specs.Broker.{settings_of, table_in, Stands, IsReason}
+use Rattle.group_commit.specs.Broker.{settings_of, table_in, Stands}
 use Rattle.group_commit.specs.Resume.{interrupt_at, interrupt_of}
 use Rattle.group_commit.proofs.Issued.{refusal_is}
 use Rattle.group_commit.proofs.Resumed.{interrupt_legal, moment-table_of, first_runs, own_reason}
+use Rattle.group_commit.proofs.Rested.{all_at_rest}
 use Rattle.group_commit.proofs.broker.Broker.resume.Goals as goal
 
 pub returns-in-Ok-clause-resumes : goal.returns-in-Ok-clause-resumes
@@ -34,3 +35,7 @@ returns-in-Err-clause-resumes g c history stands =
     ∙ ap (refusal_of (settings_of old) history) same
     ∙ interrupt_legal (settings_of old) history now event stands.good stands.legal c.requires (first_runs (settings_of old) history event (c.in-Some.ensures.by_history history stands.table_is)) in
     (history, (own_reason old c.interrupt.result c.in-Err.why legal c.in-Err.ensures.reason, refl), c.in-Err.ensures.stands_refused history stands)
+
+pub returns-in_default-clause-rested : goal.returns-in_default-clause-rested
+returns-in_default-clause-rested g c history stands none =
+    all_at_rest (settings_of c.args.self.now) history stands.legal (c.in_default.ensures.by_history history stands.table_is)
