@@ -89,6 +89,7 @@ impl Table {
         })
     }
 
+    /// The settings that its events are judged by.
     pub fn settings(&self) -> &Settings
         ensures { result.now ≡ self.now.settings }
     {

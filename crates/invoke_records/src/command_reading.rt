@@ -74,6 +74,7 @@ fn body_of(kind: Kind, bytes: &[u8]) -> Result<(Kind, &[u8]), RecordError>
     }
 }
 
+/// Whether the environment is none that a command of the kind may have.
 pub fn has_bad_environment(kind: Kind, environment: u16) -> bool
     ensures { result ≡ is_bad_environment kind environment }
 {

@@ -120,6 +120,7 @@ fn read_answer(alloc: Global, byte: u8, bytes: &[u8]) -> Result<Answer, RecordEr
     Ok(Answer::Error(text))
 }
 
+/// The row at the front of the bytes, and the bytes behind it.
 #[tactic(auto, unfolding(crate::specs::Reading::row_at))]
 pub fn read_row(alloc: Global, bytes: &[u8]) -> Result<(EventRow, &[u8]), RecordError>
     ensures { Gives (λ x. (x.0, x.1.now)) result (row_at bytes.now) }

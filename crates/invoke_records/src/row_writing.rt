@@ -95,6 +95,7 @@ fn is_unknown_standing(standing: &Standing) -> bool
     }
 }
 
+/// Why a row has no spelling, if it has none.
 pub fn check_row(row: &EventRow) -> Result<(), RecordError>
     ensures { result ≡ sound (row_fault row.now) tt }
 {
@@ -172,6 +173,7 @@ fn add_counts(out: &mut Vec<u8>, row: &EventRow) -> Result<(), RecordError>
     Ok(())
 }
 
+/// Appends the one spelling of the row. Where memory is wanting, a part of it may have been appended.
 #[tactic(auto, unfolding(crate::specs::Spelling::row_text))]
 pub fn add_row(out: &mut Vec<u8>, row: &EventRow) -> Result<(), RecordError>
     requires payload { length row.now.payload ≤ 262144 }

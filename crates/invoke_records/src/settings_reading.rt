@@ -104,6 +104,7 @@ fn read_settings(alloc: Global, bytes: &[u8]) -> Result<(Settings, &[u8]), Recor
     Ok((settings, rest))
 }
 
+/// The settings at the front of the bytes, and how many bytes they take.
 pub fn decode_settings(alloc: Global, bytes: &[u8]) -> Result<(Settings, usize), RecordError>
     ensures exact { Gives (λ x. (x.0, drop x.1 bytes.now)) result (settings_at bytes.now) }
     ensures size { IfOk result (λ x. x.1 ≡ length (settings_text x.0)) }

@@ -59,6 +59,7 @@ fn add_text(out: &mut Vec<u8>, text: &[u8]) -> Result<(), RecordError>
     add(out, text)
 }
 
+/// The one spelling of the settings.
 #[tactic(auto, unfolding(crate::specs::Spelling::settings_text))]
 pub fn encode_settings(alloc: Global, s: &Settings) -> Result<Vec<u8>, RecordError>
     ensures ok { IfOk result (λ text. text.items ≡ settings_text s.now) }

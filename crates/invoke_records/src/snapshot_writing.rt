@@ -59,6 +59,7 @@ fn add_rows(out: &mut Vec<u8>, rows: &[EventRow]) -> Result<(), RecordError>
     Ok(())
 }
 
+/// The one spelling of the snapshot.
 #[tactic(auto, unfolding(crate::specs::Spelling::snapshot_text))]
 pub fn encode_snapshot(alloc: Global, s: &Snapshot) -> Result<Vec<u8>, RecordError>
     ensures ok { IfOk result (λ text. text.items ≡ snapshot_text s.now) }
