@@ -1,5 +1,5 @@
 -- The steps of a script, one after another.
-use Rattle.std.proofs.Common.{◌≡◌, ℕ, ◌≤◌, List, [], ◌∷◌, ◌++◌, length, take, refl, sym, ap, subst, ◌∙◌, arith, length-drop}
+use Rattle.std.proofs.Common.{◌≡◌, ◌⊎◌, inl, inr, ℕ, ◌≤◌, Bool, true, false, List, [], ◌∷◌, ◌++◌, length, take, refl, sym, ap, subst, ◌∙◌, arith, length-drop}
 use Rattle.sector_disk.specs.Disk.{DiskView}
 use Rattle.sector_disk.specs.declared.disk.Disk.{Ghosts}
 use Rattle.retry_rules.specs.declared.settings.Settings.{Settings}
@@ -9,28 +9,81 @@ use Rattle.async_core.specs.Laws.{number-table_of}
 use Rattle.group_commit.specs.declared.broker.Broker.{Broker}
 use Rattle.group_commit.specs.declared.error.IssueError.{IssueError}
 use Rattle.group_commit.specs.declared.error.IssueError.TheVariants as issue_error
+use Rattle.group_commit.specs.declared.error.CommitError.{CommitError}
+use Rattle.group_commit.specs.declared.error.CommitError.TheVariants as commit_error
 use Rattle.group_commit.specs.declared.script.Step.{Step}
+use Rattle.group_commit.specs.declared.script.Step.TheVariants as step
 use Rattle.group_commit.specs.declared.script.StepAnswer.{StepAnswer}
-use Rattle.group_commit.specs.Broker.{settings_of, table_in, durable_of, Stands, IsReason}
+use Rattle.group_commit.specs.declared.script.StepAnswer.TheVariants as answer
+use Rattle.group_commit.specs.Broker.{settings_of, table_in, durable_of, is_broken, Stands, IsSameBroker, Breaks, IsReason}
 use Rattle.sector_disk.specs.declared.memory.MemDisk.{MemDisk}
 use Rattle.sector_disk.specs.Memory.{memory_view}
 use Rattle.group_commit.specs.Drill.{Log, IsRefused, IsStep, IsRun}
-use Rattle.group_commit.specs.DrillBroker.{LeadsOn, IsDrilled}
+use Rattle.group_commit.specs.DrillBroker.{log_of, LeadsOn, IsDrilled}
 use Rattle.group_commit.proofs.Issued.{refusal_is}
+
+-- it is not broken, since it would answer so
+unbroken : (b : Bool) → (b ≡ true → ⊥) → b ≡ false
+unbroken true never = absurd (never refl)
+unbroken false _ = refl
 
 -- why a broker refuses, said of the history that it stands for
 pub reason_is : {D : Type 0} {g : Ghosts D} (view : D → DiskView) (broker : Broker D g) (history : List Command) → Stands view broker history → (command : Command) (why : IssueError)
-    → IsReason broker command why → IsRefused (settings_of broker) (record { history = history; durable = durable_of broker }) command why
-reason_is view broker history stands command issue_error.Broken is = tt
-reason_is view broker history stands command issue_error.WornOut is =
+    → (is_broken broker ≡ true → why ≡ issue_error.Broken) → IsReason broker command why
+    → IsRefused (settings_of broker) (record { history = history; durable = durable_of broker; broken = is_broken broker }) command why
+reason_is view broker history stands command issue_error.Broken first is = is
+reason_is view broker history stands command issue_error.WornOut first is =
     let number : (table_in broker).number ≡ length history = ap (λ (t : Snapshot). t.number) stands.table_is ∙ number-table_of (settings_of broker) history in
-    omega (arith, is, number)
-reason_is view broker history stands command (issue_error.Illegal why) is = sym (refusal_is _ _ _ _ _ _ _ history stands command) ∙ is
-reason_is view broker history stands command issue_error.Backlog is = (
+    (unbroken (is_broken broker) (λ broken. let wrong = first broken in cc), omega (arith, is, number))
+reason_is view broker history stands command (issue_error.Illegal why) first is = (
+  unbroken (is_broken broker) (λ broken. let wrong = first broken in cc),
+  sym (refusal_is _ _ _ _ _ _ _ history stands command) ∙ is,
+)
+reason_is view broker history stands command issue_error.Backlog first is = (
+  unbroken (is_broken broker) (λ broken. let wrong = first broken in cc),
   sym (refusal_is _ _ _ _ _ _ _ history stands command) ∙ is.0,
   omega (arith, is.1, ap length stands.pending_is, length-drop (durable_of broker) history, stands.durable_is),
 )
-reason_is view broker history stands command issue_error.OutOfMemory is = sym (refusal_is _ _ _ _ _ _ _ history stands command) ∙ is
+reason_is view broker history stands command issue_error.OutOfMemory first is = (
+  unbroken (is_broken broker) (λ broken. let wrong = first broken in cc),
+  sym (refusal_is _ _ _ _ _ _ _ history stands command) ∙ is,
+)
+
+module _ {g : Ghosts MemDisk} (old new : Broker MemDisk g) (history : List Command) (stands : Stands memory_view new history) where
+  -- a step that changed nothing
+  pub same_log : (step : Step) (answer : StepAnswer) → IsStep (settings_of old) (log_of old history) step answer (log_of old history) → IsSameBroker old new → LeadsOn old history step answer new
+  same_log step answer is same = record {
+    next = log_of old history;
+    step_is = is;
+    settings = same.settings;
+    durable = same.durable;
+    broken = same.broken;
+    stands = stands;
+  }
+
+  same_of : (why : CommitError) → ((why ≡ commit_error.Fault) ⊎ IsSameBroker old new) → (why ≡ commit_error.Fault → ⊥) → IsSameBroker old new
+  same_of why (inl fault) never = absurd (never fault)
+  same_of why (inr same) _ = same
+
+  -- a commit that was refused
+  pub not_committed : (why : CommitError) → (why ≡ commit_error.Broken → is_broken old ≡ true) → (is_broken old ≡ true → why ≡ commit_error.Broken) → (why ≡ commit_error.Fault → Breaks old new)
+      → ((why ≡ commit_error.Fault) ⊎ IsSameBroker old new) → LeadsOn old history step.Commit (answer.CommitRefused why) new
+  not_committed commit_error.Broken told first breaks kept =
+      same_log step.Commit (answer.CommitRefused commit_error.Broken) (told refl, refl) (same_of commit_error.Broken kept (λ wrong. cc))
+  not_committed commit_error.Fault told first breaks kept =
+      let broke = breaks refl in
+      record {
+        next = record { history = history; durable = durable_of old; broken = true };
+        step_is = (unbroken (is_broken old) (λ broken. let wrong = first broken in cc), refl);
+        settings = broke.settings;
+        durable = broke.durable;
+        broken = broke.broken;
+        stands = stands;
+      }
+  not_committed commit_error.NoRoom told first breaks kept =
+      same_log step.Commit (answer.CommitRefused commit_error.NoRoom) (unbroken (is_broken old) (λ broken. let wrong = first broken in cc), refl) (same_of commit_error.NoRoom kept (λ wrong. cc))
+  not_committed commit_error.OutOfMemory told first breaks kept =
+      same_log step.Commit (answer.CommitRefused commit_error.OutOfMemory) (unbroken (is_broken old) (λ broken. let wrong = first broken in cc), refl) (same_of commit_error.OutOfMemory kept (λ wrong. cc))
 
 -- a script with one step more
 pub run_more : (s : Settings) (steps : List Step) (answers : List StepAnswer) (start mid end : Log) (step : Step) (answer : StepAnswer) → IsRun s start steps answers mid → IsStep s mid step answer end
@@ -42,18 +95,19 @@ run_more s (x ∷ steps) (a ∷ answers) start mid end step answer run is = (run
 
 module _ {g : Ghosts MemDisk} (s : Settings) (history : List Command) (durable : ℕ) where
   -- before the first step
-  pub drilled_none : (broker : Broker MemDisk g) (answers : List StepAnswer) → answers ≡ [] → durable ≤ durable_of broker → durable_of broker ≤ length history → settings_of broker ≡ s
+  pub drilled_none : (broker : Broker MemDisk g) (answers : List StepAnswer) → answers ≡ [] → durable ≤ durable_of broker → durable_of broker ≤ length history → settings_of broker ≡ s → is_broken broker ≡ false
       → Stands memory_view broker (take (durable_of broker) history) → IsDrilled s history durable [] answers broker
-  drilled_none broker answers none least most settings stands =
+  drilled_none broker answers none least most settings whole stands =
       subst (λ (l : List StepAnswer). IsDrilled s history durable [] l broker) (sym none)
       (record {
         opened = durable_of broker;
         least = least;
         most = most;
-        end = record { history = take (durable_of broker) history; durable = durable_of broker };
+        end = record { history = take (durable_of broker) history; durable = durable_of broker; broken = false };
         run = refl;
         settings = settings;
         durable_is = refl;
+        broken_is = whole;
         stands = stands;
       })
 
@@ -63,8 +117,9 @@ module _ {g : Ghosts MemDisk} (s : Settings) (history : List Command) (durable :
   drilled_more steps answers old new step answer was leads =
       let led = leads was.end.history was.stands in
       let here : IsStep s was.end step answer led.next =
-      subst (λ (d : ℕ). IsStep s (record { history = was.end.history; durable = d }) step answer led.next) was.durable_is
-      (subst (λ (r : Settings). IsStep r (record { history = was.end.history; durable = durable_of old }) step answer led.next) was.settings led.step_is) in
+      subst (λ (b : Bool). IsStep s (record { history = was.end.history; durable = was.end.durable; broken = b }) step answer led.next) was.broken_is
+      (subst (λ (d : ℕ). IsStep s (record { history = was.end.history; durable = d; broken = is_broken old }) step answer led.next) was.durable_is
+      (subst (λ (r : Settings). IsStep r (log_of old was.end.history) step answer led.next) was.settings led.step_is)) in
       record {
         opened = was.opened;
         least = was.least;
@@ -73,5 +128,6 @@ module _ {g : Ghosts MemDisk} (s : Settings) (history : List Command) (durable :
         run = run_more s steps answers _ was.end led.next step answer was.run here;
         settings = led.settings ∙ was.settings;
         durable_is = led.durable;
+        broken_is = led.broken;
         stands = led.stands;
       }

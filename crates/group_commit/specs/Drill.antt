@@ -1,28 +1,38 @@
 -- What the answers of a script say of one history and of how much of it is durable.
-use Rattle.std.specs.Prelude.{◌≡◌, ℕ, ◌+◌, ◌^◌, ◌≤◌, List, [], ◌∷◌, ◌++◌, length, take, min, Option, Some, None, Result, Ok, Err}
+use Rattle.std.specs.Prelude.{◌≡◌, ◌↔◌, ℕ, ◌+◌, ◌^◌, ◌≤◌, Bool, true, false, List, [], ◌∷◌, ◌++◌, length, take, min, Option, Some, None, Result, Ok, Err}
 use Rattle.retry_rules.specs.declared.settings.Settings.{Settings}
 use Rattle.invoke_records.specs.declared.command.Command.{Command}
 use Rattle.async_core.specs.History.{refusal_of}
 use Rattle.group_commit.specs.Resume.{IsResumed}
 use Rattle.group_commit.specs.declared.error.IssueError.{IssueError}
 use Rattle.group_commit.specs.declared.error.IssueError.TheVariants as issue_error
+use Rattle.group_commit.specs.declared.error.CommitError.{CommitError}
+use Rattle.group_commit.specs.declared.error.CommitError.TheVariants as commit_error
 use Rattle.group_commit.specs.declared.script.Step.{Step}
 use Rattle.group_commit.specs.declared.script.Step.TheVariants as step
 use Rattle.group_commit.specs.declared.script.StepAnswer.{StepAnswer}
 use Rattle.group_commit.specs.declared.script.StepAnswer.TheVariants as answer
 
--- a history, and how many of its commands are durable
+-- a history, how many of its commands are durable, and whether the device failed since the last opening
 pub record Log : Type 0 where
   pub history : List Command
   pub durable : ℕ
+  pub broken : Bool
 
--- why a command is refused after this history: it is not legal, or the broker has one of its own four reasons
+-- why a command is refused: the device has failed, the command is not legal after this history, or the broker has one of its
+-- own three other reasons
 abbrev pub IsRefused : Settings → Log → Command → IssueError → Type 0
-IsRefused s log c (issue_error.Illegal why) = refusal_of s log.history c ≡ Some why
-IsRefused s log c issue_error.WornOut = 2 ^ 62 ≤ length log.history
-IsRefused s log c issue_error.Backlog = (refusal_of s log.history c ≡ None) × (length log.history ≡ log.durable + 256)
-IsRefused s log c issue_error.OutOfMemory = refusal_of s log.history c ≡ None
-IsRefused s log c issue_error.Broken = Unit {0}
+IsRefused s log c issue_error.Broken = log.broken ≡ true
+IsRefused s log c issue_error.WornOut = (log.broken ≡ false) × (2 ^ 62 ≤ length log.history)
+IsRefused s log c (issue_error.Illegal why) = (log.broken ≡ false) × (refusal_of s log.history c ≡ Some why)
+IsRefused s log c issue_error.Backlog = (log.broken ≡ false) × (refusal_of s log.history c ≡ None) × (length log.history ≡ log.durable + 256)
+IsRefused s log c issue_error.OutOfMemory = (log.broken ≡ false) × (refusal_of s log.history c ≡ None)
+
+-- what a commit that was refused leaves: a fault breaks the broker, and then it answers that until the next stop
+abbrev pub IsNotCommitted : Log → CommitError → Log → Type 0
+IsNotCommitted log commit_error.Broken next = (log.broken ≡ true) × (next ≡ log)
+IsNotCommitted log commit_error.Fault next = (log.broken ≡ false) × (next ≡ record log { broken = true })
+IsNotCommitted log why next = (log.broken ≡ false) × (next ≡ log)
 
 -- what a step says of a resumption's answer
 abbrev pub answer_to : Result (Option ℕ) IssueError → StepAnswer
@@ -34,18 +44,18 @@ answer_to (Err why) = answer.IssueRefused why
 abbrev pub IsStep : Settings → Log → Step → StepAnswer → Log → Type 0
 -- a legal command is the history's next
 IsStep s log (step.Issue c) (answer.Number n) next =
-    (refusal_of s log.history c ≡ None) × (n ≡ length log.history + 1) × (next ≡ record { history = log.history ++ c ∷ []; durable = log.durable })
+    (log.broken ≡ false) × (refusal_of s log.history c ≡ None) × (n ≡ length log.history + 1) × (next ≡ record log { history = log.history ++ c ∷ [] })
 IsStep s log (step.Issue c) (answer.IssueRefused why) next = IsRefused s log c why × (next ≡ log)
 -- a commit makes the whole history durable
-IsStep s log step.Commit (answer.Number n) next = (n ≡ length log.history) × (next ≡ record { history = log.history; durable = n })
-IsStep s log step.Commit (answer.CommitRefused why) next = next ≡ log
+IsStep s log step.Commit (answer.Number n) next = (log.broken ≡ false) × (n ≡ length log.history) × (next ≡ record log { durable = n })
+IsStep s log step.Commit (answer.CommitRefused why) next = IsNotCommitted log why next
 -- a resumption marks the running event that was accepted first, if one runs
 IsStep s log (step.Resume now) answer next =
     (result : Result (Option ℕ) IssueError) × (answer ≡ answer_to result) × IsResumed s log.history (min now 253402300799999) result next.history
-    × (next.durable ≡ log.durable)
+    × ((result ≡ Err issue_error.Broken) ↔ (log.broken ≡ true)) × (next.durable ≡ log.durable) × (next.broken ≡ log.broken)
 -- a stop leaves a prefix that has the durable commands
 IsStep s log (step.Stop choice) (answer.Number n) next =
-    (log.durable ≤ n) × (n ≤ length log.history) × (next ≡ record { history = take n log.history; durable = n })
+    (log.durable ≤ n) × (n ≤ length log.history) × (next ≡ record { history = take n log.history; durable = n; broken = false })
 IsStep s log step answer next = ⊥
 
 -- one step after another

@@ -1,5 +1,5 @@
 -- A step of a script, by the brokers before and after it.
-use Rattle.std.specs.Prelude.{◌≡◌, ◌⊎◌, ℕ, ◌≤◌, List, length, take}
+use Rattle.std.specs.Prelude.{◌≡◌, ◌⊎◌, ℕ, ◌≤◌, false, List, length, take}
 use Rattle.sector_disk.specs.declared.disk.Disk.{Ghosts}
 use Rattle.sector_disk.specs.declared.memory.MemDisk.{MemDisk}
 use Rattle.sector_disk.specs.Memory.{memory_view}
@@ -10,15 +10,20 @@ use Rattle.checkpoint.specs.declared.error.OpenError.TheVariants.{Fault, OutOfMe
 use Rattle.group_commit.specs.declared.broker.Broker.{Broker}
 use Rattle.group_commit.specs.declared.script.Step.{Step}
 use Rattle.group_commit.specs.declared.script.StepAnswer.{StepAnswer}
-use Rattle.group_commit.specs.Broker.{settings_of, durable_of, Stands}
+use Rattle.group_commit.specs.Broker.{settings_of, durable_of, is_broken, Stands}
 use Rattle.group_commit.specs.Drill.{Log, IsStep, IsRun}
+
+-- the log of a broker that stands for this history
+abbrev pub log_of : {g : Ghosts MemDisk} → Broker MemDisk g → List Command → Log
+log_of broker history = record { history = history; durable = durable_of broker; broken = is_broken broker }
 
 -- the step that answers so leads from a broker that stands for the history to one that stands for the next log
 pub record LeadsOn {g : Ghosts MemDisk} (old : Broker MemDisk g) (history : List Command) (step : Step) (answer : StepAnswer) (new : Broker MemDisk g) : Type 0 where
   pub next : Log
-  pub step_is : IsStep (settings_of old) (record { history = history; durable = durable_of old }) step answer next
+  pub step_is : IsStep (settings_of old) (log_of old history) step answer next
   pub settings : settings_of new ≡ settings_of old
   pub durable : durable_of new ≡ next.durable
+  pub broken : is_broken new ≡ next.broken
   pub stands : Stands memory_view new next.history
 
 -- a script was run on a disk of which each image was a legal stop: its answers are those of one history, which begins with
@@ -28,9 +33,10 @@ pub record IsDrilled {g : Ghosts MemDisk} (s : Settings) (history : List Command
   pub least : durable ≤ opened
   pub most : opened ≤ length history
   pub end : Log
-  pub run : IsRun s (record { history = take opened history; durable = opened }) steps answers end
+  pub run : IsRun s (record { history = take opened history; durable = opened; broken = false }) steps answers end
   pub settings : settings_of broker ≡ s
   pub durable_is : durable_of broker ≡ end.durable
+  pub broken_is : is_broken broker ≡ end.broken
   pub stands : Stands memory_view broker end.history
 
 -- what may cut a script off: the device, which is memory here too, or memory

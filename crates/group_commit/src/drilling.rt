@@ -1,11 +1,11 @@
 // Scripts of steps, stops among them, on a disk in memory.
-ghost use Rattle.std.specs.Prelude.{◌≡◌, ◌⊎◌, ◌+◌, ◌≤◌, [], List, ℕ, length, take, Ok, IfOk, IfErr, is_ok};
+ghost use Rattle.std.specs.Prelude.{◌≡◌, ◌⊎◌, ◌+◌, ◌≤◌, [], List, ℕ, length, take, false, Ok, IfOk, IfErr, is_ok};
 ghost use Rattle.sector_disk.specs.Memory.{memory_view};
 ghost use Rattle.retry_rules.specs.declared.settings.Settings.{Settings};
 ghost use Rattle.invoke_records.specs.declared.command.Command.{Command};
 ghost use Rattle.async_core.specs.History.{IsLegal};
 ghost use Rattle.group_commit.specs.History.{IsLegalStop};
-ghost use Rattle.group_commit.specs.Broker.{settings_of, durable_of, Stands};
+ghost use Rattle.group_commit.specs.Broker.{settings_of, durable_of, is_broken, Stands};
 ghost use Rattle.group_commit.specs.declared.script.Step.TheVariants as step;
 ghost use Rattle.group_commit.specs.Drill.{answer_to};
 ghost use Rattle.group_commit.specs.DrillBroker.{LeadsOn, IsDrilled, IsCutOff};
@@ -46,7 +46,7 @@ fn opened(
 // Opens a disk.
 fn start(alloc: Global, disk: MemDisk) -> Result<Broker<MemDisk>, OpenError>
     ensures recovers { (s : Settings) (history : List Command) (durable : ℕ) → IsLegal s history → ((image : List ℕ) → (memory_view disk).may_leave image → IsLegalStop s history durable image)
-        → IfOk result (λ b. (durable ≤ durable_of b) × (durable_of b ≤ length history) × (settings_of b ≡ s) × Stands memory_view b (take (durable_of b) history)) }
+        → IfOk result (λ b. (durable ≤ durable_of b) × (durable_of b ≤ length history) × (settings_of b ≡ s) × (is_broken b ≡ false) × Stands memory_view b (take (durable_of b) history)) }
     ensures refused { (s : Settings) (history : List Command) (durable : ℕ) → IsLegal s history → ((image : List ℕ) → (memory_view disk).may_leave image → IsLegalStop s history durable image)
         → IfErr result IsCutOff }
 {
@@ -60,7 +60,7 @@ fn stop(
     choice: &[(u64, [u8; 512])],
 ) -> Result<Broker<MemDisk>, OpenError>
     ensures recovers { (history : List Command) → Stands memory_view broker history → IfOk result (λ b. (durable_of broker ≤ durable_of b) × (durable_of b ≤ length history)
-        × (settings_of b ≡ settings_of broker) × Stands memory_view b (take (durable_of b) history)) }
+        × (settings_of b ≡ settings_of broker) × (is_broken b ≡ false) × Stands memory_view b (take (durable_of b) history)) }
     ensures refused { (history : List Command) → Stands memory_view broker history → IfErr result IsCutOff }
 {
     start(alloc, broker.close().stop(choice))
@@ -139,8 +139,9 @@ fn run_step(
 /// Opens a disk in memory and runs a script on it, stops among its steps.
 ///
 /// On a disk of which each image is a legal stop of a history, the answers are those of one history that goes on from
-/// what the opening recovered: a stop cuts it to a length from the durable number to its own. It fails only where memory
-/// runs out, also the disk's own, and gives the disk up then.
+/// what the opening recovered: a stop cuts it to a length from the durable number to its own, and after a fault nothing is
+/// issued or committed until the next stop. It fails only where memory runs out, also the disk's own, and gives the disk up
+/// then.
 pub fn drill(alloc: Global, disk: MemDisk, steps: &[Step]) -> Result<Drill, DrillFailure>
     ensures run { (s : Settings) (history : List Command) (durable : ℕ) → IsLegal s history → ((image : List ℕ) → (memory_view disk).may_leave image → IsLegalStop s history durable image)
         → IfOk result (λ drill. IsDrilled s history durable steps.now drill.answers.items drill.broker) }

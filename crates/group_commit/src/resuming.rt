@@ -37,6 +37,7 @@ impl<D: Disk> Broker<D> {
         ensures reason { IfErr result (IsOwnReason self.old) }
         ensures settings { settings_of self.new ≡ settings_of self.old }
         ensures durable { durable_of self.new ≡ durable_of self.old }
+        ensures still { is_broken self.new ≡ is_broken self.old }
         ensures no_call { disk_of self.new ≡ disk_of self.old }
         ensures resumes { (history : List Command) → Stands D.view self.old history → (next : List Command) × IsResumed (settings_of self.old) history now result next × Stands D.view self.new next }
         ensures rested { (history : List Command) → Stands D.view self.old history → IfOk result (λ ticket. ticket ≡ None → AllAtRest (settings_of self.old) history) }

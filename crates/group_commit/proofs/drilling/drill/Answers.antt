@@ -9,7 +9,7 @@ use Rattle.group_commit.proofs.drilling.drill.Goals as goal
 pub loop-index-init : goal.loop-index-init
 loop-index-init c s history durable legal stops =
     let facts = c.in-Ok.ensures.recovers s history durable legal stops in
-    drilled_none s history durable c.in-Ok.broker c.new-answers.result.items c.new-answers.ensures.items facts.0 facts.1 facts.2 facts.3
+    drilled_none s history durable c.in-Ok.broker c.new-answers.result.items c.new-answers.ensures.items facts.0 facts.1 facts.2 facts.3 facts.4
 
 pub returns-in-Err-run_step-clause-refused : goal.returns-in-Err-run_step-clause-refused
 returns-in-Err-run_step-clause-refused c s history durable legal stops =

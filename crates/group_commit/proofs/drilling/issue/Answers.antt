@@ -3,8 +3,7 @@ use Rattle.sector_disk.specs.Memory.{memory_view}
 use Rattle.invoke_records.specs.declared.command.Command.{Command}
 use Rattle.group_commit.specs.declared.script.Step.TheVariants as step
 use Rattle.group_commit.specs.declared.script.StepAnswer.TheVariants as answer
-use Rattle.group_commit.specs.Broker.{durable_of}
-use Rattle.group_commit.specs.DrillBroker.{LeadsOn}
+use Rattle.group_commit.specs.DrillBroker.{log_of, LeadsOn}
 use Rattle.group_commit.proofs.Drilled.{reason_is}
 use Rattle.group_commit.proofs.drilling.issue.Goals as goal
 
@@ -15,10 +14,11 @@ returns-in-Err c = record {
       let new = c.issue.new.self in
       subst (λ (command : Command). LeadsOn old history (step.Issue command) (answer.IssueRefused c.in-Err.why) new) c.in_ok-command.ensures
       (record {
-        next = record { history = history; durable = durable_of old };
-        step_is = (reason_is memory_view old history stands c.in_ok-command.command c.in-Err.why c.in-Err.ensures.reason, refl);
+        next = log_of old history;
+        step_is = (reason_is memory_view old history stands c.in_ok-command.command c.in-Err.why (λ broken. let told = c.in-Err.ensures.broken broken in cc) c.in-Err.ensures.reason, refl);
         settings = c.in-Err.ensures.err.settings;
         durable = c.in-Err.ensures.err.durable;
+        broken = c.in-Err.ensures.err.broken;
         stands = c.in-Err.ensures.stands_refused history stands;
       });
 }

@@ -1,6 +1,8 @@
 use Rattle.std.proofs.Common.{ℕ, refl, subst}
-use Rattle.group_commit.specs.Broker.{settings_of, durable_of}
+use Rattle.group_commit.specs.Broker.{settings_of}
 use Rattle.group_commit.specs.Resume.{IsResumed}
+use Rattle.group_commit.specs.DrillBroker.{log_of}
+use Rattle.group_commit.proofs.Resumed.{resumed_broken}
 use Rattle.group_commit.proofs.drilling.resume.Goals as goal
 
 pub returns : goal.returns
@@ -9,15 +11,18 @@ returns c = record {
       let old = c.args.broker.now in
       let resumed = c.resume.ensures.resumes history stands in
       record {
-        next = record { history = resumed.0; durable = durable_of old };
+        next = log_of old resumed.0;
         step_is = (
           c.resume.result,
           c.answer_to.ensures,
           subst (λ (now : ℕ). IsResumed (settings_of old) history now c.resume.result resumed.0) c.min.ensures resumed.1,
+          (λ is. resumed_broken old c.resume.result c.resume.ensures.reason is, λ broken. c.resume.ensures.broken broken),
+          refl,
           refl,
         );
         settings = c.resume.ensures.settings;
         durable = c.resume.ensures.durable;
+        broken = c.resume.ensures.still;
         stands = resumed.2;
       };
 }

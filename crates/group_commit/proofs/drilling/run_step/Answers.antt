@@ -1,4 +1,4 @@
-use Rattle.std.proofs.Common.{◌≡◌, ℕ, take, refl, sym, ◌∙◌, ap, subst, arith}
+use Rattle.std.proofs.Common.{◌≡◌, ℕ, false, take, refl, sym, ◌∙◌, ap, subst, arith}
 use Rattle.group_commit.specs.declared.script.Step.{Step}
 use Rattle.group_commit.specs.declared.script.StepAnswer.TheVariants as answer
 use Rattle.group_commit.specs.Broker.{durable_of}
@@ -12,12 +12,13 @@ returns-in_ok-broker-in-Stop-clause-step c history stands =
     let facts = c.in_ok-broker-in-Stop.ensures.recovers history stands in
     let n : ℕ = c.number-recovered.result in
     let same : n ≡ durable_of b = c.number-recovered.ensures ∙ c.durable.ensures in
-    let next : ℕ → Log = λ k. record { history = take k history; durable = k } in
+    let next : ℕ → Log = λ k. record { history = take k history; durable = k; broken = false } in
     subst (λ (step : Step). LeadsOn c.args.broker history step (answer.Number n) b) (sym c.in-Stop.is)
     (record {
       next = next (durable_of b);
       step_is = (omega (arith, same, facts.0), omega (arith, same, facts.1), ap next (sym same));
       settings = facts.2;
       durable = refl;
-      stands = facts.3;
+      broken = facts.3;
+      stands = facts.4;
     })

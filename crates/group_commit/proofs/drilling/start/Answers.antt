@@ -12,6 +12,7 @@ returns-clause-recovers c s history durable legal stops =
       omega (arith, fresh.2, facts.0),
       omega (arith, fresh.2, facts.1),
       facts.2,
+      fresh.0,
       subst (λ (n : ℕ). Stands memory_view b (take n history)) (sym fresh.2) facts.3,
     ))
     c.open.ensures.fresh
