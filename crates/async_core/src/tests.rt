@@ -81,28 +81,6 @@ fn judged(
     Ok(())
 }
 
-fn judged_at(
-    rt: &impl Abort,
-    table: &Table,
-    mut command: Command,
-    environment: u16,
-    want: Result<(), Illegal>,
-) {
-    command.environment = environment;
-    assert_eq!(rt; table.judge(&command), want);
-}
-
-fn judged_with(
-    rt: &impl Abort,
-    table: &Table,
-    mut command: Command,
-    bytes: Vec<u8>,
-    want: Result<(), Illegal>,
-) {
-    command.bytes = Bytes::from_vec(bytes);
-    assert_eq!(rt; table.judge(&command), want);
-}
-
 fn stands(rt: &impl Abort, table: &Table, n: u8, standing: Standing) {
     assert_eq!(rt; table.standing(&id(n)), standing);
 }

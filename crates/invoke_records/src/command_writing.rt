@@ -1,12 +1,13 @@
 // Writing a command.
 ghost use Rattle.std.specs.Prelude.{◌≡◌, ◌+◌, ◌++◌, ◌∷◌, ◌≤◌, [], None, Some, IfOk, IfErr, OnOk, OnErr, length, Ok, vec_len, vec_capacity};
 ghost use Rattle.std.specs.Int.{w16, w32, w64, to_be_bytes};
-ghost use Rattle.invoke_records.specs.Spelling.{command_text, command_fault, kind_byte, cause_text, body_text, most_bytes, least_bytes, IsCommand, IsBytes};
+ghost use Rattle.invoke_records.specs.Spelling.{command_text, command_fault, kind_byte, cause_text, body_text, most_bytes, least_bytes, IsCommand};
 ghost use Rattle.invoke_records.specs.Reading.{sound, FailsBy};
 
 use crate::bytes::MOST_BYTES;
 use crate::command::GREATEST_MOMENT;
 use crate::command_reading::has_bad_environment;
+use crate::widths::{are_bytes, id_has_16};
 use crate::{Cause, Command, Kind, RecordError};
 use std::alloc::Global;
 
@@ -69,19 +70,6 @@ fn check(command: &Command) -> Result<(), RecordError>
     }
     Ok(())
 }
-
-// What the type says of an id.
-pub fn id_has_16(id: &[u8; 16])
-    ensures len { length id.now ≡ 16 }
-    ensures bytes { IsBytes id.now }
-{
-    are_bytes(id);
-}
-
-// What the type says of bytes.
-pub fn are_bytes(bytes: &[u8])
-    ensures { IsBytes bytes.now }
-{}
 
 // Appends bytes for which there is room.
 fn put(out: &mut Vec<u8>, bytes: &[u8])

@@ -5,6 +5,7 @@
 //! and that no spelling begins another.
 #![tactic(auto)]
 
+mod appending;
 mod bytes;
 mod command;
 mod command_reading;
@@ -27,6 +28,7 @@ mod settings_writing;
 mod snapshot;
 mod snapshot_record;
 mod snapshot_writing;
+mod widths;
 
 pub use bytes::{Bytes, MOST_BYTES};
 pub use command::{Cause, Command, GREATEST_MOMENT, Kind};

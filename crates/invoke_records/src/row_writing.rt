@@ -4,9 +4,9 @@ ghost use Rattle.invoke_records.specs.Spelling.{life_text, counts_text, row_text
 ghost use Rattle.invoke_records.specs.Reading.{sound};
 ghost use Rattle.invoke_records.specs.declared.error.RecordError.TheVariants.{OutOfMemory};
 
+use crate::appending::add;
 use crate::command::GREATEST_MOMENT;
-use crate::command_writing::{are_bytes, id_has_16};
-use crate::settings_writing::add;
+use crate::widths::{are_bytes, id_has_16};
 use crate::{Answer, EventRow, MOST_BYTES, Outcome, RecordError, Standing};
 
 fn standing_byte_of(standing: &Standing) -> u8

@@ -6,6 +6,7 @@ ghost use Rattle.invoke_records.specs.Reading.{sound, FailsBy};
 ghost use Rattle.invoke_records.specs.declared.error.RecordError.TheVariants.{OutOfMemory};
 
 use crate::RecordError;
+use crate::appending::add;
 use retry_rules::{Field, Settings};
 use std::alloc::Global;
 
@@ -26,14 +27,6 @@ fn check(s: &Settings) -> Result<(), RecordError>
         return Err(RecordError::TooLong);
     }
     Err(RecordError::BadKind)
-}
-
-/// Appends bytes. On an error nothing is appended.
-pub fn add(out: &mut Vec<u8>, bytes: &[u8]) -> Result<(), RecordError>
-    ensures ok { OnOk result (out.new.items ≡ out.old.items ++ bytes.now) }
-    ensures memory { IfErr result (λ e. e ≡ OutOfMemory) }
-{
-    Ok(out.extend_from_slice(bytes)?)
 }
 
 fn add_limits(out: &mut Vec<u8>, s: &Settings) -> Result<(), RecordError>

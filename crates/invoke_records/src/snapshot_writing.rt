@@ -5,10 +5,10 @@ ghost use Rattle.invoke_records.specs.Spelling.{row_text, rows_fault, IsWithinWi
 ghost use Rattle.invoke_records.specs.Reading.{sound, FailsBy};
 ghost use Rattle.invoke_records.specs.declared.error.RecordError.TheVariants.{OutOfMemory};
 
+use crate::appending::add;
 use crate::command::GREATEST_MOMENT;
 use crate::order::are_in_order;
 use crate::row_writing::{add_row, check_row, row_is_within};
-use crate::settings_writing::add;
 use crate::snapshot::{GREATEST_NUMBER, MOST_ROWS};
 use crate::{EventRow, RecordError, Snapshot};
 use std::alloc::Global;

@@ -1,8 +1,9 @@
 // Which commands are refused, and by which check: each at both sides of its boundary.
-use super::{REPORTED, TIMEOUT, command, judged, judged_at, judged_with, settings, steps};
+use super::{REPORTED, TIMEOUT, command, judged, settings, steps};
 use crate::{Illegal, Table};
-use invoke_records::Kind;
+use invoke_records::{Bytes, Cause, Kind};
 use std::alloc::Global;
+use std::process::Abort;
 use std::test::Fail;
 
 /// ID1 runs since 1000500, ID2 is due again at 1001500 after it was cut off, ID3 has ended; one may run, three are held.
@@ -30,59 +31,74 @@ fn three_events(alloc: Global) -> Result<Table, Fail> {
     Ok(table)
 }
 
+// What is judged of a command of an event, in this environment and with so many bytes, before the last command's moment.
+fn shaped(
+    rt: &impl Abort,
+    alloc: Global,
+    table: &Table,
+    cases: &[(Kind, u16, usize, Illegal)],
+) -> Result<(), Fail> {
+    for (kind, environment, length, want) in cases {
+        let mut command = command(alloc, *kind, 1, 1000499)?;
+        command.environment = *environment;
+        command.bytes = Bytes::from_vec(vec![in alloc; 0x20; *length]?);
+        assert_eq!(rt;
+            table.judge(&command),
+            Err(*want),
+            "{kind:?} in {environment} with {length} bytes"
+        );
+    }
+    Ok(())
+}
+
 #[test]
 fn shape_goes_before_the_clock(rt: HostRuntime) -> Result<(), Fail> {
     let alloc = rt.alloc();
     let table = three_events(alloc)?;
-    judged_with(
+    shaped(
         &rt,
+        alloc,
         &table,
-        command(alloc, Kind::Accept, 1, 1000499)?,
-        Vec::new(alloc),
-        Err(Illegal::BadKind),
-    );
-    judged_with(
-        &rt,
-        &table,
-        command(alloc, Kind::Accept, 1, 1000499)?,
-        vec![in alloc; 0; 1025]?,
-        Err(Illegal::TooLong),
-    );
-    judged_with(
-        &rt,
-        &table,
-        command(alloc, Kind::Accept, 1, 1000499)?,
-        vec![in alloc; 0; 1024]?,
-        Err(Illegal::ClockBack),
-    );
-    judged_at(
-        &rt,
-        &table,
-        command(alloc, Kind::Start, 2, 1000499)?,
-        0,
-        Err(Illegal::BadKind),
-    );
-    judged_at(
-        &rt,
-        &table,
-        command(alloc, Kind::Start, 2, 1000499)?,
-        3,
-        Err(Illegal::BadKind),
-    );
-    judged_at(
-        &rt,
-        &table,
-        command(alloc, Kind::Start, 2, 1000499)?,
-        2,
-        Err(Illegal::ClockBack),
-    );
-    judged_at(
-        &rt,
-        &table,
-        command(alloc, Kind::Expire, 2, 1000499)?,
-        1,
-        Err(Illegal::BadKind),
-    );
+        &[
+            (Kind::Accept, 0, 0, Illegal::BadKind),
+            (Kind::Accept, 1, 1, Illegal::BadKind),
+            (Kind::Accept, 0, 1, Illegal::ClockBack),
+            (Kind::Accept, 0, 1024, Illegal::ClockBack),
+            (Kind::Accept, 0, 1025, Illegal::TooLong),
+            (Kind::Start, 0, 0, Illegal::BadKind),
+            (Kind::Start, 2, 0, Illegal::ClockBack),
+            (Kind::Start, 3, 0, Illegal::BadKind),
+            (Kind::Start, 2, 1, Illegal::TooLong),
+            (Kind::Succeed, 1, 0, Illegal::BadKind),
+            (Kind::Succeed, 0, 1024, Illegal::ClockBack),
+            (Kind::Succeed, 0, 1025, Illegal::TooLong),
+            (REPORTED, 1, 0, Illegal::BadKind),
+            (REPORTED, 0, 1024, Illegal::ClockBack),
+            (REPORTED, 0, 1025, Illegal::TooLong),
+            (TIMEOUT, 0, 0, Illegal::ClockBack),
+            (TIMEOUT, 0, 1, Illegal::TooLong),
+            (Kind::Fail(Cause::Exited), 0, 0, Illegal::ClockBack),
+            (Kind::Fail(Cause::Exited), 0, 1, Illegal::TooLong),
+        ],
+    )
+}
+
+#[test]
+fn other_kinds_have_no_bytes(rt: HostRuntime) -> Result<(), Fail> {
+    let alloc = rt.alloc();
+    let table = three_events(alloc)?;
+    for kind in [Kind::Throttle, Kind::Interrupt, Kind::Expire, Kind::Collect] {
+        shaped(
+            &rt,
+            alloc,
+            &table,
+            &[
+                (kind, 1, 0, Illegal::BadKind),
+                (kind, 0, 0, Illegal::ClockBack),
+                (kind, 0, 1, Illegal::TooLong),
+            ],
+        )?;
+    }
     Ok(())
 }
 
