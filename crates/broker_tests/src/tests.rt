@@ -1,6 +1,8 @@
 // What the tests share: settings, ids, commands, and disks with a broker on them.
 use async_core::Table;
-use group_commit::{Broker, OpenFailure, format};
+use group_commit::{
+    Broker, CommitError, Drill, IssueError, OpenFailure, Step, Ticket, drill, format,
+};
 use invoke_records::{Bytes, Command, Kind, Standing};
 use retry_rules::{Settings, Text};
 use sector_disk::{Disk, MemDisk};
@@ -102,4 +104,35 @@ fn sector<D: Disk>(disk: &mut D, at: u64) -> Option<[u8; 512]> {
         return None;
     }
     Some(bytes)
+}
+
+// The calls of a broker, each in a function of its own without a contract, so that no test carries what they promise.
+
+/// Issues a command.
+fn issue<D: Disk>(broker: &mut Broker<D>, command: Command) -> Result<Ticket, IssueError> {
+    broker.issue(command)
+}
+
+/// Commits what is pending: how many commands are durable.
+fn commit<D: Disk>(broker: &mut Broker<D>) -> Result<u64, CommitError> {
+    Ok(broker.commit()?.number())
+}
+
+/// The number of a ticket's receipt, if it has one.
+fn redeem<D: Disk>(broker: &Broker<D>, ticket: &Ticket) -> Option<u64> {
+    Some(broker.redeem(ticket)?.number())
+}
+
+/// Closes the disk and opens it again.
+fn reopened<D: Disk + Drop>(alloc: Global, broker: Broker<D>) -> Result<Broker<D>, Fail> {
+    opened(alloc, broker.close())
+}
+
+/// Runs a script on a fresh disk.
+fn drilled(alloc: Global, steps: &[Step]) -> Result<Drill, Fail> {
+    Ok(
+        drill(alloc, fresh_disk(alloc)?, steps)
+            .ok()
+            .ok_or("the drill ended early")?,
+    )
 }

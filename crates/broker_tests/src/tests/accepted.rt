@@ -1,5 +1,5 @@
 // One event: its bytes on the disk, its receipt, and its standing after the disk was opened again.
-use super::{T, accept, fresh_disk, opened, sector, standing};
+use super::{T, accept, commit, fresh_disk, issue, opened, redeem, reopened, sector, standing};
 use invoke_records::Standing;
 use std::test::Fail;
 
@@ -13,21 +13,18 @@ const BODY: [u8; 65] = [
 fn an_accepted_event_is_committed_and_recovered(rt: HostRuntime) -> Result<(), Fail> {
     let alloc = rt.alloc();
     let mut broker = opened(alloc, fresh_disk(alloc)?)?;
-    let ticket = broker.issue(accept(alloc, 1, T)?)?;
+    let ticket = issue(&mut broker, accept(alloc, 1, T)?)?;
     assert_eq!(rt; ticket.number(), 1);
     assert_eq!(rt; broker.issued(), 1);
     assert_eq!(rt; broker.durable().number(), 0);
-    assert!(rt; broker.redeem(&ticket).is_none());
-    assert_eq!(rt; broker.commit()?.number(), 1);
-    assert_eq!(rt;
-        broker.redeem(&ticket).map(|receipt| receipt.number()),
-        Some(1)
-    );
-    let mut broker = opened(alloc, broker.close())?;
+    assert_eq!(rt; redeem(&broker, &ticket), None);
+    assert_eq!(rt; commit(&mut broker)?, 1);
+    assert_eq!(rt; redeem(&broker, &ticket), Some(1));
+    let mut broker = reopened(alloc, broker)?;
     assert_eq!(rt; broker.issued(), 1);
     assert_eq!(rt; broker.durable().number(), 1);
     assert_eq!(rt; standing(broker.table(), 1), Standing::Waiting { due: T });
-    assert_eq!(rt; broker.commit()?.number(), 1);
+    assert_eq!(rt; commit(&mut broker)?, 1);
     Ok(())
 }
 
@@ -35,8 +32,8 @@ fn an_accepted_event_is_committed_and_recovered(rt: HostRuntime) -> Result<(), F
 fn a_frame_is_written_byte_for_byte(rt: HostRuntime) -> Result<(), Fail> {
     let alloc = rt.alloc();
     let mut broker = opened(alloc, fresh_disk(alloc)?)?;
-    let _ = broker.issue(accept(alloc, 1, T)?)?;
-    assert_eq!(rt; broker.commit()?.number(), 1);
+    let _ = issue(&mut broker, accept(alloc, 1, T)?)?;
+    assert_eq!(rt; commit(&mut broker)?, 1);
     let mut disk = broker.close();
     let mut open_gate = [0; 512];
     open_gate[0] = 1;

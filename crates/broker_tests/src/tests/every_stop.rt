@@ -1,5 +1,5 @@
 // Every stop of a short script: each fuse length, and each outcome of each sector that may be unsettled.
-use super::{T, accept, fresh_disk, opened};
+use super::{T, accept, commit, fresh_disk, issue, opened};
 use sector_disk::{FuseDisk, MemDisk};
 use std::alloc::Global;
 use std::test::Fail;
@@ -21,11 +21,11 @@ struct Outcome {
 // Issues an event and commits it, and then two more, on a disk whose device works for so many writes and barriers.
 fn run(alloc: Global, passes: u64) -> Result<Outcome, Fail> {
     let mut broker = opened(alloc, FuseDisk::new(fresh_disk(alloc)?, passes))?;
-    let _ = broker.issue(accept(alloc, 1, T)?)?;
-    let _ = broker.commit();
-    let _ = broker.issue(accept(alloc, 2, T)?);
-    let _ = broker.issue(accept(alloc, 3, T)?);
-    let _ = broker.commit();
+    let _ = issue(&mut broker, accept(alloc, 1, T)?)?;
+    let _ = commit(&mut broker);
+    let _ = issue(&mut broker, accept(alloc, 2, T)?);
+    let _ = issue(&mut broker, accept(alloc, 3, T)?);
+    let _ = commit(&mut broker);
     let issued = broker.issued();
     let durable = broker.durable().number();
     Ok(Outcome {

@@ -1,5 +1,5 @@
 // Devices that fail.
-use super::{T, accept, fresh_disk, opened, standing};
+use super::{T, accept, commit, fresh_disk, issue, opened, redeem, standing};
 use group_commit::{Broker, CommitError, OpenError, OpenFailure};
 use invoke_records::Standing;
 use sector_disk::{CallKind, FaultOnceDisk, FuseDisk, MemDisk};
@@ -9,12 +9,12 @@ use std::test::Fail;
 // A disk of which the device failed at the gate's barrier of a first commit.
 fn failed_at_the_gate(alloc: Global) -> Result<MemDisk, Fail> {
     let mut broker = opened(alloc, FuseDisk::new(fresh_disk(alloc)?, 4))?;
-    let ticket = broker.issue(accept(alloc, 1, T)?)?;
-    let refused = broker.commit().err();
-    if refused != Some(CommitError::Fault) || broker.redeem(&ticket).is_some() {
+    let ticket = issue(&mut broker, accept(alloc, 1, T)?)?;
+    let refused = commit(&mut broker).err();
+    if refused != Some(CommitError::Fault) || redeem(&broker, &ticket).is_some() {
         return Err(Fail::from("the commit did not fail"));
     }
-    if broker.commit().err() != Some(CommitError::Broken) {
+    if commit(&mut broker).err() != Some(CommitError::Broken) {
         return Err(Fail::from("the broker is not broken"));
     }
     Ok(broker.close().into_inner())

@@ -1,5 +1,7 @@
 // Several commands in one frame.
-use super::{T, accept, command, formatted, fresh_disk, id, opened, sector, settings};
+use super::{
+    T, accept, command, commit, formatted, fresh_disk, id, issue, opened, redeem, sector, settings,
+};
 use group_commit::{CommitError, IssueError};
 use invoke_records::{Bytes, Command, Kind};
 use sector_disk::MemDisk;
@@ -12,17 +14,11 @@ fn two_events_share_one_commit(rt: HostRuntime) -> Result<(), Fail> {
     let disk = opened(alloc, fresh_disk(alloc)?)?.close();
     let before = disk.barriers();
     let mut broker = opened(alloc, disk)?;
-    let first = broker.issue(accept(alloc, 1, T)?)?;
-    let second = broker.issue(accept(alloc, 2, T)?)?;
-    assert_eq!(rt; broker.commit()?.number(), 2);
-    assert_eq!(rt;
-        broker.redeem(&first).map(|receipt| receipt.number()),
-        Some(1)
-    );
-    assert_eq!(rt;
-        broker.redeem(&second).map(|receipt| receipt.number()),
-        Some(2)
-    );
+    let first = issue(&mut broker, accept(alloc, 1, T)?)?;
+    let second = issue(&mut broker, accept(alloc, 2, T)?)?;
+    assert_eq!(rt; commit(&mut broker)?, 2);
+    assert_eq!(rt; redeem(&broker, &first), Some(1));
+    assert_eq!(rt; redeem(&broker, &second), Some(2));
     // one barrier of the opening, two of the commit
     let after = broker.close().barriers();
     assert_eq!(rt; after.saturating_sub(before), 3);
@@ -53,15 +49,17 @@ fn a_backlog_is_refused_and_committed_by_one_frame(rt: HostRuntime) -> Result<()
     many.response = 16;
     let mut broker = opened(alloc, formatted(alloc, 134, &many)?)?;
     for n in 1..=256u16 {
-        assert_eq!(rt; broker.issue(numbered(alloc, n)?)?.number(), u64::from(n));
+        let ticket = issue(&mut broker, numbered(alloc, n)?)?;
+        assert_eq!(rt; ticket.number(), u64::from(n));
     }
     assert_eq!(rt;
-        broker.issue(numbered(alloc, 257)?).err(),
+        issue(&mut broker, numbered(alloc, 257)?).err(),
         Some(IssueError::Backlog)
     );
     assert_eq!(rt; broker.issued(), 256);
-    assert_eq!(rt; broker.commit()?.number(), 256);
-    assert_eq!(rt; broker.issue(numbered(alloc, 257)?)?.number(), 257);
+    assert_eq!(rt; commit(&mut broker)?, 256);
+    let ticket = issue(&mut broker, numbered(alloc, 257)?)?;
+    assert_eq!(rt; ticket.number(), 257);
     // one open gate, 17 sectors of the body, and a closed gate
     let mut disk = broker.close();
     let gate = sector(&mut disk, 3).ok_or("sector 3")?;
@@ -84,17 +82,33 @@ fn small_disk(alloc: Global) -> Result<MemDisk, Fail> {
 }
 
 #[test]
-fn a_frame_may_fill_the_segment_and_no_more(rt: HostRuntime) -> Result<(), Fail> {
+fn a_frame_may_fill_the_segment(rt: HostRuntime) -> Result<(), Fail> {
     let alloc = rt.alloc();
     let payload = vec![in alloc; 0x20; 2900]?;
     let mut broker = opened(alloc, small_disk(alloc)?)?;
-    let _ = broker.issue(command(alloc, Kind::Accept, 1, 1000, &payload)?)?;
-    assert_eq!(rt; broker.commit()?.number(), 1);
+    let _ = issue(
+        &mut broker,
+        command(alloc, Kind::Accept, 1, 1000, &payload)?,
+    )?;
+    assert_eq!(rt; commit(&mut broker)?, 1);
+    Ok(())
+}
+
+#[test]
+fn a_frame_that_does_not_fit_stays_pending(rt: HostRuntime) -> Result<(), Fail> {
+    let alloc = rt.alloc();
+    let payload = vec![in alloc; 0x20; 2900]?;
     let mut broker = opened(alloc, small_disk(alloc)?)?;
-    let _ = broker.issue(command(alloc, Kind::Accept, 1, 1000, &payload)?)?;
-    let _ = broker.issue(command(alloc, Kind::Start, 1, 1000, b"")?)?;
-    let _ = broker.issue(command(alloc, Kind::Succeed, 1, 1500, &payload[..64])?)?;
-    assert_eq!(rt; broker.commit().err(), Some(CommitError::NoRoom));
+    let _ = issue(
+        &mut broker,
+        command(alloc, Kind::Accept, 1, 1000, &payload)?,
+    )?;
+    let _ = issue(&mut broker, command(alloc, Kind::Start, 1, 1000, b"")?)?;
+    let _ = issue(
+        &mut broker,
+        command(alloc, Kind::Succeed, 1, 1500, &payload[..64])?,
+    )?;
+    assert_eq!(rt; commit(&mut broker).err(), Some(CommitError::NoRoom));
     assert_eq!(rt; broker.issued(), 3);
     assert_eq!(rt; broker.durable().number(), 0);
     Ok(())
