@@ -21,6 +21,3 @@ pub use choice::{Move, Side};
 pub use illegal::{ApplyError, Illegal};
 pub use readers::Ended;
 pub use table::Table;
-
-#[cfg(test)]
-mod tests;

@@ -22,6 +22,3 @@ pub use formatting::format;
 pub use gate_journal::AppendError;
 pub use opened::Opened;
 pub use opening::open;
-
-#[cfg(test)]
-mod tests;

@@ -17,6 +17,3 @@ pub use area::Area;
 pub use error::{AppendError, ReadError};
 pub use journal::Journal;
 pub use laws::what_is_read_is_what_was_written;
-
-#[cfg(test)]
-mod tests;

@@ -37,6 +37,3 @@ pub use laws::{spellings_are_apart, spellings_are_short};
 pub use row::{Answer, EventRow, Outcome, Standing};
 pub use settings_record::SettingsRecord;
 pub use snapshot::{GREATEST_NUMBER, MOST_ROWS, Rows, Snapshot};
-
-#[cfg(test)]
-mod tests;

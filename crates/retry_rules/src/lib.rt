@@ -14,6 +14,3 @@ pub use check::{has_name_bytes, has_plain_bytes};
 pub use settings::{BadSettings, Field, Settings};
 pub use text::Text;
 pub use waits::{after_failure, after_pushback, too_old};
-
-#[cfg(test)]
-mod tests;

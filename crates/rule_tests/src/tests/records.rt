@@ -1,4 +1,8 @@
-use super::*;
+// Known bytes of commands, rows, settings and snapshots.
+use invoke_records::{
+    Answer, Bytes, Command, EventRow, Kind, Outcome, RecordError, Rows, SettingsRecord, Snapshot,
+    Standing,
+};
 use retry_rules::{Settings, Text};
 use std::test::Fail;
 

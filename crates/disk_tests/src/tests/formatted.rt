@@ -1,4 +1,5 @@
-use crate::{FormatError, OpenError, format, open};
+// Formatted disks, and what is wrong with others.
+use checkpoint::{FormatError, OpenError, format, open};
 use retry_rules::{Settings, Text};
 use sector_disk::{Disk, MemDisk};
 use std::alloc::{AllocError, Global};

@@ -1,4 +1,5 @@
-use super::*;
+// Frames of a journal.
+use gate_journal::{AppendError, Area, Journal, ReadError};
 use invoke_records::{Bytes, Command, Kind};
 use sector_disk::{Disk, MemDisk};
 use std::alloc::Global;

@@ -1,6 +1,6 @@
 // Which commands are refused, and by which check: each at both sides of its boundary.
 use super::{REPORTED, TIMEOUT, command, judged, settings, steps};
-use crate::{Illegal, Table};
+use async_core::{Illegal, Table};
 use invoke_records::{Bytes, Cause, Kind};
 use std::alloc::Global;
 use std::process::Abort;

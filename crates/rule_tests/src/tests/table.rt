@@ -1,7 +1,7 @@
 // What the tests of the table share: settings, ids, commands, and what is expected of a table.
-use crate::{ApplyError, Illegal, Move, Side, Table};
+use super::settings;
+use async_core::{ApplyError, Illegal, Move, Side, Table};
 use invoke_records::{Bytes, Cause, Command, Kind, Outcome, Standing};
-use retry_rules::{Settings, Text};
 use std::alloc::{AllocError, Global};
 use std::process::Abort;
 
@@ -11,24 +11,6 @@ mod lives;
 const REPORTED: Kind = Kind::Fail(Cause::Reported);
 
 const TIMEOUT: Kind = Kind::Fail(Cause::Timeout);
-
-fn settings(alloc: Global) -> Result<Settings, AllocError> {
-    Ok(Settings {
-        retries: 2,
-        age: 21600,
-        timeout: 3,
-        concurrency: 10,
-        environments: 1,
-        events: 4,
-        payload: 1024,
-        response: 1024,
-        name: Text::from_vec(b"my-function".to_vec(alloc)?),
-        handler: Text::from_vec(b"app.main".to_vec(alloc)?),
-        arn: Text::from_vec(
-            b"arn:aws:lambda:us-east-2:123456789012:function:my-function".to_vec(alloc)?,
-        ),
-    })
-}
 
 fn id(n: u8) -> [u8; 16] {
     [0, 0, 0, 0, 0, 0, 0x40, 0, 0x80, 0, 0, 0, 0, 0, 0, n]

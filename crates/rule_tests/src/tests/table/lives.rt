@@ -3,7 +3,7 @@ use super::{
     REPORTED, counted, ended_as, id, judged, keeps, leaves, moves, numbered, oldest, runs,
     settings, stands, steps,
 };
-use crate::{Illegal, Move, Side, Table};
+use async_core::{Illegal, Move, Side, Table};
 use invoke_records::{Cause, Kind, Outcome, Standing};
 use std::test::Fail;
 

@@ -1,23 +1,7 @@
-use super::*;
+// The waits between attempts, and the settings.
+use super::settings;
+use retry_rules::{after_failure, after_pushback, too_old};
 use std::test::Fail;
-
-fn settings(rt: &HostRuntime) -> Result<Settings, Fail> {
-    Ok(Settings {
-        retries: 2,
-        age: 21600,
-        timeout: 3,
-        concurrency: 10,
-        environments: 1,
-        events: 4,
-        payload: 1024,
-        response: 1024,
-        name: Text::from_vec(b"my-function".to_vec(rt.alloc())?),
-        handler: Text::from_vec(b"app.main".to_vec(rt.alloc())?),
-        arn: Text::from_vec(
-            b"arn:aws:lambda:us-east-2:123456789012:function:my-function".to_vec(rt.alloc())?,
-        ),
-    })
-}
 
 #[test]
 fn a_failure_is_followed_by_a_minute_and_then_two(rt: HostRuntime) {
@@ -43,7 +27,7 @@ fn push_backs_double_up_to_five_minutes(rt: HostRuntime) {
 
 #[test]
 fn the_first_bad_field_is_printed(rt: HostRuntime) -> Result<(), Fail> {
-    let mut bad = settings(&rt)?;
+    let mut bad = settings(rt.alloc())?;
     bad.age = 59;
     bad.events = 0;
     let Err(why) = bad.check() else {
@@ -58,7 +42,7 @@ fn the_first_bad_field_is_printed(rt: HostRuntime) -> Result<(), Fail> {
 
 #[test]
 fn good_settings_are_copied(rt: HostRuntime) -> Result<(), Fail> {
-    let copy = settings(&rt)?.copy()?;
+    let copy = settings(rt.alloc())?.copy()?;
     assert!(rt; copy.check().is_ok());
     assert_eq!(rt; copy.name.as_bytes(), b"my-function".as_slice());
     assert_eq!(rt; copy.handler.into_vec().as_slice(), b"app.main".as_slice());

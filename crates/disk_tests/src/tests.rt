@@ -1,0 +1,3 @@
+mod disks;
+mod formatted;
+mod journal;
