@@ -169,7 +169,9 @@ fn ends_are_judged_in_order(rt: HostRuntime) -> Result<(), Fail> {
 #[test]
 fn one_environment_runs_one_event(rt: HostRuntime) -> Result<(), Fail> {
     let alloc = rt.alloc();
-    let mut table = Table::new(alloc, settings(alloc)?);
+    let mut rules = settings(alloc)?;
+    rules.concurrency = 2;
+    let mut table = Table::new(alloc, rules);
     steps(
         alloc,
         &mut table,
