@@ -4,14 +4,7 @@ pub mod Standings
 pub mod Checks
 pub mod History
 pub mod Rules
-pub mod More
-pub mod Passing
-pub mod Held
-pub mod Shapes
-pub mod Pace
-pub mod Changes
 pub mod Readers
 pub mod Choice
-pub mod Laws
-pub mod ChoiceLaws
 pub mod Examples
+pub mod laws

@@ -7,7 +7,7 @@ use Rattle.retry_rules.specs.declared.settings.Settings.{Settings}
 use Rattle.retry_rules.specs.Settings.{bad_field}
 use Rattle.invoke_records.specs.declared.snapshot.Snapshot.{Snapshot}
 use Rattle.invoke_records.specs.Spelling.{snapshot_text, IsSnapshot}
-use Rattle.invoke_records.specs.SnapshotLaws.{snapshot_again}
+use Rattle.invoke_records.specs.laws.Snapshots.{snapshot_again}
 use Rattle.async_core.specs.Rules.{empty_table}
 use Rattle.invoke_records.specs.Reading.{snapshot_at}
 use Rattle.gate_journal.specs.Frames.{is_open, sectors_for, padded, no_frames}

@@ -1,7 +1,7 @@
 -- The bytes of a disk that was formatted.
 use Rattle.std.proofs.Common.{◌≡◌, ℕ, ◌+◌, ◌*◌, ◌≤◌, true, false, List, length, take, drop, sym, ◌∙◌, ap, arith}
 use Rattle.sector_disk.specs.Disk.{Holds}
-use Rattle.sector_disk.specs.Written.{same_part, written_size, written_front, written_here, written_behind}
+use Rattle.sector_disk.specs.laws.Written.{same_part, written_size, written_front, written_here, written_behind}
 use Rattle.gate_journal.specs.Frames.{is_open}
 use Rattle.checkpoint.specs.Image.{sector_at, HoldsFirst}
 use Rattle.checkpoint.specs.Formatting.{IsClosed}

@@ -4,7 +4,7 @@ use Rattle.std.proofs.lemmas.Bool.{ltb-false}
 use Rattle.std.proofs.lemmas.List.{take-take, drop-take}
 use Rattle.invoke_records.specs.declared.snapshot.Snapshot.{Snapshot}
 use Rattle.invoke_records.specs.Spelling.{IsSnapshot, greatest_number}
-use Rattle.invoke_records.specs.SnapshotLaws.{is_sound_snapshot}
+use Rattle.invoke_records.specs.laws.Snapshots.{is_sound_snapshot}
 use Rattle.invoke_records.specs.Reading.{snapshot_at}
 use Rattle.gate_journal.specs.Frames.{sectors_for, Frames, frames_in}
 use Rattle.checkpoint.specs.declared.header.Header.{Header}

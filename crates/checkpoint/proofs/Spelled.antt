@@ -10,7 +10,7 @@ use Rattle.retry_rules.specs.Settings.{bad_field}
 use Rattle.invoke_records.specs.declared.snapshot.Snapshot.{Snapshot}
 use Rattle.invoke_records.specs.Spelling.{settings_text, snapshot_text}
 use Rattle.invoke_records.specs.Reading.{settings_at, snapshot_at}
-use Rattle.invoke_records.specs.SettingsLaws.{settings_again, settings_length_most}
+use Rattle.invoke_records.specs.laws.Settings.{settings_again, settings_length_most}
 use Rattle.gate_journal.specs.declared.area.Area.{Area}
 use Rattle.gate_journal.specs.Frames.{is_open, sectors_for, padded, frames_in, frames_at, area_bytes, no_frames}
 use Rattle.checkpoint.specs.declared.header.Header.{Header}

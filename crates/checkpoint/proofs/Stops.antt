@@ -4,8 +4,9 @@ use Rattle.std.proofs.lemmas.List.{drop-drop}
 use Rattle.std.proofs.lemmas.Bool.{cases_Bool}
 use Rattle.sector_disk.specs.declared.disk.Fault.{Fault}
 use Rattle.sector_disk.specs.Disk.{DiskView, IsDisk, IsSameDisk, HasOneImage, IsWrite, MayDiffer}
-use Rattle.sector_disk.specs.Moments.{Run, started, writes}
-use Rattle.sector_disk.specs.Written.{same_part, leaves_weaker}
+use Rattle.sector_disk.specs.laws.Moments.{Run, started, writes}
+use Rattle.sector_disk.specs.laws.Written.{same_part}
+use Rattle.sector_disk.specs.laws.Moments.{leaves_weaker}
 use Rattle.gate_journal.specs.Frames.{is_open}
 use Rattle.checkpoint.specs.Image.{sector_at, HoldsFirst}
 use Rattle.checkpoint.specs.Formatting.{DiffersInGates, IsOldButForGates, IsClosed, IsBeingFormatted}

@@ -1,7 +1,7 @@
 -- What opening a disk does to it, and what its refusals say.
 use Rattle.std.specs.Prelude.{◌≡◌, ℕ, List, map, Result, Ok, Err}
 use Rattle.sector_disk.specs.Disk.{DiskView, IsSameDisk, IsUntouched}
-use Rattle.sector_disk.specs.Moments.{untouched_more}
+use Rattle.sector_disk.specs.laws.Moments.{untouched_more}
 use Rattle.std.proofs.Common.{refl, sym, ◌∙◌}
 use Rattle.invoke_records.specs.declared.command.Command.{Command}
 use Rattle.invoke_records.specs.declared.snapshot.Snapshot.{Snapshot}

@@ -6,8 +6,8 @@ use Rattle.invoke_records.specs.declared.command.Command.{Command}
 use Rattle.invoke_records.specs.Spelling.{commands_text}
 use Rattle.sector_disk.specs.declared.disk.Fault.{Fault}
 use Rattle.sector_disk.specs.Disk.{DiskView, IsDisk, IsSameDisk, HasOneImage, IsWrite, IsBarrier, Holds, MayDiffer}
-use Rattle.sector_disk.specs.Moments.{Run, started, writes, settles}
-use Rattle.sector_disk.specs.Written.{same_part, written_front, written_from, written_differs}
+use Rattle.sector_disk.specs.laws.Moments.{Run, started, writes, settles}
+use Rattle.sector_disk.specs.laws.Written.{same_part, written_front, written_from, written_differs}
 use Rattle.gate_journal.specs.declared.area.Area.{Area}
 use Rattle.gate_journal.specs.Frames.{Frames, is_open, body_sectors, frames_in, frames_with, SameOutside}
 use Rattle.gate_journal.specs.Journal.{IsBeforeOrAfter}

@@ -5,7 +5,7 @@ use Rattle.std.specs.Prelude.{if◌then◌else◌}
 use Rattle.std.specs.List.{list_all}
 use Rattle.std.specs.Int.{w32, w64, from_be_bytes}
 use Rattle.invoke_records.specs.declared.command.Command.{Command}
-use Rattle.sector_disk.specs.Written.{same_part}
+use Rattle.sector_disk.specs.laws.Written.{same_part}
 use Rattle.gate_journal.specs.Frames.{Head, head_of, body_sectors, is_head, body_at, commands_at, whole}
 use Rattle.gate_journal.proofs.Parts.{front_of}
 

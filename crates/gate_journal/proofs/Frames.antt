@@ -4,7 +4,7 @@ use Rattle.std.proofs.lemmas.Bool.{cases_Bool, and_parts, and_left, and_from, le
 use Rattle.std.proofs.lemmas.List.{append-nil, drop-drop}
 use Rattle.invoke_records.specs.declared.command.Command.{Command}
 use Rattle.invoke_records.specs.Spelling.{commands_text}
-use Rattle.sector_disk.specs.Written.{same_part}
+use Rattle.sector_disk.specs.laws.Written.{same_part}
 use Rattle.gate_journal.specs.Frames.{Frames, Head, head_of, is_open, body_sectors, body_at, behind_gate, with_first, goes_on, frame_size, from_body, no_frames, frames_at, frames_with}
 use Rattle.gate_journal.proofs.Parts.{byte}
 use Rattle.gate_journal.proofs.Bodies.{head_same, body_same, body_facts}

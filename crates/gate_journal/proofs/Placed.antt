@@ -6,7 +6,7 @@ use Rattle.std.proofs.Math.Seq.{take-append-add}
 use Rattle.invoke_records.specs.declared.command.Command.{Command}
 use Rattle.invoke_records.specs.Spelling.{commands_text}
 use Rattle.sector_disk.specs.Disk.{MayDiffer}
-use Rattle.sector_disk.specs.Written.{same_part}
+use Rattle.sector_disk.specs.laws.Written.{same_part}
 use Rattle.gate_journal.specs.declared.area.Area.{Area}
 use Rattle.gate_journal.specs.Frames.{Frames, head_of, is_open, body_sectors, body_at, frame_size, frames_at, area_bytes, frames_in, frames_with, SameOutside}
 use Rattle.gate_journal.proofs.Parts.{front_of}

@@ -5,7 +5,7 @@ use Rattle.std.proofs.lemmas.Bool.{cases_Bool, and_from, and_parts, le-leb, leb-
 use Rattle.std.proofs.lemmas.List.{drop_at, drop-drop, get_or-take, get_or_append_left, length-take-le}
 use Rattle.invoke_records.specs.declared.command.Command.{Command}
 use Rattle.invoke_records.specs.Spelling.{IsBytes, commands_text}
-use Rattle.invoke_records.specs.Laws.{command_again}
+use Rattle.invoke_records.specs.laws.Commands.{command_again}
 use Rattle.gate_journal.specs.Frames.{Frames, head_of, is_open, body_text, body_sectors, body_at, goes_on, frame_size, behind_gate, with_first, from_body, no_frames, frames_at}
 use Rattle.gate_journal.specs.Written.{IsFrame, IsArea, frames_of}
 use Rattle.gate_journal.proofs.Frames.{rest_read, frames-none, frames-zero, frames-more, with_ok, body_ok}

@@ -11,7 +11,7 @@ use Rattle.invoke_records.specs.declared.command.Command.{Command}
 use Rattle.invoke_records.specs.declared.error.RecordError.{RecordError}
 use Rattle.invoke_records.specs.Spelling.{IsBytes, IsCommand, command_text, commands_text}
 use Rattle.invoke_records.specs.Reading.{◌>>=◌, command_at}
-use Rattle.invoke_records.specs.Laws.{command_takes}
+use Rattle.invoke_records.specs.laws.Commands.{command_takes}
 use Rattle.gate_journal.specs.Frames.{Head, head_of, body_sectors, body_text, body_at, is_head, commands_at, whole}
 use Rattle.gate_journal.proofs.Bodies.{body_by, body_is, padding_of}
 use Rattle.gate_journal.proofs.Decoding.{commands-suc, commands-zero}

@@ -11,7 +11,7 @@ use Rattle.invoke_records.specs.declared.snapshot.Snapshot.{Snapshot}
 use Rattle.invoke_records.specs.declared.command.Command.{Command}
 use Rattle.async_core.specs.Rules.{replay}
 use Rattle.async_core.specs.History.{table_of}
-use Rattle.async_core.specs.Laws.{replay-history, number-table_of}
+use Rattle.async_core.specs.laws.Tables.{replay-history, number-table_of}
 use Rattle.checkpoint.specs.Live.{RecoversTo, IsLive, live_recovers}
 use Rattle.group_commit.specs.declared.broker.Broker.{Broker}
 use Rattle.group_commit.specs.declared.error.CommitError.{CommitError}

@@ -5,7 +5,7 @@ use Rattle.sector_disk.specs.declared.disk.Disk.{Ghosts}
 use Rattle.retry_rules.specs.declared.settings.Settings.{Settings}
 use Rattle.invoke_records.specs.declared.snapshot.Snapshot.{Snapshot}
 use Rattle.invoke_records.specs.declared.command.Command.{Command}
-use Rattle.async_core.specs.Laws.{number-table_of}
+use Rattle.async_core.specs.laws.Tables.{number-table_of}
 use Rattle.group_commit.specs.declared.broker.Broker.{Broker}
 use Rattle.group_commit.specs.declared.error.IssueError.{IssueError}
 use Rattle.group_commit.specs.declared.error.IssueError.TheVariants as issue_error

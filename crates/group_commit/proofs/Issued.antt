@@ -8,7 +8,7 @@ use Rattle.invoke_records.specs.declared.snapshot.Snapshot.{Snapshot}
 use Rattle.invoke_records.specs.declared.command.Command.{Command}
 use Rattle.async_core.specs.Rules.{refusal_at, table_after}
 use Rattle.async_core.specs.History.{refusal_of, table_of}
-use Rattle.async_core.specs.Laws.{refusal-of_table, table_of-more, IsLegal-more}
+use Rattle.async_core.specs.laws.Tables.{refusal-of_table, table_of-more, IsLegal-more}
 use Rattle.checkpoint.specs.declared.opened.Opened.{Opened}
 use Rattle.checkpoint.specs.Live.{IsLive, RecoversTo}
 use Rattle.group_commit.specs.History.{IsLegalStop}

@@ -11,8 +11,8 @@ use Rattle.invoke_records.specs.declared.row.Standing.TheVariants as standing
 use Rattle.async_core.specs.Lives.{is_accept, collects, life}
 use Rattle.async_core.specs.Standings.{is_running, is_unknown}
 use Rattle.async_core.specs.History.{held, held_from, standing_in, IsLegal}
-use Rattle.async_core.specs.Held.{size, is_nil, held_once, unknown-nil, bytes_eq-refl}
-use Rattle.async_core.specs.More.{count_by-cons}
+use Rattle.async_core.specs.laws.Held.{size, is_nil, held_once, unknown-nil, bytes_eq-refl}
+use Rattle.async_core.specs.laws.Lives.{count_by-cons}
 use Rattle.async_core.specs.Choice.{IsFirstRunning}
 use Rattle.group_commit.specs.Resume.{IsAtRest, AllAtRest}
 

@@ -10,10 +10,10 @@ use Rattle.invoke_records.specs.Spelling.{command_fault, is_bad_environment, gre
 use Rattle.async_core.specs.Standings.{is_running, is_unknown}
 use Rattle.async_core.specs.Checks.{refusal_in, shape_checks, clock_check, state_checks}
 use Rattle.async_core.specs.History.{refusal_of, situation_of, standing_in, last_moment, IsLegal, table_of}
-use Rattle.async_core.specs.Laws.{refusal-of_table, legal_shape}
-use Rattle.async_core.specs.More.{last_moment-snoc}
-use Rattle.async_core.specs.Held.{legally}
-use Rattle.async_core.specs.Passing.{first_failed-none}
+use Rattle.async_core.specs.laws.Tables.{refusal-of_table, legal_shape}
+use Rattle.async_core.specs.laws.Lives.{last_moment-snoc}
+use Rattle.async_core.specs.laws.Held.{legally}
+use Rattle.async_core.specs.laws.Refusals.{first_failed-none}
 use Rattle.group_commit.specs.History.{AreGood}
 use Rattle.async_core.specs.Rules.{refusal_at}
 use Rattle.async_core.specs.Choice.{IsFirstRunning}

@@ -1,9 +1,4 @@
 pub mod Spelling
 pub mod Reading
-pub mod Fields
-pub mod Laws
-pub mod Bounds
-pub mod RowLaws
-pub mod SnapshotLaws
-pub mod SettingsLaws
 pub use Rattle.retry_rules.specs.Settings
+pub mod laws

@@ -6,7 +6,7 @@ use Rattle.invoke_records.specs.declared.snapshot.Snapshot.{Snapshot}
 use Rattle.invoke_records.specs.declared.row.Standing.TheVariants as standing
 use Rattle.async_core.specs.Rules.{empty_table}
 use Rattle.async_core.specs.History.{standing_in, table_of}
-use Rattle.async_core.specs.Laws.{table_of-nil}
+use Rattle.async_core.specs.laws.Tables.{table_of-nil}
 use Rattle.async_core.specs.Lives.{life}
 use Rattle.checkpoint.specs.Live.{RecoversTo}
 use Rattle.group_commit.specs.History.{IsLegalStop}

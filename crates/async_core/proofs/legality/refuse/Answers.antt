@@ -1,5 +1,5 @@
 -- The first check that fails decides.
-use Rattle.async_core.specs.Passing.{refused_by_shape, refused_by_clock, judged_by_state}
+use Rattle.async_core.specs.laws.Refusals.{refused_by_shape, refused_by_clock, judged_by_state}
 use Rattle.async_core.proofs.legality.refuse.Goals as goal
 
 pub returns-in-Err : goal.returns-in-Err

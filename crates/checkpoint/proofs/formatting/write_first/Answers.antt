@@ -1,6 +1,6 @@
 use Rattle.std.proofs.Common.{◌≡◌, ◌*◌, ◌≤◌, ◌+◌, length, List, ℕ, replicate, slice_set, take, drop, false, refl, sym, ◌∙◌, subst, arith}
 use Rattle.sector_disk.specs.Disk.{Holds}
-use Rattle.sector_disk.specs.Moments.{settles}
+use Rattle.sector_disk.specs.laws.Moments.{settles}
 use Rattle.std.proofs.lemmas.Result.{on_ok_weaker}
 use Rattle.gate_journal.specs.Frames.{is_open}
 use Rattle.checkpoint.specs.Image.{sector_at, HoldsFirst}

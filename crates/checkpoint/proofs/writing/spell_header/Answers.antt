@@ -1,5 +1,5 @@
 use Rattle.std.proofs.Common.{List, ℕ, length, ap, arith}
-use Rattle.invoke_records.specs.SettingsLaws.{settings_length_most}
+use Rattle.invoke_records.specs.laws.Settings.{settings_length_most}
 use Rattle.checkpoint.proofs.writing.spell_header.Goals as goal
 
 pub overflow_cast-len : goal.overflow_cast-len

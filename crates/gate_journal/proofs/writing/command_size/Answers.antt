@@ -5,7 +5,7 @@ use Rattle.invoke_records.specs.declared.command.Kind.{Kind}
 use Rattle.invoke_records.specs.declared.command.Kind.TheVariants.{Accept, Start, Succeed, Fail, Throttle, Interrupt, Expire, Collect}
 use Rattle.invoke_records.specs.declared.command.Command.{Command}
 use Rattle.invoke_records.specs.Spelling.{command_text, cause_text}
-use Rattle.invoke_records.specs.Laws.{command_length}
+use Rattle.invoke_records.specs.laws.Commands.{command_length}
 use Rattle.gate_journal.proofs.writing.command_size.Goals as goal
 use Rattle.gate_journal.proofs.writing.command_size.Goals.{in-Fail, in_default}
 

@@ -1,4 +1,4 @@
-use Rattle.invoke_records.specs.Laws.{command_put}
+use Rattle.invoke_records.specs.laws.Commands.{command_put}
 use Rattle.invoke_records.proofs.command_writing.put_command.Goals as goal
 
 pub returns : goal.returns

@@ -1,7 +1,7 @@
-use Rattle.invoke_records.specs.Laws.{command_apart}
-use Rattle.invoke_records.specs.SettingsLaws.{settings_apart}
-use Rattle.invoke_records.specs.RowLaws.{row_apart}
-use Rattle.invoke_records.specs.SnapshotLaws.{snapshot_apart}
+use Rattle.invoke_records.specs.laws.Commands.{command_apart}
+use Rattle.invoke_records.specs.laws.Settings.{settings_apart}
+use Rattle.invoke_records.specs.laws.Rows.{row_apart}
+use Rattle.invoke_records.specs.laws.Snapshots.{snapshot_apart}
 use Rattle.invoke_records.proofs.laws.spellings_are_apart.Goals as goal
 
 pub returns : goal.returns

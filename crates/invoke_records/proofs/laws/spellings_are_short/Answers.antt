@@ -1,6 +1,6 @@
-use Rattle.invoke_records.specs.Laws.{command_length, body_bound}
-use Rattle.invoke_records.specs.SettingsLaws.{settings_length_most}
-use Rattle.invoke_records.specs.RowLaws.{row_length}
+use Rattle.invoke_records.specs.laws.Commands.{command_length, body_bound}
+use Rattle.invoke_records.specs.laws.Settings.{settings_length_most}
+use Rattle.invoke_records.specs.laws.Rows.{row_length}
 use Rattle.invoke_records.proofs.laws.spellings_are_short.Goals as goal
 
 pub returns : goal.returns

@@ -1,4 +1,4 @@
-use Rattle.invoke_records.specs.RowLaws.{counts_put}
+use Rattle.invoke_records.specs.laws.Rows.{counts_put}
 use Rattle.invoke_records.proofs.row_writing.add_counts.Goals as goal
 
 pub returns-clause-ok : goal.returns-clause-ok

@@ -1,4 +1,4 @@
-use Rattle.invoke_records.specs.RowLaws.{life_put}
+use Rattle.invoke_records.specs.laws.Rows.{life_put}
 use Rattle.invoke_records.proofs.row_writing.add_life.Goals as goal
 
 pub returns-clause-ok : goal.returns-clause-ok

@@ -1,4 +1,4 @@
-use Rattle.invoke_records.specs.RowLaws.{row_put}
+use Rattle.invoke_records.specs.laws.Rows.{row_put}
 use Rattle.invoke_records.proofs.row_writing.add_row.Goals as goal
 
 pub returns-clause-ok : goal.returns-clause-ok

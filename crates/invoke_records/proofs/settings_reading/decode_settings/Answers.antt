@@ -4,8 +4,8 @@ use Rattle.retry_rules.specs.declared.settings.Settings.{Settings}
 use Rattle.invoke_records.specs.declared.error.RecordError.{RecordError}
 use Rattle.invoke_records.specs.Spelling.{settings_text}
 use Rattle.invoke_records.specs.Reading.{Fails, settings_at}
-use Rattle.invoke_records.specs.Fields.{ok_is, lacks_memory, taken_most, taken_size, taken_rest}
-use Rattle.invoke_records.specs.SettingsLaws.{settings_takes, settings_again}
+use Rattle.invoke_records.specs.laws.Fields.{ok_is, lacks_memory, taken_most, taken_size, taken_rest}
+use Rattle.invoke_records.specs.laws.Settings.{settings_takes, settings_again}
 use Rattle.invoke_records.proofs.settings_reading.decode_settings.Goals as goal
 
 abbrev pair : Settings → List ℕ → Settings × List ℕ

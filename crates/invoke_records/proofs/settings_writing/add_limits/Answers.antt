@@ -1,4 +1,4 @@
-use Rattle.invoke_records.specs.SettingsLaws.{limits_put}
+use Rattle.invoke_records.specs.laws.Settings.{limits_put}
 use Rattle.invoke_records.proofs.settings_writing.add_limits.Goals as goal
 
 pub returns-clause-ok : goal.returns-clause-ok

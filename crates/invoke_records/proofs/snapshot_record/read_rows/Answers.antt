@@ -1,6 +1,6 @@
 use Rattle.std.proofs.lemmas.Result.{err_from_is_err_and}
 use Rattle.invoke_records.specs.Reading.{rows_at}
-use Rattle.invoke_records.specs.SnapshotLaws.{goes_on, ends, is_done}
+use Rattle.invoke_records.specs.laws.Snapshots.{goes_on, ends, is_done}
 use Rattle.invoke_records.proofs.snapshot_record.read_rows.Goals as goal
 
 pub returns-in_err-row : goal.returns-in_err-row

@@ -1,6 +1,6 @@
 use Rattle.std.proofs.Common.{◌≡◌, ◌-◌}
 use Rattle.invoke_records.specs.Reading.{rows_at}
-use Rattle.invoke_records.specs.SnapshotLaws.{with_front}
+use Rattle.invoke_records.specs.laws.Snapshots.{with_front}
 use Rattle.invoke_records.proofs.snapshot_record.read_rows.Given as goal
 
 abbrev pub invariant-loop : goal.invariant-loop

@@ -6,7 +6,7 @@ use Rattle.invoke_records.specs.declared.command.Command.{Command}
 use Rattle.async_core.specs.State.{State}
 use Rattle.async_core.specs.Rules.{empty_table}
 use Rattle.async_core.specs.History.{IsLegal, standing_in, table_of}
-use Rattle.async_core.specs.Laws.{IsLegal-nil}
+use Rattle.async_core.specs.laws.Tables.{IsLegal-nil}
 use Rattle.checkpoint.specs.Live.{RecoversTo}
 use Rattle.group_commit.specs.History.{IsLegalStop}
 use Rattle.group_commit.specs.Broker.{settings_of, Stands}

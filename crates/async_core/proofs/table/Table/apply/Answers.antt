@@ -7,7 +7,7 @@ use Rattle.retry_rules.specs.declared.settings.Settings.{Settings}
 use Rattle.invoke_records.specs.declared.command.Command.{Command}
 use Rattle.invoke_records.specs.declared.row.EventRow.{EventRow}
 use Rattle.invoke_records.specs.declared.snapshot.Snapshot.{Snapshot}
-use Rattle.async_core.specs.Laws.{legal_time, applied-by_history}
+use Rattle.async_core.specs.laws.Tables.{legal_time, applied-by_history}
 use Rattle.async_core.proofs.table.Table.apply.Goals as goal
 
 pub change-requires : goal.change-requires

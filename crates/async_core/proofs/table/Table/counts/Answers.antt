@@ -3,7 +3,7 @@ use Rattle.std.proofs.Common.{◌≡◌, ◌∙◌, rules}
 use Rattle.std.specs.Prelude.{option_map}
 use Rattle.async_core.specs.Rules.{row_at}
 use Rattle.async_core.specs.Readers.{counts_of}
-use Rattle.async_core.specs.Laws.{counts-by_history}
+use Rattle.async_core.specs.laws.Tables.{counts-by_history}
 use Rattle.async_core.proofs.table.Table.counts.Goals as goal
 
 pub returns-clause-by_history : goal.returns-clause-by_history

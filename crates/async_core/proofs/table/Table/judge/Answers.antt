@@ -2,7 +2,7 @@
 use Rattle.std.proofs.Common.{◌≡◌, ◌∙◌, ap, rules}
 use Rattle.std.specs.Result.{result_err}
 use Rattle.async_core.specs.Rules.{refusal_at}
-use Rattle.async_core.specs.Laws.{refusal-of_table}
+use Rattle.async_core.specs.laws.Tables.{refusal-of_table}
 use Rattle.async_core.proofs.table.Table.judge.Goals as goal
 
 pub returns-clause-by_history : goal.returns-clause-by_history

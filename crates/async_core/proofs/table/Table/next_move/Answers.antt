@@ -1,7 +1,7 @@
 -- What goes next by the rows goes next by the history.
 use Rattle.std.proofs.Common.{refl}
 use Rattle.async_core.specs.Choice.{IsNextAt}
-use Rattle.async_core.specs.ChoiceLaws.{next_move-by_history, legal_move}
+use Rattle.async_core.specs.laws.Choice.{next_move-by_history, legal_move}
 use Rattle.async_core.proofs.table.Table.next_move.Goals as goal
 
 pub returns : goal.returns

@@ -3,7 +3,7 @@ use Rattle.std.proofs.Common.{◌≡◌, ◌∙◌, rules}
 use Rattle.std.specs.Prelude.{option_map}
 use Rattle.invoke_records.specs.declared.row.EventRow.{EventRow}
 use Rattle.async_core.specs.Rules.{row_at}
-use Rattle.async_core.specs.Laws.{payload-by_history}
+use Rattle.async_core.specs.laws.Tables.{payload-by_history}
 use Rattle.async_core.proofs.table.Table.payload.Goals as goal
 
 pub returns-clause-by_history : goal.returns-clause-by_history

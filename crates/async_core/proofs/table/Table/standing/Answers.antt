@@ -1,7 +1,7 @@
 -- What the row says, the history says.
 use Rattle.std.proofs.Common.{◌≡◌, ◌∙◌, ap, rules}
 use Rattle.async_core.specs.Rules.{standing_at}
-use Rattle.async_core.specs.Laws.{standing_at-table_of}
+use Rattle.async_core.specs.laws.Tables.{standing_at-table_of}
 use Rattle.async_core.proofs.table.Table.standing.Goals as goal
 
 pub returns-clause-by_history : goal.returns-clause-by_history

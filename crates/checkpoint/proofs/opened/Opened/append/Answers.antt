@@ -1,5 +1,5 @@
 use Rattle.std.proofs.lemmas.Result.{on_ok_weaker}
-use Rattle.sector_disk.specs.Written.{leaves_weaker}
+use Rattle.sector_disk.specs.laws.Moments.{leaves_weaker}
 use Rattle.checkpoint.proofs.Appends.{before_or_after, live_after}
 use Rattle.checkpoint.proofs.opened.Opened.append.Goals as goal
 

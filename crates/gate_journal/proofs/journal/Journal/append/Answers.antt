@@ -3,7 +3,7 @@ use Rattle.std.proofs.lemmas.Bool.{leb-true}
 use Rattle.std.specs.Prelude.{All}
 use Rattle.invoke_records.specs.declared.command.Command.{Command}
 use Rattle.invoke_records.specs.Spelling.{IsCommand, commands_text}
-use Rattle.invoke_records.specs.Laws.{command_again}
+use Rattle.invoke_records.specs.laws.Commands.{command_again}
 use Rattle.sector_disk.specs.declared.disk.Fault.{Fault}
 use Rattle.sector_disk.specs.Disk.{IsWrite}
 use Rattle.gate_journal.specs.declared.area.Area.{Area}

@@ -1,4 +1,4 @@
-use Rattle.sector_disk.specs.Moments.{started}
+use Rattle.sector_disk.specs.laws.Moments.{started}
 use Rattle.group_commit.specs.Broker.{disk_of}
 use Rattle.group_commit.proofs.broker.Broker.close.Goals as goal
 

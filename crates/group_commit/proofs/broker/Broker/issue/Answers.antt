@@ -1,8 +1,9 @@
 use Rattle.std.proofs.Common.{ℕ, Result, ◌++◌, ◌∷◌, [], sym, ap, ◌∙◌, subst, arith}
 use Rattle.std.specs.Prelude.{IfErr}
 use Rattle.invoke_records.specs.declared.snapshot.Snapshot.{Snapshot}
-use Rattle.async_core.specs.Laws.{number-table_of}
-use Rattle.sector_disk.specs.Moments.{LeavesOnly, started}
+use Rattle.async_core.specs.laws.Tables.{number-table_of}
+use Rattle.sector_disk.specs.Moments.{LeavesOnly}
+use Rattle.sector_disk.specs.laws.Moments.{started}
 use Rattle.group_commit.specs.declared.error.IssueError.{IssueError}
 use Rattle.group_commit.specs.History.{IsLegalStop}
 use Rattle.group_commit.specs.Broker.{disk_of, settings_of, table_in, pending_of, durable_of, is_broken, opened_of, Issues, IsReason}

@@ -2,7 +2,7 @@ use Rattle.std.proofs.Common.{◌≡◌, ◌∷◌, [], ◌++◌, None, All, Lis
 use Rattle.std.proofs.lemmas.List.Elements.{All-append, All-from_recursion}
 use Rattle.invoke_records.specs.declared.command.Command.{Command}
 use Rattle.invoke_records.specs.Spelling.{command_fault}
-use Rattle.async_core.specs.Laws.{legal_shape}
+use Rattle.async_core.specs.laws.Tables.{legal_shape}
 use Rattle.group_commit.proofs.broker.Broker.take.Goals as goal
 
 pub invariant_of-self-in-Ok-clause-spelled : goal.invariant_of-self-in-Ok-clause-spelled

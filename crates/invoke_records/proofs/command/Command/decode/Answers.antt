@@ -4,8 +4,8 @@ use Rattle.invoke_records.specs.declared.command.Command.{Command}
 use Rattle.invoke_records.specs.declared.error.RecordError.{RecordError}
 use Rattle.invoke_records.specs.Spelling.{command_text}
 use Rattle.invoke_records.specs.Reading.{Fails, command_at}
-use Rattle.invoke_records.specs.Fields.{ok_is, lacks_memory, taken_most, taken_size, taken_rest}
-use Rattle.invoke_records.specs.Laws.{command_takes, command_again}
+use Rattle.invoke_records.specs.laws.Fields.{ok_is, lacks_memory, taken_most, taken_size, taken_rest}
+use Rattle.invoke_records.specs.laws.Commands.{command_takes, command_again}
 use Rattle.invoke_records.proofs.command.Command.decode.Goals as goal
 
 abbrev pair : Command → List ℕ → Command × List ℕ

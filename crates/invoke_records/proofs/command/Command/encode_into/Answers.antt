@@ -1,6 +1,6 @@
 use Rattle.std.proofs.Common.{sym}
 use Rattle.invoke_records.specs.Spelling.{command_fault}
-use Rattle.invoke_records.specs.Fields.{sound_ok}
+use Rattle.invoke_records.specs.laws.Fields.{sound_ok}
 use Rattle.invoke_records.proofs.command.Command.encode_into.Goals as goal
 
 pub returns-clause-spelled : goal.returns-clause-spelled

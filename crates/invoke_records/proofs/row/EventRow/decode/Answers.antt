@@ -4,8 +4,8 @@ use Rattle.invoke_records.specs.declared.row.EventRow.{EventRow}
 use Rattle.invoke_records.specs.declared.error.RecordError.{RecordError}
 use Rattle.invoke_records.specs.Spelling.{row_text}
 use Rattle.invoke_records.specs.Reading.{Fails, row_at}
-use Rattle.invoke_records.specs.Fields.{ok_is, lacks_memory, taken_most, taken_size, taken_rest}
-use Rattle.invoke_records.specs.RowLaws.{row_takes, row_again}
+use Rattle.invoke_records.specs.laws.Fields.{ok_is, lacks_memory, taken_most, taken_size, taken_rest}
+use Rattle.invoke_records.specs.laws.Rows.{row_takes, row_again}
 use Rattle.invoke_records.proofs.row.EventRow.decode.Goals as goal
 
 abbrev pair : EventRow → List ℕ → EventRow × List ℕ

@@ -4,8 +4,8 @@ use Rattle.invoke_records.specs.declared.snapshot.Snapshot.{Snapshot}
 use Rattle.invoke_records.specs.declared.error.RecordError.{RecordError}
 use Rattle.invoke_records.specs.Spelling.{snapshot_text}
 use Rattle.invoke_records.specs.Reading.{Fails, snapshot_at}
-use Rattle.invoke_records.specs.Fields.{ok_is, lacks_memory, taken_most, taken_size, taken_rest}
-use Rattle.invoke_records.specs.SnapshotLaws.{snapshot_takes, snapshot_again}
+use Rattle.invoke_records.specs.laws.Fields.{ok_is, lacks_memory, taken_most, taken_size, taken_rest}
+use Rattle.invoke_records.specs.laws.Snapshots.{snapshot_takes, snapshot_again}
 use Rattle.invoke_records.proofs.snapshot.Snapshot.decode.Goals as goal
 
 abbrev pair : Snapshot → List ℕ → Snapshot × List ℕ

@@ -16,11 +16,11 @@ use Rattle.async_core.specs.Lives.{kind_is_accept, kind_is_start, kind_is_failur
 use Rattle.async_core.specs.Standings.{Rules, rules_in, standing_by}
 use Rattle.async_core.specs.History.{held, standing_in, standing_of, row_of, refusal_of, situation_of, last_moment, last_number, IsLegal}
 use Rattle.async_core.specs.Rules.{one_more, starts_by, failures_by, push_backs_by, accepted_row, row_after, change_row, remove_row, rows_after}
-use Rattle.async_core.specs.More.{life-snoc, life-nil, last_moment-snoc, last_number-snoc, last_or-snoc, held-snoc, count_by-cons, count_by-snoc, push_backs-snoc, answer_of-snoc}
-use Rattle.async_core.specs.Passing.{clock_passes, state_passes}
-use Rattle.async_core.specs.Shapes.{limits}
-use Rattle.async_core.specs.Pace.{Paced, Paced-later, runs_failing, paced_start, paced_throttle, paced_interrupt, paced_failure}
-use Rattle.async_core.specs.Held.{times_held, size, is_nil, bytes_eq-true, bytes_eq-refl, bytes_eq-sym, held_once, nil_before, legally}
+use Rattle.async_core.specs.laws.Lives.{life-snoc, life-nil, last_moment-snoc, last_number-snoc, last_or-snoc, held-snoc, count_by-cons, count_by-snoc, push_backs-snoc, answer_of-snoc}
+use Rattle.async_core.specs.laws.Refusals.{clock_passes, state_passes}
+use Rattle.async_core.specs.laws.Shapes.{limits}
+use Rattle.async_core.specs.laws.Pace.{Paced, Paced-later, runs_failing, paced_start, paced_throttle, paced_interrupt, paced_failure}
+use Rattle.async_core.specs.laws.Held.{times_held, size, is_nil, bytes_eq-true, bytes_eq-refl, bytes_eq-sym, held_once, nil_before, legally}
 
 pub times_held-cons : (id : List ℕ) (e : ℕ × List ℕ) (events : List (ℕ × List ℕ)) (b : Bool) → bytes_eq id e.1 ≡ b → times_held id (e ∷ events) ≡ cond b 1 0 + times_held id events
 times_held-cons id e events b same = count_by-cons (λ (e : ℕ × List ℕ). bytes_eq id e.1) e events ∙ ap (λ v. cond v 1 0 + times_held id events) same

@@ -17,9 +17,9 @@ use Rattle.invoke_records.specs.declared.row_fields.Counts.{Counts}
 use Rattle.invoke_records.specs.declared.error.RecordError.TheVariants as fault
 use Rattle.invoke_records.specs.Spelling.{IsBytes, greatest_moment, standing_byte, outcome_byte, ended_byte, environment_in, moment_in, answer_byte, answer_bytes, life_text, counts_text, row_text, is_unknown, breaks_rule, row_fault, IsRow}
 use Rattle.invoke_records.specs.Reading.{◌>>=◌, unless, bytes_at, number_at, small_at, limit_at, sized_at, life_at, counts_at, outcome_at, standing_of, answer_of, row_at}
-use Rattle.invoke_records.specs.Fields.{bind_ok, unless_ok, ok_is, Takes, Takes-then, bytes_takes, bytes_again, number_takes, number_again, wide16, wide32, wide64}
-use Rattle.invoke_records.specs.Laws.{both_false, either_false}
-use Rattle.invoke_records.specs.Bounds.{small_takes, small_again, limit_takes, most_of, limit_again, sized_takes, sized_again}
+use Rattle.invoke_records.specs.laws.Fields.{bind_ok, unless_ok, ok_is, Takes, Takes-then, bytes_takes, bytes_again, number_takes, number_again, wide16, wide32, wide64}
+use Rattle.invoke_records.specs.laws.Commands.{both_false, either_false}
+use Rattle.invoke_records.specs.laws.Bounds.{small_takes, small_again, limit_takes, most_of, limit_again, sized_takes, sized_again}
 
 -- ## The fields up to the moment
 

@@ -46,11 +46,3 @@ module _ (old : List ℕ) (at : ℕ) (bytes new : List ℕ) (within : at + lengt
 
   pub written_differs : MayDiffer at (length bytes) old new
   written_differs = record { size = written_size; before = written_front; after = directly_behind }
-
--- what a stop leaves has less asked of it
-pub leaves_weaker : {old new : DiskView} {P : List ℕ → Type 0} (Q : List ℕ → Type 0) → ((image : List ℕ) → P image → Q image) → LeavesOnly old new P → LeavesOnly old new Q
-leaves_weaker Q weaker leaves = record {
-  later = leaves.later;
-  each = λ image left. weaker image (leaves.each image left);
-  before = λ t image le left. ⊎_elim (λ was. inl was) (λ is. inr (weaker image is)) (leaves.before t image le left);
-}

@@ -10,9 +10,9 @@ use Rattle.retry_rules.specs.Settings.{is_outside, is_bad_text, is_name_byte, is
 use Rattle.invoke_records.specs.declared.limits.Limits.{Limits}
 use Rattle.invoke_records.specs.Spelling.{IsBytes, short_text, limits_text, settings_text}
 use Rattle.invoke_records.specs.Reading.{small_at, limit_at, text_at, limits_at, with_texts, settings_at}
-use Rattle.invoke_records.specs.Fields.{bind_ok, ok_is, Takes, Takes-then, wide16, wide32}
-use Rattle.invoke_records.specs.Laws.{both_false}
-use Rattle.invoke_records.specs.Bounds.{small_takes, small_again, limit_takes, most_of, limit_again, text_takes, text_again}
+use Rattle.invoke_records.specs.laws.Fields.{bind_ok, ok_is, Takes, Takes-then, wide16, wide32}
+use Rattle.invoke_records.specs.laws.Commands.{both_false}
+use Rattle.invoke_records.specs.laws.Bounds.{small_takes, small_again, limit_takes, most_of, limit_again, text_takes, text_again}
 
 -- ## The numbers
 

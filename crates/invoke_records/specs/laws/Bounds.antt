@@ -8,8 +8,8 @@ use Rattle.invoke_records.specs.declared.error.RecordError.{RecordError}
 use Rattle.invoke_records.specs.declared.error.RecordError.TheVariants as fault
 use Rattle.invoke_records.specs.Spelling.{IsBytes, short_text}
 use Rattle.invoke_records.specs.Reading.{◌>>=◌, unless, byte_at, bytes_at, number_at, small_at, limit_at, sized_at, text_at}
-use Rattle.invoke_records.specs.Fields.{bind_ok, unless_ok, Takes, Takes-then, byte_takes, bytes_takes, bytes_again, IsWide, number_takes, number_again, wide32}
-use Rattle.invoke_records.specs.Laws.{both_false, either_false}
+use Rattle.invoke_records.specs.laws.Fields.{bind_ok, unless_ok, Takes, Takes-then, byte_takes, bytes_takes, bytes_again, IsWide, number_takes, number_again, wide32}
+use Rattle.invoke_records.specs.laws.Commands.{both_false, either_false}
 
 pub small_takes : (least most : ℕ) (bytes : List ℕ) (x : ℕ × List ℕ) → IsBytes bytes → small_at least most bytes ≡ Ok x → Takes bytes (x.0 ∷ []) x.1 × (is_outside least most x.0 ≡ false)
 unfolding small_at

@@ -23,9 +23,9 @@ use Rattle.async_core.specs.Standings.{is_running, is_unknown, is_ended, is_due,
 use Rattle.async_core.specs.Checks.{shape_checks, state_checks, refusal_in, clock_check}
 use Rattle.async_core.specs.History.{held, standing_in, too_old_from, running_count, is_busy_in, row_of, table_of, refusal_of, situation_of, last_moment, last_number}
 use Rattle.async_core.specs.Rules.{running_at}
-use Rattle.async_core.specs.Passing.{NoneFails, first_failed-none}
+use Rattle.async_core.specs.laws.Refusals.{NoneFails, first_failed-none}
 use Rattle.async_core.specs.Choice.{move_by, start_or_throttle, move_of, ripe_at, rank, NotBefore, moving, move_at, environment_for, IsNextAt, IsChosenAs, IsFirstHeld, IsFirstRunning, IsOldestEnded, ended_on, IsNextMove, IsFree, IsLegalMove, command_of_move}
-use Rattle.async_core.specs.Laws.{count_by-map}
+use Rattle.async_core.specs.laws.Tables.{count_by-map}
 
 -- ## Rows and events
 

@@ -19,8 +19,8 @@ use Rattle.invoke_records.specs.declared.row.Outcome.TheVariants.{RetriesExhaust
 use Rattle.invoke_records.specs.declared.row.Standing.TheVariants as standing
 use Rattle.async_core.specs.Standings.{Rules, is_unknown, standing_by, after_failure}
 use Rattle.async_core.specs.History.{held, standing_in, standing_of, rules_of, rules_in, refusal_of, situation_of, IsLegal}
-use Rattle.async_core.specs.More.{life-snoc, life-nil, held-snoc, held-nil, last_or-snoc, count_by-cons}
-use Rattle.async_core.specs.Passing.{presence}
+use Rattle.async_core.specs.laws.Lives.{life-snoc, life-nil, held-snoc, held-nil, last_or-snoc, count_by-cons}
+use Rattle.async_core.specs.laws.Refusals.{presence}
 
 -- ## Induction over the last command
 

@@ -12,7 +12,7 @@ use Rattle.invoke_records.specs.declared.command.Kind.{Kind}
 use Rattle.invoke_records.specs.declared.command.Kind.TheVariants.{Accept, Start, Succeed, Fail, Throttle, Interrupt, Expire, Collect}
 use Rattle.invoke_records.specs.declared.command.Cause.TheVariants.{Reported, Timeout, Exited}
 use Rattle.async_core.specs.Checks.{shape_by, shape_checks}
-use Rattle.async_core.specs.Passing.{NoneFails}
+use Rattle.async_core.specs.laws.Refusals.{NoneFails}
 
 abbrev pub NoneBad : List (Bool × Field) → Type 0
 NoneBad [] = Unit {0}

@@ -14,7 +14,7 @@ use Rattle.invoke_records.specs.declared.row.Standing.TheVariants as standing
 use Rattle.async_core.specs.declared.situation.Situation.{Situation}
 use Rattle.async_core.specs.Standings.{Rules, rules_in, standing_by, after_failure, after_pushback, is_due, is_running}
 use Rattle.async_core.specs.Checks.{state_checks}
-use Rattle.async_core.specs.Passing.{NoneFails}
+use Rattle.async_core.specs.laws.Refusals.{NoneFails}
 
 -- how the moments of an event bound its counters
 abbrev pub Pace : Rules → ℕ → ℕ → ℕ → ℕ → ℕ → Standing → Type 0

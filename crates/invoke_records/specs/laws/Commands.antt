@@ -12,7 +12,7 @@ use Rattle.invoke_records.specs.declared.error.RecordError.{RecordError}
 use Rattle.invoke_records.specs.declared.error.RecordError.TheVariants.{Truncated, BadKind, TooLong}
 use Rattle.invoke_records.specs.Spelling.{IsBytes, IsCommand, command_text, command_fault, body_text, cause_text, kind_byte, is_bad_environment, most_bytes, least_bytes, greatest_moment}
 use Rattle.invoke_records.specs.Reading.{unless, sound, byte_at, bytes_at, number_at, kind_at, fields_at, head_fault, failure_at, body_at, command_at, least_length, most_length}
-use Rattle.invoke_records.specs.Fields.{bind_ok, unless_ok, sound_ok, ok_is, done, IsBytes-behind, Takes, Takes-then, byte_takes, bytes_takes, bytes_again, number_takes, number_again, wide16, wide32, wide64}
+use Rattle.invoke_records.specs.laws.Fields.{bind_ok, unless_ok, sound_ok, ok_is, done, IsBytes-behind, Takes, Takes-then, byte_takes, bytes_takes, bytes_again, number_takes, number_again, wide16, wide32, wide64}
 
 -- ## The fields in front
 

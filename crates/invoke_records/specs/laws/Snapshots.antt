@@ -12,10 +12,10 @@ use Rattle.invoke_records.specs.declared.error.RecordError.{RecordError}
 use Rattle.invoke_records.specs.declared.error.RecordError.TheVariants as fault
 use Rattle.invoke_records.specs.Spelling.{IsBytes, greatest_moment, greatest_number, row_text, row_fault, IsWithinWidth, IsRow, snapshot_text, are_in_order, rows_fault, first_of_two, snapshot_fault, IsSnapshot}
 use Rattle.invoke_records.specs.Reading.{◌>>=◌, Fails, unless, limit_at, sized_at, row_at, rows_at, snapshot_at}
-use Rattle.invoke_records.specs.Fields.{bind_ok, unless_ok, ok_is, done, Takes, Takes-then, wide64}
-use Rattle.invoke_records.specs.Laws.{both_false, either_false}
-use Rattle.invoke_records.specs.Bounds.{limit_takes, limit_again, sized_takes, sized_again}
-use Rattle.invoke_records.specs.RowLaws.{row_takes, row_again}
+use Rattle.invoke_records.specs.laws.Fields.{bind_ok, unless_ok, ok_is, done, Takes, Takes-then, wide64}
+use Rattle.invoke_records.specs.laws.Commands.{both_false, either_false}
+use Rattle.invoke_records.specs.laws.Bounds.{limit_takes, limit_again, sized_takes, sized_again}
+use Rattle.invoke_records.specs.laws.Rows.{row_takes, row_again}
 
 -- ## Rows, one after another
 

@@ -23,11 +23,11 @@ use Rattle.async_core.specs.Checks.{refusal_in, shape_checks}
 use Rattle.async_core.specs.History.{held, standing_in, standing_of, row_of, table_of, refusal_of, situation_of, IsLegal}
 use Rattle.async_core.specs.Rules.{has_id, row_at, standing_or_unknown, accepted_or_zero, standing_at, situation_at, refusal_at, table_after, empty_table, replay}
 use Rattle.async_core.specs.Readers.{where_held, outcome_by, counts_of, counts_in, ending_at, ending_in}
-use Rattle.async_core.specs.More.{last_moment-snoc, held-nil}
-use Rattle.async_core.specs.Changes.{times_held-cons, rows_by}
-use Rattle.async_core.specs.Passing.{NoneFails, shape_passes}
-use Rattle.async_core.specs.Shapes.{limits, shaped}
-use Rattle.async_core.specs.Held.{times_held, size, is_nil, bytes_eq-true, held_once, IsLegal-front, IsLegal-last, slice_get-before, slice_get-seam}
+use Rattle.async_core.specs.laws.Lives.{last_moment-snoc, held-nil}
+use Rattle.async_core.specs.laws.Rows.{times_held-cons, rows_by}
+use Rattle.async_core.specs.laws.Refusals.{NoneFails, shape_passes}
+use Rattle.async_core.specs.laws.Shapes.{limits, shaped}
+use Rattle.async_core.specs.laws.Held.{times_held, size, is_nil, bytes_eq-true, held_once, IsLegal-front, IsLegal-last, slice_get-before, slice_get-seam}
 
 -- ## The row of an event
 
