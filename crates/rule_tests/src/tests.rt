@@ -4,7 +4,7 @@ use std::alloc::{AllocError, Global};
 
 mod records;
 mod retries;
-mod table;
+mod snapshots;
 
 /// The settings of most tests.
 fn settings(alloc: Global) -> Result<Settings, AllocError> {

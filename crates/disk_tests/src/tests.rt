@@ -1,3 +1,0 @@
-mod disks;
-mod formatted;
-mod journal;

@@ -1,0 +1,225 @@
+// Steps that read the table of an open broker.
+use crate::answer::Answer;
+use crate::bytes::shown;
+use crate::orders::{kind_word, read_order};
+use crate::refusals::illegal;
+use crate::words::{StepError, Words, id_of, number_of_id};
+use async_core::{Ended, Move, Side, Table};
+use invoke_records::{Answer as Answered, Outcome, Standing};
+use std::alloc::{AllocError, Global};
+
+fn outcome_word(outcome: Outcome) -> &'static str {
+    match outcome {
+        Outcome::Success => "Success",
+        Outcome::RetriesExhausted => "RetriesExhausted",
+        Outcome::EventAgeExceeded => "EventAgeExceeded",
+    }
+}
+
+fn standing_text(alloc: Global, standing: Standing) -> Result<String, AllocError> {
+    match standing {
+        Standing::Unknown => String::from_str(alloc, "unknown"),
+        Standing::Waiting { due } => format!(in alloc; "waiting due {due}"),
+        Standing::DueAgain { due } => format!(in alloc; "due again {due}"),
+        Standing::Running {
+            environment,
+            deadline,
+        } => format!(in alloc; "running in {environment} until {deadline}"),
+        Standing::Ended { outcome, at } => {
+            format!(in alloc; "ended {} {at}", outcome_word(outcome))
+        }
+    }
+}
+
+fn move_text(alloc: Global, next: Move) -> Result<String, AllocError> {
+    let kind = kind_word(next.kind);
+    let event = number_of_id(&next.id);
+    if next.environment == 0 {
+        return format!(in alloc; "{kind} {event}");
+    }
+    format!(in alloc; "{kind} {event} in {}", next.environment)
+}
+
+// A text of a payload or an answer: itself where it is one, else its bytes.
+fn bytes_text(alloc: Global, bytes: &[u8]) -> Result<String, AllocError> {
+    match std::str::from_utf8(bytes) {
+        Ok(text) => String::from_str(alloc, text),
+        Err(_) => shown(alloc, bytes),
+    }
+}
+
+fn answered_text(alloc: Global, answer: &Answered) -> Result<String, AllocError> {
+    match answer {
+        Answered::None => String::from_str(alloc, "no answer"),
+        Answered::Response(bytes) => {
+            format!(in alloc;
+                "response {}",
+                bytes_text(alloc, bytes.as_slice())?.as_str()
+            )
+        }
+        Answered::Error(bytes) => {
+            format!(in alloc; "error {}", bytes_text(alloc, bytes.as_slice())?.as_str())
+        }
+    }
+}
+
+fn ended_text(alloc: Global, told: Ended) -> Result<String, AllocError> {
+    let outcome = outcome_word(told.outcome);
+    let (at, starts) = (told.at, told.starts);
+    let payload = bytes_text(alloc, told.payload)?;
+    let answer = answered_text(alloc, told.answer)?;
+    format!(in alloc;
+        "{outcome} {at} starts {starts} payload {} {}",
+        payload.as_str(),
+        answer.as_str()
+    )
+}
+
+fn told_or_none(alloc: Global, text: Option<String>) -> Result<Answer, AllocError> {
+    match text {
+        Some(text) => Ok(Answer::Told(text)),
+        None => Answer::refused(alloc, "none"),
+    }
+}
+
+fn counts(alloc: Global, table: &Table, id: &[u8; 16]) -> Result<Answer, AllocError> {
+    match table.counts(id) {
+        Some((starts, failures, push_backs)) => Ok(Answer::Told(format!(in alloc;
+            "starts {starts} failures {failures} pushbacks {push_backs}"
+        )?)),
+        None => Answer::refused(alloc, "none"),
+    }
+}
+
+fn payload(alloc: Global, table: &Table, id: &[u8; 16]) -> Result<Answer, AllocError> {
+    match table.payload(id) {
+        Some(bytes) => Ok(Answer::Told(bytes_text(alloc, bytes)?)),
+        None => Answer::refused(alloc, "none"),
+    }
+}
+
+fn ended(alloc: Global, table: &Table, id: &[u8; 16]) -> Result<Answer, AllocError> {
+    match table.ended(id) {
+        Some(told) => Ok(Answer::Told(ended_text(alloc, told)?)),
+        None => Answer::refused(alloc, "none"),
+    }
+}
+
+fn accepted(alloc: Global, table: &Table, id: &[u8; 16]) -> Result<Answer, AllocError> {
+    match table.accepted(id) {
+        Some(at) => Answer::number(alloc, at),
+        None => Answer::refused(alloc, "none"),
+    }
+}
+
+fn outcome(alloc: Global, table: &Table, id: &[u8; 16]) -> Result<Answer, AllocError> {
+    match table.outcome(id) {
+        Some(outcome) => Answer::told(alloc, outcome_word(outcome)),
+        None => Answer::refused(alloc, "none"),
+    }
+}
+
+fn oldest(alloc: Global, table: &Table, words: &mut Words) -> Result<Answer, StepError> {
+    let side = match words.word()? {
+        "success" => Side::Success,
+        "failure" => Side::Failure,
+        _ => return Err(StepError::Unreadable),
+    };
+    match table.oldest_ended(side) {
+        Some(id) => Ok(Answer::number(alloc, number_of_id(&id))?),
+        None => Ok(Answer::refused(alloc, "none")?),
+    }
+}
+
+fn running(alloc: Global, table: &Table, words: &mut Words) -> Result<Answer, StepError> {
+    match table.next_running(words.number_after("after")?) {
+        Some((number, id)) => Ok(Answer::Told(format!(in alloc;
+            "{} by {number}",
+            number_of_id(&id)
+        )?)),
+        None => Ok(Answer::refused(alloc, "none")?),
+    }
+}
+
+fn next_move(alloc: Global, table: &Table, words: &mut Words) -> Result<Answer, StepError> {
+    let now = words.number_after("at")?;
+    let ready = if words.takes("ready") {
+        Some(
+            u16::try_from(words.number()?)
+                .ok()
+                .ok_or(StepError::Unreadable)?,
+        )
+    } else {
+        None
+    };
+    let text = match table.next_move(now, ready) {
+        Some(next) => Some(move_text(alloc, next)?),
+        None => None,
+    };
+    Ok(told_or_none(alloc, text)?)
+}
+
+fn judge(alloc: Global, table: &Table, words: &mut Words) -> Result<Answer, StepError> {
+    let order = read_order(alloc, words)?;
+    let command = order.command(order.first)?;
+    match table.judge(&command) {
+        Ok(()) => Ok(Answer::told(alloc, "legal")?),
+        Err(why) => Ok(Answer::refused(alloc, illegal(why))?),
+    }
+}
+
+/// Whether a step reads the table.
+pub fn reads_table(word: &str) -> bool {
+    matches!(
+        word,
+        "standing"
+            | "counts"
+            | "payload"
+            | "ended"
+            | "accepted"
+            | "outcome"
+            | "oldest"
+            | "running"
+            | "next"
+            | "judge"
+            | "number"
+            | "moment"
+    )
+}
+
+// What is told of one event.
+fn read_event(
+    alloc: Global,
+    table: &Table,
+    word: &str,
+    words: &mut Words,
+) -> Result<Answer, StepError> {
+    let id = id_of(words.number()?);
+    match word {
+        "standing" => Ok(Answer::Told(standing_text(alloc, table.standing(&id))?)),
+        "counts" => Ok(counts(alloc, table, &id)?),
+        "payload" => Ok(payload(alloc, table, &id)?),
+        "ended" => Ok(ended(alloc, table, &id)?),
+        "accepted" => Ok(accepted(alloc, table, &id)?),
+        "outcome" => Ok(outcome(alloc, table, &id)?),
+        _ => Err(StepError::Unreadable),
+    }
+}
+
+/// What the table answers to a step that reads it.
+pub fn read_table(
+    alloc: Global,
+    table: &Table,
+    word: &str,
+    words: &mut Words,
+) -> Result<Answer, StepError> {
+    match word {
+        "oldest" => oldest(alloc, table, words),
+        "running" => running(alloc, table, words),
+        "next" => next_move(alloc, table, words),
+        "judge" => judge(alloc, table, words),
+        "number" => Ok(Answer::number(alloc, table.number())?),
+        "moment" => Ok(Answer::number(alloc, table.last_moment())?),
+        _ => read_event(alloc, table, word, words),
+    }
+}
