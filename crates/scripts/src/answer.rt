@@ -3,7 +3,7 @@ use crate::words::number_of;
 use std::alloc::{AllocError, Global};
 
 /// What a step answered.
-#[derive(Debug, Drop)]
+#[derive(Drop)]
 pub enum Answer {
     /// It was done, and says nothing.
     Done,

@@ -153,28 +153,32 @@ fn recover<D: Disk>(alloc: Global, disk: &mut D) -> Result<Answer, AllocError> {
     }
 }
 
-// `FIRST..END`: the journal of generation 1 from command 1 on in an area, where that lies on the disk.
-fn journal<D: Disk>(
-    alloc: Global,
-    disk: &mut D,
-    words: &mut Words,
-) -> Result<Option<(Journal, Vec<(u64, Command)>)>, StepError> {
+// `FIRST..END`: these sectors as the area of a journal of generation 1, from command 1 on.
+fn area(words: &mut Words) -> Result<Area, StepError> {
     let (start, end) = range_of(words.word()?).ok_or(StepError::Unreadable)?;
-    if end < start || disk.sectors() < end {
-        return Err(StepError::Unreadable);
-    }
-    let area = Area {
+    Ok(Area {
         generation: 1,
         number: 1,
         start,
         end,
-    };
+    })
+}
+
+// The journal of an area, where that lies on the disk.
+fn journal<D: Disk>(
+    alloc: Global,
+    disk: &mut D,
+    area: Area,
+) -> Result<Option<(Journal, Vec<(u64, Command)>)>, StepError> {
+    if area.end < area.start || disk.sectors() < area.end || area.number != 1 {
+        return Err(StepError::Unreadable);
+    }
     Ok(Journal::read_all(alloc, disk, area).ok())
 }
 
-// `FIRST..END`: the commands that the frames of an area hold, each with the sector of its gate.
+// The commands that the frames of an area hold, each with the sector of its gate.
 fn frames<D: Disk>(alloc: Global, disk: &mut D, words: &mut Words) -> Result<Answer, StepError> {
-    let Some((_, found)) = journal(alloc, disk, words)? else {
+    let Some((_, found)) = journal(alloc, disk, area(words)?)? else {
         return Ok(Answer::refused(alloc, "damaged")?);
     };
     let mut text = format!(in alloc; "{} commands", found.len())?;
@@ -185,9 +189,9 @@ fn frames<D: Disk>(alloc: Global, disk: &mut D, words: &mut Words) -> Result<Ans
     Ok(Answer::Told(text))
 }
 
-// `FIRST..END SIZE`: whether a frame of commands of so many bytes fits into what is left of an area.
+// Whether a frame of commands of so many bytes fits into what is left of an area.
 fn fits<D: Disk>(alloc: Global, disk: &mut D, words: &mut Words) -> Result<Answer, StepError> {
-    let Some((journal, _)) = journal(alloc, disk, words)? else {
+    let Some((journal, _)) = journal(alloc, disk, area(words)?)? else {
         return Ok(Answer::refused(alloc, "damaged")?);
     };
     let word = if journal.fits(words.number()?) {
@@ -198,22 +202,36 @@ fn fits<D: Disk>(alloc: Global, disk: &mut D, words: &mut Words) -> Result<Answe
     Ok(Answer::told(alloc, word)?)
 }
 
-// `FIRST..END COMMAND`: appends a command as the first frame of an area.
-fn append<D: Disk>(alloc: Global, disk: &mut D, words: &mut Words) -> Result<Answer, StepError> {
-    let Some((mut journal, found)) = journal(alloc, disk, words)? else {
-        return Ok(Answer::refused(alloc, "damaged")?);
-    };
-    let order = read_order(alloc, words)?;
-    let command = order.command(order.first)?;
+// Appends a command as the first frame of an area that lies on the disk and holds none.
+fn append_to<D: Disk>(
+    alloc: Global,
+    disk: &mut D,
+    area: Area,
+    command: Command,
+) -> Result<Answer, StepError> {
     let mut spelled = Vec::new(alloc);
-    if command.encode_into(&mut spelled).is_err() || !found.is_empty() {
+    if command.encode_into(&mut spelled).is_err() {
         return Err(StepError::Unreadable);
     }
-    let commands = [command];
-    match journal.append(alloc, disk, &commands) {
-        Ok(()) => Ok(Answer::Done),
-        Err(why) => Ok(Answer::Refused(format!(in alloc; "{why}")?)),
+    if area.end < area.start || disk.sectors() < area.end || area.number != 1 {
+        return Err(StepError::Unreadable);
     }
+    match Journal::read_all(alloc, disk, area) {
+        Ok((mut journal, found)) if found.is_empty() => {
+            let commands = [command];
+            match journal.append(alloc, disk, &commands) {
+                Ok(()) => Ok(Answer::Done),
+                Err(why) => Ok(Answer::Refused(format!(in alloc; "{why}")?)),
+            }
+        }
+        _ => Err(StepError::Unreadable),
+    }
+}
+
+fn append<D: Disk>(alloc: Global, disk: &mut D, words: &mut Words) -> Result<Answer, StepError> {
+    let area = area(words)?;
+    let order = read_order(alloc, words)?;
+    append_to(alloc, disk, area, order.command(order.first)?)
 }
 
 /// What a disk answers to a step.

@@ -87,10 +87,10 @@ fn run_line(
         Ok(answer) if is_as_said(alloc, &answer, said)? => Ok(None),
         Ok(answer) => {
             let answer = answer.text(alloc)?;
-            Ok(Some(difference(alloc, line.at, said, &answer, &step)?))
+            Ok(Some(told_apart(alloc, line.at, said, &answer, &step)?))
         }
         Err(StepError::OutOfMemory) => Err(AllocError),
-        Err(StepError::Unreadable) => Ok(Some(difference(
+        Err(StepError::Unreadable) => Ok(Some(told_apart(
             alloc,
             line.at,
             said,
@@ -100,7 +100,7 @@ fn run_line(
     }
 }
 
-fn difference(
+fn told_apart(
     alloc: Global,
     at: usize,
     said: Option<&str>,
@@ -140,10 +140,10 @@ fn check_count(
     let answer = format!(in alloc; "{choices}")?;
     match &case.tried {
         Some((at, said)) if said.as_str() != answer.as_str() => {
-            found.push(difference(alloc, *at, Some(said.as_str()), &answer, "tried")?)?;
+            found.push(told_apart(alloc, *at, Some(said.as_str()), &answer, "tried")?)?;
         }
         None if choices == 0 || case.lines.is_empty() => {
-            found.push(difference(alloc, case.at, Some("steps"), "none", "case")?)?;
+            found.push(told_apart(alloc, case.at, Some("steps"), "none", "case")?)?;
         }
         _ => {}
     }

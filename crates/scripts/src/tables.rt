@@ -132,13 +132,12 @@ fn oldest(alloc: Global, table: &Table, words: &mut Words) -> Result<Answer, Ste
 }
 
 fn running(alloc: Global, table: &Table, words: &mut Words) -> Result<Answer, StepError> {
-    match table.next_running(words.number_after("after")?) {
-        Some((number, id)) => Ok(Answer::Told(format!(in alloc;
-            "{} by {number}",
-            number_of_id(&id)
-        )?)),
-        None => Ok(Answer::refused(alloc, "none")?),
-    }
+    let Some(first) = table.next_running(words.number_after("after")?) else {
+        return Ok(Answer::refused(alloc, "none")?);
+    };
+    let id = first.1;
+    let event = number_of_id(&id);
+    Ok(Answer::Told(format!(in alloc; "{event} by {}", first.0)?))
 }
 
 fn next_move(alloc: Global, table: &Table, words: &mut Words) -> Result<Answer, StepError> {

@@ -1,16 +1,14 @@
 // The words of a line, one after another.
 use std::alloc::{AllocError, AllocFailed};
-use thiserror::Error;
 
 /// The moment that a script calls T, in milliseconds since 1970.
 pub const T: u64 = 1573755365568;
 
 /// Why a step has no answer.
-#[derive(Clone, Copy, Debug, PartialEq, Eq, Error)]
+#[derive(Clone, Copy)]
 pub enum StepError {
-    #[error("a line that cannot be read")]
+    /// The line is no step, or none that can be done now.
     Unreadable,
-    #[error("out of memory")]
     OutOfMemory,
 }
 
