@@ -1,6 +1,6 @@
 // The waits between attempts, and the settings.
 use super::settings;
-use retry_rules::{after_failure, after_pushback, too_old};
+use retry_rules::{after_failure, after_pushback, has_name_bytes, has_plain_bytes, too_old};
 use std::test::Fail;
 
 #[test]
@@ -38,6 +38,16 @@ fn the_first_bad_field_is_printed(rt: HostRuntime) -> Result<(), Fail> {
         "bad settings: age"
     );
     Ok(())
+}
+
+#[test]
+fn names_and_texts_have_plain_bytes(rt: HostRuntime) {
+    assert!(rt; has_name_bytes(b"my-Function_1"));
+    assert!(rt; !has_name_bytes(b"my.function"));
+    assert!(rt; has_plain_bytes(b"app.main!~"));
+    assert!(rt; !has_plain_bytes(b"app main"));
+    assert!(rt; !has_plain_bytes(b"app\"main"));
+    assert!(rt; !has_plain_bytes(b"app\\main"));
 }
 
 #[test]
