@@ -136,20 +136,3 @@ number_again w limit wide n rest lt =
     let len = wide.len n in
     let long : ltb (length (to_be_bytes w n ++ rest)) (byte_len w) ≡ false = le-ltb _ _ (omega (arith, length-append (to_be_bytes w n) rest)) in
     rw (long, take_at (to_be_bytes w n) rest (byte_len w) len, drop_at (to_be_bytes w n) rest (byte_len w) len, wide.again n lt) refl
-
--- ## Steps of a reading
-
--- it ends at its first step
-pub ends_here : {A B : Type 0} (e : RecordError) (r : Result A RecordError) (f : A → Result B RecordError) → Fails e r → Fails e (r >>= f)
-ends_here fault.OutOfMemory r f h = tt
-ends_here fault.Truncated r f h = rw h refl
-ends_here fault.BadKind r f h = rw h refl
-ends_here fault.TooLong r f h = rw h refl
-
--- it ends behind this step
-pub ends_on : {A B : Type 0} (e : RecordError) (r : Result A RecordError) (f : A → Result B RecordError) (x : A) → r ≡ Ok x → Fails e (f x) → Fails e (r >>= f)
-ends_on e r f x is h = rw is h
-
--- it gives this behind this step
-pub gives_on : {A B : Type 0} (r : Result A RecordError) (f : A → Result B RecordError) (x : A) (y : Result B RecordError) → r ≡ Ok x → f x ≡ y → (r >>= f) ≡ y
-gives_on r f x y is h = rw is h

@@ -1,9 +1,9 @@
 -- What is read of a row's fields was spelled so, and what is spelled so is read. Lemmas.
-use Rattle.std.proofs.Common.{◌≡◌, ℕ, ◌+◌, ◌^◌, ◌<◌, ◌≤◌, Bool, true, false, ◌||◌, cond, ltb, eqb, List, [], ◌∷◌, ◌++◌, length, Some, None, Ok, refl, sym, ap, subst, ◌∙◌, append_assoc, arith, inl, inr}
+use Rattle.std.proofs.Common.{◌≡◌, ℕ, ◌^◌, ◌<◌, ◌≤◌, false, ◌||◌, ltb, eqb, List, [], ◌∷◌, ◌++◌, length, Ok, refl, sym, ap, subst, ◌∙◌, append_assoc, arith, inl, inr}
 use Rattle.std.specs.Int.{w16, w32, w64, to_be_bytes}
-use Rattle.std.proofs.lemmas.Bool.{cases_Bool, ltb-false, le-ltb, eqb-true}
+use Rattle.std.proofs.lemmas.Bool.{cases_Bool, ltb-false, eqb-true}
 use Rattle.std.proofs.lemmas.Bool.Decides.{eqb_tells}
-use Rattle.std.proofs.lemmas.List.{length-append, nil_from_length}
+use Rattle.std.proofs.lemmas.List.{nil_from_length}
 use Rattle.retry_rules.specs.Settings.{is_outside}
 use Rattle.invoke_records.specs.declared.row.Outcome.{Outcome}
 use Rattle.invoke_records.specs.declared.row.Outcome.TheVariants.{Success, RetriesExhausted, EventAgeExceeded}
@@ -11,14 +11,13 @@ use Rattle.invoke_records.specs.declared.row.Standing.{Standing}
 use Rattle.invoke_records.specs.declared.row.Standing.TheVariants as standing
 use Rattle.invoke_records.specs.declared.row.Answer.{Answer}
 use Rattle.invoke_records.specs.declared.row.Answer.TheVariants as answer
-use Rattle.invoke_records.specs.declared.row.EventRow.{EventRow}
 use Rattle.invoke_records.specs.declared.row_fields.Life.{Life}
 use Rattle.invoke_records.specs.declared.row_fields.Counts.{Counts}
 use Rattle.invoke_records.specs.declared.error.RecordError.TheVariants as fault
-use Rattle.invoke_records.specs.Spelling.{IsBytes, greatest_moment, standing_byte, outcome_byte, ended_byte, environment_in, moment_in, answer_byte, answer_bytes, life_text, counts_text, row_text, is_unknown, breaks_rule, row_fault, IsRow}
-use Rattle.invoke_records.specs.Reading.{◌>>=◌, unless, bytes_at, number_at, small_at, limit_at, sized_at, life_at, counts_at, outcome_at, standing_of, answer_of, row_at}
+use Rattle.invoke_records.specs.Spelling.{IsBytes, greatest_moment, standing_byte, outcome_byte, ended_byte, environment_in, moment_in, answer_byte, answer_bytes, is_unknown, breaks_rule}
+use Rattle.invoke_records.specs.Reading.{◌>>=◌, unless, bytes_at, number_at, small_at, limit_at, sized_at, life_at, counts_at, outcome_at, standing_of, answer_of}
 use Rattle.invoke_records.specs.laws.Fields.{bind_ok, unless_ok, ok_is, Takes, Takes-then, bytes_takes, bytes_again, number_takes, number_again, wide16, wide32, wide64}
-use Rattle.invoke_records.specs.laws.Commands.{both_false, either_false}
+use Rattle.invoke_records.specs.laws.Commands.{both_false}
 use Rattle.invoke_records.specs.laws.Bounds.{small_takes, small_again, limit_takes, most_of, limit_again, sized_takes, sized_again}
 
 -- ## The fields up to the moment
