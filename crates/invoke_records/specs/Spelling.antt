@@ -7,9 +7,6 @@ use Rattle.retry_rules.specs.declared.settings.Settings.{Settings}
 use Rattle.retry_rules.specs.declared.settings.Field.{Field}
 use Rattle.retry_rules.specs.declared.settings.Field.TheVariants as field
 use Rattle.retry_rules.specs.Settings.{bad_field}
-use Rattle.retry_rules.specs.declared.settings.Field.{Field}
-use Rattle.retry_rules.specs.declared.settings.Field.TheVariants as field
-use Rattle.retry_rules.specs.Settings.{bad_field}
 use Rattle.invoke_records.specs.declared.command.Cause.TheVariants.{Reported, Timeout, Exited}
 use Rattle.invoke_records.specs.declared.command.Kind.{Kind}
 use Rattle.invoke_records.specs.declared.command.Kind.TheVariants.{Accept, Start, Succeed, Fail, Throttle, Interrupt, Expire, Collect}
@@ -103,15 +100,13 @@ abbrev pub short_text : List ℕ → List ℕ
 short_text text = (length text ∷ []) ++ text
 
 -- retries 1, age 4, timeout 2, concurrency 1, environments 1, events 2, payload 4, response 4
-abbrev pub limits_text : ℕ → ℕ → ℕ → ℕ → ℕ → ℕ → ℕ → ℕ → List ℕ
-limits_text retries age timeout concurrency environments events payload response =
-    (retries ∷ []) ++ (to_be_bytes w32 age ++ (to_be_bytes w16 timeout ++ ((concurrency ∷ []) ++ ((environments ∷ []) ++ (to_be_bytes w16 events ++ (to_be_bytes w32 payload ++ to_be_bytes w32 response))))))
+abbrev pub limits_text : Settings → List ℕ
+limits_text s =
+    (s.retries ∷ []) ++ (to_be_bytes w32 s.age ++ (to_be_bytes w16 s.timeout ++ ((s.concurrency ∷ []) ++ ((s.environments ∷ []) ++ (to_be_bytes w16 s.events ++ (to_be_bytes w32 s.payload ++ to_be_bytes w32 s.response))))))
 
 -- the limits, then the name, the handler and the ARN
 unfoldable pub settings_text : Settings → List ℕ
-settings_text s =
-    limits_text s.retries s.age s.timeout s.concurrency s.environments s.events s.payload s.response
-    ++ (short_text s.name ++ (short_text s.handler ++ short_text s.arn))
+settings_text s = limits_text s ++ (short_text s.name ++ (short_text s.handler ++ short_text s.arn))
 
 -- a text that is too long is TooLong, and any other bad field BadKind
 abbrev pub fault_in : Settings → Option Field → Option RecordError
@@ -168,18 +163,18 @@ answer_bytes (answer.Response bytes) = bytes
 answer_bytes (answer.Error bytes) = bytes
 
 -- id 16, accepted 8, acceptance number 8, number of the last command 8, standing 1, outcome 1, environment 2, moment 8
-abbrev pub life_text : List ℕ → ℕ → ℕ → ℕ → Standing → List ℕ
-life_text id accepted number last_number standing =
-    id ++ (to_be_bytes w64 accepted ++ (to_be_bytes w64 number ++ (to_be_bytes w64 last_number ++ ((standing_byte standing ∷ []) ++ ((ended_byte standing ∷ []) ++ (to_be_bytes w16 (environment_in standing) ++ to_be_bytes w64 (moment_in standing)))))))
+abbrev pub life_text : EventRow → List ℕ
+life_text r =
+    r.id ++ (to_be_bytes w64 r.accepted ++ (to_be_bytes w64 r.number ++ (to_be_bytes w64 r.last_number ++ ((standing_byte r.standing ∷ []) ++ ((ended_byte r.standing ∷ []) ++ (to_be_bytes w16 (environment_in r.standing) ++ to_be_bytes w64 (moment_in r.standing)))))))
 
 -- starts 4, failures 4, push-backs 4, answer 1, payload length 4, answer length 4
-abbrev pub counts_text : ℕ → ℕ → ℕ → List ℕ → Answer → List ℕ
-counts_text starts failures push_backs payload given =
-    to_be_bytes w32 starts ++ (to_be_bytes w32 failures ++ (to_be_bytes w32 push_backs ++ ((answer_byte given ∷ []) ++ (to_be_bytes w32 (length payload) ++ to_be_bytes w32 (length (answer_bytes given))))))
+abbrev pub counts_text : EventRow → List ℕ
+counts_text r =
+    to_be_bytes w32 r.starts ++ (to_be_bytes w32 r.failures ++ (to_be_bytes w32 r.push_backs ++ ((answer_byte r.answer ∷ []) ++ (to_be_bytes w32 (length r.payload) ++ to_be_bytes w32 (length (answer_bytes r.answer))))))
 
 -- 73 bytes, then the payload and the answer
 unfoldable pub row_text : EventRow → List ℕ
-row_text r = life_text r.id r.accepted r.number r.last_number r.standing ++ (counts_text r.starts r.failures r.push_backs r.payload r.answer ++ (r.payload ++ answer_bytes r.answer))
+row_text r = life_text r ++ (counts_text r ++ (r.payload ++ answer_bytes r.answer))
 
 abbrev pub is_unknown : Standing → Bool
 is_unknown standing.Unknown = true

@@ -2,6 +2,7 @@
 pub mod Fields
 pub mod Commands
 pub mod Bounds
+pub mod RowFields
 pub mod Rows
 pub mod Snapshots
 pub mod Settings

@@ -3,7 +3,7 @@ ghost use Rattle.std.specs.Prelude.{◌≡◌, ◌++◌, ◌≤◌, None, Some, 
 ghost use Rattle.invoke_records.specs.declared.command.Command.{Command};
 ghost use Rattle.invoke_records.specs.Spelling.{command_text, is_bad_environment, IsCommand};
 ghost use Rattle.invoke_records.specs.Reading.{Gives, kind_at, sound, fields_at, head_fault, failure_at, body_at, command_at, least_length, most_length};
-ghost use Rattle.invoke_records.specs.declared.error.RecordError.TheVariants.{OutOfMemory};
+ghost use Rattle.invoke_records.specs.Records.{Finds};
 
 use crate::bytes::MOST_BYTES;
 use crate::command::GREATEST_MOMENT;
@@ -152,7 +152,7 @@ impl Command {
         ensures spelled { IfOk result (λ x. IsCommand x.0) }
         ensures size { IfOk result (λ x. x.1 ≡ length (command_text x.0)) }
         ensures found { IfOk result (λ x. bytes.now ≡ command_text x.0 ++ drop x.1 bytes.now) }
-        ensures only { (c : Command) (rest : List ℕ) → IsCommand c → bytes.now ≡ command_text c ++ rest → MatchResult result (λ x. (x.0 ≡ c) × (drop x.1 bytes.now ≡ rest)) (λ e. e ≡ OutOfMemory) }
+        ensures only { Finds (λ c. c) IsCommand command_text bytes.now result }
     {
         let (command, rest) = read_command(alloc, bytes)?;
         let len = bytes.len() - rest.len();

@@ -3,7 +3,7 @@ ghost use Rattle.std.specs.Prelude.{◌≡◌, ◌++◌, IfOk, IfErr, OnOk, Matc
 ghost use Rattle.invoke_records.specs.declared.row.EventRow.{EventRow};
 ghost use Rattle.invoke_records.specs.Spelling.{row_text, row_fault, IsRow};
 ghost use Rattle.invoke_records.specs.Reading.{Gives, FailsBy, row_at};
-ghost use Rattle.invoke_records.specs.declared.error.RecordError.TheVariants.{OutOfMemory};
+ghost use Rattle.invoke_records.specs.Records.{Finds};
 
 use crate::row_reading::read_row;
 use crate::row_writing::{add_row, check_row, row_is_within};
@@ -38,7 +38,7 @@ impl EventRow {
         ensures spelled { IfOk result (λ x. IsRow x.0) }
         ensures size { IfOk result (λ x. x.1 ≡ length (row_text x.0)) }
         ensures found { IfOk result (λ x. bytes.now ≡ row_text x.0 ++ drop x.1 bytes.now) }
-        ensures only { (r : EventRow) (rest : List ℕ) → IsRow r → bytes.now ≡ row_text r ++ rest → MatchResult result (λ x. (x.0 ≡ r) × (drop x.1 bytes.now ≡ rest)) (λ e. e ≡ OutOfMemory) }
+        ensures only { Finds (λ r. r) IsRow row_text bytes.now result }
     {
         let (row, rest) = read_row(alloc, bytes)?;
         let len = bytes.len() - rest.len();

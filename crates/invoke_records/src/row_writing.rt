@@ -139,7 +139,7 @@ pub fn row_is_within(row: &EventRow)
 }
 
 fn add_life(out: &mut Vec<u8>, row: &EventRow) -> Result<(), RecordError>
-    ensures ok { OnOk result (out.new.items ≡ out.old.items ++ life_text row.now.id row.now.accepted row.now.number row.now.last_number row.now.standing) }
+    ensures ok { OnOk result (out.new.items ≡ out.old.items ++ life_text row.now) }
     ensures memory { IfErr result (λ e. e ≡ OutOfMemory) }
 {
     add(out, &row.id)?;
@@ -159,7 +159,7 @@ fn add_life(out: &mut Vec<u8>, row: &EventRow) -> Result<(), RecordError>
 fn add_counts(out: &mut Vec<u8>, row: &EventRow) -> Result<(), RecordError>
     requires payload { length row.now.payload ≤ 262144 }
     requires answer { length (answer_bytes row.now.answer) ≤ 262144 }
-    ensures ok { OnOk result (out.new.items ≡ out.old.items ++ counts_text row.now.starts row.now.failures row.now.push_backs row.now.payload row.now.answer) }
+    ensures ok { OnOk result (out.new.items ≡ out.old.items ++ counts_text row.now) }
     ensures memory { IfErr result (λ e. e ≡ OutOfMemory) }
 {
     add(out, &row.starts.to_be_bytes())?;

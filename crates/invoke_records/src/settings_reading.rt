@@ -4,6 +4,7 @@ ghost use Rattle.retry_rules.specs.Settings.{is_name_byte, is_plain_byte, bad_fi
 ghost use Rattle.retry_rules.specs.declared.settings.Settings.{Settings};
 ghost use Rattle.invoke_records.specs.Spelling.{settings_text};
 ghost use Rattle.invoke_records.specs.Reading.{Gives, text_at, limits_at, settings_at};
+ghost use Rattle.invoke_records.specs.Records.{AreSettings, Finds};
 ghost use Rattle.invoke_records.specs.declared.error.RecordError.TheVariants.{OutOfMemory};
 
 use crate::RecordError;
@@ -110,7 +111,7 @@ pub fn decode_settings(alloc: Global, bytes: &[u8]) -> Result<(Settings, usize),
     ensures size { IfOk result (λ x. x.1 ≡ length (settings_text x.0)) }
     ensures found { IfOk result (λ x. bytes.now ≡ settings_text x.0 ++ drop x.1 bytes.now) }
     ensures good { IfOk result (λ x. bad_field x.0 ≡ None) }
-    ensures only { (s : Settings) (rest : List ℕ) → bad_field s ≡ None → bytes.now ≡ settings_text s ++ rest → MatchResult result (λ x. (x.0 ≡ s) × (drop x.1 bytes.now ≡ rest)) (λ e. e ≡ OutOfMemory) }
+    ensures only { Finds (λ s. s) AreSettings settings_text bytes.now result }
 {
     let (settings, rest) = read_settings(alloc, bytes)?;
     let len = bytes.len() - rest.len();

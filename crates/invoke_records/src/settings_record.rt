@@ -4,7 +4,7 @@ ghost use Rattle.retry_rules.specs.Settings.{bad_field};
 ghost use Rattle.retry_rules.specs.declared.settings.Settings.{Settings};
 ghost use Rattle.invoke_records.specs.Spelling.{settings_text, settings_fault};
 ghost use Rattle.invoke_records.specs.Reading.{Gives, FailsBy, settings_at};
-ghost use Rattle.invoke_records.specs.declared.error.RecordError.TheVariants.{OutOfMemory};
+ghost use Rattle.invoke_records.specs.Records.{AreSettings, Finds};
 
 use crate::RecordError;
 use crate::settings_reading::decode_settings;
@@ -32,7 +32,7 @@ pub trait SettingsRecord: Sized {
         ensures size { IfOk result (λ x. x.1 ≡ length (settings_text (settings_of x.0))) }
         ensures found { IfOk result (λ x. bytes.now ≡ settings_text (settings_of x.0) ++ drop x.1 bytes.now) }
         ensures good { IfOk result (λ x. bad_field (settings_of x.0) ≡ None) }
-        ensures only { (s : Settings) (rest : List ℕ) → bad_field s ≡ None → bytes.now ≡ settings_text s ++ rest → MatchResult result (λ x. (settings_of x.0 ≡ s) × (drop x.1 bytes.now ≡ rest)) (λ e. e ≡ OutOfMemory) };
+        ensures only { Finds settings_of AreSettings settings_text bytes.now result };
 }
 
 impl SettingsRecord for Settings {

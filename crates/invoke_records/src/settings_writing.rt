@@ -30,7 +30,7 @@ fn check(s: &Settings) -> Result<(), RecordError>
 }
 
 fn add_limits(out: &mut Vec<u8>, s: &Settings) -> Result<(), RecordError>
-    ensures ok { OnOk result (out.new.items ≡ out.old.items ++ limits_text s.now.retries s.now.age s.now.timeout s.now.concurrency s.now.environments s.now.events s.now.payload s.now.response) }
+    ensures ok { OnOk result (out.new.items ≡ out.old.items ++ limits_text s.now) }
     ensures memory { IfErr result (λ e. e ≡ OutOfMemory) }
 {
     add(out, &[s.retries])?;

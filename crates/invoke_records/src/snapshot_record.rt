@@ -3,7 +3,7 @@ ghost use Rattle.std.specs.Prelude.{◌≡◌, ◌++◌, IfOk, IfErr, OnOk, Matc
 ghost use Rattle.invoke_records.specs.declared.snapshot.Snapshot.{Snapshot};
 ghost use Rattle.invoke_records.specs.Spelling.{snapshot_text, snapshot_fault, IsSnapshot};
 ghost use Rattle.invoke_records.specs.Reading.{Gives, FailsBy, rows_at, snapshot_at};
-ghost use Rattle.invoke_records.specs.declared.error.RecordError.TheVariants.{OutOfMemory};
+ghost use Rattle.invoke_records.specs.Records.{Finds};
 
 use crate::command::GREATEST_MOMENT;
 use crate::limit::{take_limit64, take_sized};
@@ -57,7 +57,7 @@ impl Snapshot {
         ensures spelled { IfOk result (λ x. IsSnapshot x.0) }
         ensures size { IfOk result (λ x. x.1 ≡ length (snapshot_text x.0)) }
         ensures found { IfOk result (λ x. bytes.now ≡ snapshot_text x.0 ++ drop x.1 bytes.now) }
-        ensures only { (s : Snapshot) (rest : List ℕ) → IsSnapshot s → bytes.now ≡ snapshot_text s ++ rest → MatchResult result (λ x. (x.0 ≡ s) × (drop x.1 bytes.now ≡ rest)) (λ e. e ≡ OutOfMemory) }
+        ensures only { Finds (λ s. s) IsSnapshot snapshot_text bytes.now result }
     {
         let (snapshot, rest) = read_snapshot(alloc, bytes)?;
         let len = bytes.len() - rest.len();

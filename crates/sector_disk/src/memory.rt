@@ -166,7 +166,7 @@ fn record_write(
 }
 
 impl Disk for MemDisk {
-    ghost use Rattle.sector_disk.specs.Memory.{memory_view, barriers_of, faults_of, memory_laws};
+    ghost use Rattle.sector_disk.specs.Memory.{memory_view, barriers_of, faults_of, one_more, memory_laws};
 
     ghost view = { memory_view };
 
@@ -215,7 +215,7 @@ impl Disk for MemDisk {
         ensures same { IsSameDisk (memory_view self.old) (memory_view self.new) }
         ensures cause { HasCause (faults_of self.old) (faults_of self.new) result }
         ensures barrier { IsBarrier (memory_view self.old) (memory_view self.new) result }
-        ensures barriers { barriers_of self.new ≡ (if is_ok result then min (barriers_of self.old + 1) (2 ^ 64 - 1) else barriers_of self.old) }
+        ensures barriers { barriers_of self.new ≡ (if is_ok result then one_more (barriers_of self.old) else barriers_of self.old) }
     {
         match record(&mut self.calls, Call::Barrier) {
             Ok(()) => {

@@ -27,7 +27,8 @@ pub record AreLimits (l : Limits) : Type 0 where
   pub response : is_outside 2 262144 l.response ≡ false
 
 abbrev text_of_limits : Limits → List ℕ
-text_of_limits l = limits_text l.retries l.age l.timeout l.concurrency l.environments l.events l.payload l.response
+text_of_limits l =
+    (l.retries ∷ []) ++ (to_be_bytes w32 l.age ++ (to_be_bytes w16 l.timeout ++ ((l.concurrency ∷ []) ++ ((l.environments ∷ []) ++ (to_be_bytes w16 l.events ++ (to_be_bytes w32 l.payload ++ to_be_bytes w32 l.response))))))
 
 limits_take : (bytes : List ℕ) (x : Limits × List ℕ) → IsBytes bytes → limits_at bytes ≡ Ok x → Takes bytes (text_of_limits x.0) x.1 × AreLimits x.0
 unfolding limits_at
@@ -163,7 +164,7 @@ settings_length_most s e =
     omega (arith, length-append s.name behind, length-append s.handler (short_text s.arn), text_most 64 is_name_byte s.name good.name, text_most 128 is_plain_byte s.handler good.handler, text_most 200 is_plain_byte s.arn good.arn)
 
 -- the numbers one after another, as they are written
-pub limits_put : (out : List ℕ) (retries age timeout concurrency environments events payload response : ℕ)
-    → ((((((out ++ (retries ∷ [])) ++ to_be_bytes w32 age) ++ to_be_bytes w16 timeout) ++ (concurrency ∷ environments ∷ [])) ++ to_be_bytes w16 events) ++ to_be_bytes w32 payload) ++ to_be_bytes w32 response
-    ≡ out ++ limits_text retries age timeout concurrency environments events payload response
-limits_put out retries age timeout concurrency environments events payload response = simp append_assoc
+pub limits_put : (out : List ℕ) (s : Settings)
+    → ((((((out ++ (s.retries ∷ [])) ++ to_be_bytes w32 s.age) ++ to_be_bytes w16 s.timeout) ++ (s.concurrency ∷ s.environments ∷ [])) ++ to_be_bytes w16 s.events) ++ to_be_bytes w32 s.payload) ++ to_be_bytes w32 s.response
+    ≡ out ++ limits_text s
+limits_put out s = simp append_assoc

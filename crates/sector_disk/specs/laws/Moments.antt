@@ -1,5 +1,5 @@
 -- What a stop might have left, over several calls: how runs of calls are joined, and what each call adds.
-use Rattle.std.specs.Prelude.{◌⊎◌, ◌≤◌, ℕ, List, length, Result, Ok, Err, refl}
+use Rattle.std.specs.Prelude.{ℕ, List, length, Result, Ok, Err, refl}
 use Rattle.std.proofs.Common.{inl, inr, ⊎_elim, sym, ◌∙◌, subst, arith}
 use Rattle.sector_disk.specs.declared.disk.Fault.{Fault}
 use Rattle.sector_disk.specs.Disk.{DiskView, IsDisk, IsSameDisk, MayDiffer, Elapses, IsUntouched, IsWrite, IsBarrier}

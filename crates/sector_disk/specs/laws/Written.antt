@@ -1,8 +1,7 @@
 -- Laws on what a write leaves of a disk's bytes, for the crates above that write.
-use Rattle.std.proofs.Common.{◌≡◌, ⊎_elim, inl, inr, ℕ, ◌+◌, ◌-◌, ◌≤◌, List, ◌++◌, length, take, drop, refl, sym, ◌∙◌, ap, arith, append_assoc, length-append, length-drop}
+use Rattle.std.proofs.Common.{◌≡◌, ℕ, ◌+◌, ◌-◌, ◌≤◌, List, ◌++◌, length, take, drop, refl, sym, ◌∙◌, ap, arith, append_assoc, length-append, length-drop}
 use Rattle.std.proofs.lemmas.List.{take_at, drop_at, take-take, drop-take, drop-drop, length-take-le}
-use Rattle.sector_disk.specs.Disk.{DiskView, Holds, MayDiffer}
-use Rattle.sector_disk.specs.Moments.{LeavesOnly}
+use Rattle.sector_disk.specs.Disk.{Holds, MayDiffer}
 
 -- lists with one front agree in each part of it
 pub same_part : (m k j : ℕ) (xs ys : List ℕ) → take m xs ≡ take m ys → k + j ≤ m → take j (drop k xs) ≡ take j (drop k ys)

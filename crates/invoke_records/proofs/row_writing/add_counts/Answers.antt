@@ -3,7 +3,6 @@ use Rattle.invoke_records.proofs.row_writing.add_counts.Goals as goal
 
 pub returns-clause-ok : goal.returns-clause-ok
 returns-clause-ok c =
-    let r = c.args.row.now in
     rw (
       c.in_ok-add-6.ensures.ok,
       c.in_ok-add-5.ensures.ok,
@@ -20,4 +19,4 @@ returns-clause-ok c =
       c.len-payload_size.ensures,
       c.answer_byte_of.ensures,
     )
-    (counts_put c.args.out.now.items r.starts r.failures r.push_backs r.payload r.answer)
+    (counts_put c.args.out.now.items c.args.row.now)

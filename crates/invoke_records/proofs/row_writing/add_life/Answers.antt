@@ -3,7 +3,6 @@ use Rattle.invoke_records.proofs.row_writing.add_life.Goals as goal
 
 pub returns-clause-ok : goal.returns-clause-ok
 returns-clause-ok c =
-    let r = c.args.row.now in
     rw (
       c.in_ok-add-7.ensures.ok,
       c.in_ok-add-6.ensures.ok,
@@ -22,4 +21,4 @@ returns-clause-ok c =
       c.ended_byte_of.ensures,
       c.standing_byte_of.ensures,
     )
-    (life_put c.args.out.now.items r.id r.accepted r.number r.last_number r.standing)
+    (life_put c.args.out.now.items c.args.row.now)

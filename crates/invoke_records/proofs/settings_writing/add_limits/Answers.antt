@@ -3,7 +3,6 @@ use Rattle.invoke_records.proofs.settings_writing.add_limits.Goals as goal
 
 pub returns-clause-ok : goal.returns-clause-ok
 returns-clause-ok c =
-    let s = c.args.s.now in
     rw (
       c.in_ok-add-7.ensures.ok,
       c.in_ok-add-6.ensures.ok,
@@ -18,4 +17,4 @@ returns-clause-ok c =
       c.to_be_bytes-2.ensures,
       c.to_be_bytes.ensures,
     )
-    (limits_put c.args.out.now.items s.retries s.age s.timeout s.concurrency s.environments s.events s.payload s.response)
+    (limits_put c.args.out.now.items c.args.s.now)
