@@ -112,7 +112,7 @@ abbrev pub IsChosen : Order → List EventRow → Option EventRow → Type 0
 IsChosen order rows None = All (λ r. rank order r ≡ None) rows
 IsChosen order rows (Some row) = IsLeast order rows row
 
--- where the one is chosen of some rows, the other is chosen of them and one row more
+-- of any rows of which best is chosen, and this row, the other one is chosen
 abbrev pub ChoosesAgain : Order → Option EventRow → EventRow → Option EventRow → Type 0
 ChoosesAgain order best row chosen =
     (rows : List EventRow) → IsChosen order rows best → IsChosen order (rows ++ row ∷ []) chosen
@@ -130,7 +130,7 @@ abbrev pub environment_for : Option ℕ → Kind → ℕ
 environment_for ready Start = unwrap_or ready 0
 environment_for ready kind = 0
 
--- the move of a row, where as many attempts run as may or fewer, by the greatest age, where this environment is ready
+-- the move of a row: whether as many attempts run as may, the greatest age, the moment, and the environment that is ready
 abbrev pub row_move : Bool → ℕ → ℕ → Option ℕ → EventRow → Option Move
 row_move is_full age now ready r =
     option_map (λ (kind : Kind). record { kind = kind; id = r.id; environment = environment_for ready kind })
@@ -169,7 +169,7 @@ abbrev pub IsLegalMove : Settings → List Command → ℕ → Option Move → T
 IsLegalMove s history now None = Unit {0}
 IsLegalMove s history now (Some move) = refusal_of s history (command_of_move now move) ≡ None
 
--- at a moment of the calendar that is no earlier than the last command, and with an environment that is free, it is legal
+-- at a moment of the calendar, no earlier than the last command, and with an environment that is free, the move is legal
 abbrev pub IsLegalIfFree : Settings → List Command → ℕ → Option ℕ → Option Move → Type 0
 IsLegalIfFree s history now ready result =
     now ≤ greatest_moment → last_moment history ≤ now → IsFree s history ready → IsLegalMove s history now result
