@@ -1,11 +1,10 @@
 -- The least of some rows, when one more comes.
-use Rattle.std.proofs.Common.{◌≡◌, ℕ, ◌<◌, ◌≤◌, List, [], ◌∷◌, ◌++◌, Bool, true, false, ◌&&◌, refl, sym, ◌∙◌, arith, Option, Some, None, All, Contains, ◌⊎◌, inl, inr, subst, nat_lt, ◌==◌}
+use Rattle.std.proofs.Common.{◌≡◌, ℕ, ◌<◌, ◌≤◌, List, [], ◌∷◌, ◌++◌, true, false, ◌&&◌, refl, sym, ◌∙◌, arith, Option, Some, None, All, Contains, ◌⊎◌, inl, inr, subst, nat_lt, ◌==◌}
 use Rattle.std.specs.Prelude.{option_map, is_some, nat_le}
 use Rattle.std.proofs.lemmas.Bool.{ltb-true, ltb-false, eqb-true, eqb-false, or_cases, or_parts, and_parts, and_cases, cases_lt}
 use Rattle.std.proofs.lemmas.List.Elements.{All-push, Contains-append_left, Contains-append_right}
 use Rattle.invoke_records.specs.declared.row.EventRow.{EventRow}
 use Rattle.async_core.specs.declared.choice.Order.{Order}
-use Rattle.async_core.specs.declared.choice.Order.TheVariants.{Moving}
 use Rattle.async_core.specs.declared.choice.Move.{Move}
 use Rattle.retry_rules.specs.declared.settings.Settings.{Settings}
 use Rattle.async_core.specs.Rules.{running_at}
@@ -98,6 +97,3 @@ same_presence f g at (Some x) none some = cc
 pub next_in : (s : Settings) (rows : List EventRow) (now : ℕ) (ready : Option ℕ) (row : EventRow) (result : Option Move) → result ≡ move_at s rows now ready row → IsLeast (moving s rows now (is_some ready)) rows row → IsNextAt s rows now ready result
 next_in s rows now ready row (Some move) is least = (row, is, least)
 next_in s rows now ready row None is least = absurd (same_presence _ _ least.at (move_by (nat_le s.concurrency (running_at rows)) (is_some ready) (too_old_at s.age row) now row.standing) is least.ranked)
-
-pub moving_same : (s : Settings) (rows : List EventRow) (now : ℕ) (ready : Option ℕ) (row : EventRow) (has full : Bool) (age : ℕ) → s.age ≡ age → nat_le s.concurrency (running_at rows) ≡ full → has ≡ is_some ready → IsLeast (Moving now has full age) rows row → IsLeast (moving s rows now (is_some ready)) rows row
-moving_same s rows now ready row has full age a f h least = rw (a, f, ← h) least

@@ -1,2 +1,4 @@
 pub mod Places
 pub mod Choices
+pub mod Nexts
+pub mod LegalMoves

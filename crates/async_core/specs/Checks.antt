@@ -4,6 +4,7 @@ use Rattle.retry_rules.specs.declared.settings.Settings.{Settings}
 use Rattle.invoke_records.specs.declared.command.Command.{Command}
 use Rattle.invoke_records.specs.declared.command.Kind.{Kind}
 use Rattle.invoke_records.specs.declared.command.Kind.TheVariants.{Accept, Start, Succeed, Fail, Throttle, Interrupt, Expire, Collect}
+use Rattle.invoke_records.specs.declared.command.Cause.{Cause}
 use Rattle.invoke_records.specs.declared.command.Cause.TheVariants.{Reported, Timeout}
 use Rattle.invoke_records.specs.Spelling.{greatest_moment}
 use Rattle.async_core.specs.declared.illegal.Illegal.{Illegal}
@@ -39,46 +40,70 @@ shape_checks s c kind = shape_by (has_environment c) 0 0 c
 abbrev pub clock_check : Situation → Command → Bool × Illegal
 clock_check x c = (nat_lt c.time x.last_moment, illegal.ClockBack)
 
--- what a command of this kind asks of the events
-abbrev pub state_checks : Settings → Situation → Command → Kind → List (Bool × Illegal)
-state_checks s x c Accept =
-    (not (is_unknown x.standing), illegal.InUse) ∷ (nat_le s.events x.held, illegal.Full) ∷ []
-state_checks s x c Start =
+-- ## What a command of each kind asks of the events
+
+abbrev pub accept_checks : Settings → Situation → List (Bool × Illegal)
+accept_checks s x = (not (is_unknown x.standing), illegal.InUse) ∷ (nat_le s.events x.held, illegal.Full) ∷ []
+
+-- at this moment
+abbrev pub start_checks : Settings → Situation → ℕ → List (Bool × Illegal)
+start_checks s x now =
     (is_unknown x.standing, illegal.Unknown)
-    ∷ (not (is_due c.time x.standing), illegal.NotDue)
-    ∷ (nat_le x.too_old_from c.time, illegal.TooOld)
+    ∷ (not (is_due now x.standing), illegal.NotDue)
+    ∷ (nat_le x.too_old_from now, illegal.TooOld)
     ∷ (nat_le s.concurrency x.running, illegal.AtLimit)
     ∷ (x.is_busy, illegal.EnvBusy)
     ∷ []
-state_checks s x c Succeed =
+
+abbrev pub throttle_checks : Settings → Situation → ℕ → List (Bool × Illegal)
+throttle_checks s x now =
     (is_unknown x.standing, illegal.Unknown)
-    ∷ (not (is_running x.standing), illegal.NotRunning)
-    ∷ (is_past_deadline c.time x.standing, illegal.Late)
-    ∷ []
-state_checks s x c (Fail Timeout) =
-    (is_unknown x.standing, illegal.Unknown)
-    ∷ (not (is_running x.standing), illegal.NotRunning)
-    ∷ (not (is_past_deadline c.time x.standing), illegal.NotDue)
-    ∷ []
-state_checks s x c (Fail cause) =
-    (is_unknown x.standing, illegal.Unknown)
-    ∷ (not (is_running x.standing), illegal.NotRunning)
-    ∷ (is_past_deadline c.time x.standing, illegal.Late)
-    ∷ []
-state_checks s x c Throttle =
-    (is_unknown x.standing, illegal.Unknown)
-    ∷ (not (is_due c.time x.standing), illegal.NotDue)
-    ∷ (nat_le x.too_old_from c.time, illegal.TooOld)
+    ∷ (not (is_due now x.standing), illegal.NotDue)
+    ∷ (nat_le x.too_old_from now, illegal.TooOld)
     ∷ (nat_lt x.running s.concurrency, illegal.BelowLimit)
     ∷ []
-state_checks s x c Interrupt =
-    (is_unknown x.standing, illegal.Unknown) ∷ (not (is_running x.standing), illegal.NotRunning) ∷ []
-state_checks s x c Expire =
+
+-- an answer, a success or a failure: an attempt runs, and its deadline has not passed
+abbrev pub answer_checks : Situation → ℕ → List (Bool × Illegal)
+answer_checks x now =
     (is_unknown x.standing, illegal.Unknown)
-    ∷ (is_running x.standing || is_ended x.standing || nat_lt c.time x.too_old_from, illegal.NotDue)
+    ∷ (not (is_running x.standing), illegal.NotRunning)
+    ∷ (is_past_deadline now x.standing, illegal.Late)
     ∷ []
-state_checks s x c Collect =
-    (is_unknown x.standing, illegal.Unknown) ∷ (not (is_ended x.standing), illegal.NotEnded) ∷ []
+
+abbrev pub timeout_checks : Situation → ℕ → List (Bool × Illegal)
+timeout_checks x now =
+    (is_unknown x.standing, illegal.Unknown)
+    ∷ (not (is_running x.standing), illegal.NotRunning)
+    ∷ (not (is_past_deadline now x.standing), illegal.NotDue)
+    ∷ []
+
+abbrev pub failure_checks : Situation → ℕ → Cause → List (Bool × Illegal)
+failure_checks x now Timeout = timeout_checks x now
+failure_checks x now cause = answer_checks x now
+
+abbrev pub interrupt_checks : Situation → List (Bool × Illegal)
+interrupt_checks x = (is_unknown x.standing, illegal.Unknown) ∷ (not (is_running x.standing), illegal.NotRunning) ∷ []
+
+abbrev pub expire_checks : Situation → ℕ → List (Bool × Illegal)
+expire_checks x now =
+    (is_unknown x.standing, illegal.Unknown)
+    ∷ (is_running x.standing || is_ended x.standing || nat_lt now x.too_old_from, illegal.NotDue)
+    ∷ []
+
+abbrev pub collect_checks : Situation → List (Bool × Illegal)
+collect_checks x = (is_unknown x.standing, illegal.Unknown) ∷ (not (is_ended x.standing), illegal.NotEnded) ∷ []
+
+-- what a command of this kind asks of the events
+abbrev pub state_checks : Settings → Situation → Command → Kind → List (Bool × Illegal)
+state_checks s x c Accept = accept_checks s x
+state_checks s x c Start = start_checks s x c.time
+state_checks s x c Succeed = answer_checks x c.time
+state_checks s x c (Fail cause) = failure_checks x c.time cause
+state_checks s x c Throttle = throttle_checks s x c.time
+state_checks s x c Interrupt = interrupt_checks x
+state_checks s x c Expire = expire_checks x c.time
+state_checks s x c Collect = collect_checks x
 
 -- why a command is refused in this situation, if it is
 unfoldable pub refusal_in : Settings → Situation → Command → Option Illegal

@@ -1,6 +1,7 @@
 -- Which event goes next: what an event would do now, the moment from which it has something to do, and who goes first.
-use Rattle.std.specs.Prelude.{◌≡◌, ℕ, ◌+◌, ◌*◌, ◌<◌, ◌≤◌, min, ◌⊎◌, Bool, true, false, ◌&&◌, ◌||◌, ◌==◌, List, [], Option, Some, None, IsSome, is_some, unwrap_or, if◌then◌else◌, nat_lt, nat_le, All, Contains, option_map}
+use Rattle.std.specs.Prelude.{◌≡◌, ℕ, ◌+◌, ◌*◌, ◌<◌, ◌≤◌, min, ◌⊎◌, Bool, true, false, ◌&&◌, ◌||◌, ◌==◌, List, [], ◌∷◌, ◌++◌, Option, Some, None, IsSome, is_some, unwrap_or, if◌then◌else◌, nat_lt, nat_le, All, Contains, option_map}
 use Rattle.retry_rules.specs.declared.settings.Settings.{Settings}
+use Rattle.invoke_records.specs.Spelling.{greatest_moment}
 use Rattle.invoke_records.specs.declared.command.Command.{Command}
 use Rattle.invoke_records.specs.declared.command.Kind.{Kind}
 use Rattle.invoke_records.specs.declared.command.Kind.TheVariants.{Start, Fail, Throttle, Expire}
@@ -16,7 +17,7 @@ use Rattle.async_core.specs.declared.choice.Order.{Order}
 use Rattle.async_core.specs.declared.choice.Order.TheVariants as order
 use Rattle.async_core.specs.declared.choice.Move.{Move}
 use Rattle.async_core.specs.Standings.{is_running}
-use Rattle.async_core.specs.History.{held, standing_in, too_old_from, running_count, is_busy_in, refusal_of, last_number}
+use Rattle.async_core.specs.History.{held, standing_in, too_old_from, running_count, is_busy_in, refusal_of, last_number, last_moment}
 use Rattle.async_core.specs.Rules.{running_at}
 
 -- ## Moves
@@ -111,6 +112,11 @@ abbrev pub IsChosen : Order → List EventRow → Option EventRow → Type 0
 IsChosen order rows None = All (λ r. rank order r ≡ None) rows
 IsChosen order rows (Some row) = IsLeast order rows row
 
+-- of any rows of which best is chosen, and this row, the other one is chosen
+abbrev pub ChoosesAgain : Order → Option EventRow → EventRow → Option EventRow → Type 0
+ChoosesAgain order best row chosen =
+    (rows : List EventRow) → IsChosen order rows best → IsChosen order (rows ++ row ∷ []) chosen
+
 -- how moves are ranked in these rows
 abbrev pub moving : Settings → List EventRow → ℕ → Bool → Order
 moving s rows now has_ready = order.Moving now has_ready (nat_le s.concurrency (running_at rows)) s.age
@@ -124,11 +130,15 @@ abbrev pub environment_for : Option ℕ → Kind → ℕ
 environment_for ready Start = unwrap_or ready 0
 environment_for ready kind = 0
 
--- the move of a row, where so many attempts run and this environment is ready
-abbrev pub move_at : Settings → List EventRow → ℕ → Option ℕ → EventRow → Option Move
-move_at s rows now ready r =
+-- the move of a row: whether as many attempts run as may, the greatest age, the moment, and the environment that is ready
+abbrev pub row_move : Bool → ℕ → ℕ → Option ℕ → EventRow → Option Move
+row_move is_full age now ready r =
     option_map (λ (kind : Kind). record { kind = kind; id = r.id; environment = environment_for ready kind })
-    (move_by (nat_le s.concurrency (running_at rows)) (is_some ready) (too_old_at s.age r) now r.standing)
+    (move_by is_full (is_some ready) (too_old_at age r) now r.standing)
+
+-- the move of a row among these rows
+abbrev pub move_at : Settings → List EventRow → ℕ → Option ℕ → EventRow → Option Move
+move_at s rows now ready r = row_move (nat_le s.concurrency (running_at rows)) s.age now ready r
 
 -- the move of the row that goes first, or none where no row has a move
 abbrev pub IsNextAt : Settings → List EventRow → ℕ → Option ℕ → Option Move → Type 0
@@ -158,6 +168,11 @@ command_of_move now move = record { kind = move.kind; id = move.id; environment 
 abbrev pub IsLegalMove : Settings → List Command → ℕ → Option Move → Type 0
 IsLegalMove s history now None = Unit {0}
 IsLegalMove s history now (Some move) = refusal_of s history (command_of_move now move) ≡ None
+
+-- at a moment of the calendar, no earlier than the last command, and with an environment that is free, the move is legal
+abbrev pub IsLegalIfFree : Settings → List Command → ℕ → Option ℕ → Option Move → Type 0
+IsLegalIfFree s history now ready result =
+    now ≤ greatest_moment → last_moment history ≤ now → IsFree s history ready → IsLegalMove s history now result
 
 -- ## The first event that passes a test after a history
 

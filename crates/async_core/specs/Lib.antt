@@ -1,10 +1,12 @@
-pub mod State
 pub mod Lives
 pub mod Standings
 pub mod Checks
 pub mod History
 pub mod Rules
+pub mod State
+pub mod Histories
 pub mod Readers
 pub mod Choice
+pub mod Steps
 pub mod Examples
 pub mod laws

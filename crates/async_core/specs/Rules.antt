@@ -97,11 +97,16 @@ accepted_row n c = record {
   answer = answer.None;
 }
 
+-- where an event stands after a command of this kind, where it had failed and was pushed back so often before
+abbrev pub standing_next : Rules → Command → Kind → ℕ → ℕ → Standing
+standing_next rules c kind failures push_backs =
+    standing_by rules (failures_by kind failures) (push_backs_by kind push_backs) c kind
+
 -- the row of an event after command number n, of this kind, which names it
 abbrev pub row_after : Rules → ℕ → Command → Kind → EventRow → EventRow
 row_after rules n c kind r = record r {
   last_number = n;
-  standing = standing_by rules (failures_by kind r.failures) (push_backs_by kind r.push_backs) c kind;
+  standing = standing_next rules c kind r.failures r.push_backs;
   starts = starts_by kind r.starts;
   failures = failures_by kind r.failures;
   push_backs = push_backs_by kind r.push_backs;

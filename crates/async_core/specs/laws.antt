@@ -6,4 +6,3 @@ pub mod Shapes
 pub mod Pace
 pub mod Rows
 pub mod Tables
-pub mod Choice

@@ -1,9 +1,8 @@
 // What a command that is legal does to the rows.
-ghost use Rattle.std.specs.Prelude.{◌≡◌, ◌+◌, ◌*◌, ◌++◌, ◌∷◌, [], ◌<◌, ◌≤◌, ◌^◌, ◌-◌, min, ℕ, length, slice_index_or, slice_set, position, unwrap_or, Some, OnOk, OnErr, IfOk, IfErr};
-ghost use Rattle.std.specs.List.{remove};
-ghost use Rattle.async_core.specs.Lives.{answer_by};
+ghost use Rattle.std.specs.Prelude.{◌≡◌, ◌+◌, ◌++◌, ◌∷◌, [], ◌<◌, ◌≤◌, ◌^◌, position, OnOk, OnErr, IfOk};
 ghost use Rattle.async_core.specs.Rules as meant;
 ghost use Rattle.async_core.specs.Standings as ruled;
+ghost use Rattle.async_core.specs.Steps as step;
 
 use invoke_records::{Answer, Cause, Command, EventRow, Kind, Outcome, Standing};
 use retry_rules::{Settings, after_failure, after_pushback};
@@ -79,11 +78,11 @@ fn push_backs_by(kind: Kind, n: u32) -> u32
     }
 }
 
-fn failed_at(retries: u8, failures: u32, time: u64) -> Standing
+fn failed_at(settings: &Settings, failures: u32, time: u64) -> Standing
     requires { time < 2 ^ 63 }
-    ensures { (rules : ruled.Rules) → rules.retries ≡ retries → result ≡ ruled.failed_at rules failures time }
+    ensures { result ≡ ruled.failed_at (ruled.rules_in settings.now) failures time }
 {
-    if failures > u32::from(retries) {
+    if failures > u32::from(settings.retries) {
         return Standing::Ended {
             outcome: Outcome::RetriesExhausted,
             at: time,
@@ -112,7 +111,7 @@ fn standing_after(
     push_backs: u32,
 ) -> Standing
     requires { command.now.time < 2 ^ 63 }
-    ensures { result ≡ ruled.standing_by (ruled.rules_in settings.now) (meant.failures_by command.now.kind failures) (meant.push_backs_by command.now.kind push_backs) command.now command.now.kind }
+    ensures { result ≡ step.standing_with settings.now command.now failures push_backs }
 {
     let time = command.time;
     match command.kind {
@@ -125,7 +124,7 @@ fn standing_after(
             outcome: Outcome::Success,
             at: time,
         },
-        Kind::Fail(_) => failed_at(settings.retries, one_more(failures), time),
+        Kind::Fail(_) => failed_at(settings, one_more(failures), time),
         Kind::Throttle => pushed_back_at(one_more(push_backs), time),
         Kind::Interrupt => pushed_back_at(one_more(push_backs), time),
         Kind::Expire => Standing::Ended {
@@ -138,7 +137,7 @@ fn standing_after(
 
 /// The answer that the command brings, if it brings one.
 fn new_answer(command: &Command) -> Result<Option<Answer>, AllocError>
-    ensures { IfOk result (λ answer. (before : _) → answer_by before command.now.kind command.now.bytes ≡ unwrap_or answer before) }
+    ensures { IfOk result (step.Brings command.now) }
 {
     match command.kind {
         Kind::Succeed => {
@@ -162,7 +161,7 @@ fn update(
     answer: Option<Answer>,
 )
     requires { command.now.time < 2 ^ 63 }
-    ensures { answer_by row.old.answer command.now.kind command.now.bytes ≡ unwrap_or answer row.old.answer → row.new ≡ meant.row_after (ruled.rules_in settings.now) number command.now command.now.kind row.old }
+    ensures { step.Replaces command.now row.old.answer answer → row.new ≡ step.row_with settings.now number command.now row.old }
 {
     let kind = command.kind;
     row.standing = standing_after(settings, command, row.failures, row.push_backs);
@@ -198,8 +197,8 @@ fn change_event(
     answer: Option<Answer>,
 )
     requires time { command.now.time < 2 ^ 63 }
-    requires answer { (before : _) → answer_by before command.now.kind command.now.bytes ≡ unwrap_or answer before }
-    ensures { rows.new.items ≡ meant.change_row command.now.id (meant.row_after (ruled.rules_in settings.now) number command.now command.now.kind) rows.old.items }
+    requires answer { step.Brings command.now answer }
+    ensures { rows.new.items ≡ step.rows_changed settings.now number command.now rows.old.items }
 {
     if let Some(place) = place_of(rows, &command.id) {
         update(&mut rows[place], settings, number, command, answer);
@@ -214,7 +213,7 @@ pub fn change(
     command: &Command,
 ) -> Result<(), AllocError>
     requires { command.now.time < 2 ^ 63 }
-    ensures ok { OnOk result (rows.new.items ≡ meant.rows_after (ruled.rules_in settings.now) number command.now command.now.kind rows.old.items) }
+    ensures ok { OnOk result (rows.new.items ≡ step.rows_with settings.now number command.now rows.old.items) }
     ensures err { OnErr result (rows.new.items ≡ rows.old.items) }
 {
     match command.kind {

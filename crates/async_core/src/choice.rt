@@ -1,6 +1,6 @@
 // The row that goes first.
-ghost use Rattle.std.specs.Prelude.{◌≡◌, ◌+◌, ◌*◌, List, ◌∷◌, [], ◌++◌, Bool, option_map, Option, ℕ, min};
-ghost use Rattle.invoke_records.specs.declared.row.EventRow.{EventRow};
+ghost use Rattle.std.specs.Prelude.{◌≡◌, min};
+ghost use Rattle.std.specs.Option.{option_copied};
 ghost use Rattle.async_core.specs.Choice as meant;
 
 use crate::situation::too_old_from;
@@ -182,7 +182,7 @@ fn goes_before(a: (u128, u64), b: (u128, u64)) -> bool
 
 /// The first of some rows, or the one that comes to them.
 fn better<'a>(order: Order, best: Option<&'a EventRow>, row: &'a EventRow) -> Option<&'a EventRow>
-    ensures { (rows : List EventRow) → meant.IsChosen order rows (option_map (λ r. r.now) best.entry) → meant.IsChosen order (rows ++ row.now ∷ []) (option_map (λ r. r.now) result) }
+    ensures { meant.ChoosesAgain order (option_copied best.entry) row.now (option_copied result) }
 {
     let Some(at) = rank(order, row) else {
         return best;
@@ -202,7 +202,7 @@ fn better<'a>(order: Order, best: Option<&'a EventRow>, row: &'a EventRow) -> Op
 
 /// The row of least rank, if a row has one.
 pub fn first_row<'a>(rows: &'a [EventRow], order: Order) -> Option<&'a EventRow>
-    ensures { meant.IsChosen order rows.now (option_map (λ r. r.now) result) }
+    ensures { meant.IsChosen order rows.now (option_copied result) }
 {
     let mut best = None;
     for row in rows {

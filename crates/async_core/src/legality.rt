@@ -1,9 +1,7 @@
 // Why a command is refused: its shape, its moment, and what it asks of the events.
 ghost use Rattle.std.specs.Prelude.{◌≡◌, ℕ, Bool, nat_lt, nat_le, length, [], ◌∷◌};
 ghost use Rattle.std.specs.Result.{result_err};
-ghost use Rattle.async_core.specs.Checks.{first_failed, clock_check, shape_by, shape_checks, state_checks, refusal_in};
-ghost use Rattle.retry_rules.specs.declared.settings.Settings.{Settings};
-ghost use Rattle.invoke_records.specs.declared.command.Command.{Command};
+ghost use Rattle.async_core.specs.Checks.{first_failed, clock_check, shape_by, shape_checks, accept_checks, start_checks, throttle_checks, answer_checks, timeout_checks, failure_checks, interrupt_checks, expire_checks, collect_checks, state_checks, refusal_in};
 
 use crate::Illegal;
 use crate::situation::Situation;
@@ -63,7 +61,7 @@ fn check_shape(settings: &Settings, command: &Command) -> Result<(), Illegal>
 }
 
 fn check_accept(settings: &Settings, situation: &Situation) -> Result<(), Illegal>
-    ensures { (c : Command) → result_err result ≡ first_failed (state_checks settings.now situation.now c Kind.Accept) }
+    ensures { result_err result ≡ first_failed (accept_checks settings.now situation.now) }
 {
     if !is_unknown(situation.standing) {
         return Err(Illegal::InUse);
@@ -75,7 +73,7 @@ fn check_accept(settings: &Settings, situation: &Situation) -> Result<(), Illega
 }
 
 fn check_start(settings: &Settings, situation: &Situation, command: &Command) -> Result<(), Illegal>
-    ensures { result_err result ≡ first_failed (state_checks settings.now situation.now command.now Kind.Start) }
+    ensures { result_err result ≡ first_failed (start_checks settings.now situation.now command.now.time) }
 {
     if is_unknown(situation.standing) {
         return Err(Illegal::Unknown);
@@ -100,7 +98,7 @@ fn check_throttle(
     situation: &Situation,
     command: &Command,
 ) -> Result<(), Illegal>
-    ensures { result_err result ≡ first_failed (state_checks settings.now situation.now command.now Kind.Throttle) }
+    ensures { result_err result ≡ first_failed (throttle_checks settings.now situation.now command.now.time) }
 {
     if is_unknown(situation.standing) {
         return Err(Illegal::Unknown);
@@ -119,7 +117,7 @@ fn check_throttle(
 
 /// Whether an attempt runs that may still be answered.
 fn check_answer(situation: &Situation, time: u64) -> Result<(), Illegal>
-    ensures { (s : Settings) (c : Command) → c.time ≡ time → result_err result ≡ first_failed (state_checks s situation.now c Kind.Succeed) }
+    ensures { result_err result ≡ first_failed (answer_checks situation.now time) }
 {
     if is_unknown(situation.standing) {
         return Err(Illegal::Unknown);
@@ -135,7 +133,7 @@ fn check_answer(situation: &Situation, time: u64) -> Result<(), Illegal>
 
 /// Whether an attempt runs whose time is over.
 fn check_timeout(situation: &Situation, time: u64) -> Result<(), Illegal>
-    ensures { (s : Settings) (c : Command) → c.time ≡ time → result_err result ≡ first_failed (state_checks s situation.now c (Kind.Fail Cause.Timeout)) }
+    ensures { result_err result ≡ first_failed (timeout_checks situation.now time) }
 {
     if is_unknown(situation.standing) {
         return Err(Illegal::Unknown);
@@ -150,7 +148,7 @@ fn check_timeout(situation: &Situation, time: u64) -> Result<(), Illegal>
 }
 
 fn check_failure(situation: &Situation, time: u64, cause: Cause) -> Result<(), Illegal>
-    ensures { (s : Settings) (c : Command) → c.time ≡ time → result_err result ≡ first_failed (state_checks s situation.now c (Kind.Fail cause)) }
+    ensures { result_err result ≡ first_failed (failure_checks situation.now time cause) }
 {
     match cause {
         Cause::Timeout => check_timeout(situation, time),
@@ -160,7 +158,7 @@ fn check_failure(situation: &Situation, time: u64, cause: Cause) -> Result<(), I
 }
 
 fn check_interrupt(situation: &Situation) -> Result<(), Illegal>
-    ensures { (s : Settings) (c : Command) → result_err result ≡ first_failed (state_checks s situation.now c Kind.Interrupt) }
+    ensures { result_err result ≡ first_failed (interrupt_checks situation.now) }
 {
     if is_unknown(situation.standing) {
         return Err(Illegal::Unknown);
@@ -172,7 +170,7 @@ fn check_interrupt(situation: &Situation) -> Result<(), Illegal>
 }
 
 fn check_expire(situation: &Situation, time: u64) -> Result<(), Illegal>
-    ensures { (s : Settings) (c : Command) → c.time ≡ time → result_err result ≡ first_failed (state_checks s situation.now c Kind.Expire) }
+    ensures { result_err result ≡ first_failed (expire_checks situation.now time) }
 {
     if is_unknown(situation.standing) {
         return Err(Illegal::Unknown);
@@ -187,7 +185,7 @@ fn check_expire(situation: &Situation, time: u64) -> Result<(), Illegal>
 }
 
 fn check_collect(situation: &Situation) -> Result<(), Illegal>
-    ensures { (s : Settings) (c : Command) → result_err result ≡ first_failed (state_checks s situation.now c Kind.Collect) }
+    ensures { result_err result ≡ first_failed (collect_checks situation.now) }
 {
     if is_unknown(situation.standing) {
         return Err(Illegal::Unknown);

@@ -1,16 +1,14 @@
 // Which event goes next. No reader takes memory.
-ghost use Rattle.std.specs.Prelude.{◌≡◌, ◌+◌, ◌*◌, ◌≤◌, ℕ, List, option_map, is_some, nat_le};
-ghost use Rattle.retry_rules.specs.declared.settings.Settings.{Settings};
+ghost use Rattle.std.specs.Prelude.{◌≡◌};
 ghost use Rattle.invoke_records.specs.declared.row.EventRow.{EventRow};
-ghost use Rattle.async_core.specs.Choice.{IsChosenAs, IsNextAt, IsNextMove, IsFirstRunning, IsOldestEnded, IsFree, IsLegalMove, environment_for, move_at};
-ghost use Rattle.async_core.specs.Rules.{running_at};
-ghost use Rattle.async_core.specs.History.{table_of, last_moment};
-ghost use Rattle.invoke_records.specs.declared.command.Command.{Command};
+ghost use Rattle.async_core.specs.Choice.{IsChosenAs, IsNextAt, IsNextMove, IsLegalIfFree, IsFirstRunning, IsOldestEnded, environment_for, row_move};
+ghost use Rattle.async_core.specs.Histories.{ForEachHistory};
 
 use crate::Table;
 use crate::choice::{Move, Order, Side, first_row, move_by};
 use crate::situation::{count_running, too_old_from};
 use invoke_records::{EventRow, Kind};
+use retry_rules::Settings;
 
 fn environment_for(ready_env: Option<u16>, kind: Kind) -> u16
     ensures { result ≡ environment_for ready_env kind }
@@ -31,7 +29,7 @@ fn move_of_row(
     now: u64,
     ready_env: Option<u16>,
 ) -> Option<Move>
-    ensures { (s : Settings) (rows : List EventRow) → s.age ≡ age → nat_le s.concurrency (running_at rows) ≡ is_full → result ≡ move_at s rows now ready_env row.now }
+    ensures { result ≡ row_move is_full age now ready_env row.now }
 {
     let too_old = too_old_from(row.accepted, age);
     match move_by(is_full, ready_env.is_some(), too_old, now, row.standing) {
@@ -46,14 +44,14 @@ fn move_of_row(
 
 fn next_move_in(
     rows: &[EventRow],
-    concurrency: u8,
-    age: u32,
+    settings: &Settings,
     now: u64,
     ready_env: Option<u16>,
 ) -> Option<Move>
-    ensures { (s : Settings) → s.age ≡ age → s.concurrency ≡ concurrency → IsNextAt s rows.now now ready_env result }
+    ensures { IsNextAt settings.now rows.now now ready_env result }
 {
-    let is_full = concurrency as usize <= count_running(rows);
+    let age = settings.age;
+    let is_full = settings.concurrency as usize <= count_running(rows);
     let order = Order::Moving(now, ready_env.is_some(), is_full, age);
     match first_row(rows, order) {
         Some(row) => move_of_row(row, age, is_full, now, ready_env),
@@ -84,7 +82,7 @@ impl Table {
     /// it, and its id.
     pub fn next_running(&self, after: u64) -> Option<(u64, [u8; 16])>
         ensures by_row { IsChosenAs (Order.Running after) self.now.table.rows (λ (r : EventRow). (r.number, r.id)) result }
-        ensures by_history { (history : List Command) → self.now.table ≡ table_of self.now.settings history → IsFirstRunning self.now.settings history after result }
+        ensures by_history { ForEachHistory self.now (λ s history. IsFirstRunning s history after result) }
     {
         first_running(&self.rows, after)
     }
@@ -92,7 +90,7 @@ impl Table {
     /// The event that ended first of those held that ended on this side.
     pub fn oldest_ended(&self, side: Side) -> Option<[u8; 16]>
         ensures by_row { IsChosenAs (Order.Ended side) self.now.table.rows (λ (r : EventRow). r.id) result }
-        ensures by_history { (history : List Command) → self.now.table ≡ table_of self.now.settings history → IsOldestEnded self.now.settings history side result }
+        ensures by_history { ForEachHistory self.now (λ s history. IsOldestEnded s history side result) }
     {
         first_ended(&self.rows, side)
     }
@@ -101,15 +99,9 @@ impl Table {
     /// has something to do since the earliest moment, and of those the one that was accepted first.
     pub fn next_move(&self, now: u64, ready_env: Option<u16>) -> Option<Move>
         ensures by_row { IsNextAt self.now.settings self.now.table.rows now ready_env result }
-        ensures by_history { (history : List Command) → self.now.table ≡ table_of self.now.settings history → IsNextMove self.now.settings history now ready_env result }
-        ensures legal { (history : List Command) → self.now.table ≡ table_of self.now.settings history → now ≤ 253402300799999 → last_moment history ≤ now → IsFree self.now.settings history ready_env → IsLegalMove self.now.settings history now result }
+        ensures by_history { ForEachHistory self.now (λ s history. IsNextMove s history now ready_env result) }
+        ensures legal { ForEachHistory self.now (λ s history. IsLegalIfFree s history now ready_env result) }
     {
-        next_move_in(
-            &self.rows,
-            self.settings.concurrency,
-            self.settings.age,
-            now,
-            ready_env,
-        )
+        next_move_in(&self.rows, &self.settings, now, ready_env)
     }
 }

@@ -1,11 +1,10 @@
 // What a table says of one event. No reader takes memory.
-ghost use Rattle.std.specs.Prelude.{◌≡◌, List, Some, find, option_map};
-ghost use Rattle.invoke_records.specs.declared.command.Command.{Command};
-ghost use Rattle.invoke_records.specs.declared.row.EventRow.{EventRow};
-ghost use Rattle.async_core.specs.Lives.{life, accepted, payload_of};
-ghost use Rattle.async_core.specs.Readers.{where_held, outcome_by, counts_of, counts_in, ending_at, ending_in};
+ghost use Rattle.std.specs.Prelude.{◌≡◌, Some, find, option_map};
+ghost use Rattle.std.specs.Option.{option_copied};
+ghost use Rattle.async_core.specs.Readers.{told, outcome_by, accepted_at, accepted_after, payload_at, payload_after, counts_at, counts_after, ending_at, ending_after};
 ghost use Rattle.async_core.specs.Rules.{has_id, row_at, standing_at};
-ghost use Rattle.async_core.specs.History.{IsLegal, table_of, standing_in};
+ghost use Rattle.async_core.specs.History.{standing_in};
+ghost use Rattle.async_core.specs.Histories.{ForEachLegalHistory};
 
 use crate::Table;
 use crate::situation::find_row;
@@ -26,7 +25,7 @@ pub struct Ended<'a> {
 }
 
 fn accepted_in(rows: &[EventRow], id: &[u8; 16]) -> Option<u64>
-    ensures { result ≡ option_map (λ (r : EventRow). r.accepted) (find (has_id id.now) rows.now) }
+    ensures { result ≡ accepted_at (find (has_id id.now) rows.now) }
 {
     match find_row(rows, id) {
         Some(row) => Some(row.accepted),
@@ -35,7 +34,7 @@ fn accepted_in(rows: &[EventRow], id: &[u8; 16]) -> Option<u64>
 }
 
 fn payload_in<'a>(rows: &'a [EventRow], id: &[u8; 16]) -> Option<&'a [u8]>
-    ensures { option_map (λ bytes. bytes.now) result ≡ option_map (λ (r : EventRow). r.payload) (find (has_id id.now) rows.now) }
+    ensures { option_copied result ≡ payload_at (find (has_id id.now) rows.now) }
 {
     match find_row(rows, id) {
         Some(row) => Some(row.payload.as_slice()),
@@ -44,7 +43,7 @@ fn payload_in<'a>(rows: &'a [EventRow], id: &[u8; 16]) -> Option<&'a [u8]>
 }
 
 fn counts_in_rows(rows: &[EventRow], id: &[u8; 16]) -> Option<(u32, u32, u32)>
-    ensures { result ≡ option_map counts_of (find (has_id id.now) rows.now) }
+    ensures { result ≡ counts_at (find (has_id id.now) rows.now) }
 {
     match find_row(rows, id) {
         Some(row) => Some((row.starts, row.failures, row.push_backs)),
@@ -53,7 +52,7 @@ fn counts_in_rows(rows: &[EventRow], id: &[u8; 16]) -> Option<(u32, u32, u32)>
 }
 
 fn ending_of(row: &EventRow) -> Option<Ended<'_>>
-    ensures { option_map (λ e. record { id = e.id.now; payload = e.payload.now; answer = e.answer.now; outcome = e.outcome; at = e.at; starts = e.starts }) result ≡ ending_at (Some row.now) }
+    ensures { option_map told result ≡ ending_at (Some row.now) }
 {
     match row.standing {
         Standing::Ended { outcome, at } => Some(Ended {
@@ -69,7 +68,7 @@ fn ending_of(row: &EventRow) -> Option<Ended<'_>>
 }
 
 fn ended_in<'a>(rows: &'a [EventRow], id: &[u8; 16]) -> Option<Ended<'a>>
-    ensures { option_map (λ e. record { id = e.id.now; payload = e.payload.now; answer = e.answer.now; outcome = e.outcome; at = e.at; starts = e.starts }) result ≡ ending_at (find (has_id id.now) rows.now) }
+    ensures { option_map told result ≡ ending_at (find (has_id id.now) rows.now) }
 {
     match find_row(rows, id) {
         Some(row) => ending_of(row),
@@ -81,7 +80,7 @@ impl Table {
     /// How an event ended, if it is held and has ended.
     pub fn outcome(&self, id: &[u8; 16]) -> Option<Outcome>
         ensures by_row { result ≡ outcome_by (standing_at self.now.table id.now) }
-        ensures by_history { (history : List Command) → IsLegal self.now.settings history → self.now.table ≡ table_of self.now.settings history → result ≡ outcome_by (standing_in self.now.settings history id.now) }
+        ensures by_history { ForEachLegalHistory self.now (λ s history. result ≡ outcome_by (standing_in s history id.now)) }
     {
         match self.standing(id) {
             Standing::Ended { outcome, .. } => Some(outcome),
@@ -91,32 +90,32 @@ impl Table {
 
     /// When an event was accepted, in milliseconds since 1970.
     pub fn accepted(&self, id: &[u8; 16]) -> Option<u64>
-        ensures by_row { result ≡ option_map (λ (r : EventRow). r.accepted) (row_at self.now.table id.now) }
-        ensures by_history { (history : List Command) → IsLegal self.now.settings history → self.now.table ≡ table_of self.now.settings history → result ≡ where_held (life id.now history) (accepted (life id.now history)) }
+        ensures by_row { result ≡ accepted_at (row_at self.now.table id.now) }
+        ensures by_history { ForEachLegalHistory self.now (λ s history. result ≡ accepted_after id.now history) }
     {
         accepted_in(&self.rows, id)
     }
 
     /// The payload of an event.
     pub fn payload<'a>(&'a self, id: &[u8; 16]) -> Option<&'a [u8]>
-        ensures by_row { option_map (λ bytes. bytes.now) result ≡ option_map (λ (r : EventRow). r.payload) (row_at self.now.table id.now) }
-        ensures by_history { (history : List Command) → IsLegal self.now.settings history → self.now.table ≡ table_of self.now.settings history → option_map (λ bytes. bytes.now) result ≡ where_held (life id.now history) (payload_of (life id.now history)) }
+        ensures by_row { option_copied result ≡ payload_at (row_at self.now.table id.now) }
+        ensures by_history { ForEachLegalHistory self.now (λ s history. option_copied result ≡ payload_after id.now history) }
     {
         payload_in(&self.rows, id)
     }
 
     /// How often an event was started, has failed, and was pushed back since it last failed.
     pub fn counts(&self, id: &[u8; 16]) -> Option<(u32, u32, u32)>
-        ensures by_row { result ≡ option_map counts_of (row_at self.now.table id.now) }
-        ensures by_history { (history : List Command) → IsLegal self.now.settings history → self.now.table ≡ table_of self.now.settings history → result ≡ where_held (life id.now history) (counts_in (life id.now history)) }
+        ensures by_row { result ≡ counts_at (row_at self.now.table id.now) }
+        ensures by_history { ForEachLegalHistory self.now (λ s history. result ≡ counts_after id.now history) }
     {
         counts_in_rows(&self.rows, id)
     }
 
     /// What an event that has ended leaves, if it is held and has ended.
     pub fn ended<'a>(&'a self, id: &[u8; 16]) -> Option<Ended<'a>>
-        ensures by_row { option_map (λ e. record { id = e.id.now; payload = e.payload.now; answer = e.answer.now; outcome = e.outcome; at = e.at; starts = e.starts }) result ≡ ending_at (row_at self.now.table id.now) }
-        ensures by_history { (history : List Command) → IsLegal self.now.settings history → self.now.table ≡ table_of self.now.settings history → option_map (λ e. record { id = e.id.now; payload = e.payload.now; answer = e.answer.now; outcome = e.outcome; at = e.at; starts = e.starts }) result ≡ ending_in id.now (life id.now history) (standing_in self.now.settings history id.now) }
+        ensures by_row { option_map told result ≡ ending_at (row_at self.now.table id.now) }
+        ensures by_history { ForEachLegalHistory self.now (λ s history. option_map told result ≡ ending_after s id.now history) }
     {
         ended_in(&self.rows, id)
     }

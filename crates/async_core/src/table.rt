@@ -1,9 +1,6 @@
 // The table of events.
-ghost use Rattle.std.specs.Prelude.{◌≡◌, ◌<◌, ◌^◌, ◌+◌, ◌++◌, ◌∷◌, List, [], None, Some, Err, IfOk, OnOk, OnErr, IfErr};
+ghost use Rattle.std.specs.Prelude.{◌≡◌, ◌<◌, ◌^◌, ◌+◌, None, Some, Err, IfOk, OnOk, OnErr, IfErr};
 ghost use Rattle.std.specs.Result.{result_err};
-ghost use Rattle.retry_rules.specs.Settings.{bad_field};
-ghost use Rattle.retry_rules.specs.declared.settings.Settings.{Settings};
-ghost use Rattle.invoke_records.specs.declared.command.Command.{Command};
 
 use crate::changes::change;
 use crate::copies::copy_rows;
@@ -33,18 +30,22 @@ impl Model for Table {
 
     ghost Value = { State };
 
-    ghost view = { λ t. record { settings = t.settings; table = record { number = t.number; last_moment = t.last_moment; rows = t.rows.items } } };
+    ghost view = { λ t. record {
+      settings = t.settings;
+      table = record { number = t.number; last_moment = t.last_moment; rows = t.rows.items };
+    } };
 }
 
 impl Table {
-    ghost use Rattle.async_core.specs.State.{State};
-    ghost use Rattle.async_core.specs.Rules.{refusal_at, table_after, standing_at, situation_at, empty_table, replay};
-    ghost use Rattle.async_core.specs.History.{IsLegal, table_of, refusal_of, standing_in};
+    ghost use Rattle.async_core.specs.State.{empty_state, refusal_by, state_after};
+    ghost use Rattle.async_core.specs.Rules.{standing_at, situation_at};
+    ghost use Rattle.async_core.specs.History.{refusal_of, standing_in};
+    ghost use Rattle.async_core.specs.Histories.{ForEachLegalHistory, ForEachGoodHistory, StandsForMore};
     ghost use Rattle.async_core.specs.declared.illegal.ApplyError.TheVariants as apply_error;
 
     /// The table with no command. It takes no memory.
     pub fn new(alloc: Global, settings: Settings) -> Table
-        ensures { result ≡ record { settings = settings; table = empty_table } }
+        ensures { result ≡ empty_state settings }
     {
         Table {
             alloc,
@@ -114,7 +115,7 @@ impl Table {
     #[tactic(auto, unfolding(crate::specs::Rules::standing_at))]
     pub fn standing(&self, id: &[u8; 16]) -> Standing
         ensures by_row { result ≡ standing_at self.now.table id.now }
-        ensures by_history { (history : List Command) → IsLegal self.now.settings history → self.now.table ≡ table_of self.now.settings history → result ≡ standing_in self.now.settings history id.now }
+        ensures by_history { ForEachLegalHistory self.now (λ s history. result ≡ standing_in s history id.now) }
     {
         standing_in_rows(&self.rows, id)
     }
@@ -138,10 +139,10 @@ impl Table {
     /// Why a command is refused now, if it is: the first check that fails.
     #[tactic(auto, unfolding(crate::specs::Rules::refusal_at))]
     pub fn judge(&self, command: &Command) -> Result<(), Illegal>
-        ensures exact { result_err result ≡ refusal_at self.now.settings self.now.table command.now }
-        ensures legal { OnOk result (refusal_at self.now.settings self.now.table command.now ≡ None) }
-        ensures refused { IfErr result (λ why. refusal_at self.now.settings self.now.table command.now ≡ Some why) }
-        ensures by_history { (history : List Command) → bad_field self.now.settings ≡ None → IsLegal self.now.settings history → self.now.table ≡ table_of self.now.settings history → result_err result ≡ refusal_of self.now.settings history command.now }
+        ensures exact { result_err result ≡ refusal_by self.now command.now }
+        ensures legal { OnOk result (refusal_by self.now command.now ≡ None) }
+        ensures refused { IfErr result (λ why. refusal_by self.now command.now ≡ Some why) }
+        ensures by_history { ForEachGoodHistory self.now (λ s history. result_err result ≡ refusal_of s history command.now) }
     {
         let situation = self.situation(command);
         refuse(&self.settings, &situation, command)
@@ -151,13 +152,13 @@ impl Table {
     /// that, also where memory is short.
     pub fn apply(&mut self, command: &Command) -> Result<(), ApplyError>
         requires { self.old.table.number < 2 ^ 62 }
-        ensures legal { OnOk result (refusal_at self.old.settings self.old.table command.now ≡ None) }
-        ensures applied { OnOk result (self.new ≡ record self.old { table = table_after self.old.settings self.old.table command.now }) }
+        ensures legal { OnOk result (refusal_by self.old command.now ≡ None) }
+        ensures applied { OnOk result (self.new ≡ state_after self.old command.now) }
         ensures number { OnOk result (self.new.table.number ≡ self.old.table.number + 1) }
-        ensures refused { (why : _) → result ≡ Err (apply_error.Illegal why) → refusal_at self.old.settings self.old.table command.now ≡ Some why }
-        ensures illegal { (why : _) → refusal_at self.old.settings self.old.table command.now ≡ Some why → result ≡ Err (apply_error.Illegal why) }
+        ensures refused { (why : _) → result ≡ Err (apply_error.Illegal why) → refusal_by self.old command.now ≡ Some why }
+        ensures illegal { (why : _) → refusal_by self.old command.now ≡ Some why → result ≡ Err (apply_error.Illegal why) }
         ensures err { OnErr result (self.new ≡ self.old) }
-        ensures by_history { (history : List Command) → bad_field self.old.settings ≡ None → IsLegal self.old.settings history → self.old.table ≡ table_of self.old.settings history → OnOk result ((refusal_of self.old.settings history command.now ≡ None) × (self.new.table ≡ table_of self.old.settings (history ++ command.now ∷ []))) }
+        ensures by_history { ForEachGoodHistory self.old (λ s history. OnOk result (StandsForMore s history command.now self.new.table)) }
     {
         if let Err(why) = self.judge(command) {
             return Err(ApplyError::Illegal(why));

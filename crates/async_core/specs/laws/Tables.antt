@@ -22,7 +22,7 @@ use Rattle.async_core.specs.Standings.{rules_in, is_running, runs_in}
 use Rattle.async_core.specs.Checks.{refusal_in, shape_checks}
 use Rattle.async_core.specs.History.{held, standing_in, standing_of, row_of, table_of, refusal_of, situation_of, IsLegal}
 use Rattle.async_core.specs.Rules.{has_id, row_at, standing_or_unknown, accepted_or_zero, standing_at, situation_at, refusal_at, table_after, empty_table, replay}
-use Rattle.async_core.specs.Readers.{where_held, outcome_by, counts_of, counts_in, ending_at, ending_in}
+use Rattle.async_core.specs.Readers.{where_held, counts_of, counts_in, ending_at, ending_in}
 use Rattle.async_core.specs.laws.Lives.{last_moment-snoc, held-nil}
 use Rattle.async_core.specs.laws.Rows.{times_held-cons, rows_by}
 use Rattle.async_core.specs.laws.Refusals.{NoneFails, shape_passes}
@@ -144,10 +144,6 @@ pub table_of-nil : (s : Settings) → table_of s [] ≡ empty_table
 unfolding table_of
 table_of-nil s = rw held-nil refl
 
-pub number-after : (s : Settings) (table : Snapshot) (c : Command) → (table_after s table c).number ≡ table.number + 1
-unfolding table_after
-number-after s table c = refl
-
 pub number-table_of : (s : Settings) (h : List Command) → (table_of s h).number ≡ length h
 unfolding table_of
 number-table_of s h = refl
@@ -200,9 +196,6 @@ module _ (s : Settings) (table : Snapshot) (h : List Command) (id : List ℕ) (l
 
   pub counts-by_history : option_map counts_of (row_at table id) ≡ where_held (life id h) (counts_in (life id h))
   counts-by_history = read_by (λ o. option_map counts_of o) (λ l. where_held l (counts_in l)) refl (λ n known. known_held _ (life id h) known)
-
-  pub outcome-by_history : outcome_by (standing_at table id) ≡ outcome_by (standing_in s h id)
-  outcome-by_history = ap (λ t. outcome_by (standing_at t id)) is ∙ ap outcome_by (standing_at-table_of s h legal id)
 
   pub ending-by_history : ending_at (row_at table id) ≡ ending_in id (life id h) (standing_in s h id)
   unfolding standing_in

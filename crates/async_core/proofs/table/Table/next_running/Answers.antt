@@ -2,7 +2,7 @@
 use Rattle.invoke_records.specs.declared.row.EventRow.{EventRow}
 use Rattle.async_core.specs.declared.choice.Order.TheVariants as order
 use Rattle.async_core.specs.Choice.{IsChosenAs}
-use Rattle.async_core.specs.laws.Choice.{next_running-by_history}
+use Rattle.async_core.proofs.Nexts.{next_running-by_history}
 use Rattle.async_core.proofs.table.Table.next_running.Goals as goal
 
 pub returns : goal.returns

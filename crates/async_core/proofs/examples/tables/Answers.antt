@@ -1,0 +1,10 @@
+-- Each one computes.
+use Rattle.std.proofs.Common.{refl}
+use Rattle.async_core.specs.Lives.{life}
+use Rattle.async_core.specs.History.{standing_in, held, last_number, table_of}
+use Rattle.async_core.specs.Choice.{move_of}
+use Rattle.async_core.proofs.examples.tables.Goals as goal
+
+pub returns : goal.returns
+unfolding life standing_in held last_number table_of move_of
+returns c = record { anew = refl; starts = refl; none_ready = refl; throttled = refl; timed_out = refl }
