@@ -19,7 +19,7 @@ pub(crate) struct Head {
 const END_OF_NUMBERS: u64 = (1 << 62) + 1;
 
 impl Head {
-    ghost use Rattle.gate_journal.specs.Reading.{head_fields};
+    ghost use Rattle.gate_journal.specs.Steps.{head_fields};
 
     // The head of a body.
     pub(crate) fn read(bytes: &[u8]) -> Head
