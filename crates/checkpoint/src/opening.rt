@@ -10,11 +10,10 @@ ghost use Rattle.checkpoint.specs.Live.{settings_of, number_of, end_of};
 ghost use Rattle.checkpoint.specs.Opening.{IsRecovered, TellsNotFormatted, TellsDamage};
 ghost use Rattle.checkpoint.specs.OpenSteps.{OnlyReads, IsLiveSegment, IsLiveBehind, Refuses, Opens};
 
-use crate::legality::{check_legal, without_gates};
+use crate::legality::{judge, without_gates};
 use crate::reading::read_sector;
 use crate::segment::{Segment, read_segment};
 use crate::{OpenError, Opened};
-use async_core::Table;
 use invoke_records::{Command, Snapshot};
 use sector_disk::Disk;
 use std::alloc::Global;
@@ -59,9 +58,7 @@ fn judged(alloc: Global, segment: Segment) -> Result<(Opened, Snapshot, Vec<Comm
         journal,
         behind,
     } = segment;
-    let table = Table::from_snapshot(alloc, snapshot, settings.copy()?)?;
-    let snapshot = table.snapshot()?;
-    check_legal(table, &behind)?;
+    let snapshot = judge(alloc, &settings, snapshot, &behind)?;
     let commands = without_gates(alloc, behind)?;
     let opened = Opened {
         settings,
