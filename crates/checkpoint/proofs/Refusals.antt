@@ -1,5 +1,5 @@
 -- Reads one after another, and what their refusals say together.
-use Rattle.std.proofs.Common.{◌≡◌, ℕ, Option, None, Result, Ok, Err, refl, sym, ◌∙◌}
+use Rattle.std.proofs.Common.{◌≡◌, ℕ, Option, None, Result, Err, refl, sym, ◌∙◌}
 use Rattle.sector_disk.specs.Disk.{DiskView}
 use Rattle.sector_disk.specs.laws.Moments.{untouched_more}
 use Rattle.gate_journal.specs.declared.error.ReadError.{ReadError}
