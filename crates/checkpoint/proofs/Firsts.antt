@@ -15,10 +15,11 @@ use Rattle.checkpoint.specs.declared.header.Header.{Header}
 use Rattle.std.specs.Result.{IsOkAnd}
 use Rattle.checkpoint.specs.declared.error.OpenError.{OpenError}
 use Rattle.checkpoint.proofs.Appends.{segment_of}
-use Rattle.checkpoint.specs.Image.{Image, HasGeneration, most_snapshot, least_sectors, sector_at, header_text, segment_text, HoldsFirst, is_within, snapshot_of, area_of, read_image, recovered, state_of}
+use Rattle.checkpoint.specs.Image.{Image, HasGeneration, most_snapshot, least_sectors, sector_at, header_text, segment_text, is_within, snapshot_of, area_of, read_image, recovered, state_of}
 use Rattle.sector_disk.specs.Disk.{DiskView}
 use Rattle.checkpoint.specs.declared.error.OpenError.TheVariants.{NotFormatted}
-use Rattle.checkpoint.specs.Formatting.{IsBeingFormatted, IsFormatting}
+use Rattle.checkpoint.specs.Formatting.{IsFormatting}
+use Rattle.checkpoint.specs.FormatSteps.{HoldsFirst, IsBeingFormatted}
 use Rattle.checkpoint.proofs.Lives.{image_refused}
 use Rattle.checkpoint.proofs.Images.{a_open, none_open}
 use Rattle.checkpoint.proofs.Segments.{behind_snapshot}

@@ -3,8 +3,8 @@ use Rattle.std.proofs.Common.{◌≡◌, ℕ, ◌+◌, ◌*◌, ◌≤◌, true,
 use Rattle.sector_disk.specs.Disk.{Holds}
 use Rattle.sector_disk.specs.laws.Written.{same_part, written_size, written_front, written_here, written_behind}
 use Rattle.gate_journal.specs.Frames.{is_open}
-use Rattle.checkpoint.specs.Image.{sector_at, HoldsFirst}
-use Rattle.checkpoint.specs.Formatting.{IsClosed}
+use Rattle.checkpoint.specs.Image.{sector_at}
+use Rattle.checkpoint.specs.FormatSteps.{HoldsFirst, IsClosed}
 
 module _ (second : ℕ) (segment closed open_gate c1 c2 c4 c6 : List ℕ) (size_closed : length closed ≡ 512) (shut : is_open closed ≡ false) (size_open : length open_gate ≡ 512) (opens : is_open open_gate ≡ true)
     (before : 512 + length segment ≤ 512 * second) (inside : 512 * second + 512 ≤ length c1) (gate_b : Holds c1 (512 * second) closed c2) (body : Holds c2 512 segment c4)

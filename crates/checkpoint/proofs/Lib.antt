@@ -1,4 +1,5 @@
 pub mod Judging
+pub mod Refusals
 pub mod Segments
 pub mod Images
 pub mod Folds

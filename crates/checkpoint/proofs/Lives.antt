@@ -9,7 +9,8 @@ use Rattle.checkpoint.specs.declared.segment.Segment.{Segment}
 use Rattle.checkpoint.specs.declared.opened.Opened.{Opened}
 use Rattle.checkpoint.specs.Image.{read_image, segment_at, folded, recovered, state_of, with_settings}
 use Rattle.checkpoint.specs.Live.{IsLive}
-use Rattle.checkpoint.specs.Reads.{IsRead, Opens, Refuses, refuses_along}
+use Rattle.checkpoint.specs.OpenSteps.{IsRead, Opens, Refuses}
+use Rattle.checkpoint.proofs.Refusals.{refuses_along}
 use Rattle.checkpoint.proofs.Folds.{replays}
 
 -- what is wrong with the live segment is wrong with the image

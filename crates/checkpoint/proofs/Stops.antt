@@ -8,8 +8,9 @@ use Rattle.sector_disk.specs.laws.Moments.{Run, started, writes}
 use Rattle.sector_disk.specs.laws.Written.{same_part}
 use Rattle.sector_disk.specs.laws.Moments.{leaves_weaker}
 use Rattle.gate_journal.specs.Frames.{is_open}
-use Rattle.checkpoint.specs.Image.{sector_at, HoldsFirst}
-use Rattle.checkpoint.specs.Formatting.{DiffersInGates, IsOldButForGates, IsClosed, IsBeingFormatted}
+use Rattle.checkpoint.specs.Image.{sector_at}
+use Rattle.checkpoint.specs.Formatting.{DiffersInGates, IsOldButForGates}
+use Rattle.checkpoint.specs.FormatSteps.{HoldsFirst, IsClosed, IsBeingFormatted}
 
 -- nothing was written yet
 pub unchanged : (old : DiskView) {second : ℕ} (image : List ℕ) → old.may_leave image → IsOldButForGates old second image

@@ -1,12 +1,26 @@
--- What a stop may leave of a disk that is being formatted.
-use Rattle.std.specs.Prelude.{◌≡◌, ◌⊎◌, ℕ, ◌+◌, ◌-◌, ◌*◌, ◌/◌, false, List, length, take, drop, Err}
-use Rattle.sector_disk.specs.Disk.{DiskView}
-use Rattle.gate_journal.specs.Frames.{is_open}
+-- What formatting a disk says, and what a stop may leave of a disk that is being formatted.
+use Rattle.std.specs.Prelude.{◌≡◌, ◌⊎◌, ℕ, ◌+◌, ◌-◌, ◌*◌, ◌/◌, ◌<◌, List, length, take, drop, Result, Err}
+use Rattle.sector_disk.specs.Disk.{DiskView, HasOneImage}
+use Rattle.sector_disk.specs.Moments.{LeavesOnly}
 use Rattle.retry_rules.specs.declared.settings.Settings.{Settings}
 use Rattle.async_core.specs.Rules.{empty_table}
+use Rattle.checkpoint.specs.declared.error.FormatError.{FormatError}
+use Rattle.checkpoint.specs.declared.error.FormatError.TheVariants.{TooSmall}
 use Rattle.checkpoint.specs.declared.error.OpenError.TheVariants.{NotFormatted}
-use Rattle.checkpoint.specs.Image.{sector_at, HoldsFirst, recovered}
+use Rattle.checkpoint.specs.Image.{least_sectors, recovered}
 use Rattle.checkpoint.specs.Live.{RecoversTo}
+
+-- the disk has fewer sectors than these settings need
+abbrev pub IsTooSmall : DiskView → Settings → Type 0
+IsTooSmall disk s = disk.sectors < least_sectors s
+
+-- what `TooSmall` says: the least number that the settings need, and that the disk has fewer
+abbrev pub TellsLeast : DiskView → Settings → Result (Unit {0}) FormatError → Type 0
+TellsLeast disk s result = (least : ℕ) → result ≡ Err (TooSmall least) → (least ≡ least_sectors s) × IsTooSmall disk s
+
+-- the disk has one image, which recovers to these settings and the empty table
+abbrev pub IsFormatted : DiskView → Settings → Type 0
+IsFormatted disk s = HasOneImage disk × RecoversTo s empty_table disk.content
 
 -- two images that differ in the sectors of the gates alone, where segment B begins at this sector
 pub record DiffersInGates (second : ℕ) (earlier image : List ℕ) : Type 0 where
@@ -18,16 +32,10 @@ pub record DiffersInGates (second : ℕ) (earlier image : List ℕ) : Type 0 whe
 abbrev pub IsOldButForGates : DiskView → ℕ → List ℕ → Type 0
 IsOldButForGates old second image = (earlier : List ℕ) × old.may_leave earlier × DiffersInGates second earlier image
 
--- neither gate is open
-pub record IsClosed (second : ℕ) (image : List ℕ) : Type 0 where
-  pub gate_a : is_open (sector_at 0 image) ≡ false
-  pub gate_b : is_open (sector_at second image) ≡ false
-
--- while this segment is made the live one: the old image but for its gates, one without an open gate, or one that holds the segment
-abbrev pub IsBeingFormatted : DiskView → ℕ → List ℕ → List ℕ → Type 0
-IsBeingFormatted old second segment image =
-    IsOldButForGates old second image ⊎ ((length image ≡ 512 * old.sectors) × (IsClosed second image ⊎ HoldsFirst second segment image))
-
 -- while a disk is formatted: the old image but for its gates, no formatted disk, or one that recovers to the empty table
 abbrev pub IsFormatting : DiskView → Settings → List ℕ → Type 0
 IsFormatting old s image = IsOldButForGates old (old.sectors / 2) image ⊎ ((recovered image ≡ Err NotFormatted) ⊎ RecoversTo s empty_table image)
+
+-- what a stop leaves at any moment while an honest disk is formatted
+abbrev pub LeavesFormatting : DiskView → DiskView → Settings → Type 0
+LeavesFormatting old new s = old.honest → LeavesOnly old new (IsFormatting old s)

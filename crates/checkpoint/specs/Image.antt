@@ -1,5 +1,5 @@
 -- What an image of a disk recovers to, by its bytes.
-use Rattle.std.specs.Prelude.{◌≡◌, ℕ, ◌+◌, ◌-◌, ◌*◌, ◌/◌, ◌^◌, ◌==◌, nat_le, nat_lt, nat_eq, Bool, true, false, ◌&&◌, List, [], ◌∷◌, ◌++◌, length, take, drop, replicate, codes, Option, Some, None, Result, Ok, Err, if◌then◌else◌}
+use Rattle.std.specs.Prelude.{◌≡◌, ℕ, ◌+◌, ◌-◌, ◌*◌, ◌/◌, ◌^◌, ◌==◌, nat_le, nat_lt, nat_eq, Bool, ◌&&◌, List, [], ◌∷◌, ◌++◌, length, take, drop, replicate, codes, Option, Some, None, Result, Ok, Err, if◌then◌else◌}
 use Rattle.std.specs.Result.{IsOkAnd}
 use Rattle.std.specs.List.{list_all, starts_with}
 use Rattle.std.specs.Int.{w32, w64, to_be_bytes, from_be_bytes}
@@ -141,11 +141,19 @@ with_frames header snapshot area (Err sector) = Err (Damaged sector)
 with_frames header snapshot area (Ok frames) =
     Ok (record { generation = header.generation; settings = header.settings; snapshot = snapshot; area = area; frames = frames })
 
+-- the header in this sector of an image, of a segment of so many sectors
+abbrev pub header_in : ℕ → ℕ → List ℕ → Option Header
+header_in sector sectors image = header_at sectors (sector_at sector image)
+
+-- the snapshot from this sector of an image on, of which the header speaks
+abbrev pub snapshot_in : ℕ → Header → List ℕ → Option Snapshot
+snapshot_in sector header image = snapshot_of header (drop (512 * sector) image)
+
 -- the segment from this sector to that one
 unfoldable pub segment_at : ℕ → ℕ → List ℕ → Result Image OpenError
 segment_at base end image =
-    or_damaged (base + 1) (header_at (end - base) (sector_at (base + 1) image)) (λ header.
-    or_damaged (base + 2) (snapshot_of header (drop (512 * (base + 2)) image)) (λ snapshot.
+    or_damaged (base + 1) (header_in (base + 1) (end - base) image) (λ header.
+    or_damaged (base + 2) (snapshot_in (base + 2) header image) (λ snapshot.
     with_frames header snapshot (area_of base end header snapshot) (frames_in (area_of base end header snapshot) image)))
 
 -- ## An image
@@ -165,12 +173,6 @@ read_image image =
 -- its live segment has this generation
 abbrev pub HasGeneration : ℕ → List ℕ → Type 0
 HasGeneration generation image = IsOkAnd (read_image image) (λ live. live.generation ≡ generation)
-
--- these bytes stand behind the open gate of segment A, and the gate of segment B, which begins at this sector, is closed
-pub record HoldsFirst (second : ℕ) (segment image : List ℕ) : Type 0 where
-  pub gate_a : is_open (sector_at 0 image) ≡ true
-  pub gate_b : is_open (sector_at second image) ≡ false
-  pub behind : take (length segment) (drop 512 image) ≡ segment
 
 -- where the command is legal, the rest, else damage at its gate
 abbrev pub legal_or_damaged : {A : Type 0} → ℕ → Option Illegal → Result A OpenError → Result A OpenError

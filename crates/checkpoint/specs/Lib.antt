@@ -1,4 +1,6 @@
-pub mod Image
-pub mod Reads
-pub mod Live
 pub mod Formatting
+pub mod FormatSteps
+pub mod Image
+pub mod Live
+pub mod Opening
+pub mod OpenSteps

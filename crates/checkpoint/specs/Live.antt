@@ -1,8 +1,12 @@
 -- An opened disk as contracts see it.
-use Rattle.std.specs.Prelude.{◌≡◌, ℕ, Bool, List, Ok}
+use Rattle.std.specs.Prelude.{◌≡◌, ◌⊎◌, ℕ, Bool, List, Some, Result, Ok, OnOk}
 use Rattle.sector_disk.specs.Disk.{DiskView, HasOneImage}
+use Rattle.sector_disk.specs.Moments.{LeavesOnly}
 use Rattle.retry_rules.specs.declared.settings.Settings.{Settings}
 use Rattle.invoke_records.specs.declared.snapshot.Snapshot.{Snapshot}
+use Rattle.invoke_records.specs.declared.command.Command.{Command}
+use Rattle.async_core.specs.Rules.{replay}
+use Rattle.gate_journal.specs.declared.error.AppendError.{AppendError}
 use Rattle.gate_journal.specs.Journal as journal
 use Rattle.checkpoint.specs.declared.opened.Opened.{Opened}
 use Rattle.std.proofs.Common.{ap, ◌∙◌}
@@ -36,6 +40,22 @@ pub record IsLive (disk : DiskView) (opened : Opened) (table : Snapshot) : Type 
   pub settings : image.settings ≡ opened.settings
   pub holds : journal.Holds image.area image.frames opened.journal disk.content
   pub folds : folded image.settings image.snapshot image.frames.commands ≡ Ok table
+
+-- what Ok of an append says: if an honest disk was live with a table from which the commands lead to another, it is now live with that
+abbrev pub Acknowledges : DiskView → DiskView → Opened → Opened → List Command → Result (Unit {0}) AppendError → Type 0
+Acknowledges old new was is commands result =
+    old.honest → (before after : Snapshot) → IsLive old was before → replay (settings_of was) before commands ≡ Some after
+    → OnOk result (IsLive new is after)
+
+-- the image recovers to these settings and one of these tables
+abbrev pub RecoversToEither : Settings → Snapshot → Snapshot → List ℕ → Type 0
+RecoversToEither s before after image = RecoversTo s before image ⊎ RecoversTo s after image
+
+-- what a stop leaves at any moment of an append to an honest disk that was live: the table from before it, or after the whole batch
+abbrev pub LeavesBeforeOrAfter : DiskView → DiskView → Opened → List Command → Type 0
+LeavesBeforeOrAfter old new was commands =
+    old.honest → (before after : Snapshot) → IsLive old was before → replay (settings_of was) before commands ≡ Some after
+    → LeavesOnly old new (RecoversToEither (settings_of was) before after)
 
 -- each image of such a disk recovers to its table
 pub live_recovers : (disk : DiskView) (opened : Opened) (table : Snapshot) → IsLive disk opened table → (image : List ℕ) → disk.may_leave image → RecoversTo (settings_of opened) table image

@@ -1,6 +1,6 @@
 // Why a disk cannot be formatted or opened.
 ghost use Rattle.std.specs.Prelude.{◌≡◌};
-ghost use Rattle.checkpoint.specs.Reads.{open_error_of};
+ghost use Rattle.checkpoint.specs.Opening.{open_error_of};
 ghost use Rattle.checkpoint.specs.declared.error.FormatError.TheVariants as format_error;
 ghost use Rattle.checkpoint.specs.declared.error.OpenError.TheVariants as open_error;
 

@@ -1,13 +1,11 @@
 // Formatting a disk.
 ghost use Rattle.std.specs.Prelude.{◌≡◌, ◌+◌, ◌*◌, ◌<◌, ◌≤◌, List, ℕ, length, None, Ok, Err, IsErrOf, IfErr, OnOk};
-ghost use Rattle.sector_disk.specs.Disk.{IsSameDisk, HasRisen, HasCause, HasOneImage, IsOnDisk};
+ghost use Rattle.sector_disk.specs.Disk.{IsSameDisk, HasRisen, HasCause, IsOnDisk};
 ghost use Rattle.retry_rules.specs.Settings.{bad_field};
-ghost use Rattle.async_core.specs.Rules.{empty_table};
 ghost use Rattle.checkpoint.specs.declared.error.FormatError.TheVariants as format_error;
-ghost use Rattle.checkpoint.specs.Image.{least_sectors, HoldsFirst, HasGeneration};
-ghost use Rattle.checkpoint.specs.Live.{RecoversTo};
-ghost use Rattle.checkpoint.specs.Formatting.{IsBeingFormatted, IsFormatting};
-ghost use Rattle.sector_disk.specs.Moments.{LeavesOnly};
+ghost use Rattle.checkpoint.specs.Image.{least_sectors, HasGeneration};
+ghost use Rattle.checkpoint.specs.Formatting.{IsTooSmall, TellsLeast, IsFormatted, LeavesFormatting};
+ghost use Rattle.checkpoint.specs.FormatSteps.{IsFirst, LeavesFirst};
 
 use crate::FormatError;
 use crate::sizes::segment_sectors;
@@ -24,8 +22,8 @@ fn write_first<D: Disk>(disk: &mut D, second: u64, segment: &[u8]) -> Result<(),
     requires inside { second < (D.view disk.old).sectors }
     ensures same { IsSameDisk (D.view disk.old) (D.view disk.new) }
     ensures cause { HasCause (D.fault_count disk.old) (D.fault_count disk.new) result }
-    ensures written { (D.view disk.old).honest → OnOk result (HasOneImage (D.view disk.new) × HoldsFirst second segment.now (D.view disk.new).content) }
-    ensures any_moment { (D.view disk.old).honest → LeavesOnly (D.view disk.old) (D.view disk.new) (IsBeingFormatted (D.view disk.old) second segment.now) }
+    ensures written { (D.view disk.old).honest → OnOk result (IsFirst (D.view disk.new) second segment.now) }
+    ensures any_moment { LeavesFirst (D.view disk.old) (D.view disk.new) second segment.now }
 {
     let closed = [0; SECTOR_SIZE];
     let mut open = [0; SECTOR_SIZE];
@@ -49,16 +47,16 @@ pub fn format<D: Disk>(alloc: Global, disk: &mut D, settings: &Settings) -> Resu
     ensures same { IsSameDisk (D.view disk.old) (D.view disk.new) }
     ensures later { D.fault_count disk.old ≤ D.fault_count disk.new }
     ensures fault { IsErrOf result FormatError.Fault → HasRisen (D.fault_count disk.old) (D.fault_count disk.new) }
-    ensures least { (least : ℕ) → result ≡ Err (format_error.TooSmall least) → (least ≡ least_sectors settings.now) × ((D.view disk.old).sectors < least_sectors settings.now) }
-    ensures too_small { (D.view disk.old).sectors < least_sectors settings.now → result ≡ Err (format_error.TooSmall (least_sectors settings.now)) }
+    ensures least { TellsLeast (D.view disk.old) settings.now result }
+    ensures too_small { IsTooSmall (D.view disk.old) settings.now → result ≡ Err (format_error.TooSmall (least_sectors settings.now)) }
     ensures no_call { (least : ℕ) → result ≡ Err (format_error.TooSmall least) → disk.new ≡ disk.old }
     ensures no_call_either { IsErrOf result FormatError.OutOfMemory → disk.new ≡ disk.old }
 
     // A stop at any moment of the call leaves the old disk but for its gates, no formatted disk, or a disk with the empty table.
-    ensures any_moment { (D.view disk.old).honest → LeavesOnly (D.view disk.old) (D.view disk.new) (IsFormatting (D.view disk.old) settings.now) }
+    ensures any_moment { LeavesFormatting (D.view disk.old) (D.view disk.new) settings.now }
 
     ensures generation { (D.view disk.old).honest → OnOk result (HasGeneration 1 (D.view disk.new).content) }
-    ensures formatted { (D.view disk.old).honest → OnOk result (HasOneImage (D.view disk.new) × RecoversTo settings.now empty_table (D.view disk.new).content) }
+    ensures formatted { (D.view disk.old).honest → OnOk result (IsFormatted (D.view disk.new) settings.now) }
 {
     let sectors = disk.sectors();
     let least = 2 * segment_sectors(settings);

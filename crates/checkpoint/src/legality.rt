@@ -1,16 +1,17 @@
 // Whether the commands behind a snapshot are legal, each after those before it.
 ghost use Rattle.std.specs.Prelude.{◌≡◌, ◌+◌, ◌≤◌, ◌^◌, length, map, IfOk, IfErr, IsOk, OnOk};
 ghost use Rattle.checkpoint.specs.Image.{folded};
-ghost use Rattle.checkpoint.specs.Reads.{Refuses};
+ghost use Rattle.checkpoint.specs.OpenSteps.{Refuses};
 ghost use Rattle.checkpoint.specs.declared.error.OpenError.TheVariants as open_error;
 
 use crate::OpenError;
 use async_core::{ApplyError, Table};
-use invoke_records::Command;
+use invoke_records::{Command, Snapshot};
+use retry_rules::Settings;
 use std::alloc::{AllocError, Global};
 
 // Each command, behind its gate, is legal after those before it; else its gate is where the damage is.
-pub(crate) fn check_legal(table: Table, behind: &[(u64, Command)]) -> Result<(), OpenError>
+fn check_legal(table: Table, behind: &[(u64, Command)]) -> Result<(), OpenError>
     requires { table.table.number + length behind.now ≤ 2 ^ 62 }
     ensures legal { OnOk result (IsOk (folded table.settings table.table behind.now)) }
     ensures refused { IfErr result (λ why. Refuses why (folded table.settings table.table behind.now)) }
@@ -25,6 +26,36 @@ pub(crate) fn check_legal(table: Table, behind: &[(u64, Command)]) -> Result<(),
         }
     }
     Ok(())
+}
+
+// The table of a snapshot under these settings.
+fn table_from(alloc: Global, settings: &Settings, snapshot: Snapshot) -> Result<Table, OpenError>
+    ensures settings { IfOk result (λ table. table.settings ≡ settings.now) }
+    ensures table { IfOk result (λ table. table.table ≡ snapshot) }
+    ensures memory { IfErr result (λ why. why ≡ open_error.OutOfMemory) }
+{
+    let settings = settings.copy()?;
+    Ok(Table::from_snapshot(alloc, snapshot, settings)?)
+}
+
+// The snapshot again, where each command behind it is legal; else the gate of the first that is not is where the damage
+// is.
+pub(crate) fn judge(
+    alloc: Global,
+    settings: &Settings,
+    snapshot: Snapshot,
+    behind: &[(u64, Command)],
+) -> Result<Snapshot, OpenError>
+    requires { snapshot.number + length behind.now ≤ 2 ^ 62 }
+    ensures same { IfOk result (λ again. again ≡ snapshot) }
+    ensures legal { OnOk result (IsOk (folded settings.now snapshot behind.now)) }
+    ensures refused { IfErr result (λ why. Refuses why (folded settings.now snapshot behind.now)) }
+    ensures fault { IfErr result (λ why. why ≡ open_error.Fault → ⊥) }
+{
+    let table = table_from(alloc, settings, snapshot)?;
+    let again = table.snapshot()?;
+    check_legal(table, behind)?;
+    Ok(again)
 }
 
 // The commands without their gates.

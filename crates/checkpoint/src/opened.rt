@@ -1,11 +1,7 @@
 // A disk that was opened: its live segment.
-ghost use Rattle.std.specs.Prelude.{◌≡◌, ◌⊎◌, ◌↔◌, ◌+◌, ◌≤◌, ◌^◌, List, ℕ, length, false, All, None, Some, Ok, Err, IsErrOf, OnOk, OnErr, IfOk};
+ghost use Rattle.std.specs.Prelude.{◌≡◌, ◌↔◌, ◌+◌, ◌≤◌, ◌^◌, length, false, All, None, IsErrOf, OnOk, OnErr};
 ghost use Rattle.sector_disk.specs.Disk.{IsSameDisk, HasRisen};
-ghost use Rattle.sector_disk.specs.Moments.{LeavesOnly};
-ghost use Rattle.retry_rules.specs.declared.settings.Settings.{Settings};
-ghost use Rattle.invoke_records.specs.declared.snapshot.Snapshot.{Snapshot};
 ghost use Rattle.invoke_records.specs.Spelling.{commands_text, command_fault};
-ghost use Rattle.async_core.specs.Rules.{replay};
 
 use gate_journal::{AppendError, Journal};
 use invoke_records::Command;
@@ -22,7 +18,7 @@ pub struct Opened {
 }
 
 impl Opened {
-    ghost use Rattle.checkpoint.specs.Live.{settings_of, number_of, end_of, fits, RecoversTo, IsLive};
+    ghost use Rattle.checkpoint.specs.Live.{settings_of, number_of, end_of, fits, Acknowledges, LeavesBeforeOrAfter};
 
     /// The settings that the disk was formatted with.
     pub fn settings(&self) -> &Settings
@@ -58,12 +54,10 @@ impl Opened {
         ensures end { end_of self.new ≡ end_of self.old }
         ensures number { OnOk result (number_of self.new ≡ number_of self.old + length commands.now) }
 
-        ensures acknowledged { (D.view disk.old).honest → (before after : Snapshot) → IsLive (D.view disk.old) self.old before → replay (settings_of self.old) before commands.now ≡ Some after
-            → OnOk result (IsLive (D.view disk.new) self.new after) }
+        ensures acknowledged { Acknowledges (D.view disk.old) (D.view disk.new) self.old self.new commands.now result }
 
         // A stop at any moment of the call leaves the table from before it, or after the whole batch.
-        ensures any_moment { (D.view disk.old).honest → (before after : Snapshot) → IsLive (D.view disk.old) self.old before → replay (settings_of self.old) before commands.now ≡ Some after
-            → LeavesOnly (D.view disk.old) (D.view disk.new) (λ image. RecoversTo (settings_of self.old) before image ⊎ RecoversTo (settings_of self.old) after image) }
+        ensures any_moment { LeavesBeforeOrAfter (D.view disk.old) (D.view disk.new) self.old commands.now }
     {
         self.journal.append(alloc, disk, commands)
     }

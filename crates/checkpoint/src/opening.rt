@@ -3,18 +3,17 @@ ghost use Rattle.std.specs.Prelude.{◌≡◌, ◌+◌, ◌*◌, ◌≤◌, ◌<
 ghost use Rattle.sector_disk.specs.Disk.{IsSameDisk, HasRisen, HasOneImage};
 ghost use Rattle.sector_disk.specs.Moments.{LeavesOnly};
 ghost use Rattle.retry_rules.specs.Settings.{bad_field};
-ghost use Rattle.invoke_records.specs.declared.snapshot.Snapshot.{Snapshot};
 ghost use Rattle.async_core.specs.Rules.{replay};
 ghost use Rattle.checkpoint.specs.declared.error.OpenError.TheVariants as open_error;
-ghost use Rattle.checkpoint.specs.Image.{folded, read_image, segment_at, recovered};
-ghost use Rattle.checkpoint.specs.Live.{settings_of, number_of, end_of, RecoversTo, IsLive};
-ghost use Rattle.checkpoint.specs.Reads.{OnlyReads, Refuses, Opens};
+ghost use Rattle.checkpoint.specs.Image.{folded, read_image, recovered};
+ghost use Rattle.checkpoint.specs.Live.{settings_of, number_of, end_of};
+ghost use Rattle.checkpoint.specs.Opening.{IsRecovered, TellsNotFormatted, TellsDamage};
+ghost use Rattle.checkpoint.specs.OpenSteps.{OnlyReads, IsLiveSegment, IsLiveBehind, Refuses, Opens};
 
-use crate::legality::{check_legal, without_gates};
+use crate::legality::{judge, without_gates};
 use crate::reading::read_sector;
 use crate::segment::{Segment, read_segment};
 use crate::{OpenError, Opened};
-use async_core::Table;
 use invoke_records::{Command, Snapshot};
 use sector_disk::Disk;
 use std::alloc::Global;
@@ -25,7 +24,7 @@ fn live_end<D: Disk>(disk: &mut D) -> Result<u64, OpenError>
     ensures later { D.fault_count disk.old ≤ D.fault_count disk.new }
     ensures fault { IsErrOf result OpenError.Fault → HasRisen (D.fault_count disk.old) (D.fault_count disk.new) }
     ensures bounds { IfOk result (λ end. (2 ≤ end) × (end ≤ (D.view disk.old).sectors)) }
-    ensures exact { (D.view disk.old).honest → IfOk result (λ end. read_image (D.view disk.old).content ≡ segment_at 0 end (D.view disk.old).content) }
+    ensures exact { (D.view disk.old).honest → IfOk result (λ end. IsLiveSegment 0 end (D.view disk.old).content) }
     ensures refused { (D.view disk.old).honest → IfErr result (λ why. Refuses why (read_image (D.view disk.old).content)) }
 {
     let sectors = disk.sectors();
@@ -59,9 +58,7 @@ fn judged(alloc: Global, segment: Segment) -> Result<(Opened, Snapshot, Vec<Comm
         journal,
         behind,
     } = segment;
-    let table = Table::from_snapshot(alloc, snapshot, settings.copy()?)?;
-    let snapshot = table.snapshot()?;
-    check_legal(table, &behind)?;
+    let snapshot = judge(alloc, &settings, snapshot, &behind)?;
     let commands = without_gates(alloc, behind)?;
     let opened = Opened {
         settings,
@@ -84,7 +81,8 @@ fn read_live<D: Disk>(
     ensures number { IfOk result (λ r. number_of r.0 ≡ r.1.number + length r.2.items + 1) }
     ensures below { IfOk result (λ r. r.1.number + length r.2.items ≤ 2 ^ 62) }
     ensures legal { IfOk result (λ r. IsSome (replay (settings_of r.0) r.1 r.2.items)) }
-    ensures live { (D.view disk.old).honest → HasOneImage (D.view disk.old) → IfOk result (λ r. (table : Snapshot) × (replay (settings_of r.0) r.1 r.2.items ≡ Some table) × IsLive (D.view disk.new) r.0 table) }
+    ensures live { (D.view disk.old).honest → HasOneImage (D.view disk.old)
+        → IfOk result (λ r. IsLiveBehind (D.view disk.new) r.0 r.1 r.2.items) }
     ensures refused { (D.view disk.old).honest → IfErr result (λ why. Refuses why (recovered (D.view disk.old).content)) }
 {
     let end = live_end(disk)?;
@@ -112,10 +110,9 @@ pub fn open<D: Disk>(
     ensures below { IfOk result (λ r. r.1.number + length r.2.items ≤ 2 ^ 62) }
     ensures legal { IfOk result (λ r. IsSome (replay (settings_of r.0) r.1 r.2.items)) }
 
-    ensures live { (D.view disk.old).honest → IfOk result (λ r. (table : Snapshot) × (replay (settings_of r.0) r.1 r.2.items ≡ Some table)
-        × RecoversTo (settings_of r.0) table (D.view disk.old).content × IsLive (D.view disk.new) r.0 table) }
-    ensures not_formatted { (D.view disk.old).honest → IsErrOf result OpenError.NotFormatted → recovered (D.view disk.old).content ≡ Err open_error.NotFormatted }
-    ensures damaged { (D.view disk.old).honest → (sector : ℕ) → result ≡ Err (open_error.Damaged sector) → recovered (D.view disk.old).content ≡ Err (open_error.Damaged sector) }
+    ensures live { (D.view disk.old).honest → IfOk result (λ r. IsRecovered (D.view disk.old) (D.view disk.new) r.0 r.1 r.2.items) }
+    ensures not_formatted { TellsNotFormatted (D.view disk.old) result }
+    ensures damaged { TellsDamage (D.view disk.old) result }
 {
     disk.barrier()?;
     read_live(alloc, disk)

@@ -2,7 +2,7 @@
 ghost use Rattle.std.specs.Prelude.{◌≡◌, ◌+◌, ◌*◌, ◌≤◌, ◌<◌, ◌^◌, length, take, drop, None, Err, IfOk, IfErr, OnOk, IsErrOf};
 ghost use Rattle.std.specs.Int.{w32, w64, from_be_bytes};
 ghost use Rattle.sector_disk.specs.Disk.{HasRisen};
-ghost use Rattle.checkpoint.specs.Reads.{OnlyReads, IsNoFinding};
+ghost use Rattle.checkpoint.specs.OpenSteps.{OnlyReads, IsNoFinding, sectors_at};
 ghost use Rattle.checkpoint.specs.Image.{sector_at, are_zeros};
 
 use crate::OpenError;
@@ -23,7 +23,7 @@ pub(crate) fn read_sectors<D: Disk>(
     ensures later { D.fault_count disk.old ≤ D.fault_count disk.new }
     ensures fault { IsErrOf result OpenError.Fault → HasRisen (D.fault_count disk.old) (D.fault_count disk.new) }
     ensures told { IfErr result (λ why. IsNoFinding why) }
-    ensures bytes { (D.view disk.old).honest → IfOk result (λ bytes. bytes.items ≡ take (512 * count) (drop (512 * at) (D.view disk.old).content)) }
+    ensures bytes { (D.view disk.old).honest → IfOk result (λ bytes. bytes.items ≡ sectors_at at count (D.view disk.old).content) }
     ensures len { IfOk result (λ bytes. length bytes.items ≡ 512 * count) }
 {
     let mut bytes = Vec::new(alloc);

@@ -4,8 +4,8 @@ ghost use Rattle.sector_disk.specs.Disk.{HasRisen};
 ghost use Rattle.retry_rules.specs.Settings.{bad_field};
 ghost use Rattle.gate_journal.specs.Frames.{sectors_for};
 ghost use Rattle.gate_journal.specs.Journal as journal;
-ghost use Rattle.checkpoint.specs.Image.{Image, header_at, sector_at, snapshot_of, segment_at, or_damaged};
-ghost use Rattle.checkpoint.specs.Reads.{OnlyReads, IsDamage, Refuses, IsRead};
+ghost use Rattle.checkpoint.specs.Image.{header_in, snapshot_in, segment_at};
+ghost use Rattle.checkpoint.specs.OpenSteps.{OnlyReads, IsDamage, Refuses, IsRead};
 ghost use Rattle.checkpoint.specs.declared.error.OpenError.TheVariants as open_error;
 
 use crate::OpenError;
@@ -43,8 +43,8 @@ fn header_from<D: Disk>(
     ensures good { IfOk result (λ header. bad_field header.settings ≡ None) }
     ensures size { IfOk result (λ header. header.size < 2 ^ 50) }
     ensures room { IfOk result (λ header. sectors_for header.size + 5 ≤ sectors) }
-    ensures exact { (D.view disk.old).honest → IfOk result (λ header. header_at sectors (sector_at sector (D.view disk.old).content) ≡ Some header) }
-    ensures refused { (D.view disk.old).honest → IfErr result (IsDamage sector (header_at sectors (sector_at sector (D.view disk.old).content) ≡ None)) }
+    ensures exact { (D.view disk.old).honest → IfOk result (λ h. header_in sector sectors (D.view disk.old).content ≡ Some h) }
+    ensures refused { (D.view disk.old).honest → IfErr result (IsDamage sector (header_in sector sectors (D.view disk.old).content)) }
 {
     let bytes = read_sector(disk, sector)?;
     match read_header(alloc, &bytes, sectors)? {
@@ -66,8 +66,9 @@ fn snapshot_from<D: Disk>(
     ensures later { D.fault_count disk.old ≤ D.fault_count disk.new }
     ensures fault { IsErrOf result OpenError.Fault → HasRisen (D.fault_count disk.old) (D.fault_count disk.new) }
     ensures number { IfOk result (λ snapshot. snapshot.number ≤ 2 ^ 62) }
-    ensures exact { (D.view disk.old).honest → IfOk result (λ snapshot. snapshot_of header.now (drop (512 * sector) (D.view disk.old).content) ≡ Some snapshot) }
-    ensures refused { (D.view disk.old).honest → IfErr result (IsDamage sector (snapshot_of header.now (drop (512 * sector) (D.view disk.old).content) ≡ None)) }
+    ensures exact { (D.view disk.old).honest → IfOk result (λ s. snapshot_in sector header.now (D.view disk.old).content ≡ Some s) }
+    ensures refused { (D.view disk.old).honest
+        → IfErr result (IsDamage sector (snapshot_in sector header.now (D.view disk.old).content)) }
 {
     let bytes = read_sectors(alloc, disk, sector, sectors_for(header.size))?;
     match read_snapshot(alloc, header, &bytes)? {
@@ -90,7 +91,7 @@ pub(crate) fn read_segment<D: Disk>(
     ensures fault { IsErrOf result OpenError.Fault → HasRisen (D.fault_count disk.old) (D.fault_count disk.new) }
     ensures good { IfOk result (λ segment. bad_field segment.settings ≡ None) }
     ensures end { IfOk result (λ segment. journal.end_of segment.journal ≡ end) }
-    ensures number { IfOk result (λ segment. journal.number_of segment.journal ≡ segment.snapshot.number + length segment.behind.items + 1) }
+    ensures number { IfOk result (λ s. journal.number_of s.journal ≡ s.snapshot.number + length s.behind.items + 1) }
     ensures below { IfOk result (λ segment. segment.snapshot.number + length segment.behind.items ≤ 2 ^ 62) }
     ensures exact { (D.view disk.old).honest → IfOk result (λ segment. IsRead base end (D.view disk.old).content segment) }
     ensures refused { (D.view disk.old).honest → IfErr result (λ why. Refuses why (segment_at base end (D.view disk.old).content)) }

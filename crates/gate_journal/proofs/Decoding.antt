@@ -7,7 +7,7 @@ use Rattle.invoke_records.specs.declared.error.RecordError.{RecordError}
 use Rattle.invoke_records.specs.declared.error.RecordError.TheVariants.{OutOfMemory, Truncated, BadKind, TooLong}
 use Rattle.invoke_records.specs.Reading.{◌>>=◌, Fails, command_at}
 use Rattle.gate_journal.specs.Frames.{commands_at, whole, behind_gate}
-use Rattle.gate_journal.specs.Reading.{AreDecoded}
+use Rattle.gate_journal.specs.Steps.{AreDecoded}
 
 -- these commands first
 abbrev pub after_these : List Command → Result (List Command × List ℕ) RecordError → Result (List Command × List ℕ) RecordError

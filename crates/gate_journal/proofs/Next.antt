@@ -7,7 +7,7 @@ use Rattle.invoke_records.specs.declared.command.Command.{Command}
 use Rattle.gate_journal.specs.declared.area.Area.{Area}
 use Rattle.gate_journal.specs.Frames.{Head, head_of, is_open, is_head, body_sectors, body_at, commands_at, whole, behind_gate, with_first, goes_on, frame_size, from_body, no_frames, frames_at, area_bytes, frames_in}
 use Rattle.gate_journal.specs.declared.head.Head.{Head as ReadHead}
-use Rattle.gate_journal.specs.Reading.{head_fields}
+use Rattle.gate_journal.specs.Steps.{head_fields}
 use Rattle.gate_journal.proofs.Parts.{take-add}
 use Rattle.gate_journal.proofs.Bodies.{head_same, body_is, padding_of, body_facts}
 use Rattle.gate_journal.proofs.Frames.{rest_read, frames-none, frames-zero, frames-more}

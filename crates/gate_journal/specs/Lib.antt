@@ -1,4 +1,4 @@
 pub mod Frames
 pub mod Journal
-pub mod Reading
+pub mod Steps
 pub mod Written

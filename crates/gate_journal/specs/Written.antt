@@ -1,8 +1,8 @@
 -- An area as it is written: frames, one behind another, and an end.
-use Rattle.std.specs.Prelude.{◌≡◌, ℕ, ◌+◌, ◌^◌, ◌<◌, ◌≤◌, true, false, List, [], ◌∷◌, ◌++◌, length, All}
+use Rattle.std.specs.Prelude.{◌≡◌, ℕ, ◌+◌, ◌*◌, ◌^◌, ◌<◌, ◌≤◌, true, false, List, [], ◌∷◌, ◌++◌, length, All, Ok}
 use Rattle.invoke_records.specs.declared.command.Command.{Command}
-use Rattle.invoke_records.specs.Spelling.{IsCommand, commands_text}
-use Rattle.gate_journal.specs.Frames.{Frames, is_open, body_text, body_sectors, goes_on, behind_gate, no_frames}
+use Rattle.invoke_records.specs.Spelling.{IsBytes, IsCommand, commands_text}
+use Rattle.gate_journal.specs.Frames.{Frames, is_open, body_text, body_sectors, goes_on, behind_gate, no_frames, frames_at}
 
 -- a frame of this batch, the first command of which has this number, and the bytes behind it: an open gate and the one spelling
 -- of the body
@@ -32,3 +32,15 @@ frames_of gate number [] = no_frames number gate
 frames_of gate number (batch ∷ batches) =
     let later = frames_of (gate + 1 + body_sectors (length (commands_text batch))) (number + length batch) batches in
     record later { commands = behind_gate gate batch ++ later.commands }
+
+-- an area of so many sectors that was written is read as the frames of its batches, the first of which has its gate at this sector
+abbrev pub IsReadBack : ℕ → ℕ → ℕ → ℕ → List (List Command) → List ℕ → Type 0
+IsReadBack generation number gate sectors batches bytes =
+    generation < 2 ^ 64 → length bytes ≤ 512 * sectors → IsArea generation number batches bytes
+    → frames_at sectors generation number gate bytes ≡ Ok (frames_of gate number batches)
+
+-- bytes that are read as these frames are an area of batches that was written so
+abbrev pub IsWrittenSo : ℕ → ℕ → ℕ → ℕ → List ℕ → Frames → Type 0
+IsWrittenSo generation number gate sectors bytes frames =
+    generation < 2 ^ 64 → IsBytes bytes → length bytes ≤ 512 * sectors → frames_at sectors generation number gate bytes ≡ Ok frames
+    → (batches : List (List Command)) × IsArea generation number batches bytes × (frames ≡ frames_of gate number batches)

@@ -1,5 +1,5 @@
 // The fields at the front of a body.
-ghost use Rattle.std.specs.Prelude.{◌≡◌, ◌*◌, ◌+◌, ◌<◌, ◌≤◌, ◌^◌, true, length, take};
+ghost use Rattle.std.specs.Prelude.{◌≡◌, ◌*◌, ◌+◌, ◌<◌, ◌≤◌, ◌^◌, true, length, take, drop};
 ghost use Rattle.std.specs.Int.{w32, w64, from_be_bytes};
 ghost use Rattle.gate_journal.specs.Frames.{head_of, is_head, body_sectors};
 
@@ -19,7 +19,7 @@ pub(crate) struct Head {
 const END_OF_NUMBERS: u64 = (1 << 62) + 1;
 
 impl Head {
-    ghost use Rattle.gate_journal.specs.Reading.{head_fields};
+    ghost use Rattle.gate_journal.specs.Steps.{head_fields};
 
     // The head of a body.
     pub(crate) fn read(bytes: &[u8]) -> Head
@@ -27,11 +27,11 @@ impl Head {
         ensures { head_fields result ≡ head_of bytes.now }
     {
         Head {
-            generation: first_u64(bytes),
-            number: first_u64(&bytes[8..]),
-            count: first_u32(&bytes[16..]),
-            size: first_u32(&bytes[20..]),
-            zero_field: first_u64(&bytes[24..]),
+            generation: u64_at(bytes, 0),
+            number: u64_at(bytes, 8),
+            count: u32_at(bytes, 16),
+            size: u32_at(bytes, 20),
+            zero_field: u64_at(bytes, 24),
         }
     }
 
@@ -54,22 +54,24 @@ impl Head {
     }
 }
 
-// The number in the first 8 bytes.
-fn first_u64(bytes: &[u8]) -> u64
-    requires { 8 ≤ length bytes.now }
-    ensures { result ≡ from_be_bytes w64 (take 8 bytes.now) }
+// The number in the eight bytes from this place on.
+fn u64_at(bytes: &[u8], at: usize) -> u64
+    requires { at + 8 ≤ length bytes.now }
+    ensures { result ≡ from_be_bytes w64 (take 8 (drop at bytes.now)) }
 {
-    let (front, _) = bytes.split_at(8);
+    let (_, rest) = bytes.split_at(at);
+    let (front, _) = rest.split_at(8);
     u64::from_be_bytes([
         front[0], front[1], front[2], front[3], front[4], front[5], front[6], front[7],
     ])
 }
 
-// The number in the first 4 bytes.
-fn first_u32(bytes: &[u8]) -> u32
-    requires { 4 ≤ length bytes.now }
-    ensures { result ≡ from_be_bytes w32 (take 4 bytes.now) }
+// The number in the four bytes from this place on.
+fn u32_at(bytes: &[u8], at: usize) -> u32
+    requires { at + 4 ≤ length bytes.now }
+    ensures { result ≡ from_be_bytes w32 (take 4 (drop at bytes.now)) }
 {
-    let (front, _) = bytes.split_at(4);
+    let (_, rest) = bytes.split_at(at);
+    let (front, _) = rest.split_at(4);
     u32::from_be_bytes([front[0], front[1], front[2], front[3]])
 }

@@ -1,13 +1,8 @@
 // A journal: reading it whole, and a batch appended to it.
-ghost use Rattle.std.specs.Prelude.{◌≡◌, ◌↔◌, ◌*◌, ◌+◌, ◌-◌, ◌<◌, ◌≤◌, ◌^◌, ◌++◌, [], ◌∷◌, List, ℕ, length, false, true, All, None, Ok, Err, IsErrOf, OnOk, OnErr, IfOk, IfErr, IsOk};
-ghost use Rattle.sector_disk.specs.Disk.{IsSameDisk, HasRisen, IsUntouched, HasOneImage};
-ghost use Rattle.sector_disk.specs.Moments.{LeavesOnly};
+ghost use Rattle.std.specs.Prelude.{◌≡◌, ◌↔◌, ◌+◌, ◌≤◌, ◌^◌, length, false, All, None, IsErrOf, OnOk, OnErr, IfOk};
+ghost use Rattle.sector_disk.specs.Disk.{IsSameDisk, HasRisen, IsUntouched};
 ghost use Rattle.invoke_records.specs.Spelling.{commands_text, command_fault};
-ghost use Rattle.gate_journal.specs.declared.area.Area.{Area};
-ghost use Rattle.gate_journal.specs.declared.error.ReadError.TheVariants as read_error;
-ghost use Rattle.gate_journal.specs.declared.error.AppendError.TheVariants as append_error;
-ghost use Rattle.gate_journal.specs.Frames.{Frames, frames_in, frames_with, SameOutside};
-ghost use Rattle.gate_journal.specs.Journal.{generation_of, number_of, next_of, end_of, fits, Holds, IsBeforeOrAfter};
+ghost use Rattle.gate_journal.specs.Journal.{generation_of, number_of, end_of, fits, IsFound, TellsDamage, Acknowledges, LeavesBeforeOrAfter};
 
 use crate::reading::read_frame;
 use crate::writing::{batch_size, spell_frame};
@@ -56,8 +51,8 @@ impl Journal {
         ensures numbers { IfOk result (λ r. number_of r.0 ≡ area.number + length r.1.items) }
         ensures below { IfOk result (λ r. number_of r.0 ≤ 2 ^ 62 + 1) }
 
-        ensures read { (D.view disk.old).honest → IfOk result (λ r. (frames : Frames) × (frames.commands ≡ r.1.items) × Holds area frames r.0 (D.view disk.old).content) }
-        ensures damaged { (D.view disk.old).honest → (sector : ℕ) → result ≡ Err (read_error.Damaged sector) → frames_in area (D.view disk.old).content ≡ Err sector }
+        ensures read { (D.view disk.old).honest → IfOk result (λ r. IsFound (D.view disk.old) area r.0 r.1.items) }
+        ensures damaged { TellsDamage (D.view disk.old) area result }
     {
         let mut found = Vec::new(alloc);
         let mut left = area;
@@ -100,12 +95,10 @@ impl Journal {
         ensures generation { generation_of self.new ≡ generation_of self.old }
         ensures number { OnOk result (number_of self.new ≡ number_of self.old + length commands.now) }
 
-        ensures acknowledged { (D.view disk.old).honest → HasOneImage (D.view disk.old) → (area : Area) (frames : Frames) → Holds area frames self.old (D.view disk.old).content
-            → OnOk result (HasOneImage (D.view disk.new) × Holds area (frames_with frames commands.now) self.new (D.view disk.new).content × SameOutside area (D.view disk.old).content (D.view disk.new).content) }
+        ensures acknowledged { Acknowledges (D.view disk.old) (D.view disk.new) self.old self.new commands.now result }
 
         // A stop at any moment of the call leaves the commands from before it, or those and the whole batch.
-        ensures any_moment { (D.view disk.old).honest → HasOneImage (D.view disk.old) → (area : Area) (frames : Frames) → Holds area frames self.old (D.view disk.old).content
-            → LeavesOnly (D.view disk.old) (D.view disk.new) (IsBeforeOrAfter area frames commands.now (D.view disk.old).content) }
+        ensures any_moment { LeavesBeforeOrAfter (D.view disk.old) (D.view disk.new) self.old commands.now }
     {
         let size = batch_size(commands);
         if !self.fits(size) {

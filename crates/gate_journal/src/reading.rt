@@ -5,8 +5,9 @@ ghost use Rattle.std.specs.List.{list_all};
 ghost use Rattle.sector_disk.specs.Disk.{HasRisen, HasCause};
 ghost use Rattle.invoke_records.specs.declared.command.Command.{Command};
 ghost use Rattle.gate_journal.specs.declared.error.ReadError.TheVariants as read_error;
-ghost use Rattle.gate_journal.specs.Frames.{is_open, behind_gate, no_frames, with_first, frames_in, commands_at, whole, area_bytes, head_of, body_sectors};
-ghost use Rattle.gate_journal.specs.Reading.{OnlyReads, head_fields, IsBodyRead, AreDecoded, NextFrame, IsFurther};
+ghost use Rattle.gate_journal.specs.Frames.{commands_at, whole, body_sectors};
+ghost use Rattle.gate_journal.specs.Journal.{TellsDamage};
+ghost use Rattle.gate_journal.specs.Steps.{OnlyReads, is_gate_open, with_rest, behind_first_gate, IsBodyRead, AreDecoded, IsLeft, NextFrame};
 
 use crate::head::Head;
 use crate::{Area, ReadError};
@@ -19,7 +20,7 @@ fn read_gate<D: Disk>(disk: &mut D, at: u64) -> Result<bool, Fault>
     requires { at < (D.view disk.old).sectors }
     ensures reads { OnlyReads (D.view disk.old) (D.view disk.new) (D.fault_count disk.old) (D.fault_count disk.new) }
     ensures fault { IsErr result → HasRisen (D.fault_count disk.old) (D.fault_count disk.new) }
-    ensures open_gate { (D.view disk.old).honest → IfOk result (λ open_gate. open_gate ≡ is_open (drop (512 * at) (D.view disk.old).content)) }
+    ensures open_gate { (D.view disk.old).honest → IfOk result (λ open_gate. open_gate ≡ is_gate_open at (D.view disk.old).content) }
 {
     let mut gate = [0; SECTOR_SIZE];
     disk.read(at, &mut gate)?;
@@ -41,7 +42,7 @@ fn read_rest<D: Disk>(
     ensures fault { IsErrOf result ReadError.Fault → HasRisen (D.fault_count disk.old) (D.fault_count disk.new) }
     ensures damaged { (sector : ℕ) → result ≡ Err (read_error.Damaged sector) → ⊥ }
     ensures size { IfOk result (λ bytes. length bytes.items ≡ 512 * sectors) }
-    ensures bytes { (D.view disk.old).honest → IfOk result (λ bytes. bytes.items ≡ first.now ++ take (512 * (sectors - 1)) (drop (512 * at) (D.view disk.old).content)) }
+    ensures bytes { (D.view disk.old).honest → IfOk result (λ r. r.items ≡ with_rest first.now at sectors (D.view disk.old).content) }
 {
     let mut bytes = Vec::from_slice(alloc, first)?;
     if sectors > 1 {
@@ -67,7 +68,7 @@ fn read_body<D: Disk>(
     ensures size { IfOk result (λ r. IfSome r (λ x. length x.1.items ≡ 512 * body_sectors x.0.size)) }
     ensures inside { IfOk result (λ r. IfSome r (λ x. area.start + body_sectors x.0.size + 2 ≤ area.end)) }
     ensures numbers { IfOk result (λ r. IfSome r (λ x. area.number + x.0.count ≤ 2 ^ 62 + 1)) }
-    ensures body { (D.view disk.old).honest → IfOk result (λ r. IsBodyRead area (drop 512 (area_bytes area (D.view disk.old).content)) r) }
+    ensures body { (D.view disk.old).honest → IfOk result (λ r. IsBodyRead area (behind_first_gate area (D.view disk.old).content) r) }
 {
     let mut first = [0; SECTOR_SIZE];
     disk.read(area.start + 1, &mut first)?;
@@ -136,9 +137,9 @@ pub(crate) fn read_frame<D: Disk>(
     requires number { left.number ≤ 2 ^ 62 + 1 }
     ensures reads { OnlyReads (D.view disk.old) (D.view disk.new) (D.fault_count disk.old) (D.fault_count disk.new) }
     ensures fault { IsErrOf result ReadError.Fault → HasRisen (D.fault_count disk.old) (D.fault_count disk.new) }
-    ensures further { IfOk result (λ r. MatchOption r (found.new.items ≡ found.old.items) (λ next. IsFurther left next (length found.old.items) (length found.new.items))) }
-    ensures frame { (D.view disk.old).honest → IfOk result (λ r. NextFrame left (D.view disk.old).content found.old.items found.new.items r) }
-    ensures damaged { (D.view disk.old).honest → (sector : ℕ) → result ≡ Err (read_error.Damaged sector) → frames_in left (D.view disk.old).content ≡ Err sector }
+    ensures further { IfOk result (IsLeft left found.old.items found.new.items) }
+    ensures frame { (D.view disk.old).honest → IfOk result (NextFrame left (D.view disk.old).content found.old.items found.new.items) }
+    ensures damaged { TellsDamage (D.view disk.old) left result }
 {
     if left.end - left.start < 3 {
         return Ok(None);

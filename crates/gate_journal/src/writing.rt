@@ -4,6 +4,7 @@ ghost use Rattle.std.specs.Int.{w32, w64, to_be_bytes};
 ghost use Rattle.invoke_records.specs.Spelling.{IsCommand, command_text, commands_text, command_fault};
 ghost use Rattle.gate_journal.specs.declared.error.AppendError.TheVariants.{OutOfMemory};
 ghost use Rattle.gate_journal.specs.Frames.{body_text};
+ghost use Rattle.gate_journal.specs.Steps.{with_head};
 
 use crate::AppendError;
 use invoke_records::{Command, Kind};
@@ -53,7 +54,7 @@ fn spell_head(
     size: u32,
     out: &mut Vec<u8>,
 ) -> Result<(), AllocError>
-    ensures { OnOk result (out.new.items ≡ out.old.items ++ to_be_bytes w64 generation ++ to_be_bytes w64 number ++ to_be_bytes w32 count ++ to_be_bytes w32 size ++ to_be_bytes w64 0) }
+    ensures { OnOk result (out.new.items ≡ with_head out.old.items generation number count size) }
 {
     out.extend_from_slice(&generation.to_be_bytes())?;
     out.extend_from_slice(&number.to_be_bytes())?;

@@ -1,8 +1,9 @@
 use Rattle.std.proofs.Common.{◌≡◌, inl, ◌*◌, ◌/◌, ◌≤◌, length, List, ℕ, ◌∙◌, subst, arith}
 use Rattle.async_core.specs.Rules.{empty_table}
-use Rattle.checkpoint.specs.Image.{least_sectors, HoldsFirst}
+use Rattle.checkpoint.specs.Image.{least_sectors}
 use Rattle.sector_disk.specs.laws.Moments.{started}
 use Rattle.checkpoint.specs.Formatting.{IsFormatting}
+use Rattle.checkpoint.specs.FormatSteps.{HoldsFirst}
 use Rattle.sector_disk.specs.laws.Moments.{leaves_weaker}
 use Rattle.checkpoint.proofs.Stops.{unchanged}
 use Rattle.checkpoint.proofs.Firsts.{being_formatted, segment_whole, segment_before, empty_small, empty_recovers, empty_generation}

@@ -3,8 +3,8 @@ use Rattle.sector_disk.specs.Disk.{Holds}
 use Rattle.sector_disk.specs.laws.Moments.{settles}
 use Rattle.std.proofs.lemmas.Result.{on_ok_weaker}
 use Rattle.gate_journal.specs.Frames.{is_open}
-use Rattle.checkpoint.specs.Image.{sector_at, HoldsFirst}
-use Rattle.checkpoint.specs.Formatting.{IsClosed}
+use Rattle.checkpoint.specs.Image.{sector_at}
+use Rattle.checkpoint.specs.FormatSteps.{HoldsFirst, IsClosed}
 use Rattle.checkpoint.proofs.Formatted.{first_written, both_closed, segment_there}
 use Rattle.checkpoint.proofs.Stops.{gate_a_closed, gate_b_closed, any_of, segment_written, gate_a_opened}
 use Rattle.checkpoint.proofs.formatting.write_first.Goals as goal

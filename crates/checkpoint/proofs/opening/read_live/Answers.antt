@@ -4,7 +4,7 @@ use Rattle.std.proofs.lemmas.Result.{err_from_is_err_and, IfOk-weaker, IfErr-wea
 use Rattle.invoke_records.specs.declared.snapshot.Snapshot.{Snapshot}
 use Rattle.gate_journal.specs.Journal as journal
 use Rattle.checkpoint.specs.Image.{read_image, segment_at}
-use Rattle.checkpoint.specs.Reads.{reads_more, refuses_along}
+use Rattle.checkpoint.proofs.Refusals.{reads_more, refuses_along}
 use Rattle.checkpoint.proofs.Lives.{image_refused, opened_replays, fold_refused, is_live}
 use Rattle.checkpoint.proofs.opening.read_live.Goals as goal
 

@@ -1,6 +1,6 @@
 use Rattle.std.proofs.Common.{ℕ, ◌+◌, ◌*◌, List, Ok, Err, drop, sym, ◌∙◌, ap, refl}
 use Rattle.std.proofs.lemmas.Result.{err_from_is_err_and}
-use Rattle.checkpoint.specs.Reads.{damage_refuses, journal_refuses}
+use Rattle.checkpoint.proofs.Refusals.{damage_refuses, journal_refuses}
 use Rattle.checkpoint.specs.Image.{snapshot_of, area_of}
 use Rattle.checkpoint.proofs.Segments.{no_header, no_snapshot, behind_snapshot}
 use Rattle.checkpoint.proofs.segment.read_segment.Goals as goal

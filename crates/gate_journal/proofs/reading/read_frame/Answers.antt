@@ -4,7 +4,7 @@ use Rattle.std.specs.List.{list_all}
 use Rattle.std.proofs.lemmas.List.{take_rest}
 use Rattle.invoke_records.specs.declared.command.Command.{Command}
 use Rattle.gate_journal.specs.Frames.{area_bytes, behind_gate, commands_at, whole}
-use Rattle.gate_journal.specs.Reading.{IsBodyRead, AreDecoded}
+use Rattle.gate_journal.specs.Steps.{IsBodyRead, AreDecoded}
 use Rattle.gate_journal.proofs.Frames.{length-behind_gate}
 use Rattle.gate_journal.proofs.Next.{no_room, no_frame, no_head_read, bad_padding, bad_commands, good_commands}
 use Rattle.gate_journal.proofs.reading.read_frame.Given.{Over}

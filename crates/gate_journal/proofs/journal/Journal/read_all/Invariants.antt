@@ -1,6 +1,6 @@
 use Rattle.std.proofs.Common.{◌≡◌, ◌+◌, ◌-◌, ◌^◌, ◌≤◌, length}
 use Rattle.gate_journal.specs.Frames.{frames_in, with_first}
-use Rattle.gate_journal.specs.Reading.{OnlyReads}
+use Rattle.gate_journal.specs.Steps.{OnlyReads}
 use Rattle.gate_journal.proofs.journal.Journal.read_all.Given as goal
 
 abbrev pub invariant-loop-found : goal.invariant-loop-found
