@@ -1,12 +1,8 @@
 // One event accepted, committed and recovered, on a disk in memory.
-ghost use Rattle.std.specs.Prelude.{◌≡◌, List, ℕ, length, Ok, IfOk};
+ghost use Rattle.std.specs.Prelude.{◌≡◌, Ok, IfOk};
 ghost use Rattle.sector_disk.specs.Memory.{memory_view};
-ghost use Rattle.invoke_records.specs.declared.command.Command.{Command};
 ghost use Rattle.invoke_records.specs.declared.row.Standing.TheVariants as standing;
-ghost use Rattle.async_core.specs.History.{IsLegal};
-ghost use Rattle.group_commit.specs.History.{IsLegalStop};
-ghost use Rattle.group_commit.specs.Broker.{settings_of, durable_of, Stands};
-ghost use Rattle.lambda_broker.specs.Trial.{trial_settings, trial_acceptance, is_device_fault};
+ghost use Rattle.lambda_broker.specs.Trial.{trial_settings, trial_acceptance, ForEachWholeHistory, IsOpened, is_device_fault};
 
 use group_commit::{Broker, CommitError, FormatError, IssueError, OpenError, OpenFailure, format};
 use invoke_records::{Bytes, Command, Kind, Standing};
@@ -120,8 +116,7 @@ fn opened(
 
 // Opens the disk; where that fails, the disk is given up.
 fn open(alloc: Global, disk: MemDisk) -> Result<Broker<MemDisk>, OpenError>
-    ensures { (history : List Command) → IsLegal trial_settings history → ((image : List ℕ) → (memory_view disk).may_leave image → IsLegalStop trial_settings history (length history) image)
-        → IfOk result (λ b. (settings_of b ≡ trial_settings) × (durable_of b ≡ length history) × Stands memory_view b history) }
+    ensures { ForEachWholeHistory (memory_view disk) (λ history. IfOk result (IsOpened history)) }
 {
     opened(Broker::open(alloc, disk))
 }
