@@ -14,6 +14,7 @@ use Rattle.group_commit.specs.declared.error.CommitError.TheVariants as commit_e
 use Rattle.group_commit.specs.declared.broker.Broker.{Broker}
 use Rattle.group_commit.specs.History.{IsLegalStop}
 use Rattle.group_commit.specs.Broker.{settings_of, durable_of, Stands}
+use Rattle.lambda_broker.specs.declared.trial.Accepted.{Accepted}
 use Rattle.lambda_broker.specs.declared.trial.Trial.{Trial}
 use Rattle.lambda_broker.specs.declared.trial.TrialError.{TrialError}
 use Rattle.lambda_broker.specs.declared.trial.TrialError.TheVariants.{Format, Open, Commit}
@@ -42,16 +43,21 @@ trial_acceptance = record {
   bytes = codes "{}";
 }
 
--- this holds of each legal history such that each image of the disk recovers to all of it
-abbrev pub ForEachWholeHistory : DiskView → (List Command → Type 0) → Type 0
-ForEachWholeHistory disk P =
-    (history : List Command) → IsLegal trial_settings history
-    → ((image : List ℕ) → disk.may_leave image → IsLegalStop trial_settings history (length history) image) → P history
+-- the history is legal, and each image of the disk recovers to all of it
+pub record Holds (disk : DiskView) (history : List Command) : Type 0 where
+  pub legal : IsLegal trial_settings history
+  pub stops : (image : List ℕ) → disk.may_leave image → IsLegalStop trial_settings history (length history) image
 
 -- the broker stands for this history, which is all durable
 abbrev pub IsOpened : {g : Ghosts MemDisk} → List Command → Broker MemDisk g → Type 0
 IsOpened history broker =
     (settings_of broker ≡ trial_settings) × (durable_of broker ≡ length history) × Stands memory_view broker history
+
+-- the event is the first command, and the disk holds it
+pub record IsAccepted (accepted : Accepted) : Type 0 where
+  pub first : accepted.number ≡ 1
+  pub durable : accepted.durable ≡ 1
+  pub holds : Holds (memory_view accepted.disk) (trial_acceptance ∷ [])
 
 abbrev pub is_device_fault : TrialError → Bool
 is_device_fault (Format format_error.Fault) = true
