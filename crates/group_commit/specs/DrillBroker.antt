@@ -1,16 +1,16 @@
 -- A step of a script, by the brokers before and after it.
-use Rattle.std.specs.Prelude.{◌≡◌, ◌⊎◌, ℕ, ◌≤◌, false, List, length, take}
+use Rattle.std.specs.Prelude.{◌≡◌, ℕ, ◌≤◌, false, List, length, take}
 use Rattle.sector_disk.specs.declared.disk.Disk.{Ghosts}
 use Rattle.sector_disk.specs.declared.memory.MemDisk.{MemDisk}
 use Rattle.sector_disk.specs.Memory.{memory_view}
 use Rattle.retry_rules.specs.declared.settings.Settings.{Settings}
 use Rattle.invoke_records.specs.declared.command.Command.{Command}
-use Rattle.checkpoint.specs.declared.error.OpenError.{OpenError}
-use Rattle.checkpoint.specs.declared.error.OpenError.TheVariants.{Fault, OutOfMemory}
 use Rattle.group_commit.specs.declared.broker.Broker.{Broker}
 use Rattle.group_commit.specs.declared.script.Step.{Step}
 use Rattle.group_commit.specs.declared.script.StepAnswer.{StepAnswer}
+use Rattle.group_commit.specs.declared.script.Drill.{Drill}
 use Rattle.group_commit.specs.Broker.{settings_of, durable_of, is_broken, Stands}
+use Rattle.group_commit.specs.Promises.{ForEachHistory}
 use Rattle.group_commit.specs.Drill.{Log, IsStep, IsRun}
 
 -- the log of a broker that stands for this history
@@ -26,6 +26,16 @@ pub record LeadsOn {g : Ghosts MemDisk} (old : Broker MemDisk g) (history : List
   pub broken : is_broken new ≡ next.broken
   pub stands : Stands memory_view new next.history
 
+-- the step leads so on from each history that the broker stands for
+abbrev pub Leads : {g : Ghosts MemDisk} → Broker MemDisk g → Step → StepAnswer → Broker MemDisk g → Type 0
+Leads old step answer new = ForEachHistory memory_view old (λ history. LeadsOn old history step answer new)
+
+-- a broker after an opening: it is not broken, and stands for a prefix of the history, which is all durable
+abbrev pub IsStarted : {g : Ghosts MemDisk} → Settings → List Command → ℕ → Broker MemDisk g → Type 0
+IsStarted s history durable broker =
+    (durable ≤ durable_of broker) × (durable_of broker ≤ length history) × (settings_of broker ≡ s) × (is_broken broker ≡ false)
+    × Stands memory_view broker (take (durable_of broker) history)
+
 -- a script was run on a disk of which each image was a legal stop: its answers are those of one history, which begins with
 -- what the opening recovered, and the broker stands for what that history came to
 pub record IsDrilled {g : Ghosts MemDisk} (s : Settings) (history : List Command) (durable : ℕ) (steps : List Step) (answers : List StepAnswer) (broker : Broker MemDisk g) : Type 0 where
@@ -39,6 +49,6 @@ pub record IsDrilled {g : Ghosts MemDisk} (s : Settings) (history : List Command
   pub broken_is : is_broken broker ≡ end.broken
   pub stands : Stands memory_view broker end.history
 
--- what may cut a script off: the device, which is memory here too, or memory
-abbrev pub IsCutOff : OpenError → Type 0
-IsCutOff why = (why ≡ Fault) ⊎ (why ≡ OutOfMemory)
+-- the script was run so, and this is what came of it
+abbrev pub IsDrillOf : Settings → List Command → ℕ → List Step → Drill → Type 0
+IsDrillOf s history durable steps drill = IsDrilled s history durable steps drill.answers.items drill.broker

@@ -1,15 +1,9 @@
 // The broker over one disk.
 ghost use Rattle.std.specs.Prelude.{◌≡◌, ◌⊎◌, ◌+◌, ◌<◌, ◌≤◌, ◌^◌, ◌++◌, [], ◌∷◌, List, ℕ, length, take, false, true, All, None, Some, Ok, Err, IsTrue, IsErrOf, OnOk, OnErr, IfOk, IfErr, MatchOption};
-ghost use Rattle.sector_disk.specs.Disk.{IsSameDisk, HasRisen};
-ghost use Rattle.sector_disk.specs.Moments.{LeavesOnly};
-ghost use Rattle.retry_rules.specs.declared.settings.Settings.{Settings};
-ghost use Rattle.invoke_records.specs.declared.command.Command.{Command};
-ghost use Rattle.invoke_records.specs.Spelling.{command_fault, commands_text};
-ghost use Rattle.checkpoint.specs.declared.error.OpenError.TheVariants as open_error;
-ghost use Rattle.checkpoint.specs.Image.{recovered};
+ghost use Rattle.sector_disk.specs.Disk.{IsSameDisk};
+ghost use Rattle.invoke_records.specs.Spelling.{command_fault};
 ghost use Rattle.checkpoint.specs.Live as live;
-ghost use Rattle.async_core.specs.History.{IsLegal};
-ghost use Rattle.group_commit.specs.History.{AreGood, IsLegalStop};
+ghost use Rattle.group_commit.specs.History.{AreGood};
 
 use crate::recovery::recover;
 use crate::{Durable, OpenFailure, Receipt, Ticket};
@@ -46,7 +40,9 @@ pub struct Broker<D: Disk> {
 }
 
 impl<D: Disk> Broker<D> {
-    ghost use Rattle.group_commit.specs.Broker.{disk_of, settings_of, table_in, issued_of, pending_of, durable_of, is_broken, opened_of, Stands, IsSameBroker};
+    ghost use Rattle.group_commit.specs.Broker.{disk_of, settings_of, table_in, issued_of, pending_of, durable_of, is_broken};
+    ghost use Rattle.group_commit.specs.Promises.{ForEachHistoryOn, LeavesLegalStops, LeavesWhatWas, IsRecovered, IsReceiptFor};
+    ghost use Rattle.group_commit.specs.Refusals.{TellsFault, TellsNotFormatted, TellsDamage, IsCutOff};
 
     /// Opens a formatted disk. What was durable is there, and what was written and not acknowledged may be.
     ///
@@ -55,23 +51,23 @@ impl<D: Disk> Broker<D> {
     pub fn open(alloc: Global, disk: D) -> Result<Broker<D>, OpenFailure<D>>
         ensures same { IfOk result (λ b. IsSameDisk (D.view disk) (D.view (disk_of b))) }
         ensures same_failed { IfErr result (λ e. IsSameDisk (D.view disk) (D.view e.disk)) }
-        ensures fault { IfErr result (λ e. D.fault_count disk ≤ D.fault_count e.disk × (e.cause ≡ open_error.Fault → HasRisen (D.fault_count disk) (D.fault_count e.disk))) }
+        ensures fault { IfErr result (λ e. TellsFault (D.fault_count disk) (D.fault_count e.disk) e.cause) }
 
         ensures fresh { IfOk result (λ b. (is_broken b ≡ false) × (pending_of b ≡ []) × (durable_of b ≡ issued_of b)) }
         ensures recovers { (D.view disk).honest → IfOk result (λ b. live.RecoversTo (settings_of b) (table_in b) (D.view disk).content) }
-        ensures not_formatted { (D.view disk).honest → IfErr result (λ e. e.cause ≡ open_error.NotFormatted → recovered (D.view disk).content ≡ Err open_error.NotFormatted) }
-        ensures damaged { (D.view disk).honest → IfErr result (λ e. (sector : ℕ) → e.cause ≡ open_error.Damaged sector → recovered (D.view disk).content ≡ Err (open_error.Damaged sector)) }
+        ensures not_formatted { (D.view disk).honest → IfErr result (λ e. TellsNotFormatted (D.view disk).content e.cause) }
+        ensures damaged { (D.view disk).honest → IfErr result (λ e. TellsDamage (D.view disk).content e.cause) }
 
         // A stop at any moment of the call leaves an image from before it.
-        ensures any_moment { (D.view disk).honest → IfOk result (λ b. LeavesOnly (D.view disk) (D.view (disk_of b)) (D.view disk).may_leave) }
-        ensures any_moment_failed { (D.view disk).honest → IfErr result (λ e. LeavesOnly (D.view disk) (D.view e.disk) (D.view disk).may_leave) }
+        ensures any_moment { (D.view disk).honest → IfOk result (λ b. LeavesWhatWas (D.view disk) (D.view (disk_of b))) }
+        ensures any_moment_failed { (D.view disk).honest → IfErr result (λ e. LeavesWhatWas (D.view disk) (D.view e.disk)) }
 
         // Where each image is a legal stop of a history, only the device and memory refuse, and the broker stands for a
         // prefix of that history with at least the durable commands.
-        ensures stands { (D.view disk).honest → (s : Settings) (history : List Command) (durable : ℕ) → IsLegal s history → ((image : List ℕ) → (D.view disk).may_leave image → IsLegalStop s history durable image)
-            → IfOk result (λ b. (durable ≤ issued_of b) × (issued_of b ≤ length history) × (settings_of b ≡ s) × Stands D.view b (take (issued_of b) history)) }
-        ensures refused { (D.view disk).honest → (s : Settings) (history : List Command) (durable : ℕ) → IsLegal s history → ((image : List ℕ) → (D.view disk).may_leave image → IsLegalStop s history durable image)
-            → IfErr result (λ e. (e.cause ≡ open_error.Fault) ⊎ (e.cause ≡ open_error.OutOfMemory)) }
+        ensures stands { (D.view disk).honest
+            → ForEachHistoryOn (D.view disk) (λ s history durable. IfOk result (IsRecovered D.view s history durable)) }
+        ensures refused { (D.view disk).honest
+            → ForEachHistoryOn (D.view disk) (λ s history durable. IfErr result (λ e. IsCutOff e.cause)) }
     {
         let mut disk = disk;
         match recover(alloc, &mut disk) {
@@ -115,7 +111,7 @@ impl<D: Disk> Broker<D> {
     /// A receipt for a ticket whose command is durable. It speaks of the number: a ticket is meant for the opening that
     /// gave it.
     pub fn redeem(&self, ticket: &Ticket) -> Option<Receipt>
-        ensures { MatchOption result (durable_of self.now < ticket.now) (λ receipt. (receipt ≡ ticket.now) × (ticket.now ≤ durable_of self.now)) }
+        ensures { MatchOption result (durable_of self.now < ticket.now) (IsReceiptFor self.now ticket.now) }
     {
         let number = ticket.number();
         if number <= self.durable {
@@ -128,7 +124,7 @@ impl<D: Disk> Broker<D> {
     /// The disk, also of a broken broker. What is pending is given up.
     pub fn close(self) -> D
         ensures disk { result ≡ disk_of self }
-        ensures any_moment { (D.view (disk_of self)).honest → (history : List Command) → Stands D.view self history → LeavesOnly (D.view (disk_of self)) (D.view result) (IsLegalStop (settings_of self) history (durable_of self)) }
+        ensures any_moment { LeavesLegalStops D.view self result }
     {
         let Broker { disk, .. } = self;
         disk

@@ -8,8 +8,10 @@ ghost use Rattle.invoke_records.specs.Spelling.{commands_text};
 ghost use Rattle.async_core.specs.Rules.{replay};
 ghost use Rattle.checkpoint.specs.Live.{fits, RecoversTo, IsLive};
 ghost use Rattle.group_commit.specs.declared.error.CommitError.TheVariants as commit_error;
-ghost use Rattle.group_commit.specs.Broker.{disk_of, settings_of, table_in, issued_of, pending_of, durable_of, is_broken, opened_of, Stands, IsSameBroker, Commits, Breaks};
-ghost use Rattle.group_commit.specs.History.{IsLegalStop};
+ghost use Rattle.group_commit.specs.Broker.{disk_of, pending_of, is_broken, opened_of, Stands, IsSameBroker, Commits, Breaks};
+ghost use Rattle.group_commit.specs.Promises.{ForEachHistory, LeavesLegalStops, HasAllDurable};
+ghost use Rattle.group_commit.specs.Refusals.{FaultsHaveRisen, AnswersAtOnce, HasNoRoom};
+ghost use Rattle.group_commit.specs.Steps.{ForBothTables, LeavesEither};
 
 use crate::{Broker, CommitError, Durable};
 use checkpoint::AppendError;
@@ -21,19 +23,17 @@ impl<D: Disk> Broker<D> {
         requires { is_broken self.old ≡ false }
         ensures same { IsSameDisk (D.view (disk_of self.old)) (D.view (disk_of self.new)) }
         ensures later { D.fault_count (disk_of self.old) ≤ D.fault_count (disk_of self.new) }
-        ensures fault { IsErrOf result CommitError.Fault → HasRisen (D.fault_count (disk_of self.old)) (D.fault_count (disk_of self.new)) }
-        ensures nothing { pending_of self.old ≡ [] → (result ≡ Ok (durable_of self.old)) × (disk_of self.new ≡ disk_of self.old) }
+        ensures fault { IsErrOf result CommitError.Fault → FaultsHaveRisen D.fault_count self.old self.new }
+        ensures nothing { pending_of self.old ≡ [] → AnswersAtOnce self.old self.new result }
         ensures ok { IfOk result (λ durable. Commits self.old self.new durable) }
         ensures breaks { result ≡ Err commit_error.Fault → Breaks self.old self.new }
-        ensures no_room { result ≡ Err commit_error.NoRoom → fits (opened_of self.old) (length (commands_text (pending_of self.old))) ≡ false }
+        ensures no_room { result ≡ Err commit_error.NoRoom → HasNoRoom self.old }
         ensures not_broken { result ≡ Err commit_error.Broken → is_broken self.old ≡ true }
         ensures kept { OnErr result (result ≡ Err commit_error.Fault ⊎ IsSameBroker self.old self.new) }
 
-        ensures acknowledged { (D.view (disk_of self.old)).honest → (before after : Snapshot) → IsLive (D.view (disk_of self.old)) (opened_of self.old) before
-            → replay (settings_of self.old) before (pending_of self.old) ≡ Some after → OnOk result (IsLive (D.view (disk_of self.new)) (opened_of self.new) after) }
-        ensures any_moment { (D.view (disk_of self.old)).honest → (before after : Snapshot) → IsLive (D.view (disk_of self.old)) (opened_of self.old) before
-            → replay (settings_of self.old) before (pending_of self.old) ≡ Some after
-            → LeavesOnly (D.view (disk_of self.old)) (D.view (disk_of self.new)) (λ image. RecoversTo (settings_of self.old) before image ⊎ RecoversTo (settings_of self.old) after image) }
+        ensures acknowledged { ForBothTables D.view self.old (λ before after.
+            OnOk result (IsLive (D.view (disk_of self.new)) (opened_of self.new) after)) }
+        ensures any_moment { ForBothTables D.view self.old (LeavesEither D.view self.old self.new) }
     {
         if self.pending.is_empty() {
             return Ok(Durable::new(self.durable));
@@ -64,10 +64,10 @@ impl<D: Disk> Broker<D> {
     pub fn commit(&mut self) -> Result<Durable, CommitError>
         ensures same { IsSameDisk (D.view (disk_of self.old)) (D.view (disk_of self.new)) }
         ensures later { D.fault_count (disk_of self.old) ≤ D.fault_count (disk_of self.new) }
-        ensures fault { IsErrOf result CommitError.Fault → HasRisen (D.fault_count (disk_of self.old)) (D.fault_count (disk_of self.new)) }
+        ensures fault { IsErrOf result CommitError.Fault → FaultsHaveRisen D.fault_count self.old self.new }
         ensures broken { (result ≡ Err commit_error.Broken) ↔ (is_broken self.old ≡ true) }
-        ensures nothing { is_broken self.old ≡ false → pending_of self.old ≡ [] → (result ≡ Ok (durable_of self.old)) × (disk_of self.new ≡ disk_of self.old) }
-        ensures no_room { result ≡ Err commit_error.NoRoom → fits (opened_of self.old) (length (commands_text (pending_of self.old))) ≡ false }
+        ensures nothing { is_broken self.old ≡ false → pending_of self.old ≡ [] → AnswersAtOnce self.old self.new result }
+        ensures no_room { result ≡ Err commit_error.NoRoom → HasNoRoom self.old }
 
         // At Ok all that was pending is durable. A fault breaks the broker, and any other refusal changes nothing.
         ensures ok { IfOk result (λ durable. Commits self.old self.new durable) }
@@ -75,12 +75,11 @@ impl<D: Disk> Broker<D> {
         ensures kept { OnErr result (result ≡ Err commit_error.Fault ⊎ IsSameBroker self.old self.new) }
 
         // The broker stands for the same history after it, also after a fault, and after an Ok with all of it durable.
-        ensures stands { (history : List Command) → Stands D.view self.old history → Stands D.view self.new history }
-        ensures acknowledged { (history : List Command) → Stands D.view self.old history → IfOk result (λ durable. (durable ≡ length history) × (durable_of self.new ≡ length history)) }
+        ensures stands { ForEachHistory D.view self.old (λ history. Stands D.view self.new history) }
+        ensures acknowledged { ForEachHistory D.view self.old (λ history. IfOk result (HasAllDurable self.new history)) }
 
         // A stop at any moment of the call leaves a legal stop of the history.
-        ensures any_moment { (D.view (disk_of self.old)).honest → (history : List Command) → Stands D.view self.old history
-            → LeavesOnly (D.view (disk_of self.old)) (D.view (disk_of self.new)) (IsLegalStop (settings_of self.old) history (durable_of self.old)) }
+        ensures any_moment { LeavesLegalStops D.view self.old (disk_of self.new) }
     {
         if self.broken {
             return Err(CommitError::Broken);

@@ -1,14 +1,12 @@
 // Scripts of steps, stops among them, on a disk in memory.
-ghost use Rattle.std.specs.Prelude.{◌≡◌, ◌⊎◌, ◌+◌, ◌≤◌, [], List, ℕ, length, take, false, Ok, IfOk, IfErr, is_ok};
+ghost use Rattle.std.specs.Prelude.{◌≡◌, ◌≤◌, length, Ok, IfOk, IfErr, is_ok};
 ghost use Rattle.sector_disk.specs.Memory.{memory_view};
-ghost use Rattle.retry_rules.specs.declared.settings.Settings.{Settings};
-ghost use Rattle.invoke_records.specs.declared.command.Command.{Command};
-ghost use Rattle.async_core.specs.History.{IsLegal};
-ghost use Rattle.group_commit.specs.History.{IsLegalStop};
-ghost use Rattle.group_commit.specs.Broker.{settings_of, durable_of, is_broken, Stands};
+ghost use Rattle.group_commit.specs.Broker.{settings_of, durable_of};
+ghost use Rattle.group_commit.specs.Promises.{ForEachHistory, ForEachHistoryOn};
+ghost use Rattle.group_commit.specs.Refusals.{IsCutOff};
 ghost use Rattle.group_commit.specs.declared.script.Step.TheVariants as step;
 ghost use Rattle.group_commit.specs.Drill.{answer_to};
-ghost use Rattle.group_commit.specs.DrillBroker.{LeadsOn, IsDrilled, IsCutOff};
+ghost use Rattle.group_commit.specs.DrillBroker.{Leads, IsStarted, IsDrillOf};
 
 use crate::{Broker, Drill, DrillFailure, IssueError, OpenFailure, Step, StepAnswer, Ticket};
 use checkpoint::OpenError;
@@ -45,10 +43,8 @@ fn opened(
 
 // Opens a disk.
 fn start(alloc: Global, disk: MemDisk) -> Result<Broker<MemDisk>, OpenError>
-    ensures recovers { (s : Settings) (history : List Command) (durable : ℕ) → IsLegal s history → ((image : List ℕ) → (memory_view disk).may_leave image → IsLegalStop s history durable image)
-        → IfOk result (λ b. (durable ≤ durable_of b) × (durable_of b ≤ length history) × (settings_of b ≡ s) × (is_broken b ≡ false) × Stands memory_view b (take (durable_of b) history)) }
-    ensures refused { (s : Settings) (history : List Command) (durable : ℕ) → IsLegal s history → ((image : List ℕ) → (memory_view disk).may_leave image → IsLegalStop s history durable image)
-        → IfErr result IsCutOff }
+    ensures recovers { ForEachHistoryOn (memory_view disk) (λ s history durable. IfOk result (IsStarted s history durable)) }
+    ensures refused { ForEachHistoryOn (memory_view disk) (λ s history durable. IfErr result IsCutOff) }
 {
     opened(Broker::open(alloc, disk))
 }
@@ -59,16 +55,16 @@ fn stop(
     broker: Broker<MemDisk>,
     choice: &[(u64, [u8; 512])],
 ) -> Result<Broker<MemDisk>, OpenError>
-    ensures recovers { (history : List Command) → Stands memory_view broker history → IfOk result (λ b. (durable_of broker ≤ durable_of b) × (durable_of b ≤ length history)
-        × (settings_of b ≡ settings_of broker) × (is_broken b ≡ false) × Stands memory_view b (take (durable_of b) history)) }
-    ensures refused { (history : List Command) → Stands memory_view broker history → IfErr result IsCutOff }
+    ensures recovers { ForEachHistory memory_view broker (λ history.
+        IfOk result (IsStarted (settings_of broker) history (durable_of broker))) }
+    ensures refused { ForEachHistory memory_view broker (λ history. IfErr result IsCutOff) }
 {
     start(alloc, broker.close().stop(choice))
 }
 
 // Issues a command, a copy of which takes memory.
 fn issue(broker: &mut Broker<MemDisk>, command: &Command) -> Result<StepAnswer, AllocError>
-    ensures step { (history : List Command) → Stands memory_view broker.old history → IfOk result (λ answer. LeadsOn broker.old history (step.Issue command.now) answer broker.new) }
+    ensures step { IfOk result (λ answer. Leads broker.old (step.Issue command.now) answer broker.new) }
 {
     let command = copied(command)?;
     Ok(match broker.issue(command) {
@@ -79,7 +75,7 @@ fn issue(broker: &mut Broker<MemDisk>, command: &Command) -> Result<StepAnswer, 
 
 // Commits what is pending.
 fn commit(broker: &mut Broker<MemDisk>) -> StepAnswer
-    ensures step { (history : List Command) → Stands memory_view broker.old history → LeadsOn broker.old history step.Commit result broker.new }
+    ensures step { Leads broker.old step.Commit result broker.new }
 {
     match broker.commit() {
         Ok(durable) => StepAnswer::Number(durable.number()),
@@ -100,7 +96,7 @@ fn answer_to(outcome: Result<Option<Ticket>, IssueError>) -> StepAnswer
 
 // Marks the running event that was accepted first as interrupted.
 fn resume(broker: &mut Broker<MemDisk>, now: u64) -> StepAnswer
-    ensures step { (history : List Command) → Stands memory_view broker.old history → LeadsOn broker.old history (step.Resume now) result broker.new }
+    ensures step { Leads broker.old (step.Resume now) result broker.new }
 {
     answer_to(broker.resume(now.min(GREATEST_MOMENT)))
 }
@@ -111,8 +107,8 @@ fn run_step(
     broker: Broker<MemDisk>,
     step: &Step,
 ) -> Result<(Broker<MemDisk>, StepAnswer), OpenError>
-    ensures step { (history : List Command) → Stands memory_view broker history → IfOk result (λ r. LeadsOn broker history step.now r.1 r.0) }
-    ensures refused { (history : List Command) → Stands memory_view broker history → IfErr result IsCutOff }
+    ensures step { IfOk result (λ r. Leads broker step.now r.1 r.0) }
+    ensures refused { ForEachHistory memory_view broker (λ history. IfErr result IsCutOff) }
 {
     let mut broker = broker;
     match step {
@@ -143,10 +139,8 @@ fn run_step(
 /// issued or committed until the next stop. It fails only where memory runs out, also the disk's own, and gives the disk up
 /// then.
 pub fn drill(alloc: Global, disk: MemDisk, steps: &[Step]) -> Result<Drill, DrillFailure>
-    ensures run { (s : Settings) (history : List Command) (durable : ℕ) → IsLegal s history → ((image : List ℕ) → (memory_view disk).may_leave image → IsLegalStop s history durable image)
-        → IfOk result (λ drill. IsDrilled s history durable steps.now drill.answers.items drill.broker) }
-    ensures refused { (s : Settings) (history : List Command) (durable : ℕ) → IsLegal s history → ((image : List ℕ) → (memory_view disk).may_leave image → IsLegalStop s history durable image)
-        → IfErr result (λ failure. IsCutOff failure.cause) }
+    ensures run { ForEachHistoryOn (memory_view disk) (λ s history durable. IfOk result (IsDrillOf s history durable steps.now)) }
+    ensures refused { ForEachHistoryOn (memory_view disk) (λ s history durable. IfErr result (λ failure. IsCutOff failure.cause)) }
     ensures place { IfErr result (λ failure. failure.step ≤ length steps.now) }
 {
     let mut broker = match start(alloc, disk) {

@@ -6,8 +6,10 @@ ghost use Rattle.async_core.specs.declared.illegal.Illegal.{Illegal};
 ghost use Rattle.async_core.specs.Rules.{refusal_at};
 ghost use Rattle.async_core.specs.History.{refusal_of};
 ghost use Rattle.group_commit.specs.declared.error.IssueError.TheVariants as issue_error;
-ghost use Rattle.group_commit.specs.Broker.{disk_of, settings_of, table_in, issued_of, pending_of, durable_of, is_broken, Stands, IsSameBroker, Issues, IsReason};
-ghost use Rattle.group_commit.specs.History.{IsLegalStop};
+ghost use Rattle.group_commit.specs.Broker.{disk_of, settings_of, issued_of, is_broken, Stands, IsSameBroker, Issues, IsReason};
+ghost use Rattle.group_commit.specs.Promises.{ForEachHistory, LeavesLegalStops, Accepts};
+ghost use Rattle.group_commit.specs.Refusals.{OnUsable, IsLegalNow, Fails, IsFull, HasPlace, TellsIllegal};
+ghost use Rattle.group_commit.specs.Steps.{IsErrorFor};
 
 use crate::broker::{MOST_COMMANDS, MOST_PENDING};
 use crate::{Broker, IssueError, Ticket};
@@ -17,8 +19,9 @@ use sector_disk::Disk;
 
 // Why a command is refused: it is not legal now, or else this.
 fn refusal(table: &Table, command: &Command, otherwise: IssueError) -> IssueError
-    ensures either { ((result ≡ otherwise) × (refusal_at table.now.settings table.now.table command.now ≡ None)) ⊎ ((why : Illegal) × (result ≡ issue_error.Illegal why) × (refusal_at table.now.settings table.now.table command.now ≡ Some why)) }
-    ensures illegal { (why : Illegal) → refusal_at table.now.settings table.now.table command.now ≡ Some why → result ≡ issue_error.Illegal why }
+    ensures either { IsErrorFor (refusal_at table.now.settings table.now.table command.now) otherwise result }
+    ensures illegal { (why : Illegal) → refusal_at table.now.settings table.now.table command.now ≡ Some why
+        → result ≡ issue_error.Illegal why }
     ensures legal { refusal_at table.now.settings table.now.table command.now ≡ None → result ≡ otherwise }
 {
     match table.judge(command) {
@@ -32,9 +35,10 @@ impl<D: Disk> Broker<D> {
     fn take(&mut self, command: Command) -> Result<Ticket, IssueError>
         ensures broken { IsTrue (is_broken self.old) → result ≡ Err issue_error.Broken }
         ensures worn_out { is_broken self.old ≡ false → 2 ^ 62 ≤ issued_of self.old → result ≡ Err issue_error.WornOut }
-        ensures illegal { is_broken self.old ≡ false → issued_of self.old < 2 ^ 62 → (why : Illegal) → refusal_at (settings_of self.old) (table_in self.old) command ≡ Some why → result ≡ Err (issue_error.Illegal why) }
-        ensures backlog { is_broken self.old ≡ false → issued_of self.old < 2 ^ 62 → refusal_at (settings_of self.old) (table_in self.old) command ≡ None → length (pending_of self.old) ≡ 256 → result ≡ Err issue_error.Backlog }
-        ensures accepted { is_broken self.old ≡ false → issued_of self.old < 2 ^ 62 → refusal_at (settings_of self.old) (table_in self.old) command ≡ None → length (pending_of self.old) < 256 → IsOkUnless result issue_error.OutOfMemory }
+        ensures illegal { OnUsable self.old ((why : Illegal) → Fails self.old command why → result ≡ Err (issue_error.Illegal why)) }
+        ensures backlog { OnUsable self.old (IsLegalNow self.old command → IsFull self.old → result ≡ Err issue_error.Backlog) }
+        ensures accepted { OnUsable self.old (IsLegalNow self.old command → HasPlace self.old
+            → IsOkUnless result issue_error.OutOfMemory) }
 
         ensures reason { IfErr result (IsReason self.old command) }
         ensures no_call { disk_of self.new ≡ disk_of self.old }
@@ -70,9 +74,10 @@ impl<D: Disk> Broker<D> {
     pub fn issue(&mut self, command: Command) -> Result<Ticket, IssueError>
         ensures broken { IsTrue (is_broken self.old) → result ≡ Err issue_error.Broken }
         ensures worn_out { is_broken self.old ≡ false → 2 ^ 62 ≤ issued_of self.old → result ≡ Err issue_error.WornOut }
-        ensures illegal { is_broken self.old ≡ false → issued_of self.old < 2 ^ 62 → (why : Illegal) → refusal_at (settings_of self.old) (table_in self.old) command ≡ Some why → result ≡ Err (issue_error.Illegal why) }
-        ensures backlog { is_broken self.old ≡ false → issued_of self.old < 2 ^ 62 → refusal_at (settings_of self.old) (table_in self.old) command ≡ None → length (pending_of self.old) ≡ 256 → result ≡ Err issue_error.Backlog }
-        ensures accepted { is_broken self.old ≡ false → issued_of self.old < 2 ^ 62 → refusal_at (settings_of self.old) (table_in self.old) command ≡ None → length (pending_of self.old) < 256 → IsOkUnless result issue_error.OutOfMemory }
+        ensures illegal { OnUsable self.old ((why : Illegal) → Fails self.old command why → result ≡ Err (issue_error.Illegal why)) }
+        ensures backlog { OnUsable self.old (IsLegalNow self.old command → IsFull self.old → result ≡ Err issue_error.Backlog) }
+        ensures accepted { OnUsable self.old (IsLegalNow self.old command → HasPlace self.old
+            → IsOkUnless result issue_error.OutOfMemory) }
 
         ensures reason { IfErr result (IsReason self.old command) }
         ensures no_call { disk_of self.new ≡ disk_of self.old }
@@ -80,14 +85,12 @@ impl<D: Disk> Broker<D> {
         ensures err { OnErr result (IsSameBroker self.old self.new) }
 
         // Where the broker stands for a history, it accepts what is legal after it, and then stands for it with the command.
-        ensures stands { (history : List Command) → Stands D.view self.old history → IfOk result (λ ticket. (refusal_of (settings_of self.old) history command ≡ None)
-            × (ticket ≡ length history + 1) × Stands D.view self.new (history ++ command ∷ [])) }
-        ensures refused { (history : List Command) → Stands D.view self.old history → (why : Illegal) → result ≡ Err (issue_error.Illegal why) → refusal_of (settings_of self.old) history command ≡ Some why }
-        ensures stands_refused { (history : List Command) → Stands D.view self.old history → OnErr result (Stands D.view self.new history) }
+        ensures stands { ForEachHistory D.view self.old (λ history. IfOk result (Accepts D.view self.old history command self.new)) }
+        ensures refused { ForEachHistory D.view self.old (λ history. TellsIllegal (settings_of self.old) history command result) }
+        ensures stands_refused { ForEachHistory D.view self.old (λ history. OnErr result (Stands D.view self.new history)) }
 
         // A stop at any moment of the call leaves a legal stop of the history.
-        ensures any_moment { (D.view (disk_of self.old)).honest → (history : List Command) → Stands D.view self.old history
-            → LeavesOnly (D.view (disk_of self.old)) (D.view (disk_of self.new)) (IsLegalStop (settings_of self.old) history (durable_of self.old)) }
+        ensures any_moment { LeavesLegalStops D.view self.old (disk_of self.new) }
     {
         self.take(command)
     }

@@ -1,12 +1,12 @@
 // What a disk recovers to, as a table.
-ghost use Rattle.std.specs.Prelude.{◌≡◌, ◌+◌, ◌≤◌, ◌^◌, List, length, None, Some, Err, IsErrOf, IsSome, OnOk, IfOk};
+ghost use Rattle.std.specs.Prelude.{◌≡◌, ◌+◌, ◌≤◌, ◌^◌, List, length, None, Some, Err, IsErrOf, IsSome, OnOk, IfOk, IfErr};
 ghost use Rattle.sector_disk.specs.Disk.{IsSameDisk, HasRisen};
-ghost use Rattle.sector_disk.specs.Moments.{LeavesOnly};
 ghost use Rattle.group_commit.specs.History.{AreGood};
 ghost use Rattle.async_core.specs.Rules.{replay};
-ghost use Rattle.checkpoint.specs.declared.error.OpenError.TheVariants as open_error;
-ghost use Rattle.checkpoint.specs.Image.{recovered};
-ghost use Rattle.checkpoint.specs.Live.{settings_of, number_of, end_of, RecoversTo, IsLive};
+ghost use Rattle.checkpoint.specs.Live.{settings_of, number_of, end_of};
+ghost use Rattle.group_commit.specs.Promises.{LeavesWhatWas};
+ghost use Rattle.group_commit.specs.Refusals.{TellsNotFormatted, TellsDamage};
+ghost use Rattle.group_commit.specs.Steps.{IsReadFrom};
 
 use async_core::{ApplyError, Table};
 use checkpoint::{OpenError, Opened};
@@ -37,7 +37,7 @@ pub(crate) fn recover<D: Disk>(alloc: Global, disk: &mut D) -> Result<(Opened, T
     ensures same { IsSameDisk (D.view disk.old) (D.view disk.new) }
     ensures later { D.fault_count disk.old ≤ D.fault_count disk.new }
     ensures fault { IsErrOf result OpenError.Fault → HasRisen (D.fault_count disk.old) (D.fault_count disk.new) }
-    ensures any_moment { (D.view disk.old).honest → LeavesOnly (D.view disk.old) (D.view disk.new) (D.view disk.old).may_leave }
+    ensures any_moment { (D.view disk.old).honest → LeavesWhatWas (D.view disk.old) (D.view disk.new) }
 
     ensures settings { IfOk result (λ r. r.1.settings ≡ settings_of r.0) }
     ensures good { IfOk result (λ r. AreGood (settings_of r.0)) }
@@ -45,9 +45,9 @@ pub(crate) fn recover<D: Disk>(alloc: Global, disk: &mut D) -> Result<(Opened, T
     ensures number { IfOk result (λ r. number_of r.0 ≡ r.1.table.number + 1) }
     ensures below { IfOk result (λ r. r.1.table.number ≤ 2 ^ 62) }
 
-    ensures live { (D.view disk.old).honest → IfOk result (λ r. RecoversTo (settings_of r.0) r.1.table (D.view disk.old).content × IsLive (D.view disk.new) r.0 r.1.table) }
-    ensures not_formatted { (D.view disk.old).honest → IsErrOf result OpenError.NotFormatted → recovered (D.view disk.old).content ≡ Err open_error.NotFormatted }
-    ensures damaged { (D.view disk.old).honest → (sector : _) → result ≡ Err (open_error.Damaged sector) → recovered (D.view disk.old).content ≡ Err (open_error.Damaged sector) }
+    ensures live { (D.view disk.old).honest → IfOk result (λ r. IsReadFrom (D.view disk.old) (D.view disk.new) r.0 r.1.table) }
+    ensures not_formatted { (D.view disk.old).honest → IfErr result (TellsNotFormatted (D.view disk.old).content) }
+    ensures damaged { (D.view disk.old).honest → IfErr result (TellsDamage (D.view disk.old).content) }
 {
     let (opened, snapshot, commands) = checkpoint::open(alloc, disk)?;
     let Ok(settings) = opened.settings().copy() else {

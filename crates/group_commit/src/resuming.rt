@@ -3,9 +3,9 @@ ghost use Rattle.std.specs.Prelude.{◌≡◌, ◌≤◌, List, ℕ, max, true, 
 ghost use Rattle.sector_disk.specs.Moments.{LeavesOnly};
 ghost use Rattle.invoke_records.specs.declared.command.Command.{Command};
 ghost use Rattle.group_commit.specs.declared.error.IssueError.TheVariants as issue_error;
-ghost use Rattle.group_commit.specs.Broker.{disk_of, settings_of, durable_of, is_broken, Stands};
-ghost use Rattle.group_commit.specs.History.{IsLegalStop};
-ghost use Rattle.group_commit.specs.Resume.{interrupt_at, IsResumed, IsOwnReason, AllAtRest};
+ghost use Rattle.group_commit.specs.Broker.{disk_of, settings_of, durable_of, is_broken};
+ghost use Rattle.group_commit.specs.Promises.{ForEachHistory, LeavesLegalStops};
+ghost use Rattle.group_commit.specs.Resume.{interrupt_at, Resumes, TellsRest, IsOwnReason};
 
 use crate::{Broker, IssueError, Ticket};
 use invoke_records::{Bytes, Command, Kind};
@@ -39,12 +39,11 @@ impl<D: Disk> Broker<D> {
         ensures durable { durable_of self.new ≡ durable_of self.old }
         ensures still { is_broken self.new ≡ is_broken self.old }
         ensures no_call { disk_of self.new ≡ disk_of self.old }
-        ensures resumes { (history : List Command) → Stands D.view self.old history → (next : List Command) × IsResumed (settings_of self.old) history now result next × Stands D.view self.new next }
-        ensures rested { (history : List Command) → Stands D.view self.old history → IfOk result (λ ticket. ticket ≡ None → AllAtRest (settings_of self.old) history) }
+        ensures resumes { ForEachHistory D.view self.old (λ history. Resumes D.view self.old history now result self.new) }
+        ensures rested { ForEachHistory D.view self.old (λ history. TellsRest (settings_of self.old) history result) }
 
         // A stop at any moment of the call leaves a legal stop of the history.
-        ensures any_moment { (D.view (disk_of self.old)).honest → (history : List Command) → Stands D.view self.old history
-            → LeavesOnly (D.view (disk_of self.old)) (D.view (disk_of self.new)) (IsLegalStop (settings_of self.old) history (durable_of self.old)) }
+        ensures any_moment { LeavesLegalStops D.view self.old (disk_of self.new) }
     {
         if self.broken {
             return Err(IssueError::Broken);

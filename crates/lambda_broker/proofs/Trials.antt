@@ -1,16 +1,23 @@
 -- The history of the trial, step by step.
-use Rattle.std.proofs.Common.{◌≡◌, ℕ, List, [], ◌∷◌, Result, Ok, Err, refl, sym, subst, arith}
+use Rattle.std.proofs.Common.{◌≡◌, ℕ, List, [], ◌∷◌, length, Result, Ok, Err, refl, sym, subst, arith}
 use Rattle.std.specs.Prelude.{IfOk}
 use Rattle.sector_disk.specs.Disk.{DiskView, HasOneImage}
+use Rattle.sector_disk.specs.Memory.{memory_view}
+use Rattle.sector_disk.specs.declared.disk.Disk.{Ghosts}
+use Rattle.sector_disk.specs.declared.memory.MemDisk.{MemDisk}
+use Rattle.retry_rules.specs.declared.settings.Settings.{Settings}
+use Rattle.invoke_records.specs.declared.command.Command.{Command}
 use Rattle.invoke_records.specs.declared.snapshot.Snapshot.{Snapshot}
 use Rattle.invoke_records.specs.declared.row.Standing.TheVariants as standing
 use Rattle.async_core.specs.Rules.{empty_table}
-use Rattle.async_core.specs.History.{standing_in, table_of}
+use Rattle.async_core.specs.History.{IsLegal, standing_in, table_of}
 use Rattle.async_core.specs.laws.Tables.{table_of-nil}
 use Rattle.async_core.specs.Lives.{life}
 use Rattle.checkpoint.specs.Live.{RecoversTo}
+use Rattle.group_commit.specs.declared.broker.Broker.{Broker}
 use Rattle.group_commit.specs.History.{IsLegalStop}
-use Rattle.lambda_broker.specs.Trial.{trial_settings, trial_acceptance}
+use Rattle.group_commit.specs.Broker.{disk_of, settings_of}
+use Rattle.lambda_broker.specs.Trial.{trial_settings, trial_acceptance, Holds, IsOpened}
 
 -- what is Ok was Ok before
 pub ok_from : {T E F : Type 0} (P : T → Type 0) (before : Result T F) (after : Result T E) → IfOk after (λ x. before ≡ Ok x) → IfOk before P → IfOk after P
@@ -30,6 +37,16 @@ formatted_stops disk one recovers image left = record {
 pub accepted_standing : standing_in trial_settings (trial_acceptance ∷ []) trial_acceptance.id ≡ standing.Waiting 1573755365568
 unfolding standing_in life
 accepted_standing = refl
+
+-- what a broker's disk holds once all is durable
+pub closed_holds : {g : Ghosts MemDisk} (broker : Broker MemDisk g) (disk : MemDisk) (history : List Command) → IsOpened history broker → disk ≡ disk_of broker → Holds (memory_view disk) history
+closed_holds broker disk history is closed = record {
+  legal = subst (λ (s : Settings). IsLegal s history) is.0 is.2.legal;
+  stops = λ image left.
+      subst (λ (s : Settings). IsLegalStop s history (length history) image) is.0
+      (subst (λ (n : ℕ). IsLegalStop (settings_of broker) history n image) is.1
+      (is.2.stops tt image (subst (λ (d : MemDisk). (memory_view d).may_leave image) closed left)));
+}
 
 -- two facts of what is Ok
 pub if_ok_both : {T E : Type 0} (P Q R : T → Type 0) (r : Result T E) → ((x : T) → P x → Q x → R x) → IfOk r P → IfOk r Q → IfOk r R

@@ -1,12 +1,9 @@
 // One event accepted, committed and recovered, on a disk in memory.
-ghost use Rattle.std.specs.Prelude.{◌≡◌, List, ℕ, length, Ok, IfOk};
+ghost use Rattle.std.specs.Prelude.{◌≡◌, [], ◌∷◌, List, Ok, IfOk};
 ghost use Rattle.sector_disk.specs.Memory.{memory_view};
 ghost use Rattle.invoke_records.specs.declared.command.Command.{Command};
 ghost use Rattle.invoke_records.specs.declared.row.Standing.TheVariants as standing;
-ghost use Rattle.async_core.specs.History.{IsLegal};
-ghost use Rattle.group_commit.specs.History.{IsLegalStop};
-ghost use Rattle.group_commit.specs.Broker.{settings_of, durable_of, Stands};
-ghost use Rattle.lambda_broker.specs.Trial.{trial_settings, trial_acceptance, is_device_fault};
+ghost use Rattle.lambda_broker.specs.Trial.{trial_settings, trial_acceptance, Holds, IsOpened, IsAccepted, is_device_fault};
 
 use group_commit::{Broker, CommitError, FormatError, IssueError, OpenError, OpenFailure, format};
 use invoke_records::{Bytes, Command, Kind, Standing};
@@ -65,6 +62,7 @@ impl TrialError {
     }
 }
 
+// A text of these bytes.
 fn text(alloc: Global, bytes: &[u8]) -> Result<Text, AllocError>
     ensures { IfOk result (λ text. text ≡ bytes.now) }
 {
@@ -106,6 +104,16 @@ fn acceptance(alloc: Global) -> Result<Command, AllocError>
     })
 }
 
+// A disk with the settings of the trial's function, on which nothing was issued.
+fn formatted(alloc: Global) -> Result<MemDisk, TrialError>
+    ensures { IfOk result (λ disk. Holds (memory_view disk) []) }
+{
+    let mut disk = MemDisk::new(alloc, SECTORS)?;
+    let settings = settings(alloc)?;
+    format(alloc, &mut disk, &settings)?;
+    Ok(disk)
+}
+
 // The broker, or why its disk was not opened.
 fn opened(
     outcome: Result<Broker<MemDisk>, OpenFailure<MemDisk>>,
@@ -120,10 +128,48 @@ fn opened(
 
 // Opens the disk; where that fails, the disk is given up.
 fn open(alloc: Global, disk: MemDisk) -> Result<Broker<MemDisk>, OpenError>
-    ensures { (history : List Command) → IsLegal trial_settings history → ((image : List ℕ) → (memory_view disk).may_leave image → IsLegalStop trial_settings history (length history) image)
-        → IfOk result (λ b. (settings_of b ≡ trial_settings) × (durable_of b ≡ length history) × Stands memory_view b history) }
+    ensures { (history : List Command) → Holds (memory_view disk) history → IfOk result (IsOpened history) }
 {
     opened(Broker::open(alloc, disk))
+}
+
+// A disk on which the event is durable.
+#[derive(Drop)]
+struct Accepted {
+    disk: MemDisk,
+    // The number of the command that accepted the event.
+    number: u64,
+    // How many commands are durable.
+    durable: u64,
+}
+
+// Accepts the event and commits it: the number of the command, and how many are durable.
+fn issue(alloc: Global, broker: &mut Broker<MemDisk>) -> Result<(u64, u64), TrialError>
+    ensures { IsOpened [] broker.old → IfOk result (λ n. (n.0 ≡ 1) × (n.1 ≡ 1) × IsOpened (trial_acceptance ∷ []) broker.new) }
+{
+    let number = broker.issue(acceptance(alloc)?)?.number();
+    let durable = broker.commit()?.number();
+    Ok((number, durable))
+}
+
+// Accepts the event on a disk on which nothing was issued, commits it and closes the disk.
+fn accept(alloc: Global, disk: MemDisk) -> Result<Accepted, TrialError>
+    ensures { Holds (memory_view disk) [] → IfOk result IsAccepted }
+{
+    let mut broker = open(alloc, disk)?;
+    let (number, durable) = issue(alloc, &mut broker)?;
+    Ok(Accepted {
+        disk: broker.close(),
+        number,
+        durable,
+    })
+}
+
+// Opens the disk again: where the event stands.
+fn recovered(alloc: Global, disk: MemDisk) -> Result<Standing, OpenError>
+    ensures { Holds (memory_view disk) (trial_acceptance ∷ []) → IfOk result (λ it. it ≡ standing.Waiting 1573755365568) }
+{
+    Ok(open(alloc, disk)?.table().standing(&ID))
 }
 
 /// Accepts one event, commits it, closes the disk and opens it again: it is the first command, which is durable after the
@@ -131,17 +177,13 @@ fn open(alloc: Global, disk: MemDisk) -> Result<Broker<MemDisk>, OpenError>
 pub fn run_trial(alloc: Global) -> Result<Trial, TrialError>
     ensures { IfOk result (λ t. (t.accepted ≡ 1) × (t.durable ≡ 1) × (t.standing ≡ standing.Waiting 1573755365568)) }
 {
-    let mut disk = MemDisk::new(alloc, SECTORS)?;
-    let settings = settings(alloc)?;
-    format(alloc, &mut disk, &settings)?;
-    let mut broker = open(alloc, disk)?;
-    let accepted = broker.issue(acceptance(alloc)?)?.number();
-    let durable = broker.commit()?.number();
-    let recovered = open(alloc, broker.close())?;
+    let done = accept(alloc, formatted(alloc)?)?;
+    let accepted = done.number;
+    let durable = done.durable;
     Ok(Trial {
         id: ID,
         accepted,
         durable,
-        standing: recovered.table().standing(&ID),
+        standing: recovered(alloc, done.disk)?,
     })
 }

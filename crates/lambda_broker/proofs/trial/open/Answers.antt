@@ -8,7 +8,7 @@ use Rattle.lambda_broker.proofs.Trials.{ok_from, if_ok_both}
 use Rattle.lambda_broker.proofs.trial.open.Goals as goal
 
 pub returns : goal.returns
-returns c history legal stops =
+returns c history holds =
     ok_from _ c.open.result c.opened.result c.opened.ensures
     (if_ok_both _ _ _ c.open.result
     (λ b fresh facts.
@@ -18,4 +18,4 @@ returns c history legal stops =
       subst (λ (h : List Command). Stands memory_view b h) (take_all (issued_of b) history (omega (arith, all))) facts.3,
     ))
     c.open.ensures.fresh
-    (c.open.ensures.stands tt trial_settings history (length history) legal stops))
+    (c.open.ensures.stands tt trial_settings history (length history) holds.legal holds.stops))
