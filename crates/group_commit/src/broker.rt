@@ -1,5 +1,5 @@
 // The broker over one disk.
-ghost use Rattle.std.specs.Prelude.{◌≡◌, ◌⊎◌, ◌+◌, ◌<◌, ◌≤◌, ◌^◌, ◌++◌, [], ◌∷◌, List, ℕ, length, take, false, true, All, None, Some, Ok, Err, IsTrue, IsErrOf, OnOk, OnErr, IfOk, IfErr, MatchOption};
+ghost use Rattle.std.specs.Prelude.{◌≡◌, ◌+◌, ◌<◌, ◌≤◌, ◌^◌, [], length, false, All, None, Some, Ok, Err, IfOk, IfErr, MatchOption};
 ghost use Rattle.sector_disk.specs.Disk.{IsSameDisk};
 ghost use Rattle.invoke_records.specs.Spelling.{command_fault};
 ghost use Rattle.checkpoint.specs.Live as live;

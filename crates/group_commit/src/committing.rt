@@ -1,12 +1,7 @@
 // Committing: all that is pending becomes durable by one frame.
-ghost use Rattle.std.specs.Prelude.{◌≡◌, ◌⊎◌, ◌≤◌, ◌↔◌, [], List, ℕ, length, true, false, Some, Ok, Err, IsTrue, IsErrOf, OnOk, OnErr, IfOk};
-ghost use Rattle.sector_disk.specs.Disk.{IsSameDisk, HasRisen};
-ghost use Rattle.sector_disk.specs.Moments.{LeavesOnly};
-ghost use Rattle.invoke_records.specs.declared.command.Command.{Command};
-ghost use Rattle.invoke_records.specs.declared.snapshot.Snapshot.{Snapshot};
-ghost use Rattle.invoke_records.specs.Spelling.{commands_text};
-ghost use Rattle.async_core.specs.Rules.{replay};
-ghost use Rattle.checkpoint.specs.Live.{fits, RecoversTo, IsLive};
+ghost use Rattle.std.specs.Prelude.{◌≡◌, ◌⊎◌, ◌≤◌, ◌↔◌, [], true, false, Ok, Err, IsErrOf, OnOk, OnErr, IfOk};
+ghost use Rattle.sector_disk.specs.Disk.{IsSameDisk};
+ghost use Rattle.checkpoint.specs.Live.{IsLive};
 ghost use Rattle.group_commit.specs.declared.error.CommitError.TheVariants as commit_error;
 ghost use Rattle.group_commit.specs.Broker.{disk_of, pending_of, is_broken, opened_of, Stands, IsSameBroker, Commits, Breaks};
 ghost use Rattle.group_commit.specs.Promises.{ForEachHistory, LeavesLegalStops, HasAllDurable};

@@ -1,10 +1,8 @@
 // Issuing commands: they are applied to the table and pending until they are committed.
-ghost use Rattle.std.specs.Prelude.{◌≡◌, ◌⊎◌, ◌+◌, ◌<◌, ◌≤◌, ◌^◌, ◌++◌, [], ◌∷◌, List, ℕ, length, false, None, Some, Err, IsTrue, IsOkUnless, OnErr, IfOk, IfErr};
-ghost use Rattle.sector_disk.specs.Moments.{LeavesOnly};
+ghost use Rattle.std.specs.Prelude.{◌≡◌, ◌<◌, ◌≤◌, ◌^◌, false, None, Some, Err, IsTrue, IsOkUnless, OnErr, IfOk, IfErr};
 ghost use Rattle.invoke_records.specs.declared.command.Command.{Command};
 ghost use Rattle.async_core.specs.declared.illegal.Illegal.{Illegal};
 ghost use Rattle.async_core.specs.Rules.{refusal_at};
-ghost use Rattle.async_core.specs.History.{refusal_of};
 ghost use Rattle.group_commit.specs.declared.error.IssueError.TheVariants as issue_error;
 ghost use Rattle.group_commit.specs.Broker.{disk_of, settings_of, issued_of, is_broken, Stands, IsSameBroker, Issues, IsReason};
 ghost use Rattle.group_commit.specs.Promises.{ForEachHistory, LeavesLegalStops, Accepts};

@@ -1,5 +1,5 @@
 // What a disk recovers to, as a table.
-ghost use Rattle.std.specs.Prelude.{◌≡◌, ◌+◌, ◌≤◌, ◌^◌, List, length, None, Some, Err, IsErrOf, IsSome, OnOk, IfOk, IfErr};
+ghost use Rattle.std.specs.Prelude.{◌≡◌, ◌+◌, ◌≤◌, ◌^◌, length, Some, Err, IsErrOf, IsSome, OnOk, IfOk, IfErr};
 ghost use Rattle.sector_disk.specs.Disk.{IsSameDisk, HasRisen};
 ghost use Rattle.group_commit.specs.History.{AreGood};
 ghost use Rattle.async_core.specs.Rules.{replay};

@@ -1,6 +1,5 @@
 // Resuming after a stop: attempts that it cut off are marked as interrupted.
-ghost use Rattle.std.specs.Prelude.{◌≡◌, ◌≤◌, List, ℕ, max, true, None, Err, IfOk, IfErr, IsTrue};
-ghost use Rattle.sector_disk.specs.Moments.{LeavesOnly};
+ghost use Rattle.std.specs.Prelude.{◌≡◌, ◌≤◌, Err, IfErr, IsTrue};
 ghost use Rattle.invoke_records.specs.declared.command.Command.{Command};
 ghost use Rattle.group_commit.specs.declared.error.IssueError.TheVariants as issue_error;
 ghost use Rattle.group_commit.specs.Broker.{disk_of, settings_of, durable_of, is_broken};

@@ -152,11 +152,11 @@ fn issue(alloc: Global, broker: &mut Broker<MemDisk>) -> Result<(u64, u64), Tria
     Ok((number, durable))
 }
 
-// Accepts the event on a disk on which nothing was issued, commits it and closes the disk.
-fn accept(alloc: Global, disk: MemDisk) -> Result<Accepted, TrialError>
-    ensures { Holds (memory_view disk) [] → IfOk result IsAccepted }
+// Accepts the event where nothing was issued, commits it and closes the disk.
+fn accept(alloc: Global, broker: Broker<MemDisk>) -> Result<Accepted, TrialError>
+    ensures { IsOpened [] broker → IfOk result IsAccepted }
 {
-    let mut broker = open(alloc, disk)?;
+    let mut broker = broker;
     let (number, durable) = issue(alloc, &mut broker)?;
     Ok(Accepted {
         disk: broker.close(),
@@ -177,7 +177,8 @@ fn recovered(alloc: Global, disk: MemDisk) -> Result<Standing, OpenError>
 pub fn run_trial(alloc: Global) -> Result<Trial, TrialError>
     ensures { IfOk result (λ t. (t.accepted ≡ 1) × (t.durable ≡ 1) × (t.standing ≡ standing.Waiting 1573755365568)) }
 {
-    let done = accept(alloc, formatted(alloc)?)?;
+    let disk = formatted(alloc)?;
+    let done = accept(alloc, open(alloc, disk)?)?;
     let accepted = done.number;
     let durable = done.durable;
     Ok(Trial {

@@ -4,6 +4,6 @@ use Rattle.lambda_broker.proofs.Trials.{closed_holds}
 use Rattle.lambda_broker.proofs.trial.accept.Goals as goal
 
 pub returns : goal.returns
-returns c holds =
-    let facts = c.in_ok-number.ensures (c.in_ok-broker.ensures [] holds) in
+returns c opened =
+    let facts = c.in_ok-number.ensures opened in
     record { first = facts.0; durable = facts.1; holds = closed_holds c.issue.new.broker c.close.result (trial_acceptance ∷ []) facts.2 c.close.ensures.disk }
