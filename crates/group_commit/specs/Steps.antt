@@ -1,14 +1,13 @@
 -- Names only steps of private functions: a reader of the public contracts need not believe it.
-use Rattle.std.specs.Prelude.{◌≡◌, ◌⊎◌, ℕ, List, None, Some, Option}
+use Rattle.std.specs.Prelude.{◌≡◌, ◌⊎◌, None, Some, Option}
 use Rattle.sector_disk.specs.Disk.{DiskView}
 use Rattle.sector_disk.specs.Moments.{LeavesOnly}
 use Rattle.sector_disk.specs.declared.disk.Disk.{Ghosts}
-use Rattle.retry_rules.specs.declared.settings.Settings.{Settings}
 use Rattle.invoke_records.specs.declared.snapshot.Snapshot.{Snapshot}
 use Rattle.async_core.specs.declared.illegal.Illegal.{Illegal}
 use Rattle.async_core.specs.Rules.{replay}
 use Rattle.checkpoint.specs.declared.opened.Opened.{Opened}
-use Rattle.checkpoint.specs.Live.{RecoversTo, IsLive}
+use Rattle.checkpoint.specs.Live.{RecoversTo, RecoversToEither, IsLive}
 use Rattle.checkpoint.specs.Live.{settings_of as live_settings}
 use Rattle.group_commit.specs.declared.broker.Broker.{Broker}
 use Rattle.group_commit.specs.declared.error.IssueError.{IssueError}
@@ -29,10 +28,6 @@ abbrev pub ForBothTables : {D : Type 0} {g : Ghosts D} → (D → DiskView) → 
 ForBothTables view broker P =
     (view (disk_of broker)).honest → (before after : Snapshot) → IsLive (view (disk_of broker)) (opened_of broker) before
     → replay (settings_of broker) before (pending_of broker) ≡ Some after → P before after
-
--- the image recovers to one of two tables
-abbrev pub RecoversToEither : Settings → Snapshot → Snapshot → List ℕ → Type 0
-RecoversToEither s before after image = RecoversTo s before image ⊎ RecoversTo s after image
 
 -- at any moment since the broker was this one, a stop leaves one of two tables
 abbrev pub LeavesEither : {D : Type 0} {g : Ghosts D} → (D → DiskView) → Broker D g → Broker D g → Snapshot → Snapshot → Type 0
