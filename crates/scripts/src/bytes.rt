@@ -38,3 +38,11 @@ pub fn shown(alloc: Global, bytes: &[u8]) -> Result<String, AllocError> {
         None => String::from_str(alloc, "zeros"),
     }
 }
+
+/// A text of a payload or an answer: itself where it is one, else its bytes.
+pub fn bytes_text(alloc: Global, bytes: &[u8]) -> Result<String, AllocError> {
+    match std::str::from_utf8(bytes) {
+        Ok(text) => String::from_str(alloc, text),
+        Err(_) => shown(alloc, bytes),
+    }
+}

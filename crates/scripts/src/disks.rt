@@ -231,7 +231,7 @@ fn append_to<D: Disk>(
 fn append<D: Disk>(alloc: Global, disk: &mut D, words: &mut Words) -> Result<Answer, StepError> {
     let area = area(words)?;
     let order = read_order(alloc, words)?;
-    append_to(alloc, disk, area, order.command(order.first)?)
+    append_to(alloc, disk, area, order.command(alloc, order.first)?)
 }
 
 /// What a disk answers to a step.

@@ -20,7 +20,7 @@ fn read_step(alloc: Global, disk: &mut MemDisk, line: &str) -> Result<Step, Step
         return Ok(Step::Stop(read_choice(alloc, disk, words.rest())?));
     }
     let order = read_order(alloc, &mut words)?;
-    Ok(Step::Issue(order.command(order.first)?))
+    Ok(Step::Issue(order.command(alloc, order.first)?))
 }
 
 fn read_steps(alloc: Global, disk: &mut MemDisk, text: &str) -> Result<Vec<Step>, StepError> {

@@ -2,7 +2,7 @@
 use crate::answer::Answer;
 use crate::orders::{Order, read_order};
 use crate::refusals;
-use crate::tables::{read_table, reads_table};
+use crate::tables::{read_retaken, read_table, reads_table};
 use crate::words::{StepError, Words};
 use group_commit::{Broker, Ticket};
 use invoke_records::GREATEST_MOMENT;
@@ -24,7 +24,7 @@ fn issue_one<D: Disk>(
     event: u64,
 ) -> Result<Answer, AllocError> {
     tickets.reserve(1)?;
-    let command = order.command(event)?;
+    let command = order.command(alloc, event)?;
     match broker.issue(command) {
         Ok(ticket) => keep(alloc, tickets, ticket),
         Err(why) => Answer::refused(alloc, refusals::issue(why)),
@@ -97,6 +97,9 @@ pub fn broker_step<D: Disk>(
 ) -> Result<Answer, StepError> {
     let mut words = Words::of(line);
     let word = words.word()?;
+    if word == "retaken" {
+        return read_retaken(alloc, broker.table(), &mut words);
+    }
     if reads_table(word) {
         return read_table(alloc, broker.table(), word, &mut words);
     }

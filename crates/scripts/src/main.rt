@@ -11,6 +11,7 @@ mod disks;
 mod drilling;
 mod events;
 mod orders;
+mod records;
 mod refusals;
 mod running;
 mod settings;
@@ -19,8 +20,8 @@ mod words;
 mod world;
 
 use crate::case::read_cases;
-use crate::running::run_case;
-use std::alloc::Global;
+use crate::running::{Difference, run_case};
+use std::alloc::{AllocError, Global};
 use std::process::ExitCode;
 use std::{env, fs, io};
 
@@ -31,29 +32,29 @@ struct Tally {
     differ: u64,
 }
 
-// Runs the cases of a file, and prints a line for each that differs.
-fn run_file<R: std::rt::Files + Print + AllocGlobal>(
-    rt: &R,
-    alloc: Global,
-    name: &str,
-    tally: &mut Tally,
-) -> io::Result<()> {
-    let text = fs::read_to_string(rt, name)?;
-    for case in read_cases(alloc, text.as_str())?.iter() {
+// Runs the cases of a file: a line for each answer that is not what it says.
+fn report(alloc: Global, name: &str, text: &str, tally: &mut Tally) -> Result<String, AllocError> {
+    let mut lines = String::new(alloc);
+    for case in read_cases(alloc, text)?.iter() {
         tally.cases = tally.cases.saturating_add(1);
         let found = run_case(alloc, case)?;
         if !found.is_empty() {
             tally.differ = tally.differ.saturating_add(1);
         }
         for line in found.iter() {
-            let (at, said, answer) = (line.at, line.said.as_str(), line.answer.as_str());
-            println!(rt; "{name}:{at}: said {said}, found {answer}")?;
+            add_line(&mut lines, name, line)?;
         }
     }
-    Ok(())
+    Ok(lines)
+}
+
+fn add_line(lines: &mut String, name: &str, line: &Difference) -> Result<(), AllocError> {
+    let (at, said, answer) = (line.at, line.said.as_str(), line.answer.as_str());
+    writeln!(lines, "{name}:{at}: said {said}, found {answer}")
 }
 
 fn main(rt: HostRuntime) -> io::Result<ExitCode> {
+    let alloc = rt.alloc();
     let mut tally = Tally {
         cases: 0,
         differ: 0,
@@ -61,7 +62,9 @@ fn main(rt: HostRuntime) -> io::Result<ExitCode> {
     let mut names = env::args(&rt)?;
     let _ = names.next();
     for name in names {
-        run_file(&rt, rt.alloc(), name.as_str(), &mut tally)?;
+        let text = fs::read_to_string(&rt, name.as_str())?;
+        let lines = report(alloc, name.as_str(), text.as_str(), &mut tally)?;
+        print!(rt; "{}", lines.as_str())?;
     }
     let Tally { cases, differ } = tally;
     println!(rt; "{cases} cases, {differ} differ")?;

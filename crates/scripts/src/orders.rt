@@ -17,13 +17,18 @@ pub struct Order {
 
 impl Order {
     /// The command of one of the events.
-    pub fn command(&self, number: u64) -> Result<Command, AllocError> {
+    pub fn command(&self, alloc: Global, number: u64) -> Result<Command, AllocError> {
+        let bytes = if self.bytes.is_empty() {
+            Bytes::empty(alloc)
+        } else {
+            Bytes::from_vec(self.bytes.clone()?)
+        };
         Ok(Command {
             kind: self.kind,
             id: id_of(number),
             environment: self.environment,
             time: self.time,
-            bytes: Bytes::from_vec(self.bytes.clone()?),
+            bytes,
         })
     }
 }

@@ -5,6 +5,12 @@ use crate::words::StepError;
 use crate::world::World;
 use std::alloc::{AllocError, Global};
 
+/// What the steps of a case are done on.
+pub trait Scene {
+    /// Does a step.
+    fn step(&mut self, alloc: Global, line: &str) -> Result<Answer, StepError>;
+}
+
 /// A line whose answer is not what the script says.
 #[derive(Drop)]
 pub struct Difference {
@@ -51,11 +57,11 @@ fn choices(case: &Case) -> usize {
 }
 
 // What a line answers; where memory was refused, what it answers when it is repeated.
-fn answer_of(alloc: Global, world: &mut World, line: &str) -> Result<Answer, StepError> {
-    let answer = world.step(alloc, line)?;
+fn answer_of<S: Scene>(alloc: Global, scene: &mut S, line: &str) -> Result<Answer, StepError> {
+    let answer = scene.step(alloc, line)?;
     if let Answer::Refused(why) = &answer {
         if why.as_str() == "out of memory" {
-            return world.step(alloc, line);
+            return scene.step(alloc, line);
         }
     }
     Ok(answer)
@@ -70,9 +76,9 @@ fn is_as_said(alloc: Global, answer: &Answer, said: Option<&str>) -> Result<bool
 }
 
 // What a line's step answered for the n-th choice of the loops' values, where that is not what the script says.
-fn run_line(
+fn run_line<S: Scene>(
     alloc: Global,
-    world: &mut World,
+    scene: &mut S,
     case: &Case,
     line: &Line,
     n: usize,
@@ -83,7 +89,7 @@ fn run_line(
     };
     let said = said.as_ref().map(|said| said.as_str());
     let step = chosen(alloc, line.step.as_str(), case, n)?;
-    match answer_of(alloc, world, step.as_str()) {
+    match answer_of(alloc, scene, step.as_str()) {
         Ok(answer) if is_as_said(alloc, &answer, said)? => Ok(None),
         Ok(answer) => {
             let answer = answer.text(alloc)?;
@@ -114,7 +120,23 @@ fn told_apart(
     })
 }
 
-// Does the steps of a case for the n-th choice.
+// Does the steps of a case for the n-th choice of the loops' values.
+fn run_lines<S: Scene>(
+    alloc: Global,
+    scene: &mut S,
+    case: &Case,
+    n: usize,
+    found: &mut Vec<Difference>,
+) -> Result<(), AllocError> {
+    for line in case.lines.iter() {
+        if let Some(difference) = run_line(alloc, scene, case, line, n)? {
+            found.push(difference)?;
+        }
+    }
+    Ok(())
+}
+
+// The same, on a world of its own.
 fn run_choice(
     alloc: Global,
     case: &Case,
@@ -122,12 +144,7 @@ fn run_choice(
     found: &mut Vec<Difference>,
 ) -> Result<(), AllocError> {
     let mut world = World::new(alloc)?;
-    for line in case.lines.iter() {
-        if let Some(difference) = run_line(alloc, &mut world, case, line, n)? {
-            found.push(difference)?;
-        }
-    }
-    Ok(())
+    run_lines(alloc, &mut world, case, n, found)
 }
 
 // Whether a case was done as often as it says: at least once, where it says nothing.

@@ -1,7 +1,8 @@
 // Steps that read the table of an open broker.
 use crate::answer::Answer;
-use crate::bytes::shown;
+use crate::bytes::bytes_text;
 use crate::orders::{kind_word, read_order};
+use crate::records::spelling;
 use crate::refusals::illegal;
 use crate::words::{StepError, Words, id_of, number_of_id};
 use async_core::{Ended, Move, Side, Table};
@@ -38,14 +39,6 @@ fn move_text(alloc: Global, next: Move) -> Result<String, AllocError> {
         return format!(in alloc; "{kind} {event}");
     }
     format!(in alloc; "{kind} {event} in {}", next.environment)
-}
-
-// A text of a payload or an answer: itself where it is one, else its bytes.
-fn bytes_text(alloc: Global, bytes: &[u8]) -> Result<String, AllocError> {
-    match std::str::from_utf8(bytes) {
-        Ok(text) => String::from_str(alloc, text),
-        Err(_) => shown(alloc, bytes),
-    }
 }
 
 fn answered_text(alloc: Global, answer: &Answered) -> Result<String, AllocError> {
@@ -160,11 +153,31 @@ fn next_move(alloc: Global, table: &Table, words: &mut Words) -> Result<Answer, 
 
 fn judge(alloc: Global, table: &Table, words: &mut Words) -> Result<Answer, StepError> {
     let order = read_order(alloc, words)?;
-    let command = order.command(order.first)?;
+    let command = order.command(alloc, order.first)?;
     match table.judge(&command) {
         Ok(()) => Ok(Answer::told(alloc, "legal")?),
         Err(why) => Ok(Answer::refused(alloc, illegal(why))?),
     }
+}
+
+// The spelling of the table's snapshot, or of one event's row of it.
+fn snapshot(alloc: Global, table: &Table) -> Result<Answer, AllocError> {
+    let snapshot = table.snapshot()?;
+    spelling(alloc, snapshot.encode(alloc))
+}
+
+fn row(alloc: Global, table: &Table, event: u64) -> Result<Answer, AllocError> {
+    let snapshot = table.snapshot()?;
+    let rows = snapshot.rows.as_slice();
+    match rows.iter().find(|row| number_of_id(&row.id) == event) {
+        Some(row) => spelling(alloc, row.encode(alloc)),
+        None => Answer::refused(alloc, "none"),
+    }
+}
+
+// A table that is taken up from its snapshot.
+fn retake(alloc: Global, table: &Table) -> Result<Table, AllocError> {
+    Table::from_snapshot(alloc, table.snapshot()?, table.settings().copy()?)
 }
 
 /// Whether a step reads the table.
@@ -183,6 +196,8 @@ pub fn reads_table(word: &str) -> bool {
             | "judge"
             | "number"
             | "moment"
+            | "row"
+            | "snapshot"
     )
 }
 
@@ -219,6 +234,15 @@ pub fn read_table(
         "judge" => judge(alloc, table, words),
         "number" => Ok(Answer::number(alloc, table.number())?),
         "moment" => Ok(Answer::number(alloc, table.last_moment())?),
+        "snapshot" => Ok(snapshot(alloc, table)?),
+        "row" => Ok(row(alloc, table, words.number()?)?),
         _ => read_event(alloc, table, word, words),
     }
+}
+
+/// What a table that is taken up from this one's snapshot answers to a step that reads it.
+pub fn read_retaken(alloc: Global, table: &Table, words: &mut Words) -> Result<Answer, StepError> {
+    let table = retake(alloc, table)?;
+    let word = words.word()?;
+    read_table(alloc, &table, word, words)
 }

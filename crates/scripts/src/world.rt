@@ -3,7 +3,9 @@ use crate::answer::Answer;
 use crate::disks::{disk_step, read_choice};
 use crate::drilling::drill_steps;
 use crate::events::broker_step;
+use crate::records::record_step;
 use crate::refusals;
+use crate::running::Scene;
 use crate::settings::{set, usual_settings};
 use crate::words::{StepError, Words};
 use group_commit::{Broker, OpenFailure, Ticket, format};
@@ -232,11 +234,15 @@ impl World {
             Stage::Open(broker) => broker_step(alloc, broker, &mut self.tickets, line),
         }
     }
+}
 
-    /// Does a step.
-    pub fn step(&mut self, alloc: Global, line: &str) -> Result<Answer, StepError> {
+impl Scene for World {
+    fn step(&mut self, alloc: Global, line: &str) -> Result<Answer, StepError> {
         if line.contains('$') {
             return Err(StepError::Unreadable);
+        }
+        if let Some(answer) = record_step(alloc, &self.settings, line)? {
+            return Ok(answer);
         }
         let mut words = Words::of(line);
         match words.word()? {
