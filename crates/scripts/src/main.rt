@@ -7,6 +7,7 @@
 mod answer;
 mod bytes;
 mod case;
+mod devices;
 mod disks;
 mod drilling;
 mod events;
