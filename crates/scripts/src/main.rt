@@ -7,7 +7,6 @@
 mod answer;
 mod bytes;
 mod case;
-mod devices;
 mod disks;
 mod drilling;
 mod events;

@@ -1,7 +1,6 @@
 // Running a case: its steps in order, for each choice of its loops' values.
 use crate::answer::Answer;
 use crate::case::{Case, Line};
-use crate::devices::Device;
 use crate::words::StepError;
 use crate::world::World;
 use std::alloc::{AllocError, Global};
@@ -144,7 +143,7 @@ fn run_choice(
     n: usize,
     found: &mut Vec<Difference>,
 ) -> Result<(), AllocError> {
-    let mut world: World<Device> = World::new(alloc)?;
+    let mut world = World::new(alloc)?;
     run_lines(alloc, &mut world, case, n, found)
 }
 

@@ -1,6 +1,5 @@
 // Where a case stands: its settings, its disk, and the broker on it.
 use crate::answer::Answer;
-use crate::devices::{CaseDisk, Failures, NO_FAILURE};
 use crate::disks::{disk_step, read_choice};
 use crate::drilling::drill_steps;
 use crate::events::broker_step;
@@ -11,28 +10,39 @@ use crate::settings::{set, usual_settings};
 use crate::words::{StepError, Words};
 use group_commit::{Broker, OpenFailure, Ticket, format};
 use retry_rules::Settings;
-use sector_disk::{CallKind, Disk, MemDisk};
+use sector_disk::{CallKind, Disk, FaultOnceDisk, FuseDisk, MemDisk};
 use std::alloc::{AllocError, Global};
 use std::mem;
 
+/// The disk of every case. Neither wrapper fails unless the case says so.
+type CaseDisk = FuseDisk<FaultOnceDisk<MemDisk>>;
+
 // What a case has of a disk.
 #[derive(Drop)]
-enum Stage<D: CaseDisk> {
+enum Stage {
     Nothing,
-    Closed(D),
-    Open(Broker<D>),
+    Closed(CaseDisk),
+    Open(Broker<CaseDisk>),
 }
 
 /// Where a case stands.
 #[derive(Drop)]
-pub struct World<D: CaseDisk> {
+pub struct World {
     settings: Settings,
-    stage: Stage<D>,
+    stage: Stage,
     // The tickets of the broker that is open.
     tickets: Vec<Ticket>,
     // How many commands were durable and issued when the last broker was closed.
     durable: u64,
     issued: u64,
+}
+
+// When the device of a disk is to fail.
+#[derive(Clone, Copy)]
+struct Failures {
+    passes: u64,
+    kind: CallKind,
+    call: u64,
 }
 
 // `[fuse N] [fault reads|changes K]`
@@ -45,7 +55,8 @@ fn read_failures(words: &mut Words) -> Result<Failures, StepError> {
     if !words.takes("fault") {
         return Ok(Failures {
             passes,
-            ..NO_FAILURE
+            kind: CallKind::Reads,
+            call: 0,
         });
     }
     let kind = match words.word()? {
@@ -58,6 +69,27 @@ fn read_failures(words: &mut Words) -> Result<Failures, StepError> {
         kind,
         call: words.number()?,
     })
+}
+
+fn wrapped(disk: MemDisk, failures: &Failures) -> CaseDisk {
+    let once = FaultOnceDisk::new(disk, failures.kind, failures.call);
+    FuseDisk::new(once, failures.passes)
+}
+
+fn unwrapped(disk: CaseDisk) -> MemDisk {
+    disk.into_inner().into_inner()
+}
+
+// A disk whose device does not fail.
+fn sound(disk: MemDisk) -> CaseDisk {
+    wrapped(
+        disk,
+        &Failures {
+            passes: u64::MAX,
+            kind: CallKind::Reads,
+            call: 0,
+        },
+    )
 }
 
 // What formatting a disk answers.
@@ -82,9 +114,9 @@ fn opened<D: Disk + Drop>(
     }
 }
 
-impl<D: CaseDisk> World<D> {
+impl World {
     /// With the usual settings and no disk.
-    pub fn new(alloc: Global) -> Result<World<D>, AllocError> {
+    pub fn new(alloc: Global) -> Result<World, AllocError> {
         Ok(World {
             settings: usual_settings(alloc)?,
             stage: Stage::Nothing,
@@ -95,7 +127,7 @@ impl<D: CaseDisk> World<D> {
     }
 
     // Takes the disk, closing the broker that is open on it.
-    fn take_disk(&mut self) -> Result<D, StepError> {
+    fn take_disk(&mut self) -> Result<CaseDisk, StepError> {
         match mem::replace(&mut self.stage, Stage::Nothing) {
             Stage::Nothing => Err(StepError::Unreadable),
             Stage::Closed(disk) => Ok(disk),
@@ -131,7 +163,7 @@ impl<D: CaseDisk> World<D> {
     // `N [fuse N] [fault reads|changes K]`: a disk of zeros.
     fn make_blank(&mut self, alloc: Global, words: &mut Words) -> Result<Answer, StepError> {
         let disk = MemDisk::new(alloc, words.number()?)?;
-        self.stage = Stage::Closed(D::over(disk, read_failures(words)?));
+        self.stage = Stage::Closed(wrapped(disk, &read_failures(words)?));
         Ok(Answer::Done)
     }
 
@@ -142,15 +174,15 @@ impl<D: CaseDisk> World<D> {
         if answer.is_refused() {
             return Ok(answer);
         }
-        self.stage = Stage::Closed(D::over(disk, read_failures(words)?));
+        self.stage = Stage::Closed(wrapped(disk, &read_failures(words)?));
         self.open(alloc)
     }
 
     // Formats the disk, which stays closed.
     fn format(&mut self, alloc: Global) -> Result<Answer, StepError> {
-        let mut disk = self.take_disk()?.into_memory();
+        let mut disk = unwrapped(self.take_disk()?);
         let answer = formatted(alloc, &mut disk, &self.settings)?;
-        self.stage = Stage::Closed(D::over(disk, NO_FAILURE));
+        self.stage = Stage::Closed(sound(disk));
         Ok(answer)
     }
 
@@ -162,34 +194,34 @@ impl<D: CaseDisk> World<D> {
 
     // `SECTORS`: stops the disk; an unsettled sector that is listed takes these bytes. From then on its device works.
     fn halt(&mut self, alloc: Global, words: &mut Words) -> Result<Answer, StepError> {
-        let mut disk = self.take_disk()?.into_memory();
+        let mut disk = unwrapped(self.take_disk()?);
         let choice = read_choice(alloc, &mut disk, words.rest())?;
-        self.stage = Stage::Closed(D::over(disk.stop(&choice), NO_FAILURE));
+        self.stage = Stage::Closed(sound(disk.stop(&choice)));
         Ok(Answer::Done)
     }
 
     // `[fuse N] [fault reads|changes K]`: when the device fails from now on.
     fn fail(&mut self, words: &mut Words) -> Result<Answer, StepError> {
         let failures = read_failures(words)?;
-        let disk = self.take_disk()?.into_memory();
-        self.stage = Stage::Closed(D::over(disk, failures));
+        let disk = unwrapped(self.take_disk()?);
+        self.stage = Stage::Closed(wrapped(disk, &failures));
         Ok(Answer::Done)
     }
 
     // How many barriers the disk has made.
     fn barriers(&mut self, alloc: Global) -> Result<Answer, StepError> {
-        let disk = self.take_disk()?.into_memory();
+        let disk = unwrapped(self.take_disk()?);
         let barriers = disk.barriers();
-        self.stage = Stage::Closed(D::over(disk, NO_FAILURE));
+        self.stage = Stage::Closed(sound(disk));
         Ok(Answer::number(alloc, barriers)?)
     }
 
     // `STEP; STEP; ..`: runs a drill on the disk, which stays closed.
     fn drill(&mut self, alloc: Global, words: &mut Words) -> Result<Answer, StepError> {
-        let disk = self.take_disk()?.into_memory();
+        let disk = unwrapped(self.take_disk()?);
         let (answer, disk) = drill_steps(alloc, disk, words.rest())?;
         if let Some(disk) = disk {
-            self.stage = Stage::Closed(D::over(disk, NO_FAILURE));
+            self.stage = Stage::Closed(sound(disk));
         }
         Ok(answer)
     }
@@ -204,7 +236,7 @@ impl<D: CaseDisk> World<D> {
     }
 }
 
-impl<D: CaseDisk> Scene for World<D> {
+impl Scene for World {
     fn step(&mut self, alloc: Global, line: &str) -> Result<Answer, StepError> {
         if line.contains('$') {
             return Err(StepError::Unreadable);
