@@ -2,50 +2,53 @@
 ghost use Rattle.std.specs.Prelude.{◌≡◌, ◌++◌, ◌≤◌, None, Some, IfOk, MatchResult, drop, length, List, ℕ, Ok};
 ghost use Rattle.invoke_records.specs.declared.command.Command.{Command};
 ghost use Rattle.invoke_records.specs.Spelling.{command_text, is_bad_environment, IsCommand};
-ghost use Rattle.invoke_records.specs.Reading.{Gives, kind_at, sound, fields_at, head_fault, failure_at, body_at, command_at, least_length, most_length};
+ghost use Rattle.invoke_records.specs.Reading.{Gives, fields_at, head_fault, failure_at, body_at, command_at, least_length, most_length};
+ghost use Rattle.invoke_records.specs.Steps.{Reads, with_rest, refused_by, kind_behind, command_of};
 ghost use Rattle.invoke_records.specs.Records.{Finds};
 
 use crate::bytes::MOST_BYTES;
 use crate::command::GREATEST_MOMENT;
-use crate::field::{take_byte, take_id, take_slice, take_u16, take_u32, take_u64};
 use crate::head::Head;
+use crate::reader::Reader;
 use crate::{Bytes, Cause, Command, Kind, RecordError};
 use std::alloc::Global;
 
-fn kind_of(byte: u8) -> Result<Kind, RecordError>
-    ensures { Gives (λ kind. kind) result (kind_at byte) }
+#[tactic(auto, using(crate::proofs::Steps::stop))]
+fn kind_of(byte: u8, reader: &mut Reader) -> Kind
+    ensures { Reads (kind_behind byte) reader.old result reader.new }
 {
     match byte {
-        1 => Ok(Kind::Accept),
-        2 => Ok(Kind::Start),
-        3 => Ok(Kind::Succeed),
-        4 => Ok(Kind::Fail(Cause::Reported)),
-        5 => Ok(Kind::Throttle),
-        6 => Ok(Kind::Interrupt),
-        7 => Ok(Kind::Expire),
-        8 => Ok(Kind::Collect),
-        _ => Err(RecordError::BadKind),
+        1 => Kind::Accept,
+        2 => Kind::Start,
+        3 => Kind::Succeed,
+        4 => Kind::Fail(Cause::Reported),
+        5 => Kind::Throttle,
+        6 => Kind::Interrupt,
+        7 => Kind::Expire,
+        8 => Kind::Collect,
+        _ => {
+            reader.refuse(true, RecordError::BadKind);
+            Kind::Collect
+        }
     }
 }
 
-#[tactic(auto, unfolding(crate::specs::Reading::fields_at))]
-fn read_fields(bytes: &[u8]) -> Result<(Head, &[u8]), RecordError>
-    ensures { Gives (λ x. (x.0, x.1.now)) result (fields_at bytes.now) }
+fn read_head(reader: &mut Reader) -> Head
+    ensures { Reads fields_at reader.old result reader.new }
 {
-    let (byte, rest) = take_byte(bytes)?;
-    let (id, rest) = take_id(rest)?;
-    let (environment, rest) = take_u16(rest)?;
-    let (time, rest) = take_u64(rest)?;
-    let (size, rest) = take_u32(rest)?;
-    let kind = kind_of(byte)?;
-    let head = Head {
+    let byte = reader.byte();
+    let id = reader.array();
+    let environment = reader.u16();
+    let time = reader.u64();
+    let size = reader.u32();
+    let kind = kind_of(byte, reader);
+    Head {
         kind,
         id,
         environment,
         time,
         size,
-    };
-    Ok((head, rest))
+    }
 }
 
 fn failure_of(byte: u8, error: &[u8]) -> Result<(Kind, &[u8]), RecordError>
@@ -104,41 +107,48 @@ fn most_length_of(kind: Kind) -> u32
     }
 }
 
-fn check_head(head: &Head) -> Result<(), RecordError>
-    ensures { Gives (λ _. head.now) result (sound (head_fault head.now) head.now) }
+fn check_head(head: &Head, reader: &mut Reader)
+    ensures { reader.new ≡ refused_by (head_fault head.now) reader.old }
 {
-    if has_bad_environment(head.kind, head.environment) || head.time > GREATEST_MOMENT {
-        return Err(RecordError::BadKind);
-    }
-    if head.size > most_length_of(head.kind) {
-        return Err(RecordError::TooLong);
-    }
-    if head.size < least_length_of(head.kind) {
-        return Err(RecordError::BadKind);
-    }
-    Ok(())
+    let is_bad = has_bad_environment(head.kind, head.environment);
+    reader.refuse(is_bad, RecordError::BadKind);
+    reader.refuse(head.time > GREATEST_MOMENT, RecordError::BadKind);
+    reader.refuse(head.size > most_length_of(head.kind), RecordError::TooLong);
+    reader.refuse(head.size < least_length_of(head.kind), RecordError::BadKind);
 }
 
-#[tactic(auto, unfolding(crate::specs::Reading::command_at))]
+#[tactic(auto, unfolding(crate::specs::Steps::command_of))]
+fn command_of<'a>(
+    alloc: Global,
+    head: Head,
+    body: &[u8],
+    rest: &'a [u8],
+) -> Result<(Command, &'a [u8]), RecordError>
+    ensures { Gives (λ x. (x.0, x.1.now)) result (with_rest (command_of head body.now) rest.now) }
+{
+    let (kind, carried) = body_of(head.kind, body)?;
+    let carried = Vec::from_slice(alloc, carried)?;
+    let id = head.id;
+    let command = Command {
+        kind,
+        id,
+        environment: head.environment,
+        time: head.time,
+        bytes: Bytes::from_vec(carried),
+    };
+    Ok((command, rest))
+}
+
 fn read_command(alloc: Global, bytes: &[u8]) -> Result<(Command, &[u8]), RecordError>
     ensures { Gives (λ x. (x.0, x.1.now)) result (command_at bytes.now) }
 {
-    if bytes.len() < 31 {
-        return Err(RecordError::Truncated);
-    }
-    let (head, rest) = read_fields(bytes)?;
-    check_head(&head)?;
-    let (body, rest) = take_slice(head.size as usize, rest)?;
-    let (kind, carried) = body_of(head.kind, body)?;
-    let carried = Bytes::from_vec(Vec::from_slice(alloc, carried)?);
-    let command = Command {
-        kind,
-        id: head.id,
-        environment: head.environment,
-        time: head.time,
-        bytes: carried,
-    };
-    Ok((command, rest))
+    let mut reader = Reader::new(bytes);
+    reader.refuse(bytes.len() < 31, RecordError::Truncated);
+    let head = read_head(&mut reader);
+    check_head(&head, &mut reader);
+    let body = reader.slice(head.size as usize);
+    let rest = reader.end()?;
+    command_of(alloc, head, body, rest)
 }
 
 impl Command {

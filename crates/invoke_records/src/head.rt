@@ -2,7 +2,7 @@
 use crate::Kind;
 
 /// The fields of a command in front of its bytes. The cause of a Fail is not known yet, and is Reported here.
-#[derive(Drop)]
+#[derive(Clone, Copy)]
 pub struct Head {
     pub kind: Kind,
     pub id: [u8; 16],

@@ -5,18 +5,17 @@
 //! and that no spelling begins another.
 #![tactic(auto)]
 
-mod appending;
 mod bytes;
 mod command;
 mod command_reading;
 mod command_writing;
 mod error;
-mod field;
 mod head;
 mod laws;
-mod limit;
 mod limits;
 mod order;
+mod placing;
+mod reader;
 mod row;
 mod row_fields;
 mod row_reading;
@@ -29,6 +28,7 @@ mod snapshot;
 mod snapshot_record;
 mod snapshot_writing;
 mod widths;
+mod writer;
 
 pub use bytes::{Bytes, MOST_BYTES};
 pub use command::{Cause, Command, GREATEST_MOMENT, Kind};

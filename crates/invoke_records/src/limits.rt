@@ -1,7 +1,7 @@
 // The numbers of the settings, which stand in front of their texts.
 
 /// The numbers of the settings, which stand in front of their texts.
-#[derive(Drop)]
+#[derive(Clone, Copy)]
 pub struct Limits {
     pub retries: u8,
     pub age: u32,

@@ -1,7 +1,7 @@
 // The fields of a row in front of its texts.
 
 /// The fields of a row up to its moment, as they are written.
-#[derive(Drop)]
+#[derive(Clone, Copy)]
 pub struct Life {
     pub id: [u8; 16],
     pub accepted: u64,
@@ -16,7 +16,7 @@ pub struct Life {
 }
 
 /// The others, up to the payload.
-#[derive(Drop)]
+#[derive(Clone, Copy)]
 pub struct Counts {
     pub starts: u32,
     pub failures: u32,

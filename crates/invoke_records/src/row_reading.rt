@@ -3,59 +3,41 @@ ghost use Rattle.std.specs.Prelude.{◌≡◌, ◌++◌, ◌<◌, IfOk, MatchRes
 ghost use Rattle.invoke_records.specs.declared.row.EventRow.{EventRow};
 ghost use Rattle.invoke_records.specs.Spelling.{row_text, IsRow};
 ghost use Rattle.invoke_records.specs.Reading.{Gives, life_at, counts_at, outcome_at, standing_of, answer_of, row_at};
+ghost use Rattle.invoke_records.specs.Steps.{Reads, with_rest, row_of};
 ghost use Rattle.invoke_records.specs.declared.error.RecordError.TheVariants.{OutOfMemory};
 
 use crate::command::GREATEST_MOMENT;
-use crate::field::{take_id, take_slice, take_u32, take_u64};
-use crate::limit::{take_limit16, take_limit64, take_sized, take_small};
+use crate::reader::Reader;
 use crate::row_fields::{Counts, Life};
 use crate::{Answer, Bytes, EventRow, MOST_BYTES, Outcome, RecordError, Standing};
 use std::alloc::Global;
 
-#[tactic(auto, unfolding(crate::specs::Reading::life_at))]
-fn read_life(bytes: &[u8]) -> Result<(Life, &[u8]), RecordError>
-    ensures { Gives (λ x. (x.0, x.1.now)) result (life_at bytes.now) }
+fn read_life(reader: &mut Reader) -> Life
+    ensures { Reads life_at reader.old result reader.new }
 {
-    let (id, rest) = take_id(bytes)?;
-    let (accepted, rest) = take_limit64(0, GREATEST_MOMENT, rest)?;
-    let (number, rest) = take_u64(rest)?;
-    let (last_number, rest) = take_u64(rest)?;
-    let (standing, rest) = take_small(1, 4, rest)?;
-    let (outcome, rest) = take_small(0, 3, rest)?;
-    let (environment, rest) = take_limit16(0, 16, rest)?;
-    let (moment, rest) = take_u64(rest)?;
-    let life = Life {
-        id,
-        accepted,
-        number,
-        last_number,
-        standing,
-        outcome,
-        environment,
-        moment,
-    };
-    Ok((life, rest))
+    Life {
+        id: reader.array(),
+        accepted: reader.limit64(0, GREATEST_MOMENT),
+        number: reader.u64(),
+        last_number: reader.u64(),
+        standing: reader.small(1, 4),
+        outcome: reader.small(0, 3),
+        environment: reader.limit16(0, 16),
+        moment: reader.u64(),
+    }
 }
 
-#[tactic(auto, unfolding(crate::specs::Reading::counts_at))]
-fn read_counts(bytes: &[u8]) -> Result<(Counts, &[u8]), RecordError>
-    ensures { Gives (λ x. (x.0, x.1.now)) result (counts_at bytes.now) }
+fn read_counts(reader: &mut Reader) -> Counts
+    ensures { Reads counts_at reader.old result reader.new }
 {
-    let (starts, rest) = take_u32(bytes)?;
-    let (failures, rest) = take_u32(rest)?;
-    let (push_backs, rest) = take_u32(rest)?;
-    let (answer, rest) = take_small(0, 2, rest)?;
-    let (payload_size, rest) = take_sized(1, MOST_BYTES, rest)?;
-    let (answer_size, rest) = take_sized(0, MOST_BYTES, rest)?;
-    let counts = Counts {
-        starts,
-        failures,
-        push_backs,
-        answer,
-        payload_size,
-        answer_size,
-    };
-    Ok((counts, rest))
+    Counts {
+        starts: reader.u32(),
+        failures: reader.u32(),
+        push_backs: reader.u32(),
+        answer: reader.small(0, 2),
+        payload_size: reader.sized(1, MOST_BYTES),
+        answer_size: reader.sized(0, MOST_BYTES),
+    }
 }
 
 fn read_outcome(byte: u8) -> Result<Outcome, RecordError>
@@ -120,19 +102,23 @@ fn read_answer(alloc: Global, byte: u8, bytes: &[u8]) -> Result<Answer, RecordEr
     Ok(Answer::Error(text))
 }
 
-/// The row at the front of the bytes, and the bytes behind it.
-#[tactic(auto, unfolding(crate::specs::Reading::row_at))]
-pub fn read_row(alloc: Global, bytes: &[u8]) -> Result<(EventRow, &[u8]), RecordError>
-    ensures { Gives (λ x. (x.0, x.1.now)) result (row_at bytes.now) }
+#[tactic(auto, unfolding(crate::specs::Steps::row_of))]
+fn row_of<'a>(
+    alloc: Global,
+    life: Life,
+    counts: Counts,
+    payload: &[u8],
+    text: &[u8],
+    rest: &'a [u8],
+) -> Result<(EventRow, &'a [u8]), RecordError>
+    ensures { Gives (λ x. (x.0, x.1.now)) result (with_rest (row_of life counts payload.now text.now) rest.now) }
 {
-    let (life, rest) = read_life(bytes)?;
-    let (counts, rest) = read_counts(rest)?;
-    let (payload, rest) = take_slice(counts.payload_size as usize, rest)?;
-    let (text, rest) = take_slice(counts.answer_size as usize, rest)?;
     let standing = read_standing(&life)?;
+    let payload = Bytes::from_vec(Vec::from_slice(alloc, payload)?);
     let answer = read_answer(alloc, counts.answer, text)?;
+    let id = life.id;
     let row = EventRow {
-        id: life.id,
+        id,
         accepted: life.accepted,
         number: life.number,
         last_number: life.last_number,
@@ -140,8 +126,21 @@ pub fn read_row(alloc: Global, bytes: &[u8]) -> Result<(EventRow, &[u8]), Record
         starts: counts.starts,
         failures: counts.failures,
         push_backs: counts.push_backs,
-        payload: Bytes::from_vec(Vec::from_slice(alloc, payload)?),
+        payload,
         answer,
     };
     Ok((row, rest))
+}
+
+/// The row at the front of the bytes, and the bytes behind it.
+pub fn read_row(alloc: Global, bytes: &[u8]) -> Result<(EventRow, &[u8]), RecordError>
+    ensures { Gives (λ x. (x.0, x.1.now)) result (row_at bytes.now) }
+{
+    let mut reader = Reader::new(bytes);
+    let life = read_life(&mut reader);
+    let counts = read_counts(&mut reader);
+    let payload = reader.slice(counts.payload_size as usize);
+    let text = reader.slice(counts.answer_size as usize);
+    let rest = reader.end()?;
+    row_of(alloc, life, counts, payload, text, rest)
 }

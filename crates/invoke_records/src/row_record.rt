@@ -1,14 +1,24 @@
 // The record of a row.
-ghost use Rattle.std.specs.Prelude.{◌≡◌, ◌++◌, IfOk, IfErr, OnOk, MatchResult, drop, length, List, ℕ, Ok};
+ghost use Rattle.std.specs.Prelude.{◌≡◌, ◌++◌, None, IfOk, IfErr, OnOk, MatchResult, drop, length, List, ℕ, Ok};
 ghost use Rattle.invoke_records.specs.declared.row.EventRow.{EventRow};
-ghost use Rattle.invoke_records.specs.Spelling.{row_text, row_fault, IsRow};
+ghost use Rattle.invoke_records.specs.Spelling.{answer_bytes, row_text, row_fault, IsRow};
 ghost use Rattle.invoke_records.specs.Reading.{Gives, FailsBy, row_at};
 ghost use Rattle.invoke_records.specs.Records.{Finds};
 
 use crate::row_reading::read_row;
-use crate::row_writing::{add_row, check_row, row_is_within};
-use crate::{EventRow, RecordError};
+use crate::row_writing::{add_row, answer_bytes_of, check_row, row_head, row_is_within};
+use crate::writer::Writer;
+use crate::{Answer, EventRow, RecordError};
 use std::alloc::Global;
+
+impl Answer {
+    /// The bytes, lent.
+    pub fn bytes(&self) -> &[u8]
+        ensures { result.now ≡ answer_bytes self.now }
+    {
+        answer_bytes_of(self)
+    }
+}
 
 impl EventRow {
     /// The one spelling of the row.
@@ -24,9 +34,18 @@ impl EventRow {
     {
         check_row(self)?;
         row_is_within(self);
-        let mut out = Vec::new(alloc);
-        add_row(&mut out, self)?;
-        Ok(out)
+        let mut out = Writer::new(alloc);
+        add_row(&mut out, self);
+        out.end()
+    }
+
+    /// What the spelling of a row that has one begins with; its payload and its answer follow. It takes no memory.
+    #[tactic(auto, unfolding(crate::specs::Spelling::row_text))]
+    pub fn head(&self) -> [u8; 73]
+        requires { row_fault self.now ≡ None }
+        ensures { row_text self.now ≡ result ++ (self.now.payload ++ answer_bytes self.now.answer) }
+    {
+        row_head(self)
     }
 
     /// The row at the front of the bytes, and how many bytes it takes. Bytes after it are left.

@@ -1,12 +1,13 @@
 // Writing a row.
-ghost use Rattle.std.specs.Prelude.{◌≡◌, ◌<◌, ◌≤◌, ◌^◌, ◌++◌, IfErr, OnOk, length};
+ghost use Rattle.std.specs.Prelude.{◌≡◌, ◌<◌, ◌≤◌, ◌^◌, ◌++◌, length};
 ghost use Rattle.invoke_records.specs.Spelling.{life_text, counts_text, row_text, row_fault, standing_byte, ended_byte, environment_in, moment_in, answer_byte, answer_bytes, is_unknown, breaks_rule, IsBytes, IsWithinWidth};
 ghost use Rattle.invoke_records.specs.Reading.{sound};
-ghost use Rattle.invoke_records.specs.declared.error.RecordError.TheVariants.{OutOfMemory};
+ghost use Rattle.invoke_records.specs.Steps.{Adds};
 
-use crate::appending::add;
 use crate::command::GREATEST_MOMENT;
+use crate::placing::put_at;
 use crate::widths::{are_bytes, id_has_16};
+use crate::writer::Writer;
 use crate::{Answer, EventRow, MOST_BYTES, Outcome, RecordError, Standing};
 
 fn standing_byte_of(standing: &Standing) -> u8
@@ -76,7 +77,8 @@ fn answer_byte_of(answer: &Answer) -> u8
     }
 }
 
-fn answer_bytes_of(answer: &Answer) -> &[u8]
+/// The bytes of an answer.
+pub fn answer_bytes_of(answer: &Answer) -> &[u8]
     ensures { result.now ≡ answer_bytes answer.now }
 {
     match answer {
@@ -121,6 +123,18 @@ pub fn check_row(row: &EventRow) -> Result<(), RecordError>
     Ok(())
 }
 
+/// How long the row's spelling is.
+#[tactic(auto, using(crate::specs::laws::Rows::row_length))]
+pub fn row_size(row: &EventRow) -> u64
+    requires payload { length row.now.payload ≤ 262144 }
+    requires answer { length (answer_bytes row.now.answer) ≤ 262144 }
+    ensures exact { result ≡ length (row_text row.now) }
+    ensures bounded { result ≤ 524361 }
+{
+    id_has_16(&row.id);
+    73 + row.payload.len() as u64 + answer_bytes_of(&row.answer).len() as u64
+}
+
 // What the types say of a row's numbers and bytes.
 pub fn row_is_within(row: &EventRow)
     ensures { IsWithinWidth row.now }
@@ -138,52 +152,63 @@ pub fn row_is_within(row: &EventRow)
     are_bytes(answer);
 }
 
-fn add_life(out: &mut Vec<u8>, row: &EventRow) -> Result<(), RecordError>
-    ensures ok { OnOk result (out.new.items ≡ out.old.items ++ life_text row.now) }
-    ensures memory { IfErr result (λ e. e ≡ OutOfMemory) }
+// What a row's spelling begins with: the fields of its life.
+fn life_head(row: &EventRow) -> [u8; 52]
+    ensures { result ≡ life_text row.now }
 {
-    add(out, &row.id)?;
-    add(out, &row.accepted.to_be_bytes())?;
-    add(out, &row.number.to_be_bytes())?;
-    add(out, &row.last_number.to_be_bytes())?;
+    id_has_16(&row.id);
     let bytes = [
         standing_byte_of(&row.standing),
         ended_byte_of(&row.standing),
     ];
-    add(out, &bytes)?;
-    add(out, &environment_of(&row.standing).to_be_bytes())?;
-    add(out, &moment_of(&row.standing).to_be_bytes())?;
-    Ok(())
+    let mut head = [0; 52];
+    put_at(&mut head, 0, &row.id);
+    put_at(&mut head, 16, &row.accepted.to_be_bytes());
+    put_at(&mut head, 24, &row.number.to_be_bytes());
+    put_at(&mut head, 32, &row.last_number.to_be_bytes());
+    put_at(&mut head, 40, &bytes);
+    put_at(&mut head, 42, &environment_of(&row.standing).to_be_bytes());
+    put_at(&mut head, 44, &moment_of(&row.standing).to_be_bytes());
+    head
 }
 
-fn add_counts(out: &mut Vec<u8>, row: &EventRow) -> Result<(), RecordError>
+// What comes behind them: the counts and lengths.
+fn counts_head(row: &EventRow) -> [u8; 21]
     requires payload { length row.now.payload ≤ 262144 }
     requires answer { length (answer_bytes row.now.answer) ≤ 262144 }
-    ensures ok { OnOk result (out.new.items ≡ out.old.items ++ counts_text row.now) }
-    ensures memory { IfErr result (λ e. e ≡ OutOfMemory) }
+    ensures { result ≡ counts_text row.now }
 {
-    add(out, &row.starts.to_be_bytes())?;
-    add(out, &row.failures.to_be_bytes())?;
-    add(out, &row.push_backs.to_be_bytes())?;
-    add(out, &[answer_byte_of(&row.answer)])?;
     let payload_size = row.payload.len() as u32;
-    add(out, &payload_size.to_be_bytes())?;
     let answer_size = answer_bytes_of(&row.answer).len() as u32;
-    add(out, &answer_size.to_be_bytes())?;
-    Ok(())
+    let mut head = [0; 21];
+    put_at(&mut head, 0, &row.starts.to_be_bytes());
+    put_at(&mut head, 4, &row.failures.to_be_bytes());
+    put_at(&mut head, 8, &row.push_backs.to_be_bytes());
+    put_at(&mut head, 12, &[answer_byte_of(&row.answer)]);
+    put_at(&mut head, 13, &payload_size.to_be_bytes());
+    put_at(&mut head, 17, &answer_size.to_be_bytes());
+    head
 }
 
-/// Appends the one spelling of the row. Where memory is wanting, a part of it may have been appended.
-#[tactic(auto, unfolding(crate::specs::Spelling::row_text))]
-pub fn add_row(out: &mut Vec<u8>, row: &EventRow) -> Result<(), RecordError>
+/// All fields of a row in front of its payload.
+pub fn row_head(row: &EventRow) -> [u8; 73]
     requires payload { length row.now.payload ≤ 262144 }
     requires answer { length (answer_bytes row.now.answer) ≤ 262144 }
-    ensures ok { OnOk result (out.new.items ≡ out.old.items ++ row_text row.now) }
-    ensures memory { IfErr result (λ e. e ≡ OutOfMemory) }
+    ensures { result ≡ life_text row.now ++ counts_text row.now }
 {
-    add_life(out, row)?;
-    add_counts(out, row)?;
-    add(out, row.payload.as_slice())?;
-    add(out, answer_bytes_of(&row.answer))?;
-    Ok(())
+    let mut head = [0; 73];
+    put_at(&mut head, 0, &life_head(row));
+    put_at(&mut head, 52, &counts_head(row));
+    head
+}
+
+/// Writes the one spelling of the row.
+pub fn add_row(out: &mut Writer, row: &EventRow)
+    requires payload { length row.now.payload ≤ 262144 }
+    requires answer { length (answer_bytes row.now.answer) ≤ 262144 }
+    ensures { Adds (row_text row.now) out.old out.new }
+{
+    out.add(&row_head(row));
+    out.add(row.payload.as_slice());
+    out.add(answer_bytes_of(&row.answer));
 }

@@ -3,76 +3,52 @@ ghost use Rattle.std.specs.Prelude.{◌≡◌, ◌++◌, None, IfOk, MatchResult
 ghost use Rattle.retry_rules.specs.Settings.{is_name_byte, is_plain_byte, bad_field};
 ghost use Rattle.retry_rules.specs.declared.settings.Settings.{Settings};
 ghost use Rattle.invoke_records.specs.Spelling.{settings_text};
-ghost use Rattle.invoke_records.specs.Reading.{Gives, text_at, limits_at, settings_at};
+ghost use Rattle.invoke_records.specs.Reading.{Gives, text_at, limits_at, with_texts, settings_at};
+ghost use Rattle.invoke_records.specs.Steps.{Reads, with_rest};
 ghost use Rattle.invoke_records.specs.Records.{AreSettings, Finds};
 ghost use Rattle.invoke_records.specs.declared.error.RecordError.TheVariants.{OutOfMemory};
 
 use crate::RecordError;
-use crate::field::{take_byte, take_slice};
-use crate::limit::{take_limit16, take_limit32, take_small};
 use crate::limits::Limits;
+use crate::reader::Reader;
 use retry_rules::{Settings, Text, has_name_bytes, has_plain_bytes};
 use std::alloc::Global;
 
-#[tactic(auto, unfolding(crate::specs::Reading::text_at))]
-fn take_name(bytes: &[u8]) -> Result<(&[u8], &[u8]), RecordError>
-    ensures { Gives (λ x. (x.0.now, x.1.now)) result (text_at 64 is_name_byte bytes.now) }
+fn read_name<'a>(reader: &mut Reader<'a>) -> &'a [u8]
+    ensures { Reads (text_at 64 is_name_byte) reader.old result.now reader.new }
 {
-    let (size, rest) = take_byte(bytes)?;
-    if size > 64 {
-        return Err(RecordError::TooLong);
-    }
-    if size < 1 {
-        return Err(RecordError::BadKind);
-    }
-    let (text, rest) = take_slice(size as usize, rest)?;
-    if !has_name_bytes(text) {
-        return Err(RecordError::BadKind);
-    }
-    Ok((text, rest))
+    let size = reader.byte();
+    reader.refuse(size > 64, RecordError::TooLong);
+    reader.refuse(size < 1, RecordError::BadKind);
+    let text = reader.slice(size as usize);
+    reader.refuse(!has_name_bytes(text), RecordError::BadKind);
+    text
 }
 
-#[tactic(auto, unfolding(crate::specs::Reading::text_at))]
-fn take_plain(most: u8, bytes: &[u8]) -> Result<(&[u8], &[u8]), RecordError>
-    ensures { Gives (λ x. (x.0.now, x.1.now)) result (text_at most is_plain_byte bytes.now) }
+fn read_plain<'a>(most: u8, reader: &mut Reader<'a>) -> &'a [u8]
+    ensures { Reads (text_at most is_plain_byte) reader.old result.now reader.new }
 {
-    let (size, rest) = take_byte(bytes)?;
-    if size > most {
-        return Err(RecordError::TooLong);
-    }
-    if size < 1 {
-        return Err(RecordError::BadKind);
-    }
-    let (text, rest) = take_slice(size as usize, rest)?;
-    if !has_plain_bytes(text) {
-        return Err(RecordError::BadKind);
-    }
-    Ok((text, rest))
+    let size = reader.byte();
+    reader.refuse(size > most, RecordError::TooLong);
+    reader.refuse(size < 1, RecordError::BadKind);
+    let text = reader.slice(size as usize);
+    reader.refuse(!has_plain_bytes(text), RecordError::BadKind);
+    text
 }
 
-#[tactic(auto, unfolding(crate::specs::Reading::limits_at))]
-fn read_limits(bytes: &[u8]) -> Result<(Limits, &[u8]), RecordError>
-    ensures { Gives (λ x. (x.0, x.1.now)) result (limits_at bytes.now) }
+fn read_limits(reader: &mut Reader) -> Limits
+    ensures { Reads limits_at reader.old result reader.new }
 {
-    let (retries, rest) = take_small(0, 2, bytes)?;
-    let (age, rest) = take_limit32(60, 21600, rest)?;
-    let (timeout, rest) = take_limit16(1, 900, rest)?;
-    let (concurrency, rest) = take_small(1, 64, rest)?;
-    let (environments, rest) = take_small(1, 16, rest)?;
-    let (events, rest) = take_limit16(1, 1024, rest)?;
-    let (payload, rest) = take_limit32(2, 262144, rest)?;
-    let (response, rest) = take_limit32(2, 262144, rest)?;
-    let limits = Limits {
-        retries,
-        age,
-        timeout,
-        concurrency,
-        environments,
-        events,
-        payload,
-        response,
-    };
-    Ok((limits, rest))
+    Limits {
+        retries: reader.small(0, 2),
+        age: reader.limit32(60, 21600),
+        timeout: reader.limit16(1, 900),
+        concurrency: reader.small(1, 64),
+        environments: reader.small(1, 16),
+        events: reader.limit16(1, 1024),
+        payload: reader.limit32(2, 262144),
+        response: reader.limit32(2, 262144),
+    }
 }
 
 fn text_of(alloc: Global, bytes: &[u8]) -> Result<Text, RecordError>
@@ -81,14 +57,19 @@ fn text_of(alloc: Global, bytes: &[u8]) -> Result<Text, RecordError>
     Ok(Text::from_vec(Vec::from_slice(alloc, bytes)?))
 }
 
-#[tactic(auto, unfolding(crate::specs::Reading::settings_at))]
-fn read_settings(alloc: Global, bytes: &[u8]) -> Result<(Settings, &[u8]), RecordError>
-    ensures { Gives (λ x. (x.0, x.1.now)) result (settings_at bytes.now) }
+fn settings_of<'a>(
+    alloc: Global,
+    limits: Limits,
+    name: &[u8],
+    handler: &[u8],
+    arn: &[u8],
+    rest: &'a [u8],
+) -> Result<(Settings, &'a [u8]), RecordError>
+    ensures { Gives (λ x. (x.0, x.1.now)) result (with_rest (Ok (with_texts limits name.now handler.now arn.now)) rest.now) }
 {
-    let (limits, rest) = read_limits(bytes)?;
-    let (name, rest) = take_name(rest)?;
-    let (handler, rest) = take_plain(128, rest)?;
-    let (arn, rest) = take_plain(200, rest)?;
+    let name = text_of(alloc, name)?;
+    let handler = text_of(alloc, handler)?;
+    let arn = text_of(alloc, arn)?;
     let settings = Settings {
         retries: limits.retries,
         age: limits.age,
@@ -98,11 +79,23 @@ fn read_settings(alloc: Global, bytes: &[u8]) -> Result<(Settings, &[u8]), Recor
         events: limits.events,
         payload: limits.payload,
         response: limits.response,
-        name: text_of(alloc, name)?,
-        handler: text_of(alloc, handler)?,
-        arn: text_of(alloc, arn)?,
+        name,
+        handler,
+        arn,
     };
     Ok((settings, rest))
+}
+
+fn read_settings(alloc: Global, bytes: &[u8]) -> Result<(Settings, &[u8]), RecordError>
+    ensures { Gives (λ x. (x.0, x.1.now)) result (settings_at bytes.now) }
+{
+    let mut reader = Reader::new(bytes);
+    let limits = read_limits(&mut reader);
+    let name = read_name(&mut reader);
+    let handler = read_plain(128, &mut reader);
+    let arn = read_plain(200, &mut reader);
+    let rest = reader.end()?;
+    settings_of(alloc, limits, name, handler, arn, rest)
 }
 
 /// The settings at the front of the bytes, and how many bytes they take.

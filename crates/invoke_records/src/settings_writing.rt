@@ -1,12 +1,12 @@
 // Writing settings.
-ghost use Rattle.std.specs.Prelude.{◌≡◌, ◌<◌, ◌++◌, None, IfOk, IfErr, OnOk, length};
+ghost use Rattle.std.specs.Prelude.{◌≡◌, ◌<◌, None, IfOk, IfErr, OnOk, length};
 ghost use Rattle.retry_rules.specs.Settings.{bad_field};
 ghost use Rattle.invoke_records.specs.Spelling.{short_text, limits_text, settings_text, settings_fault};
 ghost use Rattle.invoke_records.specs.Reading.{sound, FailsBy};
-ghost use Rattle.invoke_records.specs.declared.error.RecordError.TheVariants.{OutOfMemory};
+ghost use Rattle.invoke_records.specs.Steps.{Adds};
 
 use crate::RecordError;
-use crate::appending::add;
+use crate::writer::Writer;
 use retry_rules::{Field, Settings};
 use std::alloc::Global;
 
@@ -29,41 +29,37 @@ fn check(s: &Settings) -> Result<(), RecordError>
     Err(RecordError::BadKind)
 }
 
-fn add_limits(out: &mut Vec<u8>, s: &Settings) -> Result<(), RecordError>
-    ensures ok { OnOk result (out.new.items ≡ out.old.items ++ limits_text s.now) }
-    ensures memory { IfErr result (λ e. e ≡ OutOfMemory) }
+fn add_limits(out: &mut Writer, s: &Settings)
+    ensures { Adds (limits_text s.now) out.old out.new }
 {
-    add(out, &[s.retries])?;
-    add(out, &s.age.to_be_bytes())?;
-    add(out, &s.timeout.to_be_bytes())?;
-    add(out, &[s.concurrency, s.environments])?;
-    add(out, &s.events.to_be_bytes())?;
-    add(out, &s.payload.to_be_bytes())?;
-    add(out, &s.response.to_be_bytes())?;
-    Ok(())
+    out.add(&[s.retries]);
+    out.add(&s.age.to_be_bytes());
+    out.add(&s.timeout.to_be_bytes());
+    out.add(&[s.concurrency, s.environments]);
+    out.add(&s.events.to_be_bytes());
+    out.add(&s.payload.to_be_bytes());
+    out.add(&s.response.to_be_bytes());
 }
 
-fn add_text(out: &mut Vec<u8>, text: &[u8]) -> Result<(), RecordError>
+fn add_text(out: &mut Writer, text: &[u8])
     requires { length text.now < 256 }
-    ensures ok { OnOk result (out.new.items ≡ out.old.items ++ short_text text.now) }
-    ensures memory { IfErr result (λ e. e ≡ OutOfMemory) }
+    ensures { Adds (short_text text.now) out.old out.new }
 {
-    add(out, &[text.len() as u8])?;
-    add(out, text)
+    out.add(&[text.len() as u8]);
+    out.add(text);
 }
 
 /// The one spelling of the settings.
-#[tactic(auto, unfolding(crate::specs::Spelling::settings_text))]
 pub fn encode_settings(alloc: Global, s: &Settings) -> Result<Vec<u8>, RecordError>
     ensures ok { IfOk result (λ text. text.items ≡ settings_text s.now) }
     ensures good { OnOk result (bad_field s.now ≡ None) }
     ensures refused { IfErr result (FailsBy (settings_fault s.now)) }
 {
     check(s)?;
-    let mut out = Vec::new(alloc);
-    add_limits(&mut out, s)?;
-    add_text(&mut out, s.name.as_bytes())?;
-    add_text(&mut out, s.handler.as_bytes())?;
-    add_text(&mut out, s.arn.as_bytes())?;
-    Ok(out)
+    let mut out = Writer::new(alloc);
+    add_limits(&mut out, s);
+    add_text(&mut out, s.name.as_bytes());
+    add_text(&mut out, s.handler.as_bytes());
+    add_text(&mut out, s.arn.as_bytes());
+    out.end()
 }

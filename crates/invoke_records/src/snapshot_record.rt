@@ -1,15 +1,17 @@
 // The record of a snapshot.
-ghost use Rattle.std.specs.Prelude.{◌≡◌, ◌++◌, IfOk, IfErr, OnOk, MatchResult, drop, length, List, ℕ, Ok};
+ghost use Rattle.std.specs.Prelude.{◌≡◌, ◌^◌, ◌<◌, ◌++◌, None, IfOk, IfErr, OnOk, MatchResult, drop, length, List, ℕ, Ok};
+ghost use Rattle.std.specs.List.{flat_map};
 ghost use Rattle.invoke_records.specs.declared.snapshot.Snapshot.{Snapshot};
-ghost use Rattle.invoke_records.specs.Spelling.{snapshot_text, snapshot_fault, IsSnapshot};
-ghost use Rattle.invoke_records.specs.Reading.{Gives, FailsBy, rows_at, snapshot_at};
+ghost use Rattle.invoke_records.specs.Spelling.{row_text, snapshot_text, snapshot_fault, IsSnapshot};
+ghost use Rattle.invoke_records.specs.Reading.{sound, Gives, FailsBy, rows_at, snapshot_at};
 ghost use Rattle.invoke_records.specs.Records.{Finds};
 
 use crate::command::GREATEST_MOMENT;
-use crate::limit::{take_limit64, take_sized};
 use crate::order::are_in_order;
+use crate::reader::Reader;
 use crate::row_reading::read_row;
 use crate::snapshot::{GREATEST_NUMBER, MOST_ROWS};
+use crate::snapshot_writing::{check_snapshot, encode_snapshot, snapshot_head, snapshot_size};
 use crate::{EventRow, RecordError, Rows, Snapshot};
 use std::alloc::Global;
 
@@ -26,13 +28,14 @@ fn read_rows(alloc: Global, count: u32, bytes: &[u8]) -> Result<(Vec<EventRow>, 
     Ok((rows, rest))
 }
 
-#[tactic(auto, unfolding(crate::specs::Reading::snapshot_at))]
 fn read_snapshot(alloc: Global, bytes: &[u8]) -> Result<(Snapshot, &[u8]), RecordError>
     ensures { Gives (λ x. (x.0, x.1.now)) result (snapshot_at bytes.now) }
 {
-    let (number, rest) = take_limit64(0, GREATEST_NUMBER, bytes)?;
-    let (last_moment, rest) = take_limit64(0, GREATEST_MOMENT, rest)?;
-    let (count, rest) = take_sized(0, MOST_ROWS, rest)?;
+    let mut reader = Reader::new(bytes);
+    let number = reader.limit64(0, GREATEST_NUMBER);
+    let last_moment = reader.limit64(0, GREATEST_MOMENT);
+    let count = reader.sized(0, MOST_ROWS);
+    let rest = reader.end()?;
     let (rows, rest) = read_rows(alloc, count, rest)?;
     if !are_in_order(&rows) {
         return Err(RecordError::BadKind);
@@ -74,6 +77,31 @@ impl Snapshot {
         ensures spelled { OnOk result (IsSnapshot self.now) }
         ensures refused { IfErr result (FailsBy (snapshot_fault self.now)) }
     {
-        crate::snapshot_writing::encode_snapshot(alloc, self)
+        encode_snapshot(alloc, self)
+    }
+
+    /// Whether the snapshot has a spelling, refused as by `encode`. It takes no memory.
+    pub fn check(&self) -> Result<(), RecordError>
+        ensures fault { result ≡ sound (snapshot_fault self.now) tt }
+        ensures spelled { OnOk result (IsSnapshot self.now) }
+    {
+        check_snapshot(self)
+    }
+
+    /// How long the spelling of a snapshot that has one is. It walks the rows once.
+    pub fn size(&self) -> u64
+        requires { snapshot_fault self.now ≡ None }
+        ensures exact { result ≡ length (snapshot_text self.now) }
+        ensures bounded { result < 2 ^ 30 }
+    {
+        snapshot_size(self)
+    }
+
+    /// What the spelling of a snapshot that has one begins with; its rows follow. It takes no memory.
+    pub fn head(&self) -> [u8; 20]
+        requires { snapshot_fault self.now ≡ None }
+        ensures { snapshot_text self.now ≡ result ++ flat_map row_text self.now.rows }
+    {
+        snapshot_head(self)
     }
 }

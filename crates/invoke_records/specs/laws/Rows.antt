@@ -1,6 +1,6 @@
 -- The two laws of rows: what is read is spelled so, and what is spelled so is read. Lemmas.
 use Rattle.std.proofs.Common.{◌≡◌, ℕ, ◌+◌, ◌≤◌, Bool, true, false, ◌||◌, cond, ltb, List, [], ◌∷◌, ◌++◌, length, Some, None, Ok, refl, sym, ap, subst, ◌∙◌, append_assoc, arith}
-use Rattle.std.specs.Int.{w16, w32, w64, to_be_bytes}
+use Rattle.std.specs.Int.{w16, w64, to_be_bytes}
 use Rattle.std.proofs.lemmas.Bool.{ltb-false, le-ltb}
 use Rattle.std.proofs.lemmas.List.{length-append}
 use Rattle.retry_rules.specs.Settings.{is_outside}
@@ -197,21 +197,3 @@ row_length r id =
       length-append (life_text r) (counts_text r ++ (r.payload ++ answer_bytes r.answer)),
       length-append r.payload (answer_bytes r.answer),
     )
-
--- the fields one after another, as they are written
-pub life_put : (out : List ℕ) (r : EventRow)
-    → ((((((out ++ r.id) ++ to_be_bytes w64 r.accepted) ++ to_be_bytes w64 r.number) ++ to_be_bytes w64 r.last_number) ++ (standing_byte r.standing ∷ ended_byte r.standing ∷ [])) ++ to_be_bytes w16 (environment_in r.standing)) ++ to_be_bytes w64 (moment_in r.standing)
-    ≡ out ++ life_text r
-life_put out r = simp append_assoc
-
-pub counts_put : (out : List ℕ) (r : EventRow)
-    → (((((out ++ to_be_bytes w32 r.starts) ++ to_be_bytes w32 r.failures) ++ to_be_bytes w32 r.push_backs) ++ (answer_byte r.answer ∷ [])) ++ to_be_bytes w32 (length r.payload)) ++ to_be_bytes w32 (length (answer_bytes r.answer))
-    ≡ out ++ counts_text r
-counts_put out r = simp append_assoc
-
-regroup_four : (out a b c d : List ℕ) → (((out ++ a) ++ b) ++ c) ++ d ≡ out ++ (a ++ (b ++ (c ++ d)))
-regroup_four out a b c d = simp append_assoc
-
-pub row_put : (out : List ℕ) (r : EventRow) → (((out ++ life_text r) ++ counts_text r) ++ r.payload) ++ answer_bytes r.answer ≡ out ++ row_text r
-unfolding row_text
-row_put out r = regroup_four out (life_text r) (counts_text r) r.payload (answer_bytes r.answer)

@@ -8,7 +8,7 @@ use Rattle.retry_rules.specs.declared.settings.Field.{Field}
 use Rattle.retry_rules.specs.declared.settings.Field.TheVariants as field
 use Rattle.retry_rules.specs.Settings.{is_outside, is_bad_text, is_name_byte, is_plain_byte, bad_field}
 use Rattle.invoke_records.specs.declared.limits.Limits.{Limits}
-use Rattle.invoke_records.specs.Spelling.{IsBytes, short_text, limits_text, settings_text}
+use Rattle.invoke_records.specs.Spelling.{IsBytes, short_text, settings_text}
 use Rattle.invoke_records.specs.Reading.{small_at, limit_at, text_at, limits_at, with_texts, settings_at}
 use Rattle.invoke_records.specs.laws.Fields.{bind_ok, ok_is, Takes, Takes-then, wide16, wide32}
 use Rattle.invoke_records.specs.laws.Commands.{both_false}
@@ -152,7 +152,7 @@ settings_apart s t a b good_s good_t e =
     let same : (s, a) ≡ (t, b) = ok_is (s, a) (t, b) (sym (settings_again s a good_s) ∙ ap settings_at e ∙ settings_again t b good_t) in
     (ap (λ (x : Settings × List ℕ). x.0) same, ap (λ (x : Settings × List ℕ). x.1) same)
 
-text_most : (most : ℕ) (is_good : ℕ → Bool) (text : List ℕ) → is_bad_text most is_good text ≡ false → length text ≤ most
+pub text_most : (most : ℕ) (is_good : ℕ → Bool) (text : List ℕ) → is_bad_text most is_good text ≡ false → length text ≤ most
 text_most most is_good text good = most_of 1 most (length text) (both_false (is_outside 1 most (length text)) (not (list_all is_good text)) good).0
 
 -- good settings take at most 414 bytes
@@ -162,9 +162,3 @@ settings_length_most s e =
     let good = are_good s e in
     let behind : List ℕ = short_text s.handler ++ short_text s.arn in
     omega (arith, length-append s.name behind, length-append s.handler (short_text s.arn), text_most 64 is_name_byte s.name good.name, text_most 128 is_plain_byte s.handler good.handler, text_most 200 is_plain_byte s.arn good.arn)
-
--- the numbers one after another, as they are written
-pub limits_put : (out : List ℕ) (s : Settings)
-    → ((((((out ++ (s.retries ∷ [])) ++ to_be_bytes w32 s.age) ++ to_be_bytes w16 s.timeout) ++ (s.concurrency ∷ s.environments ∷ [])) ++ to_be_bytes w16 s.events) ++ to_be_bytes w32 s.payload) ++ to_be_bytes w32 s.response
-    ≡ out ++ limits_text s
-limits_put out s = simp append_assoc

@@ -1,5 +1,5 @@
 -- The two laws of snapshots: what is read is spelled so, and what is spelled so is read. Lemmas.
-use Rattle.std.proofs.Common.{◌≡◌, ℕ, zero, suc, ◌+◌, ◌-◌, ◌^◌, ◌<◌, ◌≤◌, Bool, true, false, not, ◌||◌, cond, ltb, List, [], ◌∷◌, ◌++◌, length, Option, Some, None, Result, Ok, Err, refl, sym, ap, subst, ◌∙◌, append_assoc, arith}
+use Rattle.std.proofs.Common.{◌≡◌, ℕ, zero, suc, ◌+◌, ◌-◌, ◌^◌, ◌<◌, ◌≤◌, Bool, true, false, not, ◌||◌, cond, ltb, List, [], ◌∷◌, ◌++◌, length, Option, Some, None, Result, Ok, Err, refl, sym, ap, subst, ◌∙◌, append_assoc, length-append, arith}
 use Rattle.std.specs.List.{flat_map, AllByRecursion}
 use Rattle.std.specs.Int.{w32, w64, to_be_bytes}
 use Rattle.std.proofs.lemmas.Bool.{ltb-false, le-ltb}
@@ -148,6 +148,10 @@ pub snapshot_apart : (s t : Snapshot) (a b : List ℕ) → IsSnapshot s → IsSn
 snapshot_apart s t a b is_s is_t e =
     let same : (s, a) ≡ (t, b) = ok_is (s, a) (t, b) (sym (snapshot_again s a is_s) ∙ ap snapshot_at e ∙ snapshot_again t b is_t) in
     (ap (λ (x : Snapshot × List ℕ). x.0) same, ap (λ (x : Snapshot × List ℕ). x.1) same)
+
+pub snapshot_length : (s : Snapshot) → length (snapshot_text s) ≡ 20 + length (flat_map row_text s.rows)
+unfolding snapshot_text
+snapshot_length s = omega (arith, length-append (to_be_bytes w64 s.number ++ (to_be_bytes w64 s.last_moment ++ to_be_bytes w32 (length s.rows))) (flat_map row_text s.rows))
 
 -- ## Loops over rows
 

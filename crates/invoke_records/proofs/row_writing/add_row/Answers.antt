@@ -1,7 +1,9 @@
-use Rattle.invoke_records.specs.laws.Rows.{row_put}
+use Rattle.invoke_records.proofs.Written.{row_written}
 use Rattle.invoke_records.proofs.row_writing.add_row.Goals as goal
 
-pub returns-clause-ok : goal.returns-clause-ok
-returns-clause-ok c =
-    rw (c.in_ok-add-2.ensures.ok, c.in_ok-add.ensures.ok, c.in_ok-add_counts.ensures.ok, c.in_ok-add_life.ensures.ok, c.answer_bytes_of.ensures, c.as_slice.ensures)
-    (row_put c.args.out.now.items c.args.row.now)
+pub returns : goal.returns
+returns c =
+    row_written c.args.row.now c.args.out.now c.add.new.self c.add-2.new.self c.add-3.new.self
+    (rw c.row_head.ensures at c.add.ensures)
+    (rw c.as_slice.ensures at c.add-2.ensures)
+    (rw c.answer_bytes_of.ensures at c.add-3.ensures)

@@ -1,0 +1,9 @@
+use Rattle.retry_rules.specs.Settings.{is_plain_byte}
+use Rattle.invoke_records.proofs.Steps.{text_read}
+use Rattle.invoke_records.proofs.settings_reading.read_plain.Goals as goal
+
+pub returns : goal.returns
+returns c =
+    rw (c.refuse-3.ensures, c.has_plain_bytes.ensures)
+    (text_read c.args.most is_plain_byte c.args.reader.now c.byte-size.result c.byte-size.new.self c.slice-text.result.now c.slice-text.new.self c.byte-size.ensures
+    (rw (← c.refuse.ensures, ← c.refuse-2.ensures) c.slice-text.ensures))
