@@ -3,6 +3,7 @@ pub mod Standings
 pub mod Checks
 pub mod History
 pub mod Rules
+pub mod Limits
 pub mod State
 pub mod Histories
 pub mod Readers

@@ -6,3 +6,4 @@ pub mod Shapes
 pub mod Pace
 pub mod Rows
 pub mod Tables
+pub mod Limits

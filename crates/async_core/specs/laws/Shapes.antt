@@ -27,6 +27,7 @@ none_bad ((false, field) ∷ checks) h = (refl, none_bad checks h)
 pub record Limits (s : Settings) : Type 0 where
   pub age : s.age ≤ 21600
   pub environments : s.environments ≤ 16
+  pub events : s.events ≤ 1024
   pub payload : s.payload ≤ 262144
   pub response : s.response ≤ 262144
 
@@ -36,6 +37,7 @@ limits s good =
     record {
       age = ltb-false _ _ (or_parts _ _ all.1.0).1;
       environments = ltb-false _ _ (or_parts _ _ all.1.1.1.1.0).1;
+      events = ltb-false _ _ (or_parts _ _ all.1.1.1.1.1.0).1;
       payload = ltb-false _ _ (or_parts _ _ all.1.1.1.1.1.1.0).1;
       response = ltb-false _ _ (or_parts _ _ all.1.1.1.1.1.1.1.0).1;
     }
