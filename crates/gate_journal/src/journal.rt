@@ -2,7 +2,7 @@
 ghost use Rattle.std.specs.Prelude.{◌≡◌, ◌↔◌, ◌+◌, ◌≤◌, ◌^◌, length, false, All, None, IsErrOf, OnOk, OnErr, IfOk};
 ghost use Rattle.sector_disk.specs.Disk.{IsSameDisk, HasRisen, IsUntouched};
 ghost use Rattle.invoke_records.specs.Spelling.{commands_text, command_fault};
-ghost use Rattle.gate_journal.specs.Journal.{generation_of, number_of, end_of, fits, IsFound, TellsDamage, Acknowledges, LeavesBeforeOrAfter};
+ghost use Rattle.gate_journal.specs.Journal.{generation_of, number_of, next_of, end_of, fits, IsFound, TellsDamage, Acknowledges, LeavesBeforeOrAfter};
 
 use crate::reading::read_frame;
 use crate::writing::{batch_size, spell_frame};
@@ -21,6 +21,21 @@ pub struct Journal {
 }
 
 impl Journal {
+    /// The journal of an area that holds no frame: it stands at the area's first gate.
+    pub fn empty(area: Area) -> Journal
+        ensures generation { generation_of result ≡ area.generation }
+        ensures number { number_of result ≡ area.number }
+        ensures next { next_of result ≡ area.start }
+        ensures end { end_of result ≡ area.end }
+    {
+        Journal {
+            generation: area.generation,
+            number: area.number,
+            next: area.start,
+            end: area.end,
+        }
+    }
+
     /// Whether a frame of commands that fill so many bytes fits behind the last one.
     pub fn fits(&self, size: u64) -> bool
         ensures { result ≡ fits self.now size }
