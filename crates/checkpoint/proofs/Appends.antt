@@ -1,5 +1,5 @@
 -- What an image reads that differs from another in the journal's area alone.
-use Rattle.std.proofs.Common.{◌≡◌, ◌⊎◌, inl, inr, ⊎_elim, ℕ, ◌+◌, ◌-◌, ◌*◌, ◌/◌, ◌≤◌, true, false, List, length, take, drop, Option, Some, None, Result, Ok, Err, refl, sym, ◌∙◌, ap, subst, arith}
+use Rattle.std.proofs.Common.{◌≡◌, ◌⊎◌, inl, inr, ⊎_elim, ℕ, ◌+◌, ◌-◌, ◌*◌, ◌/◌, ◌≤◌, List, take, drop, Option, Some, None, Ok, refl, sym, ◌∙◌, ap, subst, arith}
 use Rattle.sector_disk.specs.Disk.{DiskView, HasOneImage}
 use Rattle.sector_disk.specs.laws.Written.{same_part}
 use Rattle.retry_rules.specs.declared.settings.Settings.{Settings}
@@ -12,136 +12,149 @@ use Rattle.gate_journal.specs.Frames.{is_open, sectors_for, Frames, frames_in, f
 use Rattle.gate_journal.specs.Journal as journal
 use Rattle.checkpoint.specs.declared.header.Header.{Header}
 use Rattle.checkpoint.specs.declared.opened.Opened.{Opened}
-use Rattle.checkpoint.specs.declared.error.OpenError.{OpenError}
-use Rattle.checkpoint.specs.Image.{Image, sector_at, half, header_at, snapshot_of, area_of, or_damaged, with_frames, segment_at, read_image, folded, recovered, state_of, with_settings}
+use Rattle.checkpoint.specs.Image.{SegmentImage, DiskImage, half, header_at, snapshot_of, area_of, with_table, segment_at, open_header, read_image, folded, recovered, state_of}
 use Rattle.checkpoint.specs.Live.{IsLive, RecoversTo, settings_of}
 use Rattle.checkpoint.proofs.Segments.{snapshot_same, behind_snapshot}
-use Rattle.checkpoint.proofs.Images.{is_open_at, live_image, image_live}
+use Rattle.checkpoint.specs.Held.{AreSides}
+use Rattle.checkpoint.proofs.Images.{is_open_at, IsBeside, IsDiskImage, disk_image, image_is, header_is, header_there}
+use Rattle.checkpoint.proofs.Parts.{parts, segment_of, header_room, inner, behind, open_header_same, segment_same}
 use Rattle.checkpoint.proofs.Folds.{folds_more}
 
--- ## How a segment was read
+-- ## Another segment's header and parts stand
 
-damaged_ok : {A B : Type 0} (sector : ℕ) (found : Option A) (rest : A → Result B OpenError) (x : B) → or_damaged sector found rest ≡ Ok x → (y : A) × (found ≡ Some y) × (rest y ≡ Ok x)
-damaged_ok sector None rest x is = absurd cc
-damaged_ok sector (Some y) rest x is = (y, refl, is)
+-- beside a live segment stands what stood there, where its sectors did not change
+pub beside_same : (h other generation : ℕ) (new old : List ℕ) → 2 ≤ h → behind other h new ≡ behind other h old → is_open_at other new ≡ is_open_at other old
+    → (older : Option SegmentImage) → IsBeside h other generation old (open_header other h old) older → IsBeside h other generation new (open_header other h new) older
+beside_same h other generation new old enough same gate None beside = open_header_same other h enough new old same gate ∙ beside
+beside_same h other generation new old enough same gate (Some older) (o, opened, below, is) =
+    let room = header_room h _ o (header_is other h old o opened).1 in
+    (o, open_header_same other h enough new old same gate ∙ opened, below, segment_same other h enough new old same o room ∙ is)
 
-image_is : (a b : Image) → ◌≡◌ {A = Result Image OpenError} (Ok a) (Ok b) → a ≡ b
-image_is a b is = cc
+-- ## Other frames in the live segment's area
 
--- a segment of these parts
-abbrev pub segment_of : Header → Snapshot → Area → Frames → Image
-segment_of header snapshot area frames = record { generation = header.generation; settings = header.settings; snapshot = snapshot; area = area; frames = frames }
+abbrev pub live_with : SegmentImage → Frames → Snapshot → SegmentImage
+live_with live frames table = record live { frames = frames; table = table }
 
-frames_ok : (header : Header) (snapshot : Snapshot) (area : Area) (read : Result Frames ℕ) (live : Image) → with_frames header snapshot area read ≡ Ok live
-    → (frames : Frames) × (read ≡ Ok frames) × (segment_of header snapshot area frames ≡ live)
-frames_ok header snapshot area (Err sector) live is = absurd cc
-frames_ok header snapshot area (Ok frames) live is = (frames, refl, image_is (segment_of header snapshot area frames) live is)
+abbrev pub image_with : DiskImage → Frames → Snapshot → DiskImage
+image_with what frames table = record what { live = live_with what.live frames table }
 
-pub record Parts (base end : ℕ) (image : List ℕ) (live : Image) : Type 0 where
-  pub header : Header
-  pub snapshot : Snapshot
-  pub frames : Frames
-  pub is_header : header_at (end - base) (sector_at (base + 1) image) ≡ Some header
-  pub is_snapshot : snapshot_of header (drop (512 * (base + 2)) image) ≡ Some snapshot
-  pub is_live : segment_of header snapshot (area_of base end header snapshot) frames ≡ live
+-- the live segment's parts stand outside its area, and so does the other one
+module _ (h base other : ℕ) (sides : AreSides h base other) (old new : List ℕ) (header : Header) (room : sectors_for header.size + 5 ≤ h) (snapshot : Snapshot)
+    (outside : SameOutside (area_of base h header snapshot) old new) where
+  start : ℕ
+  start = 512 * (base + 2 + sectors_for header.size)
 
-pub parts : (base end : ℕ) (image : List ℕ) (live : Image) → segment_at base end image ≡ Ok live → Parts base end image live
-unfolding segment_at
-parts base end image live is =
-    let header = damaged_ok (base + 1) (header_at (end - base) (sector_at (base + 1) image)) _ live is in
-    let snapshot = damaged_ok (base + 2) (snapshot_of header.0 (drop (512 * (base + 2)) image)) _ live header.2 in
-    let frames = frames_ok header.0 snapshot.0 (area_of base end header.0 snapshot.0) (frames_in (area_of base end header.0 snapshot.0) image) live snapshot.2 in
-    record {
-      header = header.0;
-      snapshot = snapshot.0;
-      frames = frames.0;
-      is_header = header.1;
-      is_snapshot = snapshot.1;
-      is_live = frames.2;
-    }
+  front_same : (at j : ℕ) → at + j ≤ 512 * (base + 2) → take j (drop at new) ≡ take j (drop at old)
+  unfolding start
+  front_same at j low = same_part start at j new old outside.front (omega (arith, low))
 
--- ## Other frames in its area
-
-abbrev pub image_with : Image → Frames → Image
-image_with live frames = record live { frames = frames }
-
--- the segment's parts stand outside its area
-module _ (old new : List ℕ) (header : Header) (snapshot : Snapshot) (outside : SameOutside (area_of 0 (half old) header snapshot) old new) where
-  room : ℕ
-  room = 512 * (0 + 2 + sectors_for header.size)
-
-  sector_same : (sector : ℕ) → sector ≤ 1 → sector_at sector new ≡ sector_at sector old
-  unfolding room
-  sector_same sector low = same_part room (512 * sector) 512 new old outside.front (omega (arith, low))
-
-  half_same : half new ≡ half old
-  half_same = ap (λ (n : ℕ). n / 512 / 2) outside.size
-
-  snapshot_there : (some : Snapshot) → snapshot_of header (drop (512 * (0 + 2)) old) ≡ Some some → snapshot_of header (drop (512 * (0 + 2)) new) ≡ Some some
-  unfolding room
+  snapshot_there : (some : Snapshot) → snapshot_of header (drop (512 * (base + 2)) old) ≡ Some some → snapshot_of header (drop (512 * (base + 2)) new) ≡ Some some
+  unfolding start
   snapshot_there some is =
       let all = 512 * sectors_for header.size in
-      let within : 512 * (0 + 2) + all ≤ room = omega arith in
-      snapshot_same header (drop (512 * (0 + 2)) new) (drop (512 * (0 + 2)) old) (same_part room (512 * (0 + 2)) all new old outside.front within) ∙ is
+      snapshot_same header (drop (512 * (base + 2)) new) (drop (512 * (base + 2)) old) (same_part start (512 * (base + 2)) all new old outside.front (omega arith)) ∙ is
 
-  module _ (frames : Frames) (is_header : header_at (half old - 0) (sector_at (0 + 1) old) ≡ Some header) (is_snapshot : snapshot_of header (drop (512 * (0 + 2)) old) ≡ Some snapshot)
-      (read : frames_in (area_of 0 (half old) header snapshot) new ≡ Ok frames) where
-    segment_there : segment_at 0 (half old) new ≡ Ok (segment_of header snapshot (area_of 0 (half old) header snapshot) frames)
-    segment_there =
-        behind_snapshot 0 (half old) new header (ap (header_at (half old - 0)) (sector_same (0 + 1) (omega arith)) ∙ is_header) snapshot (Ok frames)
-        (snapshot_there snapshot is_snapshot) read
+  pub live_there : (frames : Frames) (table : Snapshot) → open_header base h old ≡ Ok (Some header) → snapshot_of header (drop (512 * (base + 2)) old) ≡ Some snapshot
+      → frames_in (area_of base h header snapshot) new ≡ Ok frames → folded header.settings snapshot frames.commands ≡ Ok table
+      → (open_header base h new ≡ Ok (Some header)) × (segment_at base h header new ≡ Ok (segment_of base header snapshot (area_of base h header snapshot) frames table))
+  live_there frames table opened is_snapshot read folds =
+      let was = header_is base h old header opened in
+      let gate = ap is_open (front_same (512 * base) 512 (omega arith)) in
+      let found = ap (header_at h) (front_same (512 * (base + 1)) 512 (omega arith)) in (
+        header_there base h new header (gate ∙ was.0) (found ∙ was.1),
+        behind_snapshot base h header new snapshot (Ok frames) (snapshot_there snapshot is_snapshot) read
+            ∙ ap (with_table base header snapshot (area_of base h header snapshot) frames) folds,
+      )
 
-    pub image_there : (6 ≤ length old / 512) → is_open_at (half old) old ≡ false → is_open_at 0 old ≡ true
-        → read_image new ≡ Ok (segment_of header snapshot (area_of 0 (half old) header snapshot) frames)
-    image_there enough gate_b gate_a = image_live new _ (record {
-      enough = omega (arith, enough, outside.size);
-      gate_b = ap (λ (n : ℕ). is_open_at n new) half_same ∙ ap (λ (l : List ℕ). is_open (take 512 l)) outside.behind ∙ gate_b;
-      gate_a = ap is_open (sector_same 0 (omega arith)) ∙ gate_a;
-      segment = ap (λ (n : ℕ). segment_at 0 n new) half_same ∙ segment_there;
-    })
+  -- the other segment lies in front of the area, or behind it
+  other_same : (behind other h new ≡ behind other h old) × (is_open_at other new ≡ is_open_at other old)
+  unfolding start
+  other_same = elim sides [
+    | inl a ↦
+        let from : other ≡ base + h = omega (arith, a.0, a.1) in
+        let all : drop (512 * other) new ≡ drop (512 * other) old = ap (λ (n : ℕ). drop (512 * n) new) from ∙ outside.behind ∙ ap (λ (n : ℕ). drop (512 * n) old) (sym from) in (
+          inner (512 * other) (512 * h) (512 * (other + 1)) (512 * (h - 1)) new old (ap (λ (l : List ℕ). take (512 * h) l) all) (omega arith) (omega (arith, room)),
+          ap (λ (l : List ℕ). is_open (take 512 l)) all,
+        )
+    | inr b ↦ (
+      same_part start (512 * (other + 1)) (512 * (h - 1)) new old outside.front (omega (arith, b.0, b.1)),
+      ap is_open (same_part start (512 * other) 512 new old outside.front (omega (arith, b.0, b.1))),
+    )
+  ]
 
-module _ (old new : List ℕ) (live : Image) (frames : Frames) (reads : read_image old ≡ Ok live) (outside : SameOutside live.area old new) (read : frames_in live.area new ≡ Ok frames) where
-  pub reads_still : read_image new ≡ Ok (image_with live frames)
-  reads_still =
-      let was = live_image old live reads in
-      let p = parts 0 (half old) old live was.segment in
-      let area : live.area ≡ area_of 0 (half old) p.header p.snapshot = sym (ap (λ (x : Image). x.area) p.is_live) in
-      image_there old new p.header p.snapshot (subst (λ (a : Area). SameOutside a old new) area outside) frames p.is_header p.is_snapshot
-      (subst (λ (a : Area). frames_in a new ≡ Ok frames) area read) was.enough was.gate_b was.gate_a
-      ∙ ap (λ (x : Image). Ok (image_with x frames)) p.is_live
+module _ (h : ℕ) (old new : List ℕ) (what : DiskImage) (frames : Frames) (table : Snapshot) (was : IsDiskImage h old what) (outside : SameOutside what.live.area old new)
+    (read : frames_in what.live.area new ≡ Ok frames) (folds : folded what.live.settings what.live.snapshot frames.commands ≡ Ok table) where
+  pub still : IsDiskImage h new (image_with what frames table)
+  still =
+      let p = parts was.base h was.header old what.live was.live in
+      let room = header_room h _ was.header (header_is was.base h old was.header was.opened).1 in
+      let area : what.live.area ≡ area_of was.base h was.header p.snapshot = sym (ap (λ (x : SegmentImage). x.area) p.is_live) in
+      let there = subst (λ (a : Area). SameOutside a old new) area outside in
+      let live = live_there h was.base was.other was.sides old new was.header room p.snapshot there frames table was.opened p.is_snapshot
+      (subst (λ (a : Area). frames_in a new ≡ Ok frames) area read)
+      ((λ i. folded (p.is_live i).settings (p.is_live i).snapshot frames.commands) ∙ folds) in
+      let others = other_same h was.base was.other was.sides old new was.header room p.snapshot there in
+      record {
+        enough = omega (arith, was.enough, outside.size);
+        halves = ap (λ (n : ℕ). n / 512 / 2) outside.size ∙ was.halves;
+        base = was.base;
+        other = was.other;
+        sides = was.sides;
+        header = was.header;
+        opened = live.0;
+        live = live.1 ∙ ap (λ (x : SegmentImage). Ok (live_with x frames table)) p.is_live;
+        beside = beside_same h was.other was.header.generation new old (omega (arith, room)) others.0 others.1 what.older was.beside;
+      }
 
 -- ## Before and after an append
 
 module _ (disk : DiskView) (opened : Opened) (before after : Snapshot) (batch : List Command) (live : IsLive disk opened before) (replays : replay (settings_of opened) before batch ≡ Some after) where
-  abbrev longer : Frames
-  longer = frames_with live.image.frames batch
+  abbrev now : SegmentImage
+  now = live.image.live
 
-  folds_longer : folded live.image.settings live.image.snapshot longer.commands ≡ Ok after
-  folds_longer = folds_more live.image.settings live.image.snapshot live.image.frames.commands before live.image.frames.next batch after live.folds
+  abbrev longer : Frames
+  longer = frames_with now.frames batch
+
+  was : IsDiskImage (half disk.content) disk.content live.image
+  was = disk_image disk.content live.image live.reads
+
+  is_folded : folded now.settings now.snapshot now.frames.commands ≡ Ok before
+  is_folded =
+      let p = parts was.base (half disk.content) was.header disk.content now was.live in
+      (λ i. folded (sym p.is_live i).settings (sym p.is_live i).snapshot (sym p.is_live i).frames.commands) ∙ p.is_folded
+      ∙ ap (λ (x : SegmentImage). Ok x.table) p.is_live ∙ ap (λ (t : Snapshot). Ok t) live.table_is
+
+  folds_longer : folded now.settings now.snapshot longer.commands ≡ Ok after
+  folds_longer = folds_more now.settings now.snapshot now.frames.commands before now.frames.next batch after is_folded
       (subst (λ (s : Settings). replay s before batch ≡ Some after) (sym live.settings) replays)
 
-  recovers : (image : List ℕ) (frames : Frames) (table : Snapshot) → read_image image ≡ Ok (image_with live.image frames)
-      → folded live.image.settings live.image.snapshot frames.commands ≡ Ok table → RecoversTo (settings_of opened) table image
-  unfolding recovered
-  recovers image frames table reads folds =
-      ap state_of reads ∙ ap (with_settings live.image.settings) folds
-      ∙ ap (λ (s : Settings). with_settings s (Ok table)) live.settings
+  reads_still : (image : List ℕ) (frames : Frames) (table : Snapshot) → SameOutside now.area disk.content image → frames_in now.area image ≡ Ok frames
+      → folded now.settings now.snapshot frames.commands ≡ Ok table → read_image image ≡ Ok (image_with live.image frames table)
+  reads_still image frames table outside read folds =
+      image_is (half disk.content) image (image_with live.image frames table) (still (half disk.content) disk.content image live.image frames table was outside read folds)
 
-  pub before_or_after : (image : List ℕ) → journal.IsBeforeOrAfter live.image.area live.image.frames batch disk.content image
+  recovers : (image : List ℕ) (frames : Frames) (table : Snapshot) → read_image image ≡ Ok (image_with live.image frames table) → RecoversTo (settings_of opened) table image
+  unfolding recovered
+  recovers image frames table reads = ap state_of reads ∙ ap (λ (s : Settings). Ok (record { settings = s; table = table })) live.settings
+
+  pub before_or_after : (image : List ℕ) → journal.IsBeforeOrAfter now.area now.frames batch disk.content image
       → RecoversTo (settings_of opened) before image ⊎ RecoversTo (settings_of opened) after image
   before_or_after image is = ⊎_elim
-      (λ old. inl (recovers image live.image.frames before (reads_still disk.content image live.image live.image.frames live.reads is.outside old) live.folds))
-      (λ more. inr (recovers image longer after (reads_still disk.content image live.image longer live.reads is.outside more) folds_longer))
+      (λ old. inl (recovers image now.frames before (reads_still image now.frames before is.outside old is_folded)))
+      (λ more. inr (recovers image longer after (reads_still image longer after is.outside more folds_longer)))
       is.reads
 
   -- once the batch is there, what was opened goes on behind it
-  pub live_after : (new : DiskView) (journal_new : Journal) → HasOneImage new → journal.Holds live.image.area longer journal_new new.content
-      → SameOutside live.image.area disk.content new.content → IsLive new (record opened { journal = journal_new }) after
+  pub live_after : (new : DiskView) (journal_new : Journal) → HasOneImage new → journal.Holds now.area longer journal_new new.content
+      → SameOutside now.area disk.content new.content → IsLive new (record opened { journal = journal_new }) after
   live_after new journal_new settled holds outside = record {
     settled = settled;
-    image = image_with live.image longer;
-    reads = reads_still disk.content new.content live.image longer live.reads outside holds.reads;
+    image = image_with live.image longer after;
+    reads = reads_still new.content longer after outside holds.reads folds_longer;
+    base = live.base;
+    generation = live.generation;
     settings = live.settings;
+    other = live.other;
     holds = holds;
-    folds = folds_longer;
+    table_is = refl;
   }

@@ -4,8 +4,14 @@ pub mod Segments
 pub mod Images
 pub mod Folds
 pub mod Lives
+pub mod Parts
 pub mod Appends
 pub mod Spelled
 pub mod Formatted
+pub mod Placed
 pub mod Firsts
 pub mod Stops
+pub mod Puts
+pub mod Rewrites
+pub mod Switches
+pub mod Held

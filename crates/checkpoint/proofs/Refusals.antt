@@ -40,3 +40,10 @@ refuses_along Fault read other along is = tt
 refuses_along OutOfMemory read other along is = tt
 refuses_along NotFormatted read other along is = along NotFormatted is
 refuses_along (Damaged sector) read other along is = along (Damaged sector) is
+
+-- what reading gives refuses
+pub err_refuses : {A : Type 0} (why : OpenError) (read : Result A OpenError) → read ≡ Err why → Refuses why read
+err_refuses Fault read is = tt
+err_refuses OutOfMemory read is = tt
+err_refuses NotFormatted read is = is
+err_refuses (Damaged sector) read is = is

@@ -1,7 +1,7 @@
 -- A segment that was spelled is read back.
 use Rattle.std.proofs.Common.{◌≡◌, ℕ, zero, suc, ◌+◌, ◌-◌, ◌*◌, ◌^◌, ◌<◌, ◌≤◌, nat_le, nat_eq, true, false, List, [], ◌∷◌, ◌++◌, length, take, drop, replicate, Some, None, Ok, refl, ◌∙◌, ap, arith, append_assoc, length-append}
 use Rattle.std.proofs.lemmas.Bool.{and_from, and_left, le-leb, eq-eqb, cond-true, cond-false}
-use Rattle.std.proofs.lemmas.List.{take_at, drop_at, length-replicate}
+use Rattle.std.proofs.lemmas.List.{take_at, length-replicate}
 use Rattle.std.proofs.lemmas.Nat.{from_be_bytes-to_be_bytes_4, from_be_bytes-to_be_bytes_8}
 use Rattle.std.specs.List.{starts_with}
 use Rattle.std.specs.Int.{w32, w64, to_be_bytes, from_be_bytes}
@@ -15,7 +15,8 @@ use Rattle.gate_journal.specs.declared.area.Area.{Area}
 use Rattle.gate_journal.specs.Frames.{is_open, sectors_for, padded, frames_in, frames_at, area_bytes, no_frames}
 use Rattle.checkpoint.specs.declared.header.Header.{Header}
 use Rattle.checkpoint.proofs.Judging.{behind_front}
-use Rattle.checkpoint.specs.Image.{magic, header_front, header_text, header_at, header_with, are_zeros, most_snapshot, segment_sectors, whole_snapshot, is_within, snapshot_of}
+use Rattle.async_core.specs.Limits.{most_snapshot, is_within}
+use Rattle.checkpoint.specs.Image.{magic, header_front, header_text, header_at, header_with, are_zeros, segment_sectors, whole_snapshot, snapshot_of}
 
 pub zeros_are : (n : ℕ) → are_zeros (replicate n 0) ≡ true
 zeros_are zero = refl
@@ -107,18 +108,10 @@ module _ (header : Header) (snapshot : Snapshot) (rest : List ℕ) (size : heade
   told : take header.size snapshot_bytes ≡ snapshot_text snapshot
   told = (λ i. take (size i) (joined i)) ∙ take_at (snapshot_text snapshot) (filling (snapshot_text snapshot) ++ rest) (length (snapshot_text snapshot)) refl
 
-  zeros : take (512 * sectors_for header.size - header.size) (drop header.size snapshot_bytes) ≡ filling (snapshot_text snapshot)
-  zeros =
-      let n = length (snapshot_text snapshot) in
-      (λ i. take (512 * sectors_for (size i) - size i) (drop (size i) (joined i)))
-      ∙ ap (λ (l : List ℕ). take (512 * sectors_for n - n) l) (drop_at (snapshot_text snapshot) (filling (snapshot_text snapshot) ++ rest) n refl)
-      ∙ take_at (filling (snapshot_text snapshot)) rest (512 * sectors_for n - n) (length-replicate (512 * sectors_for n - n) 0)
-
   pub snapshot_there : snapshot_at (snapshot_text snapshot) ≡ Ok (snapshot, []) → is_within header.settings snapshot ≡ true → snapshot_of header snapshot_bytes ≡ Some snapshot
   unfolding snapshot_of
   snapshot_there again within =
-      cond-true _ _ _ (ap are_zeros zeros ∙ zeros_are (512 * sectors_for (length (snapshot_text snapshot)) - length (snapshot_text snapshot)))
-      ∙ ap (λ (l : List ℕ). whole_snapshot header.settings (snapshot_at l)) told ∙ ap (whole_snapshot header.settings) again ∙ cond-true _ _ _ within
+      ap (λ (l : List ℕ). whole_snapshot header.settings (snapshot_at l)) told ∙ ap (whole_snapshot header.settings) again ∙ cond-true _ _ _ within
 
 -- ## No frames
 

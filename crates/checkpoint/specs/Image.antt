@@ -1,15 +1,10 @@
 -- What an image of a disk recovers to, by its bytes.
-use Rattle.std.specs.Prelude.{◌≡◌, ℕ, ◌+◌, ◌-◌, ◌*◌, ◌/◌, ◌^◌, ◌==◌, nat_le, nat_lt, nat_eq, Bool, ◌&&◌, List, [], ◌∷◌, ◌++◌, length, take, drop, replicate, codes, Option, Some, None, Result, Ok, Err, if◌then◌else◌}
+use Rattle.std.specs.Prelude.{◌≡◌, ℕ, ◌+◌, ◌*◌, ◌/◌, ◌^◌, ◌==◌, nat_le, nat_lt, nat_eq, Bool, ◌&&◌, List, [], ◌∷◌, ◌++◌, length, take, drop, replicate, codes, Option, Some, None, Result, Ok, Err, if◌then◌else◌, option_map}
 use Rattle.std.specs.Result.{IsOkAnd}
 use Rattle.std.specs.List.{list_all, starts_with}
 use Rattle.std.specs.Int.{w32, w64, to_be_bytes, from_be_bytes}
 use Rattle.retry_rules.specs.declared.settings.Settings.{Settings}
 use Rattle.invoke_records.specs.declared.command.Command.{Command}
-use Rattle.invoke_records.specs.declared.row.EventRow.{EventRow}
-use Rattle.invoke_records.specs.declared.row.Answer.{Answer}
-use Rattle.invoke_records.specs.declared.row.Answer.TheVariants as answer
-use Rattle.invoke_records.specs.declared.row.Standing.{Standing}
-use Rattle.invoke_records.specs.declared.row.Standing.TheVariants as standing
 use Rattle.invoke_records.specs.declared.snapshot.Snapshot.{Snapshot}
 use Rattle.invoke_records.specs.declared.error.RecordError.{RecordError}
 use Rattle.invoke_records.specs.Spelling.{settings_text, snapshot_text}
@@ -17,17 +12,15 @@ use Rattle.invoke_records.specs.Reading.{settings_at, snapshot_at}
 use Rattle.async_core.specs.declared.illegal.Illegal.{Illegal}
 use Rattle.async_core.specs.State.{State}
 use Rattle.async_core.specs.Rules.{refusal_at, table_after}
+use Rattle.async_core.specs.Limits.{most_snapshot, is_within}
 use Rattle.gate_journal.specs.declared.area.Area.{Area}
 use Rattle.gate_journal.specs.Frames.{is_open, sectors_for, padded, Frames, frames_in}
 use Rattle.checkpoint.specs.declared.header.Header.{Header}
+use Rattle.checkpoint.specs.declared.choosing.Found.{Found}
 use Rattle.checkpoint.specs.declared.error.OpenError.{OpenError}
 use Rattle.checkpoint.specs.declared.error.OpenError.TheVariants.{NotFormatted, Damaged}
 
 -- ## Sizes
-
--- the greatest length of a snapshot under these settings
-abbrev pub most_snapshot : Settings → ℕ
-most_snapshot s = 20 + s.events * (73 + s.payload + s.response)
 
 -- how many sectors a segment has at least: its gate, its header, the greatest snapshot, and room for one frame
 abbrev pub segment_sectors : Settings → ℕ
@@ -78,35 +71,15 @@ header_at sectors bytes =
 
 -- ## The snapshot
 
-abbrev pub answer_size : Answer → ℕ
-answer_size answer.None = 0
-answer_size (answer.Response bytes) = length bytes
-answer_size (answer.Error bytes) = length bytes
-
-abbrev pub environment_of : Standing → ℕ
-environment_of (standing.Running environment deadline) = environment
-environment_of stands = 0
-
--- the row is within the settings' limits
-abbrev pub is_row_within : Settings → EventRow → Bool
-is_row_within s row =
-    nat_le (length row.payload) s.payload && nat_le (answer_size row.answer) s.response && nat_le (environment_of row.standing) s.environments
-
-abbrev pub is_within : Settings → Snapshot → Bool
-is_within s snapshot = nat_le (length snapshot.rows) s.events && list_all (is_row_within s) snapshot.rows
-
 -- the snapshot that was read, where nothing is left behind it and it is within the settings' limits
 abbrev pub whole_snapshot : Settings → Result (Snapshot × List ℕ) RecordError → Option Snapshot
 whole_snapshot s (Err e) = None
 whole_snapshot s (Ok (snapshot, [])) = if is_within s snapshot then Some snapshot else None
 whole_snapshot s (Ok (snapshot, b ∷ rest)) = None
 
--- the snapshot at the front of these bytes that the header speaks of, with zeros to the end of its last sector
+-- the snapshot at the front of these bytes that the header speaks of
 unfoldable pub snapshot_of : Header → List ℕ → Option Snapshot
-snapshot_of header bytes =
-    if are_zeros (take (512 * sectors_for header.size - header.size) (drop header.size bytes))
-    then whole_snapshot header.settings (snapshot_at (take header.size bytes))
-    else None
+snapshot_of header bytes = whole_snapshot header.settings (snapshot_at (take header.size bytes))
 
 -- ## A segment
 
@@ -114,65 +87,10 @@ snapshot_of header bytes =
 abbrev pub segment_text : ℕ → Settings → Snapshot → List ℕ
 segment_text generation s snapshot = header_text generation (length (snapshot_text snapshot)) s ++ (padded (snapshot_text snapshot) ++ replicate 512 0)
 
--- what a segment holds
-pub record Image : Type 0 where
-  pub generation : ℕ
-  pub settings : Settings
-  pub snapshot : Snapshot
-  pub area : Area
-  pub frames : Frames
-
--- the journal's area in the segment that begins at this sector and ends before that one
-abbrev pub area_of : ℕ → ℕ → Header → Snapshot → Area
-area_of base end header snapshot = record {
-  generation = header.generation;
-  number = snapshot.number + 1;
-  start = base + 2 + sectors_for header.size;
-  end = end;
-}
-
 -- a value, or damage at this sector
 abbrev pub or_damaged : {A B : Type 0} → ℕ → Option A → (A → Result B OpenError) → Result B OpenError
 or_damaged sector None rest = Err (Damaged sector)
 or_damaged sector (Some x) rest = rest x
-
-abbrev pub with_frames : Header → Snapshot → Area → Result Frames ℕ → Result Image OpenError
-with_frames header snapshot area (Err sector) = Err (Damaged sector)
-with_frames header snapshot area (Ok frames) =
-    Ok (record { generation = header.generation; settings = header.settings; snapshot = snapshot; area = area; frames = frames })
-
--- the header in this sector of an image, of a segment of so many sectors
-abbrev pub header_in : ℕ → ℕ → List ℕ → Option Header
-header_in sector sectors image = header_at sectors (sector_at sector image)
-
--- the snapshot from this sector of an image on, of which the header speaks
-abbrev pub snapshot_in : ℕ → Header → List ℕ → Option Snapshot
-snapshot_in sector header image = snapshot_of header (drop (512 * sector) image)
-
--- the segment from this sector to that one
-unfoldable pub segment_at : ℕ → ℕ → List ℕ → Result Image OpenError
-segment_at base end image =
-    or_damaged (base + 1) (header_in (base + 1) (end - base) image) (λ header.
-    or_damaged (base + 2) (snapshot_in (base + 2) header image) (λ snapshot.
-    with_frames header snapshot (area_of base end header snapshot) (frames_in (area_of base end header snapshot) image)))
-
--- ## An image
-
--- the sector where segment B begins
-abbrev pub half : List ℕ → ℕ
-half image = length image / 512 / 2
-
--- the live segment: the open one. An open gate of segment B is damage as long as no switch writes one.
-unfoldable pub read_image : List ℕ → Result Image OpenError
-read_image image =
-    if nat_lt (length image / 512) 6 then Err NotFormatted
-    else if is_open (sector_at (half image) image) then Err (Damaged (half image))
-    else if is_open (sector_at 0 image) then segment_at 0 (half image) image
-    else Err NotFormatted
-
--- its live segment has this generation
-abbrev pub HasGeneration : ℕ → List ℕ → Type 0
-HasGeneration generation image = IsOkAnd (read_image image) (λ live. live.generation ≡ generation)
 
 -- where the command is legal, the rest, else damage at its gate
 abbrev pub legal_or_damaged : {A : Type 0} → ℕ → Option Illegal → Result A OpenError → Result A OpenError
@@ -184,13 +102,121 @@ abbrev pub folded : Settings → Snapshot → List (ℕ × Command) → Result S
 folded s table [] = Ok table
 folded s table (c ∷ commands) = legal_or_damaged c.0 (refusal_at s table c.1) (folded s (table_after s table c.1) commands)
 
-abbrev pub with_settings : Settings → Result Snapshot OpenError → Result State OpenError
-with_settings s (Ok table) = Ok (record { settings = s; table = table })
-with_settings s (Err why) = Err why
+-- what a segment holds: where it begins, its snapshot, its frames, and the table after their commands
+pub record SegmentImage : Type 0 where
+  pub base : ℕ
+  pub generation : ℕ
+  pub settings : Settings
+  pub snapshot : Snapshot
+  pub area : Area
+  pub frames : Frames
+  pub table : Snapshot
 
-abbrev pub state_of : Result Image OpenError → Result State OpenError
-state_of (Ok image) = with_settings image.settings (folded image.settings image.snapshot image.frames.commands)
+-- the journal's area in the segment that begins at this sector and has so many
+abbrev pub area_of : ℕ → ℕ → Header → Snapshot → Area
+area_of base sectors header snapshot = record {
+  generation = header.generation;
+  number = snapshot.number + 1;
+  start = base + 2 + sectors_for header.size;
+  end = base + sectors;
+}
+
+-- the segment of these parts, where each command of its frames is legal
+abbrev pub with_table : ℕ → Header → Snapshot → Area → Frames → Result Snapshot OpenError → Result SegmentImage OpenError
+with_table base header snapshot area frames (Err why) = Err why
+with_table base header snapshot area frames (Ok table) = Ok (record {
+  base = base;
+  generation = header.generation;
+  settings = header.settings;
+  snapshot = snapshot;
+  area = area;
+  frames = frames;
+  table = table;
+})
+
+abbrev pub with_frames : ℕ → Header → Snapshot → Area → Result Frames ℕ → Result SegmentImage OpenError
+with_frames base header snapshot area (Err sector) = Err (Damaged sector)
+with_frames base header snapshot area (Ok frames) =
+    with_table base header snapshot area frames (folded header.settings snapshot frames.commands)
+
+-- the snapshot from this sector of an image on, of which the header speaks
+abbrev pub snapshot_in : ℕ → Header → List ℕ → Option Snapshot
+snapshot_in sector header image = snapshot_of header (drop (512 * sector) image)
+
+-- what the segment holds that begins at this sector, has so many, and has this header
+unfoldable pub segment_at : ℕ → ℕ → Header → List ℕ → Result SegmentImage OpenError
+segment_at base sectors header image =
+    or_damaged (base + 2) (snapshot_in (base + 2) header image) (λ snapshot.
+    with_frames base header snapshot (area_of base sectors header snapshot) (frames_in (area_of base sectors header snapshot) image))
+
+-- ## An image
+
+-- what an image holds: its live segment, and the older one where its gate is open too
+pub record DiskImage : Type 0 where
+  pub live : SegmentImage
+  pub older : Option SegmentImage
+
+-- how many sectors a segment has: segment A begins the disk, and segment B begins behind it
+abbrev pub half : List ℕ → ℕ
+half image = length image / 512 / 2
+
+-- the header in this sector of an image, of a segment of so many sectors
+abbrev pub header_in : ℕ → ℕ → List ℕ → Option Header
+header_in sector sectors image = header_at sectors (sector_at sector image)
+
+-- the header of the segment that begins at this sector and has so many, if its gate is open
+unfoldable pub open_header : ℕ → ℕ → List ℕ → Result (Option Header) OpenError
+open_header base sectors image =
+    if is_open (sector_at base image) then or_damaged (base + 1) (header_in (base + 1) sectors image) (λ header. Ok (Some header))
+    else Ok None
+
+abbrev pub found_at : ℕ → Header → Found
+found_at base header = record { base = base; header = header }
+
+-- which of the open segments A and B is live, by its generation, and which one is older, if both are open
+abbrev pub chosen : ℕ → Option Header → Option Header → Result (Found × Option Found) OpenError
+chosen half None None = Err NotFormatted
+chosen half (Some a) None = Ok (found_at 0 a, None)
+chosen half None (Some b) = Ok (found_at half b, None)
+chosen half (Some a) (Some b) =
+    if a.generation == b.generation then Err (Damaged half)
+    else if nat_lt b.generation a.generation then Ok (found_at 0 a, Some (found_at half b))
+    else Ok (found_at half b, Some (found_at 0 a))
+
+abbrev pub found_in : ℕ → Found → List ℕ → Result SegmentImage OpenError
+found_in sectors found image = segment_at found.base sectors found.header image
+
+-- the live segment and the older one: what is wrong with the live one is told first
+abbrev pub with_older : Result SegmentImage OpenError → Option (Result SegmentImage OpenError) → Result DiskImage OpenError
+with_older (Err why) older = Err why
+with_older (Ok live) None = Ok (record { live = live; older = None })
+with_older (Ok live) (Some (Err why)) = Err why
+with_older (Ok live) (Some (Ok older)) = Ok (record { live = live; older = Some older })
+
+-- what the segments hold that were found open
+abbrev pub segments_in : ℕ → List ℕ → Result (Found × Option Found) OpenError → Result DiskImage OpenError
+segments_in sectors image (Err why) = Err why
+segments_in sectors image (Ok found) = with_older (found_in sectors found.0 image) (option_map (λ f. found_in sectors f image) found.1)
+
+-- both headers, that of A first, and what is then read
+abbrev pub by_headers : ℕ → List ℕ → Result (Option Header) OpenError → Result (Option Header) OpenError → Result DiskImage OpenError
+by_headers half image (Err why) b = Err why
+by_headers half image (Ok a) (Err why) = Err why
+by_headers half image (Ok a) (Ok b) = segments_in half image (chosen half a b)
+
+-- what an image holds: both gates are judged, then the headers of open segments, then the live one, then the older one
+unfoldable pub read_image : List ℕ → Result DiskImage OpenError
+read_image image =
+    if nat_lt (length image / 512) 6 then Err NotFormatted
+    else by_headers (half image) image (open_header 0 (half image) image) (open_header (half image) (half image) image)
+
+-- its live segment has this generation
+abbrev pub HasGeneration : ℕ → List ℕ → Type 0
+HasGeneration generation image = IsOkAnd (read_image image) (λ image. image.live.generation ≡ generation)
+
+abbrev pub state_of : Result DiskImage OpenError → Result State OpenError
 state_of (Err why) = Err why
+state_of (Ok image) = Ok (record { settings = image.live.settings; table = image.live.table })
 
 -- what an image recovers to: the settings and the table, or what is wrong and where
 unfoldable pub recovered : List ℕ → Result State OpenError

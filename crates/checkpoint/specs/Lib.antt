@@ -1,6 +1,9 @@
 pub mod Formatting
 pub mod FormatSteps
+pub mod Held
 pub mod Image
 pub mod Live
 pub mod Opening
 pub mod OpenSteps
+pub mod Pieces
+pub mod SwitchSteps

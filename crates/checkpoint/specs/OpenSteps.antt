@@ -1,12 +1,16 @@
 -- What the private steps of opening a disk give. No public contract cites it.
-use Rattle.std.specs.Prelude.{◌≡◌, ℕ, ◌*◌, List, map, take, drop, Option, None, Some, Result, Ok, Err}
+use Rattle.std.specs.Prelude.{◌≡◌, ℕ, ◌+◌, ◌*◌, ◌^◌, ◌<◌, ◌≤◌, Bool, true, List, map, take, drop, Option, None, Some, is_some, Result, Ok, Err}
 use Rattle.sector_disk.specs.Disk.{DiskView, IsSameDisk, IsUntouched}
 use Rattle.async_core.specs.Rules.{replay}
 use Rattle.invoke_records.specs.declared.command.Command.{Command}
 use Rattle.invoke_records.specs.declared.snapshot.Snapshot.{Snapshot}
 use Rattle.gate_journal.specs.Journal as journal
-use Rattle.checkpoint.specs.Image.{Image, read_image, segment_at, folded}
+use Rattle.retry_rules.specs.Settings.{bad_field}
+use Rattle.gate_journal.specs.Frames.{Frames, sectors_for}
+use Rattle.checkpoint.specs.Image.{SegmentImage, DiskImage, segment_sectors, area_of, snapshot_in, found_in, folded}
 use Rattle.checkpoint.specs.Live.{settings_of, IsLive}
+use Rattle.checkpoint.specs.declared.header.Header.{Header}
+use Rattle.checkpoint.specs.declared.choosing.Found.{Found}
 use Rattle.checkpoint.specs.declared.segment.Segment.{Segment}
 use Rattle.checkpoint.specs.declared.opened.Opened.{Opened}
 use Rattle.checkpoint.specs.declared.error.OpenError.{OpenError}
@@ -20,10 +24,6 @@ pub record OnlyReads (old new : DiskView) : Type 0 where
 -- so many sectors of an image, from this one on
 abbrev pub sectors_at : ℕ → ℕ → List ℕ → List ℕ
 sectors_at at count image = take (512 * count) (drop (512 * at) image)
-
--- the live segment of this image is the one from this sector to that one
-abbrev pub IsLiveSegment : ℕ → ℕ → List ℕ → Type 0
-IsLiveSegment base end image = read_image image ≡ segment_at base end image
 
 -- the disk is live with the table to which the commands lead from this snapshot
 abbrev pub IsLiveBehind : DiskView → Opened → Snapshot → List Command → Type 0
@@ -51,20 +51,64 @@ Refuses OutOfMemory read = Unit {0}
 Refuses NotFormatted read = read ≡ Err NotFormatted
 Refuses (Damaged sector) read = read ≡ Err (Damaged sector)
 
--- the segment was read from this image, from this sector to that one
-pub record IsRead (base end : ℕ) (bytes : List ℕ) (segment : Segment) : Type 0 where
-  pub image : Image
-  pub reads : segment_at base end bytes ≡ Ok image
-  pub settings : image.settings ≡ segment.settings
-  pub snapshot : image.snapshot ≡ segment.snapshot
-  pub holds : journal.Holds image.area image.frames segment.journal bytes
-  pub behind : image.frames.commands ≡ segment.behind.items
+-- a header of good settings, which leaves room for its snapshot and a frame in a segment of so many sectors
+pub record IsSoundHeader (sectors : ℕ) (header : Header) : Type 0 where
+  pub good : bad_field header.settings ≡ None
+  pub size : header.size < 2 ^ 50
+  pub room : sectors_for header.size + 5 ≤ sectors
+  pub least : segment_sectors header.settings ≤ sectors
+
+-- such a header at the front of segment A or B
+pub record IsSoundFound (sectors : ℕ) (found : Found) : Type 0 where
+  pub header : IsSoundHeader sectors found.header
+  pub base : found.base ≤ sectors
+
+-- the snapshot and the frames were read of the segment that was found open in this image
+pub record IsRead (sectors : ℕ) (found : Found) (bytes : List ℕ) (segment : Segment) : Type 0 where
+  pub frames : Frames
+  pub base : segment.base ≡ found.base
+  pub generation : segment.generation ≡ found.header.generation
+  pub settings : segment.settings ≡ found.header.settings
+  pub snapshot : snapshot_in (found.base + 2) found.header bytes ≡ Some segment.snapshot
+  pub holds : journal.Holds (area_of found.base sectors found.header segment.snapshot) frames segment.journal bytes
+  pub behind : frames.commands ≡ segment.behind.items
 
 -- this is the segment, opened, with its snapshot and its commands, each of which is legal after those before it
-pub record Opens (segment : Segment) (opened : Opened) (snapshot : Snapshot) (commands : List Command) : Type 0 where
+pub record Opens (segment : Segment) (other_open : Bool) (opened : Opened) (snapshot : Snapshot) (commands : List Command) : Type 0 where
+  pub base : opened.base ≡ segment.base
+  pub generation : opened.generation ≡ segment.generation
   pub settings : opened.settings ≡ segment.settings
   pub journal : opened.journal ≡ segment.journal
+  pub other : opened.other_open ≡ other_open
   pub first : snapshot ≡ segment.snapshot
   pub others : commands ≡ map (λ c. c.1) segment.behind.items
   pub table : Snapshot
   pub folds : folded segment.settings segment.snapshot segment.behind.items ≡ Ok table
+
+-- what was found open in this image is this live segment, opened, with its snapshot and its commands
+pub record IsOpened (sectors : ℕ) (found : Found) (bytes : List ℕ) (other_open : Bool) (opened : Opened) (snapshot : Snapshot) (commands : List Command) : Type 0 where
+  pub image : SegmentImage
+  pub reads : found_in sectors found bytes ≡ Ok image
+  pub base : image.base ≡ opened.base
+  pub generation : image.generation ≡ opened.generation
+  pub settings : image.settings ≡ opened.settings
+  pub holds : journal.Holds image.area image.frames opened.journal bytes
+  pub other : opened.other_open ≡ other_open
+  pub replays : replay (settings_of opened) snapshot commands ≡ Some image.table
+
+-- the live segment was opened so, and the older one can be
+pub record AreBoth (sectors : ℕ) (live older : Found) (bytes : List ℕ) (opened : Opened) (snapshot : Snapshot) (commands : List Command) : Type 0 where
+  pub first : IsOpened sectors live bytes true opened snapshot commands
+  pub beside : SegmentImage
+  pub beside_reads : found_in sectors older bytes ≡ Ok beside
+
+-- what was read so is this image, whose live segment was opened, with its snapshot and its commands
+pub record IsOpenedAs (read : Result DiskImage OpenError) (bytes : List ℕ) (opened : Opened) (snapshot : Snapshot) (commands : List Command) : Type 0 where
+  pub image : DiskImage
+  pub reads : read ≡ Ok image
+  pub base : image.live.base ≡ opened.base
+  pub generation : image.live.generation ≡ opened.generation
+  pub settings : image.live.settings ≡ opened.settings
+  pub other : is_some image.older ≡ opened.other_open
+  pub holds : journal.Holds image.live.area image.live.frames opened.journal bytes
+  pub replays : replay (settings_of opened) snapshot commands ≡ Some image.live.table

@@ -3,6 +3,7 @@ ghost use Rattle.std.specs.Prelude.{◌≡◌};
 ghost use Rattle.checkpoint.specs.Opening.{open_error_of};
 ghost use Rattle.checkpoint.specs.declared.error.FormatError.TheVariants as format_error;
 ghost use Rattle.checkpoint.specs.declared.error.OpenError.TheVariants as open_error;
+ghost use Rattle.checkpoint.specs.declared.error.SwitchError.TheVariants as switch_error;
 
 use gate_journal::ReadError;
 use sector_disk::Fault;
@@ -87,5 +88,34 @@ impl From<ReadError> for OpenError {
             ReadError::OutOfMemory => OpenError::OutOfMemory,
             ReadError::Damaged { sector } => OpenError::Damaged { sector },
         }
+    }
+}
+
+/// Why a switch to the other segment was refused.
+#[derive(Clone, Copy, Debug, PartialEq, Eq, Error)]
+pub enum SwitchError {
+    /// The snapshot has no spelling, or is past the limits of the settings: no history leaves such a table.
+    #[error("bad snapshot")]
+    BadKind,
+    #[error("out of memory")]
+    OutOfMemory,
+    /// The device failed.
+    #[error("device fault")]
+    Fault,
+}
+
+impl From<AllocError> for SwitchError {
+    ghost from_gives = { λ _ e. e ≡ switch_error.OutOfMemory };
+
+    fn from(_: AllocError) -> Self {
+        SwitchError::OutOfMemory
+    }
+}
+
+impl From<Fault> for SwitchError {
+    ghost from_gives = { λ _ e. e ≡ switch_error.Fault };
+
+    fn from(_: Fault) -> Self {
+        SwitchError::Fault
     }
 }

@@ -3,7 +3,9 @@ ghost use Rattle.std.specs.Prelude.{◌≡◌, ◌+◌, ◌≤◌, ◌<◌, ◌^
 ghost use Rattle.retry_rules.specs.Settings.{bad_field};
 ghost use Rattle.invoke_records.specs.Spelling.{settings_text};
 ghost use Rattle.gate_journal.specs.Frames.{sectors_for};
-ghost use Rattle.checkpoint.specs.Image.{header_with, header_at, most_snapshot, segment_sectors};
+ghost use Rattle.checkpoint.specs.OpenSteps.{IsSoundHeader};
+ghost use Rattle.async_core.specs.Limits.{most_snapshot};
+ghost use Rattle.checkpoint.specs.Image.{header_with, header_at, segment_sectors};
 
 use crate::reading::{are_zeros, u32_at, u64_at, unread};
 use crate::sizes::{most_snapshot, segment_sectors};
@@ -30,9 +32,7 @@ fn with_settings(bytes: &[u8], sectors: u64, settings: Settings, rest: &[u8]) ->
     requires left { length rest.now ≤ 512 }
     requires good { bad_field settings ≡ None }
     ensures exact { result ≡ header_with sectors bytes.now (Ok (settings, rest.now)) }
-    ensures good { IfSome result (λ header. bad_field header.settings ≡ None) }
-    ensures size { IfSome result (λ header. header.size < 2 ^ 50) }
-    ensures room { IfSome result (λ header. sectors_for header.size + 5 ≤ sectors) }
+    ensures sound { IfSome result (IsSoundHeader sectors) }
 {
     let generation = u64_at(bytes, 8);
     let size = u64_at(bytes, 16);
@@ -61,9 +61,7 @@ pub(crate) fn read_header(
 ) -> Result<Option<Header>, AllocError>
     requires { length bytes.now ≡ 512 }
     ensures exact { IfOk result (λ found. found ≡ header_at sectors bytes.now) }
-    ensures good { IfOk result (λ found. IfSome found (λ header. bad_field header.settings ≡ None)) }
-    ensures size { IfOk result (λ found. IfSome found (λ header. header.size < 2 ^ 50)) }
-    ensures room { IfOk result (λ found. IfSome found (λ header. sectors_for header.size + 5 ≤ sectors)) }
+    ensures sound { IfOk result (λ found. IfSome found (IsSoundHeader sectors)) }
 {
     let generation = u64_at(bytes, 8);
     if !bytes.starts_with(&MAGIC) || generation < 1 || generation > 1 << 62 {

@@ -5,20 +5,26 @@
 //! at any moment of `append` leaves the table from before it or after the whole batch.
 #![tactic(auto)]
 
+mod choosing;
 mod error;
 mod formatting;
 mod header;
+mod laws;
 mod legality;
 mod opened;
 mod opening;
+mod pieces;
 mod reading;
 mod segment;
 mod sizes;
 mod snapshot;
+mod switching;
 mod writing;
 
-pub use error::{FormatError, OpenError};
+pub use error::{FormatError, OpenError, SwitchError};
 pub use formatting::format;
 pub use gate_journal::AppendError;
+pub use laws::what_is_recovered_is_what_was_written;
 pub use opened::Opened;
 pub use opening::open;
+pub use switching::switch;

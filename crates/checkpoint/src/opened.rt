@@ -12,19 +12,30 @@ use std::alloc::Global;
 /// The live segment of a disk that was opened.
 #[derive(Debug, Drop)]
 pub struct Opened {
+    // The sector where it begins.
+    pub(crate) base: u64,
     pub(crate) settings: Settings,
     pub(crate) generation: u64,
     pub(crate) journal: Journal,
+    // Whether the gate of the other segment is open.
+    pub(crate) other_open: bool,
 }
 
 impl Opened {
-    ghost use Rattle.checkpoint.specs.Live.{settings_of, number_of, end_of, fits, Acknowledges, LeavesBeforeOrAfter};
+    ghost use Rattle.checkpoint.specs.Live.{settings_of, generation_of, number_of, end_of, fits, Acknowledges, LeavesBeforeOrAfter};
 
     /// The settings that the disk was formatted with.
     pub fn settings(&self) -> &Settings
         ensures { result.now ≡ settings_of self.now }
     {
         &self.settings
+    }
+
+    /// The generation of the live segment: one more with each switch, from 1 on.
+    pub fn generation(&self) -> u64
+        ensures { result ≡ generation_of self.now }
+    {
+        self.generation
     }
 
     /// Appends a batch of commands as one frame.
@@ -51,6 +62,7 @@ impl Opened {
 
         ensures err { OnErr result (self.new ≡ self.old) }
         ensures settings { settings_of self.new ≡ settings_of self.old }
+        ensures generation { generation_of self.new ≡ generation_of self.old }
         ensures end { end_of self.new ≡ end_of self.old }
         ensures number { OnOk result (number_of self.new ≡ number_of self.old + length commands.now) }
 

@@ -1,57 +1,36 @@
 // Opening a disk.
-ghost use Rattle.std.specs.Prelude.{◌≡◌, ◌+◌, ◌*◌, ◌≤◌, ◌<◌, ◌^◌, List, ℕ, length, map, None, Some, Ok, Err, IsErrOf, IfOk, IfErr, OnOk, IsOk, IsSome};
+ghost use Rattle.std.specs.Prelude.{◌≡◌, ◌+◌, ◌*◌, ◌≤◌, ◌<◌, ◌^◌, List, ℕ, length, map, None, Some, Ok, Err, IsErrOf, IfOk, IfErr, IfSome, OnOk, IsOk, IsSome};
 ghost use Rattle.sector_disk.specs.Disk.{IsSameDisk, HasRisen, HasOneImage};
 ghost use Rattle.sector_disk.specs.Moments.{LeavesOnly};
 ghost use Rattle.retry_rules.specs.Settings.{bad_field};
 ghost use Rattle.async_core.specs.Rules.{replay};
 ghost use Rattle.checkpoint.specs.declared.error.OpenError.TheVariants as open_error;
-ghost use Rattle.checkpoint.specs.Image.{folded, read_image, recovered};
-ghost use Rattle.checkpoint.specs.Live.{settings_of, number_of, end_of};
+ghost use Rattle.checkpoint.specs.Image.{folded, found_in, segments_in, read_image, recovered};
+ghost use Rattle.checkpoint.specs.Live.{settings_of, number_of, HasRoom};
 ghost use Rattle.checkpoint.specs.Opening.{IsRecovered, TellsNotFormatted, TellsDamage};
-ghost use Rattle.checkpoint.specs.OpenSteps.{OnlyReads, IsLiveSegment, IsLiveBehind, Refuses, Opens};
+ghost use Rattle.checkpoint.specs.OpenSteps.{OnlyReads, IsSoundFound, Refuses, Opens, IsOpened, AreBoth, IsOpenedAs};
 
+use crate::choosing::{Found, choose};
 use crate::legality::{judge, without_gates};
-use crate::reading::read_sector;
-use crate::segment::{Segment, read_segment};
+use crate::segment::{Segment, open_header, read_segment};
 use crate::{OpenError, Opened};
 use invoke_records::{Command, Snapshot};
 use sector_disk::Disk;
 use std::alloc::Global;
 
-// The sector behind the live segment, which is segment A.
-fn live_end<D: Disk>(disk: &mut D) -> Result<u64, OpenError>
-    ensures reads { OnlyReads (D.view disk.old) (D.view disk.new) }
-    ensures later { D.fault_count disk.old ≤ D.fault_count disk.new }
-    ensures fault { IsErrOf result OpenError.Fault → HasRisen (D.fault_count disk.old) (D.fault_count disk.new) }
-    ensures bounds { IfOk result (λ end. (2 ≤ end) × (end ≤ (D.view disk.old).sectors)) }
-    ensures exact { (D.view disk.old).honest → IfOk result (λ end. IsLiveSegment 0 end (D.view disk.old).content) }
-    ensures refused { (D.view disk.old).honest → IfErr result (λ why. Refuses why (read_image (D.view disk.old).content)) }
-{
-    let sectors = disk.sectors();
-    if sectors < 6 {
-        return Err(OpenError::NotFormatted);
-    }
-    let half = sectors / 2;
-    let gate_b = read_sector(disk, half)?;
-    if gate_b[0] == 1 {
-        return Err(OpenError::Damaged { sector: half });
-    }
-    let gate_a = read_sector(disk, 0)?;
-    if gate_a[0] == 1 {
-        Ok(half)
-    } else {
-        Err(OpenError::NotFormatted)
-    }
-}
-
 // The segment as the live one, if each of its commands is legal.
-fn judged(alloc: Global, segment: Segment) -> Result<(Opened, Snapshot, Vec<Command>), OpenError>
+fn judged(
+    alloc: Global,
+    segment: Segment,
+    other_open: bool,
+) -> Result<(Opened, Snapshot, Vec<Command>), OpenError>
     requires { segment.snapshot.number + length segment.behind.items ≤ 2 ^ 62 }
-    ensures opens { IfOk result (λ r. Opens segment r.0 r.1 r.2.items) }
+    ensures opens { IfOk result (λ r. Opens segment other_open r.0 r.1 r.2.items) }
     ensures refused { IfErr result (λ why. Refuses why (folded segment.settings segment.snapshot segment.behind.items)) }
     ensures fault { IfErr result (λ why. why ≡ open_error.Fault → ⊥) }
 {
     let Segment {
+        base,
         settings,
         generation,
         snapshot,
@@ -61,11 +40,100 @@ fn judged(alloc: Global, segment: Segment) -> Result<(Opened, Snapshot, Vec<Comm
     let snapshot = judge(alloc, &settings, snapshot, &behind)?;
     let commands = without_gates(alloc, behind)?;
     let opened = Opened {
+        base,
         settings,
         generation,
         journal,
+        other_open,
     };
     Ok((opened, snapshot, commands))
+}
+
+// A segment that was found open, whole: its snapshot, its frames, and whether their commands are legal.
+fn read_opened<D: Disk>(
+    alloc: Global,
+    disk: &mut D,
+    found: Found,
+    sectors: u64,
+    other_open: bool,
+) -> Result<(Opened, Snapshot, Vec<Command>), OpenError>
+    requires sound { IsSoundFound sectors found }
+    requires sectors { sectors < 2 ^ 63 }
+    requires inside { 2 * sectors ≤ (D.view disk.old).sectors }
+    ensures reads { OnlyReads (D.view disk.old) (D.view disk.new) }
+    ensures later { D.fault_count disk.old ≤ D.fault_count disk.new }
+    ensures fault { IsErrOf result OpenError.Fault → HasRisen (D.fault_count disk.old) (D.fault_count disk.new) }
+    ensures settings { IfOk result (λ r. bad_field (settings_of r.0) ≡ None) }
+    ensures room { IfOk result (λ r. HasRoom (D.view disk.old).sectors r.0) }
+    ensures number { IfOk result (λ r. number_of r.0 ≡ r.1.number + length r.2.items + 1) }
+    ensures below { IfOk result (λ r. r.1.number + length r.2.items ≤ 2 ^ 62) }
+    ensures legal { IfOk result (λ r. IsSome (replay (settings_of r.0) r.1 r.2.items)) }
+    ensures exact { (D.view disk.old).honest
+        → IfOk result (λ r. IsOpened sectors found (D.view disk.old).content other_open r.0 r.1 r.2.items) }
+    ensures refused { (D.view disk.old).honest → IfErr result (λ why. Refuses why (found_in sectors found (D.view disk.old).content)) }
+{
+    let segment = read_segment(alloc, disk, found, sectors)?;
+    judged(alloc, segment, other_open)
+}
+
+// The live segment whole, and then the older one, of which nothing is kept.
+fn read_both<D: Disk>(
+    alloc: Global,
+    disk: &mut D,
+    live: Found,
+    older: Found,
+    sectors: u64,
+) -> Result<(Opened, Snapshot, Vec<Command>), OpenError>
+    requires live { IsSoundFound sectors live }
+    requires older { IsSoundFound sectors older }
+    requires sectors { sectors < 2 ^ 63 }
+    requires inside { 2 * sectors ≤ (D.view disk.old).sectors }
+    ensures reads { OnlyReads (D.view disk.old) (D.view disk.new) }
+    ensures later { D.fault_count disk.old ≤ D.fault_count disk.new }
+    ensures fault { IsErrOf result OpenError.Fault → HasRisen (D.fault_count disk.old) (D.fault_count disk.new) }
+    ensures settings { IfOk result (λ r. bad_field (settings_of r.0) ≡ None) }
+    ensures room { IfOk result (λ r. HasRoom (D.view disk.old).sectors r.0) }
+    ensures number { IfOk result (λ r. number_of r.0 ≡ r.1.number + length r.2.items + 1) }
+    ensures below { IfOk result (λ r. r.1.number + length r.2.items ≤ 2 ^ 62) }
+    ensures legal { IfOk result (λ r. IsSome (replay (settings_of r.0) r.1 r.2.items)) }
+    ensures exact { (D.view disk.old).honest → IfOk result (λ r. AreBoth sectors live older (D.view disk.old).content r.0 r.1 r.2.items) }
+    ensures refused { (D.view disk.old).honest
+        → IfErr result (λ why. Refuses why (segments_in sectors (D.view disk.old).content (Ok (live, Some older)))) }
+{
+    let (opened, snapshot, commands) = read_opened(alloc, disk, live, sectors, true)?;
+    read_opened(alloc, disk, older, sectors, true)?;
+    Ok((opened, snapshot, commands))
+}
+
+// What the segments hold that were found open.
+fn read_found<D: Disk>(
+    alloc: Global,
+    disk: &mut D,
+    live: Found,
+    older: Option<Found>,
+    sectors: u64,
+) -> Result<(Opened, Snapshot, Vec<Command>), OpenError>
+    requires live { IsSoundFound sectors live }
+    requires older { IfSome older (IsSoundFound sectors) }
+    requires sectors { sectors < 2 ^ 63 }
+    requires inside { 2 * sectors ≤ (D.view disk.old).sectors }
+    ensures reads { OnlyReads (D.view disk.old) (D.view disk.new) }
+    ensures later { D.fault_count disk.old ≤ D.fault_count disk.new }
+    ensures fault { IsErrOf result OpenError.Fault → HasRisen (D.fault_count disk.old) (D.fault_count disk.new) }
+    ensures settings { IfOk result (λ r. bad_field (settings_of r.0) ≡ None) }
+    ensures room { IfOk result (λ r. HasRoom (D.view disk.old).sectors r.0) }
+    ensures number { IfOk result (λ r. number_of r.0 ≡ r.1.number + length r.2.items + 1) }
+    ensures below { IfOk result (λ r. r.1.number + length r.2.items ≤ 2 ^ 62) }
+    ensures legal { IfOk result (λ r. IsSome (replay (settings_of r.0) r.1 r.2.items)) }
+    ensures exact { (D.view disk.old).honest
+        → IfOk result (λ r. IsOpenedAs (segments_in sectors (D.view disk.old).content (Ok (live, older))) (D.view disk.old).content r.0 r.1 r.2.items) }
+    ensures refused { (D.view disk.old).honest
+        → IfErr result (λ why. Refuses why (segments_in sectors (D.view disk.old).content (Ok (live, older)))) }
+{
+    match older {
+        None => read_opened(alloc, disk, live, sectors, false),
+        Some(older) => read_both(alloc, disk, live, older, sectors),
+    }
 }
 
 // What `open` answers, by reads alone.
@@ -77,21 +145,28 @@ fn read_live<D: Disk>(
     ensures later { D.fault_count disk.old ≤ D.fault_count disk.new }
     ensures fault { IsErrOf result OpenError.Fault → HasRisen (D.fault_count disk.old) (D.fault_count disk.new) }
     ensures settings { IfOk result (λ r. bad_field (settings_of r.0) ≡ None) }
-    ensures end { IfOk result (λ r. end_of r.0 ≤ (D.view disk.old).sectors) }
+    ensures room { IfOk result (λ r. HasRoom (D.view disk.old).sectors r.0) }
     ensures number { IfOk result (λ r. number_of r.0 ≡ r.1.number + length r.2.items + 1) }
     ensures below { IfOk result (λ r. r.1.number + length r.2.items ≤ 2 ^ 62) }
     ensures legal { IfOk result (λ r. IsSome (replay (settings_of r.0) r.1 r.2.items)) }
-    ensures live { (D.view disk.old).honest → HasOneImage (D.view disk.old)
-        → IfOk result (λ r. IsLiveBehind (D.view disk.new) r.0 r.1 r.2.items) }
+    ensures exact { (D.view disk.old).honest
+        → IfOk result (λ r. IsOpenedAs (read_image (D.view disk.old).content) (D.view disk.old).content r.0 r.1 r.2.items) }
     ensures refused { (D.view disk.old).honest → IfErr result (λ why. Refuses why (recovered (D.view disk.old).content)) }
 {
-    let end = live_end(disk)?;
-    let segment = read_segment(alloc, disk, 0, end)?;
-    judged(alloc, segment)
+    let sectors = disk.sectors();
+    if sectors < 6 {
+        return Err(OpenError::NotFormatted);
+    }
+    let half = sectors / 2;
+    let a = open_header(alloc, disk, 0, half)?;
+    let b = open_header(alloc, disk, half, half)?;
+    let (live, older) = choose(half, a, b)?;
+    read_found(alloc, disk, live, older, half)
 }
 
 /// Opens a formatted disk: its live segment, the snapshot and the commands behind it. One barrier comes first, then
-/// reads alone. What is not a formatted disk is refused by what is wrong and where, and nothing is written.
+/// reads alone. What is not a formatted disk is refused by what is wrong and where, and nothing is written: both gates
+/// and the headers behind open ones are judged first, then the live segment, then the older one.
 pub fn open<D: Disk>(
     alloc: Global,
     disk: &mut D,
@@ -105,7 +180,7 @@ pub fn open<D: Disk>(
     ensures any_moment { (D.view disk.old).honest → LeavesOnly (D.view disk.old) (D.view disk.new) (D.view disk.old).may_leave }
 
     ensures settings { IfOk result (λ r. bad_field (settings_of r.0) ≡ None) }
-    ensures end { IfOk result (λ r. end_of r.0 ≤ (D.view disk.old).sectors) }
+    ensures room { IfOk result (λ r. HasRoom (D.view disk.old).sectors r.0) }
     ensures number { IfOk result (λ r. number_of r.0 ≡ r.1.number + length r.2.items + 1) }
     ensures below { IfOk result (λ r. r.1.number + length r.2.items ≤ 2 ^ 62) }
     ensures legal { IfOk result (λ r. IsSome (replay (settings_of r.0) r.1 r.2.items)) }

@@ -1,14 +1,33 @@
 // Reads of a disk, and of numbers in its bytes.
 ghost use Rattle.std.specs.Prelude.{◌≡◌, ◌+◌, ◌*◌, ◌≤◌, ◌<◌, ◌^◌, length, take, drop, None, Err, IfOk, IfErr, OnOk, IsErrOf};
 ghost use Rattle.std.specs.Int.{w32, w64, from_be_bytes};
-ghost use Rattle.sector_disk.specs.Disk.{HasRisen};
+ghost use Rattle.sector_disk.specs.Disk.{IsOnDisk, HasRisen, HasCause};
 ghost use Rattle.checkpoint.specs.OpenSteps.{OnlyReads, IsNoFinding, sectors_at};
 ghost use Rattle.checkpoint.specs.Image.{sector_at, are_zeros};
 
 use crate::OpenError;
+use crate::pieces::PIECE_SIZE;
 use invoke_records::RecordError;
-use sector_disk::{Disk, SECTOR_SIZE};
+use sector_disk::{Disk, Fault, SECTOR_SIZE};
 use std::alloc::{AllocError, Global};
+
+// Reads these bytes from this sector on, 64 sectors at once.
+fn read_pieces<D: Disk>(disk: &mut D, at: u64, bytes: &mut [u8]) -> Result<(), Fault>
+    requires whole { IsOnDisk (D.view disk.old).sectors at (length bytes.old) }
+    requires small { 512 * at + length bytes.old < 512 * 2 ^ 64 }
+    ensures reads { OnlyReads (D.view disk.old) (D.view disk.new) }
+    ensures cause { HasCause (D.fault_count disk.old) (D.fault_count disk.new) result }
+    ensures bytes { (D.view disk.old).honest → OnOk result (bytes.new ≡ take (length bytes.old) (drop (512 * at) (D.view disk.old).content)) }
+{
+    let mut done = 0;
+    while done < bytes.len() {
+        let size = PIECE_SIZE.min(bytes.len() - done);
+        let sector = at + (done / SECTOR_SIZE) as u64;
+        disk.read(sector, &mut bytes[done..done + size])?;
+        done += size;
+    }
+    Ok(())
+}
 
 // The sectors from this one on, so many.
 pub(crate) fn read_sectors<D: Disk>(
@@ -19,6 +38,7 @@ pub(crate) fn read_sectors<D: Disk>(
 ) -> Result<Vec<u8>, OpenError>
     requires room { at + count ≤ (D.view disk.old).sectors }
     requires size { count < 2 ^ 50 }
+    requires small { at + count < 2 ^ 64 }
     ensures reads { OnlyReads (D.view disk.old) (D.view disk.new) }
     ensures later { D.fault_count disk.old ≤ D.fault_count disk.new }
     ensures fault { IsErrOf result OpenError.Fault → HasRisen (D.fault_count disk.old) (D.fault_count disk.new) }
@@ -28,7 +48,7 @@ pub(crate) fn read_sectors<D: Disk>(
 {
     let mut bytes = Vec::new(alloc);
     bytes.resize(count as usize * SECTOR_SIZE, 0)?;
-    disk.read(at, &mut bytes)?;
+    read_pieces(disk, at, &mut bytes)?;
     Ok(bytes)
 }
 

@@ -1,7 +1,8 @@
 // How many sectors a segment and a disk have.
 ghost use Rattle.std.specs.Prelude.{◌≡◌, ◌+◌, ◌*◌, ◌<◌, ◌≤◌, ◌^◌};
 ghost use Rattle.gate_journal.specs.Frames.{sectors_for};
-ghost use Rattle.checkpoint.specs.Image.{most_snapshot, segment_sectors, least_sectors};
+ghost use Rattle.async_core.specs.Limits.{most_snapshot};
+ghost use Rattle.checkpoint.specs.Image.{segment_sectors, least_sectors};
 
 use retry_rules::Settings;
 

@@ -1,17 +1,20 @@
 // The snapshot of a segment, and whether it is within the settings' limits.
-ghost use Rattle.std.specs.Prelude.{◌≡◌, ◌+◌, ◌*◌, ◌≤◌, ◌<◌, ◌^◌, length, IfOk, IfSome};
+ghost use Rattle.std.specs.Prelude.{◌≡◌, ◌+◌, ◌*◌, ◌≤◌, ◌<◌, ◌^◌, length, true, IfOk, IfSome};
 ghost use Rattle.std.specs.List.{list_all};
 ghost use Rattle.gate_journal.specs.Frames.{sectors_for};
-ghost use Rattle.checkpoint.specs.Image.{answer_size, environment_of, is_row_within, is_within, snapshot_of};
+ghost use Rattle.invoke_records.specs.Spelling.{answer_bytes, environment_in, IsSnapshot};
+ghost use Rattle.checkpoint.specs.Live.{may_stand};
+ghost use Rattle.async_core.specs.Limits.{is_row_within, is_within};
+ghost use Rattle.checkpoint.specs.Image.{snapshot_of};
 
 use crate::header::Header;
-use crate::reading::{are_zeros, unread};
+use crate::reading::unread;
 use invoke_records::{Answer, EventRow, Snapshot, Standing};
 use retry_rules::Settings;
 use std::alloc::{AllocError, Global};
 
 fn answer_size(answer: &Answer) -> usize
-    ensures { result ≡ answer_size answer.now }
+    ensures { result ≡ length (answer_bytes answer.now) }
 {
     match answer {
         Answer::None => 0,
@@ -22,7 +25,7 @@ fn answer_size(answer: &Answer) -> usize
 
 // The environment that an event runs in, 0 where it does not run.
 fn environment_of(standing: Standing) -> u16
-    ensures { result ≡ environment_of standing }
+    ensures { result ≡ environment_in standing }
 {
     match standing {
         Standing::Running { environment, .. } => environment,
@@ -52,6 +55,14 @@ fn is_within(settings: &Settings, snapshot: &Snapshot) -> bool
     rows.len() <= settings.events as usize && are_within(settings, rows)
 }
 
+// The snapshot has a spelling and is within the settings' limits.
+pub(crate) fn may_stand(settings: &Settings, snapshot: &Snapshot) -> bool
+    ensures exact { result ≡ may_stand settings.now snapshot.now }
+    ensures spelled { result ≡ true → IsSnapshot snapshot.now }
+{
+    snapshot.check().is_ok() && is_within(settings, snapshot)
+}
+
 // The snapshot that fills these sectors, of which the header speaks, if it is one.
 #[tactic(auto, using(crate::proofs::Segments::number_most), unfolding(crate::specs::Image::snapshot_of))]
 pub(crate) fn read_snapshot(
@@ -64,10 +75,7 @@ pub(crate) fn read_snapshot(
     ensures exact { IfOk result (λ found. found ≡ snapshot_of header.now bytes.now) }
     ensures number { IfOk result (λ found. IfSome found (λ snapshot. snapshot.number ≤ 2 ^ 62)) }
 {
-    let (text, rest) = bytes.split_at(header.size as usize);
-    if !are_zeros(rest) {
-        return Ok(None);
-    }
+    let (text, _) = bytes.split_at(header.size as usize);
     match Snapshot::decode(alloc, text) {
         Ok((snapshot, taken)) => {
             let is_whole = taken >= text.len() && is_within(&header.settings, &snapshot);

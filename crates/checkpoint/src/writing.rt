@@ -21,7 +21,7 @@ fn pad(bytes: &mut Vec<u8>) -> Result<(), AllocError>
 
 // The header of a segment whose snapshot has so many bytes.
 #[tactic(auto, unfolding(crate::specs::Image::header_text))]
-fn spell_header(
+pub(crate) fn spell_header(
     alloc: Global,
     generation: u64,
     size: usize,

@@ -7,8 +7,11 @@ pub returns-clause-opens : goal.returns-clause-opens
 returns-clause-opens c =
     let value = value_of _ c.in_ok-snapshot.ensures.legal in
     record {
+      base = refl;
+      generation = refl;
       settings = refl;
       journal = refl;
+      other = refl;
       first = c.in_ok-snapshot.ensures.same;
       others = c.in_ok-commands.ensures;
       table = value.0;

@@ -1,63 +1,89 @@
-use Rattle.std.proofs.Common.{length, sym, ◌∙◌, ap, arith, is_some}
-use Rattle.std.proofs.lemmas.List.{length-map}
+use Rattle.std.proofs.Common.{◌≡◌, ◌*◌, ◌/◌, length, Option, Result, sym, ◌∙◌, ap}
 use Rattle.std.proofs.lemmas.Result.{err_from_is_err_and, IfOk-weaker, IfErr-weaker}
-use Rattle.invoke_records.specs.declared.snapshot.Snapshot.{Snapshot}
-use Rattle.gate_journal.specs.Journal as journal
-use Rattle.checkpoint.specs.Image.{read_image, segment_at}
-use Rattle.checkpoint.proofs.Refusals.{reads_more, refuses_along}
-use Rattle.checkpoint.proofs.Lives.{image_refused, opened_replays, fold_refused, is_live}
+use Rattle.checkpoint.specs.declared.header.Header.{Header}
+use Rattle.checkpoint.specs.declared.error.OpenError.{OpenError}
+use Rattle.checkpoint.specs.declared.error.OpenError.TheVariants.{NotFormatted}
+use Rattle.checkpoint.specs.Image.{open_header, by_headers, segments_in, read_image}
+use Rattle.checkpoint.proofs.Refusals.{reads_more, refuses_along, err_refuses}
+use Rattle.checkpoint.proofs.Images.{too_few, by_both}
+use Rattle.checkpoint.proofs.Lives.{image_refused, opened_along}
 use Rattle.checkpoint.proofs.opening.read_live.Goals as goal
 
-pub returns-in_err-end-clause-refused : goal.returns-in_err-end-clause-refused
-returns-in_err-end-clause-refused g c honest =
+pub returns-then-sectors-lt6-clause-refused : goal.returns-then-sectors-lt6-clause-refused
+returns-then-sectors-lt6-clause-refused g c honest =
+    let content = (g.D.Disk.view c.args.disk.now).content in
+    let sectors = c.sectors-sectors.result in
+    let size : length content ≡ 512 * sectors = rw c.sectors-sectors.ensures (g.met.D.Disk.laws c.args.disk.now honest).size in
+    image_refused content NotFormatted (too_few content sectors size c.if-sectors-lt6.true)
+
+pub returns-in_err-a-clause-refused : goal.returns-in_err-a-clause-refused
+returns-in_err-a-clause-refused g c honest =
+    let content = (g.D.Disk.view c.args.disk.now).content in
+    let sectors = c.sectors-sectors.result in
+    let half = sectors / 2 in
+    let size : length content ≡ 512 * sectors = rw c.sectors-sectors.ensures (g.met.D.Disk.laws c.args.disk.now honest).size in
     let p = err_from_is_err_and c.from_residual.result c.from_residual.ensures.1 in
-    rw (p.1, p.2) (image_refused (g.D.Disk.view c.args.disk.now).content _ (c.in_err-end.ensures.refused honest))
+    rw (p.1, p.2)
+    (image_refused content _
+    (refuses_along _ (open_header 0 half content) (read_image content)
+    (λ e is. by_both content sectors size c.if-sectors-lt6.false ∙ ap (λ (r : Result (Option Header) OpenError). by_headers half content r (open_header half half content)) is)
+    (c.in_err-a.ensures.refused honest)))
 
-pub returns-in_err-segment-clause-refused : goal.returns-in_err-segment-clause-refused
-returns-in_err-segment-clause-refused g c honest =
+pub returns-in_err-b-clause-refused : goal.returns-in_err-b-clause-refused
+returns-in_err-b-clause-refused g c honest =
     let content = (g.D.Disk.view c.args.disk.now).content in
-    let first = c.live_end.ensures.reads in
-    let live = c.in_ok-end.ensures.exact honest in
-    let refused = rw (first.untouched honest).content at c.in_err-segment.ensures.refused (first.same.honest.1 honest) in
-    let p = err_from_is_err_and c.from_residual-in_err-segment.result c.from_residual-in_err-segment.ensures.1 in
-    rw (p.1, p.2) (image_refused content _ (refuses_along _ (segment_at 0 c.in_ok-end.end content) (read_image content) (λ e is. live ∙ is) refused))
+    let sectors = c.sectors-sectors.result in
+    let half = sectors / 2 in
+    let size : length content ≡ 512 * sectors = rw c.sectors-sectors.ensures (g.met.D.Disk.laws c.args.disk.now honest).size in
+    let mid = c.open_header.ensures.reads in
+    let refused = rw (mid.untouched honest).content at c.in_err-b.ensures.refused (mid.same.honest.1 honest) in
+    let p = err_from_is_err_and c.from_residual-in_err-b.result c.from_residual-in_err-b.ensures.1 in
+    rw (p.1, p.2)
+    (image_refused content _
+    (refuses_along _ (open_header half half content) (read_image content)
+    (λ e is. by_both content sectors size c.if-sectors-lt6.false ∙ (λ i. by_headers half content (c.in_ok-a.ensures.exact honest i) (is i)))
+    refused))
 
-pub returns-clause-number : goal.returns-clause-number
-returns-clause-number g c = IfOk-weaker c.judged.result _ _
-    (λ r opens.
-    ap journal.number_of opens.journal ∙ c.in_ok-segment.ensures.number
-    ∙ omega (arith, ap (λ (s : Snapshot). s.number) opens.first, ap length opens.others, length-map c.in_ok-segment.segment.behind.items (λ c. c.1)))
-    c.judged.ensures.opens
-
-pub returns-clause-below : goal.returns-clause-below
-returns-clause-below g c = IfOk-weaker c.judged.result _ _
-    (λ r opens.
-    omega (arith, c.in_ok-segment.ensures.below, ap (λ (s : Snapshot). s.number) opens.first, ap length opens.others, length-map c.in_ok-segment.segment.behind.items (λ c. c.1)))
-    c.judged.ensures.opens
-
-pub returns-clause-legal : goal.returns-clause-legal
-returns-clause-legal g c = IfOk-weaker c.judged.result _ _ (λ r opens. ap is_some (opened_replays c.in_ok-segment.segment r.0 r.1 r.2.items opens)) c.judged.ensures.opens
-
-pub returns-clause-live : goal.returns-clause-live
-returns-clause-live g c honest settled =
+pub returns-in_err-live-clause-refused : goal.returns-in_err-live-clause-refused
+returns-in_err-live-clause-refused g c honest =
     let content = (g.D.Disk.view c.args.disk.now).content in
-    let first = c.live_end.ensures.reads in
-    let all = reads_more first c.read_segment.ensures.reads in
-    let new = g.D.Disk.view c.read_segment.new.disk in
-    let untouched = all.untouched honest in
-    let read = rw (first.untouched honest).content at c.in_ok-segment.ensures.exact (first.same.honest.1 honest) in
-    IfOk-weaker c.judged.result _ _
-    (λ r opens. (
-      opens.table,
-      opened_replays c.in_ok-segment.segment r.0 r.1 r.2.items opens,
-      is_live content c.in_ok-end.end c.in_ok-segment.segment (c.in_ok-end.ensures.exact honest) read new
-          (λ image left. settled image ((untouched.images image).0 left) ∙ sym untouched.content) untouched.content r.0 r.1 r.2.items opens,
-    ))
-    c.judged.ensures.opens
+    let sectors = c.sectors-sectors.result in
+    let half = sectors / 2 in
+    let size : length content ≡ 512 * sectors = rw c.sectors-sectors.ensures (g.met.D.Disk.laws c.args.disk.now honest).size in
+    let mid = c.open_header.ensures.reads in
+    let second = rw (mid.untouched honest).content at c.in_ok-b.ensures.exact (mid.same.honest.1 honest) in
+    let read = by_both content sectors size c.if-sectors-lt6.false ∙ (λ i. by_headers half content (c.in_ok-a.ensures.exact honest i) (second i)) in
+    let p = err_from_is_err_and c.from_residual-in_err-live.result c.from_residual-in_err-live.ensures.1 in
+    rw (p.1, p.2) (image_refused content _ (err_refuses _ (read_image content) (read ∙ ap (segments_in half content) (sym c.in_err-live.ensures.exact))))
+
+pub returns-clause-reads : goal.returns-clause-reads
+returns-clause-reads g c = reads_more (reads_more c.open_header.ensures.reads c.open_header-2.ensures.reads) c.read_found.ensures.reads
+
+pub returns-clause-exact : goal.returns-clause-exact
+returns-clause-exact g c honest =
+    let content = (g.D.Disk.view c.args.disk.now).content in
+    let sectors = c.sectors-sectors.result in
+    let half = sectors / 2 in
+    let size : length content ≡ 512 * sectors = rw c.sectors-sectors.ensures (g.met.D.Disk.laws c.args.disk.now honest).size in
+    let mid = c.open_header.ensures.reads in
+    let both = reads_more mid c.open_header-2.ensures.reads in
+    let second = rw (mid.untouched honest).content at c.in_ok-b.ensures.exact (mid.same.honest.1 honest) in
+    let read = by_both content sectors size c.if-sectors-lt6.false ∙ (λ i. by_headers half content (c.in_ok-a.ensures.exact honest i) (second i)) in
+    let found = rw (both.untouched honest).content at c.read_found.ensures.exact (both.same.honest.1 honest) in
+    IfOk-weaker c.read_found.result _ _
+    (λ r is. opened_along _ (read_image content) content r.0 r.1 r.2.items (read ∙ ap (segments_in half content) (sym c.in_ok-live.ensures.exact)) is)
+    found
 
 pub returns-clause-refused : goal.returns-clause-refused
 returns-clause-refused g c honest =
     let content = (g.D.Disk.view c.args.disk.now).content in
-    let first = c.live_end.ensures.reads in
-    let read = rw (first.untouched honest).content at c.in_ok-segment.ensures.exact (first.same.honest.1 honest) in
-    IfErr-weaker c.judged.result _ _ (fold_refused content c.in_ok-end.end c.in_ok-segment.segment (c.in_ok-end.ensures.exact honest) read) c.judged.ensures.refused
+    let sectors = c.sectors-sectors.result in
+    let half = sectors / 2 in
+    let size : length content ≡ 512 * sectors = rw c.sectors-sectors.ensures (g.met.D.Disk.laws c.args.disk.now honest).size in
+    let mid = c.open_header.ensures.reads in
+    let both = reads_more mid c.open_header-2.ensures.reads in
+    let second = rw (mid.untouched honest).content at c.in_ok-b.ensures.exact (mid.same.honest.1 honest) in
+    let read = by_both content sectors size c.if-sectors-lt6.false ∙ (λ i. by_headers half content (c.in_ok-a.ensures.exact honest i) (second i)) in
+    let refused = rw (both.untouched honest).content at c.read_found.ensures.refused (both.same.honest.1 honest) in
+    let same = read ∙ ap (segments_in half content) (sym c.in_ok-live.ensures.exact) in
+    IfErr-weaker c.read_found.result _ _ (λ why is. image_refused content why (refuses_along why _ (read_image content) (λ e err. same ∙ err) is)) refused
