@@ -1,7 +1,8 @@
 -- What a commit makes of a broker that stands for a history.
-use Rattle.std.proofs.Common.{◌≡◌, ◌⊎◌, ℕ, ◌≤◌, true, false, Some, List, [], length, take, Result, Ok, Err, refl, sym, ap, subst, ◌∙◌, arith, inl, inr, ⊎_elim}
+use Rattle.std.proofs.Common.{◌≡◌, ◌⊎◌, ℕ, ◌≤◌, true, false, is_none, Some, List, [], length, take, Result, Ok, Err, refl, sym, ap, subst, ◌∙◌, arith, inl, inr, ⊎_elim}
 use Rattle.std.specs.Prelude.{IfOk, OnOk, OnErr}
 use Rattle.std.proofs.lemmas.List.{take_all}
+use Rattle.std.proofs.lemmas.Bool.{and_from, false≢true}
 use Rattle.std.proofs.Math.ListN.{drop_of_length-le}
 use Rattle.sector_disk.specs.Disk.{DiskView, IsDisk, IsSameDisk}
 use Rattle.sector_disk.specs.declared.disk.Disk.{Ghosts}
@@ -12,12 +13,16 @@ use Rattle.invoke_records.specs.declared.command.Command.{Command}
 use Rattle.async_core.specs.Rules.{replay}
 use Rattle.async_core.specs.History.{table_of}
 use Rattle.async_core.specs.laws.Tables.{replay-history, number-table_of}
-use Rattle.checkpoint.specs.Live.{RecoversTo, IsLive, live_recovers}
+use Rattle.async_core.specs.Limits.{is_within}
+use Rattle.async_core.specs.laws.Limits.{history_fit}
+use Rattle.invoke_records.specs.Spelling.{snapshot_fault}
+use Rattle.checkpoint.specs.Live.{RecoversTo, RecoversToEither, IsLive, may_stand, live_recovers}
 use Rattle.group_commit.specs.declared.broker.Broker.{Broker}
 use Rattle.group_commit.specs.declared.error.CommitError.{CommitError}
 use Rattle.group_commit.specs.declared.error.CommitError.TheVariants.{Fault}
 use Rattle.group_commit.specs.History.{IsLegalStop}
 use Rattle.group_commit.specs.Broker.{disk_of, settings_of, table_in, issued_of, pending_of, durable_of, is_broken, opened_of, StandsBy, Stands, IsSameBroker, Commits, Breaks}
+use Rattle.group_commit.specs.Refusals.{HasBadTable}
 use Rattle.group_commit.proofs.Issued.{stands_along}
 
 -- what holds of each image holds of what follows from it
@@ -50,16 +55,25 @@ module _ {D : Type 0} {g : Ghosts D} (view : D → DiskView) (laws : (disk : D) 
   before = table_of s (take (durable_of old) history)
 
   -- what is pending leads from the durable commands to the whole history
-  pub replays : replay s before (pending_of old) ≡ Some (table_of s history)
+  pub replays : replay s before (pending_of old) ≡ Some (table_in old)
   replays =
       ap (λ (l : List Command). replay s before l) stands.pending_is ∙ replay-history s history (durable_of old) stands.good.check stands.legal stands.durable_is
+      ∙ ap (λ (t : Snapshot). Some t) (sym stands.table_is)
 
   pub number : issued_of old ≡ length history
   number = ap (λ (t : Snapshot). t.number) stands.table_is ∙ number-table_of s history
 
   -- each image of a commit is a legal stop
-  pub is_stop : (image : List ℕ) → RecoversTo s before image ⊎ RecoversTo s (table_of s history) image → IsLegalStop s history (durable_of old) image
-  is_stop image = ⊎_elim (stop_before s history (durable_of old) image stands.durable_is) (stop_after s history (durable_of old) image stands.durable_is)
+  pub is_stop : (image : List ℕ) → RecoversToEither s before (table_in old) image → IsLegalStop s history (durable_of old) image
+  is_stop image = ⊎_elim (stop_before s history (durable_of old) image stands.durable_is)
+      (λ after. stop_after s history (durable_of old) image stands.durable_is (subst (λ (t : Snapshot). RecoversTo s t image) stands.table_is after))
+
+  -- the table of a history may stand on the disk
+  pub never_bad : HasBadTable old → ⊥
+  never_bad bad =
+      let fit = history_fit s history stands.good.check stands.legal (omega (arith, old.below, number)) in
+      let stands_there : may_stand s (table_of s history) ≡ true = and_from (is_none (snapshot_fault (table_of s history))) (is_within s (table_of s history)) (ap is_none fit.fault) fit.within in
+      false≢true (sym bad ∙ ap (may_stand s) stands.table_is ∙ stands_there)
 
   -- all is durable
   pub stands_committed : (durable : ℕ) → IsSameDisk (view (disk_of old)) (view (disk_of new)) → Commits old new durable
@@ -109,7 +123,8 @@ module _ {D : Type 0} {g : Ghosts D} (view : D → DiskView) (laws : (disk : D) 
 
   -- whatever the commit answers
   pub stands_after : (result : Result ℕ CommitError) → IsSameDisk (view (disk_of old)) (view (disk_of new)) → IfOk result (λ durable. Commits old new durable) → (result ≡ Err Fault → Breaks old new)
-      → OnErr result ((result ≡ Err Fault) ⊎ IsSameBroker old new) → ((view (disk_of old)).honest → OnOk result (IsLive (view (disk_of new)) (opened_of new) (table_of s history)))
+      → OnErr result ((result ≡ Err Fault) ⊎ IsSameBroker old new) → ((view (disk_of old)).honest → OnOk result (IsLive (view (disk_of new)) (opened_of new) (table_in old)))
       → ((view (disk_of old)).honest → LeavesOnly (view (disk_of old)) (view (disk_of new)) (IsLegalStop s history (durable_of old))) → Stands view new history
-  stands_after (Ok durable) same ok breaks kept live leaves = stands_committed durable same ok live
+  stands_after (Ok durable) same ok breaks kept live leaves =
+      stands_committed durable same ok (λ honest. subst (λ (t : Snapshot). IsLive (view (disk_of new)) (opened_of new) t) stands.table_is (live honest))
   stands_after (Err why) same ok breaks kept live leaves = ⊎_elim (λ fault. stands_broken same (breaks fault) leaves) stands_same kept

@@ -1,5 +1,7 @@
 -- The steps of a script, one after another.
-use Rattle.std.proofs.Common.{◌≡◌, ◌⊎◌, inl, inr, ℕ, ◌≤◌, Bool, true, false, List, [], ◌∷◌, ◌++◌, length, take, refl, sym, ap, subst, ◌∙◌, arith, length-drop}
+use Rattle.std.specs.Prelude.{get_or, IfSome, Option}
+use Rattle.std.proofs.lemmas.Option.{slice_get_read}
+use Rattle.std.proofs.Common.{◌≡◌, ◌⊎◌, inl, inr, ℕ, ◌<◌, ◌≤◌, Bool, true, false, List, [], ◌∷◌, ◌++◌, length, take, refl, sym, ap, subst, ◌∙◌, arith, length-drop}
 use Rattle.sector_disk.specs.Disk.{DiskView}
 use Rattle.sector_disk.specs.declared.disk.Disk.{Ghosts}
 use Rattle.retry_rules.specs.declared.settings.Settings.{Settings}
@@ -18,7 +20,8 @@ use Rattle.group_commit.specs.declared.script.StepAnswer.TheVariants as answer
 use Rattle.group_commit.specs.Broker.{settings_of, table_in, durable_of, is_broken, Stands, IsSameBroker, Breaks, IsReason}
 use Rattle.sector_disk.specs.declared.memory.MemDisk.{MemDisk}
 use Rattle.sector_disk.specs.Memory.{memory_view}
-use Rattle.group_commit.specs.Drill.{Log, IsRefused, IsStep, IsRun}
+use Rattle.group_commit.specs.Drill.{Log, IsRefused, IsNotCommitted, IsStep, IsRun, MayBeCutOff, IsCutOffAt}
+use Rattle.checkpoint.specs.declared.error.OpenError.{OpenError}
 use Rattle.group_commit.specs.DrillBroker.{log_of, LeadsOn, IsDrilled}
 use Rattle.group_commit.proofs.Issued.{refusal_is}
 
@@ -65,25 +68,29 @@ module _ {g : Ghosts MemDisk} (old new : Broker MemDisk g) (history : List Comma
   same_of why (inl fault) never = absurd (never fault)
   same_of why (inr same) _ = same
 
-  -- a commit that was refused
-  pub not_committed : (why : CommitError) → (why ≡ commit_error.Broken → is_broken old ≡ true) → (is_broken old ≡ true → why ≡ commit_error.Broken) → (why ≡ commit_error.Fault → Breaks old new)
-      → ((why ≡ commit_error.Fault) ⊎ IsSameBroker old new) → LeadsOn old history step.Commit (answer.CommitRefused why) new
-  not_committed commit_error.Broken told first breaks kept =
-      same_log step.Commit (answer.CommitRefused commit_error.Broken) (told refl, refl) (same_of commit_error.Broken kept (λ wrong. cc))
-  not_committed commit_error.Fault told first breaks kept =
-      let broke = breaks refl in
-      record {
-        next = record { history = history; durable = durable_of old; broken = true };
-        step_is = (unbroken (is_broken old) (λ broken. let wrong = first broken in cc), refl);
-        settings = broke.settings;
-        durable = broke.durable;
-        broken = broke.broken;
-        stands = stands;
-      }
-  not_committed commit_error.NoRoom told first breaks kept =
-      same_log step.Commit (answer.CommitRefused commit_error.NoRoom) (unbroken (is_broken old) (λ broken. let wrong = first broken in cc), refl) (same_of commit_error.NoRoom kept (λ wrong. cc))
-  not_committed commit_error.OutOfMemory told first breaks kept =
-      same_log step.Commit (answer.CommitRefused commit_error.OutOfMemory) (unbroken (is_broken old) (λ broken. let wrong = first broken in cc), refl) (same_of commit_error.OutOfMemory kept (λ wrong. cc))
+  -- a commit or a switch that was refused
+  module _ (given : Step) (is_step : (why : CommitError) (next : Log) → IsNotCommitted (log_of old history) why next → IsStep (settings_of old) (log_of old history) given (answer.CommitRefused why) next) where
+    pub not_committed : (why : CommitError) → (why ≡ commit_error.Broken → is_broken old ≡ true) → (is_broken old ≡ true → why ≡ commit_error.Broken) → (why ≡ commit_error.BadKind → ⊥)
+        → (why ≡ commit_error.Fault → Breaks old new) → ((why ≡ commit_error.Fault) ⊎ IsSameBroker old new) → LeadsOn old history given (answer.CommitRefused why) new
+    not_committed commit_error.Broken told first sound breaks kept =
+        same_log given (answer.CommitRefused commit_error.Broken) (is_step commit_error.Broken (log_of old history) (told refl, refl)) (same_of commit_error.Broken kept (λ wrong. cc))
+    not_committed commit_error.Fault told first sound breaks kept =
+        let broke = breaks refl in
+        record {
+          next = record { history = history; durable = durable_of old; broken = true };
+          step_is = is_step commit_error.Fault _ (unbroken (is_broken old) (λ broken. let wrong = first broken in cc), refl);
+          settings = broke.settings;
+          durable = broke.durable;
+          broken = broke.broken;
+          stands = stands;
+        }
+    not_committed commit_error.BadKind told first sound breaks kept = absurd (sound refl)
+    not_committed commit_error.WornOut told first sound breaks kept =
+        same_log given (answer.CommitRefused commit_error.WornOut) (is_step commit_error.WornOut (log_of old history) (unbroken (is_broken old) (λ broken. let wrong = first broken in cc), refl))
+        (same_of commit_error.WornOut kept (λ wrong. cc))
+    not_committed commit_error.OutOfMemory told first sound breaks kept =
+        same_log given (answer.CommitRefused commit_error.OutOfMemory) (is_step commit_error.OutOfMemory (log_of old history) (unbroken (is_broken old) (λ broken. let wrong = first broken in cc), refl))
+        (same_of commit_error.OutOfMemory kept (λ wrong. cc))
 
 -- a script with one step more
 pub run_more : (s : Settings) (steps : List Step) (answers : List StepAnswer) (start mid end : Log) (step : Step) (answer : StepAnswer) → IsRun s start steps answers mid → IsStep s mid step answer end
@@ -131,3 +138,17 @@ module _ {g : Ghosts MemDisk} (s : Settings) (history : List Command) (durable :
         broken_is = led.broken;
         stands = led.stands;
       }
+
+-- a script cut off at its next step
+pub cut_off : {g : Ghosts MemDisk} (s : Settings) (history : List Command) (durable : ℕ) (steps : List Step) (index : ℕ) (answers : List StepAnswer) (broker : Broker MemDisk g)
+    → IsDrilled s history durable (take index steps) answers broker → (step : Step) → index < length steps → step ≡ get_or steps index step → (cause : OpenError) → MayBeCutOff step cause
+    → IsCutOffAt s history durable steps (record { step = index; cause = cause })
+cut_off s history durable steps index answers broker was step within is cause may = record {
+  opened = was.opened;
+  least = was.least;
+  most = was.most;
+  answers = answers;
+  end = was.end;
+  run = was.run;
+  needs = subst (λ (found : Option Step). IfSome found (λ step. MayBeCutOff step cause)) (sym (slice_get_read steps (length steps) index step refl within is)) may;
+}

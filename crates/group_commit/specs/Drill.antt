@@ -1,5 +1,5 @@
 -- What the answers of a script say of one history and of how much of it is durable.
-use Rattle.std.specs.Prelude.{◌≡◌, ◌↔◌, ℕ, ◌+◌, ◌^◌, ◌≤◌, Bool, true, false, List, [], ◌∷◌, ◌++◌, length, take, min, Option, Some, None, Result, Ok, Err}
+use Rattle.std.specs.Prelude.{◌≡◌, ◌⊎◌, ◌↔◌, ℕ, ◌+◌, ◌^◌, ◌≤◌, Bool, true, false, List, [], ◌∷◌, ◌++◌, length, take, min, slice_get, IfSome, Option, Some, None, Result, Ok, Err}
 use Rattle.retry_rules.specs.declared.settings.Settings.{Settings}
 use Rattle.invoke_records.specs.declared.command.Command.{Command}
 use Rattle.async_core.specs.History.{refusal_of}
@@ -8,6 +8,9 @@ use Rattle.group_commit.specs.declared.error.IssueError.{IssueError}
 use Rattle.group_commit.specs.declared.error.IssueError.TheVariants as issue_error
 use Rattle.group_commit.specs.declared.error.CommitError.{CommitError}
 use Rattle.group_commit.specs.declared.error.CommitError.TheVariants as commit_error
+use Rattle.checkpoint.specs.declared.error.OpenError.{OpenError}
+use Rattle.checkpoint.specs.declared.error.OpenError.TheVariants as open_error
+use Rattle.group_commit.specs.declared.script.DrillFailure.{DrillFailure}
 use Rattle.group_commit.specs.declared.script.Step.{Step}
 use Rattle.group_commit.specs.declared.script.Step.TheVariants as step
 use Rattle.group_commit.specs.declared.script.StepAnswer.{StepAnswer}
@@ -28,10 +31,11 @@ IsRefused s log c (issue_error.Illegal why) = (log.broken ≡ false) × (refusal
 IsRefused s log c issue_error.Backlog = (log.broken ≡ false) × (refusal_of s log.history c ≡ None) × (length log.history ≡ log.durable + 256)
 IsRefused s log c issue_error.OutOfMemory = (log.broken ≡ false) × (refusal_of s log.history c ≡ None)
 
--- what a commit that was refused leaves: a fault breaks the broker, and then it answers that until the next stop
+-- what a commit or a switch that was refused leaves: a fault breaks the broker, and then it answers that until the next stop
 abbrev pub IsNotCommitted : Log → CommitError → Log → Type 0
 IsNotCommitted log commit_error.Broken next = (log.broken ≡ true) × (next ≡ log)
 IsNotCommitted log commit_error.Fault next = (log.broken ≡ false) × (next ≡ record log { broken = true })
+IsNotCommitted log commit_error.BadKind next = ⊥
 IsNotCommitted log why next = (log.broken ≡ false) × (next ≡ log)
 
 -- what a step says of a resumption's answer
@@ -49,6 +53,9 @@ IsStep s log (step.Issue c) (answer.IssueRefused why) next = IsRefused s log c w
 -- a commit makes the whole history durable
 IsStep s log step.Commit (answer.Number n) next = (log.broken ≡ false) × (n ≡ length log.history) × (next ≡ record log { durable = n })
 IsStep s log step.Commit (answer.CommitRefused why) next = IsNotCommitted log why next
+-- and so does a switch
+IsStep s log step.Switch (answer.Number n) next = (log.broken ≡ false) × (n ≡ length log.history) × (next ≡ record log { durable = n })
+IsStep s log step.Switch (answer.CommitRefused why) next = IsNotCommitted log why next
 -- a resumption marks the running event that was accepted first, if one runs
 IsStep s log (step.Resume now) answer next =
     (result : Result (Option ℕ) IssueError) × (answer ≡ answer_to result) × IsResumed s log.history (min now 253402300799999) result next.history
@@ -63,3 +70,26 @@ abbrev pub IsRun : Settings → Log → List Step → List StepAnswer → Log �
 IsRun s log [] [] end = end ≡ log
 IsRun s log (step ∷ steps) (answer ∷ answers) end = (next : Log) × IsStep s log step answer next × IsRun s next steps answers end
 IsRun s log steps answers end = ⊥
+
+-- after the step the disk is opened again
+abbrev pub IsStop : Step → Type 0
+IsStop (step.Stop choice) = Unit {0}
+IsStop other = ⊥
+
+-- the step can be cut off so: it opens the disk again, or memory ran out
+abbrev pub MayBeCutOff : Step → OpenError → Type 0
+MayBeCutOff step cause = IsStop step ⊎ (cause ≡ open_error.OutOfMemory)
+
+-- a script was cut off at a step: those before it have a run, and it can be cut off so
+pub record IsCutOffAt (s : Settings) (history : List Command) (durable : ℕ) (steps : List Step) (failure : DrillFailure) : Type 0 where
+  pub opened : ℕ
+  pub least : durable ≤ opened
+  pub most : opened ≤ length history
+  pub answers : List StepAnswer
+  pub end : Log
+  pub run : IsRun s (record { history = take opened history; durable = opened; broken = false }) (take failure.step steps) answers end
+  pub needs : IfSome (slice_get steps failure.step) (λ step. MayBeCutOff step failure.cause)
+
+-- a script was cut off by its first opening, or at a step
+abbrev pub IsDrillFailure : Settings → List Command → ℕ → List Step → DrillFailure → Type 0
+IsDrillFailure s history durable steps failure = (failure.step ≡ 0) ⊎ IsCutOffAt s history durable steps failure

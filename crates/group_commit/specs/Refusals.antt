@@ -1,5 +1,5 @@
 -- When the calls of a broker are refused, and what a refusal says.
-use Rattle.std.specs.Prelude.{◌≡◌, ◌⊎◌, ℕ, ◌<◌, ◌≤◌, ◌^◌, false, List, length, None, Some, Result, Ok, Err}
+use Rattle.std.specs.Prelude.{◌≡◌, ◌⊎◌, ℕ, ◌+◌, ◌<◌, ◌≤◌, ◌^◌, true, false, List, length, None, Some, Result, Ok, Err}
 use Rattle.sector_disk.specs.Disk.{HasRisen}
 use Rattle.sector_disk.specs.declared.disk.Disk.{Ghosts}
 use Rattle.retry_rules.specs.declared.settings.Settings.{Settings}
@@ -11,7 +11,7 @@ use Rattle.async_core.specs.History.{refusal_of}
 use Rattle.checkpoint.specs.declared.error.OpenError.{OpenError}
 use Rattle.checkpoint.specs.declared.error.OpenError.TheVariants as open_error
 use Rattle.checkpoint.specs.Image.{recovered}
-use Rattle.checkpoint.specs.Live.{fits}
+use Rattle.checkpoint.specs.Live.{fits, generation_of, may_stand}
 use Rattle.group_commit.specs.declared.broker.Broker.{Broker}
 use Rattle.group_commit.specs.declared.error.IssueError.{IssueError}
 use Rattle.group_commit.specs.declared.error.IssueError.TheVariants as issue_error
@@ -73,6 +73,22 @@ FaultsHaveRisen count old new = HasRisen (count (disk_of old)) (count (disk_of n
 abbrev pub AnswersAtOnce : {D : Type 0} {g : Ghosts D} → Broker D g → Broker D g → Result ℕ CommitError → Type 0
 AnswersAtOnce old new result = (result ≡ Ok (durable_of old)) × (disk_of new ≡ disk_of old)
 
--- the frame of what is pending does not fit into the live segment
-abbrev pub HasNoRoom : {D : Type 0} {g : Ghosts D} → Broker D g → Type 0
-HasNoRoom broker = fits (opened_of broker) (length (commands_text (pending_of broker))) ≡ false
+-- something is pending, and its frame does not fit into the live segment
+abbrev pub NeedsSwitch : {D : Type 0} {g : Ghosts D} → Broker D g → Type 0
+NeedsSwitch broker = (1 ≤ length (pending_of broker)) × (fits (opened_of broker) (length (commands_text (pending_of broker))) ≡ false)
+
+-- nothing is pending, or its frame fits into the live segment
+abbrev pub NeedsNoSwitch : {D : Type 0} {g : Ghosts D} → Broker D g → Type 0
+NeedsNoSwitch broker = (length (pending_of broker) ≡ 0) ⊎ (fits (opened_of broker) (length (commands_text (pending_of broker))) ≡ true)
+
+-- the live segment has the greatest generation
+abbrev pub IsWornOut : {D : Type 0} {g : Ghosts D} → Broker D g → Type 0
+IsWornOut broker = 2 ^ 62 ≤ generation_of (opened_of broker)
+
+-- the table has no spelling, or is past the limits of its settings
+abbrev pub HasBadTable : {D : Type 0} {g : Ghosts D} → Broker D g → Type 0
+HasBadTable broker = may_stand (settings_of broker) (table_in broker) ≡ false
+
+-- between these two moments the disk was switched to its other segment so often
+abbrev pub HasSwitched : {D : Type 0} {g : Ghosts D} → ℕ → Broker D g → Broker D g → Type 0
+HasSwitched times old new = generation_of (opened_of new) ≡ generation_of (opened_of old) + times

@@ -12,7 +12,7 @@ use Rattle.checkpoint.specs.Live.{settings_of as live_settings}
 use Rattle.group_commit.specs.declared.broker.Broker.{Broker}
 use Rattle.group_commit.specs.declared.error.IssueError.{IssueError}
 use Rattle.group_commit.specs.declared.error.IssueError.TheVariants as issue_error
-use Rattle.group_commit.specs.Broker.{disk_of, settings_of, pending_of, opened_of}
+use Rattle.group_commit.specs.Broker.{disk_of, settings_of, table_in, pending_of, opened_of}
 
 -- the error says why the command is not legal, or else it is this other one
 abbrev pub IsErrorFor : Option Illegal → IssueError → IssueError → Type 0
@@ -23,13 +23,13 @@ IsErrorFor refusal otherwise error =
 abbrev pub IsReadFrom : DiskView → DiskView → Opened → Snapshot → Type 0
 IsReadFrom old new opened table = RecoversTo (live_settings opened) table old.content × IsLive new opened table
 
--- this holds of the table on an honest disk and the one that the pending commands make of it
-abbrev pub ForBothTables : {D : Type 0} {g : Ghosts D} → (D → DiskView) → Broker D g → (Snapshot → Snapshot → Type 0) → Type 0
+-- this holds of the table on an honest disk from which the pending commands lead to that of the broker
+abbrev pub ForBothTables : {D : Type 0} {g : Ghosts D} → (D → DiskView) → Broker D g → (Snapshot → Type 0) → Type 0
 ForBothTables view broker P =
-    (view (disk_of broker)).honest → (before after : Snapshot) → IsLive (view (disk_of broker)) (opened_of broker) before
-    → replay (settings_of broker) before (pending_of broker) ≡ Some after → P before after
+    (view (disk_of broker)).honest → (before : Snapshot) → IsLive (view (disk_of broker)) (opened_of broker) before
+    → replay (settings_of broker) before (pending_of broker) ≡ Some (table_in broker) → P before
 
--- at any moment since the broker was this one, a stop leaves one of two tables
-abbrev pub LeavesEither : {D : Type 0} {g : Ghosts D} → (D → DiskView) → Broker D g → Broker D g → Snapshot → Snapshot → Type 0
-LeavesEither view old new before after =
-    LeavesOnly (view (disk_of old)) (view (disk_of new)) (RecoversToEither (settings_of old) before after)
+-- at any moment since the broker was this one, a stop leaves this table or the broker's
+abbrev pub LeavesEither : {D : Type 0} {g : Ghosts D} → (D → DiskView) → Broker D g → Broker D g → Snapshot → Type 0
+LeavesEither view old new before =
+    LeavesOnly (view (disk_of old)) (view (disk_of new)) (RecoversToEither (settings_of old) before (table_in old))

@@ -19,6 +19,9 @@ pub const MOST_PENDING: usize = 256;
 /// How many commands may be issued since the disk was formatted.
 pub const MOST_COMMANDS: u64 = 1 << 62;
 
+/// The greatest generation of a segment: the disk is then worn out for switches.
+pub const MOST_GENERATIONS: u64 = 1 << 62;
+
 /// The broker over one disk: its table after all that was issued, and what of that is not durable yet.
 #[derive(Drop)]
 pub struct Broker<D: Disk> {
@@ -29,7 +32,7 @@ pub struct Broker<D: Disk> {
     pub(crate) pending: Vec<Command>,
     pub(crate) durable: u64,
     pub(crate) broken: bool,
-    ghost room: { live.end_of opened ≤ (D.view disk).sectors },
+    ghost room: { live.HasRoom (D.view disk).sectors opened },
     ghost settings: { table.settings ≡ live.settings_of opened },
     ghost good: { AreGood table.settings },
     ghost counted: { durable + length pending.items ≡ table.table.number },

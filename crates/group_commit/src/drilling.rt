@@ -5,7 +5,7 @@ ghost use Rattle.group_commit.specs.Broker.{settings_of, durable_of};
 ghost use Rattle.group_commit.specs.Promises.{ForEachHistory, ForEachHistoryOn};
 ghost use Rattle.group_commit.specs.Refusals.{IsCutOff};
 ghost use Rattle.group_commit.specs.declared.script.Step.TheVariants as step;
-ghost use Rattle.group_commit.specs.Drill.{answer_to};
+ghost use Rattle.group_commit.specs.Drill.{answer_to, MayBeCutOff, IsDrillFailure};
 ghost use Rattle.group_commit.specs.DrillBroker.{Leads, IsStarted, IsDrillOf};
 
 use crate::{Broker, Drill, DrillFailure, IssueError, OpenFailure, Step, StepAnswer, Ticket};
@@ -83,6 +83,16 @@ fn commit(broker: &mut Broker<MemDisk>) -> StepAnswer
     }
 }
 
+// Switches to the other segment.
+fn switch(broker: &mut Broker<MemDisk>) -> StepAnswer
+    ensures step { Leads broker.old step.Switch result broker.new }
+{
+    match broker.switch() {
+        Ok(durable) => StepAnswer::Number(durable.number()),
+        Err(why) => StepAnswer::CommitRefused(why),
+    }
+}
+
 // What a step says of a resumption's answer.
 fn answer_to(outcome: Result<Option<Ticket>, IssueError>) -> StepAnswer
     ensures { result ≡ answer_to outcome }
@@ -109,6 +119,7 @@ fn run_step(
 ) -> Result<(Broker<MemDisk>, StepAnswer), OpenError>
     ensures step { IfOk result (λ r. Leads broker step.now r.1 r.0) }
     ensures refused { ForEachHistory memory_view broker (λ history. IfErr result IsCutOff) }
+    ensures needs { IfErr result (MayBeCutOff step.now) }
 {
     let mut broker = broker;
     match step {
@@ -118,6 +129,10 @@ fn run_step(
         },
         Step::Commit => {
             let answer = commit(&mut broker);
+            Ok((broker, answer))
+        }
+        Step::Switch => {
+            let answer = switch(&mut broker);
             Ok((broker, answer))
         }
         Step::Resume(now) => {
@@ -137,10 +152,11 @@ fn run_step(
 /// On a disk of which each image is a legal stop of a history, the answers are those of one history that goes on from
 /// what the opening recovered: a stop cuts it to a length from the durable number to its own, and after a fault nothing is
 /// issued or committed until the next stop. It fails only where memory runs out, also the disk's own, and gives the disk up
-/// then.
+/// then: the failure names the step, those before it have such answers, and it opened the disk again or wanted memory.
 pub fn drill(alloc: Global, disk: MemDisk, steps: &[Step]) -> Result<Drill, DrillFailure>
     ensures run { ForEachHistoryOn (memory_view disk) (λ s history durable. IfOk result (IsDrillOf s history durable steps.now)) }
     ensures refused { ForEachHistoryOn (memory_view disk) (λ s history durable. IfErr result (λ failure. IsCutOff failure.cause)) }
+    ensures failed { ForEachHistoryOn (memory_view disk) (λ s history durable. IfErr result (IsDrillFailure s history durable steps.now)) }
     ensures place { IfErr result (λ failure. failure.step ≤ length steps.now) }
 {
     let mut broker = match start(alloc, disk) {

@@ -22,15 +22,19 @@ pub enum IssueError {
     OutOfMemory,
 }
 
-/// Why what is pending was not committed.
+/// Why what is pending was not committed, or the table was not written to the other segment.
 #[derive(Clone, Copy, Debug, PartialEq, Eq, Error)]
 pub enum CommitError {
     /// The device failed in an earlier call; the disk has to be opened again.
     #[error("the broker is broken")]
     Broken,
-    /// The frame of what is pending does not fit into the segment.
-    #[error("no room")]
-    NoRoom,
+    /// A switch is needed, and the generation has reached 2^62.
+    #[error("worn out")]
+    WornOut,
+    /// A switch is needed, and the table has no spelling or is past its settings' limits. No history leaves such a table:
+    /// it was read so from the disk.
+    #[error("bad table")]
+    BadKind,
     #[error("out of memory")]
     OutOfMemory,
     /// The device failed in this call; the disk has to be opened again.

@@ -3,7 +3,7 @@ ghost use Rattle.std.specs.Prelude.{◌≡◌, ◌+◌, ◌≤◌, ◌^◌, leng
 ghost use Rattle.sector_disk.specs.Disk.{IsSameDisk, HasRisen};
 ghost use Rattle.group_commit.specs.History.{AreGood};
 ghost use Rattle.async_core.specs.Rules.{replay};
-ghost use Rattle.checkpoint.specs.Live.{settings_of, number_of, end_of};
+ghost use Rattle.checkpoint.specs.Live.{settings_of, number_of, HasRoom};
 ghost use Rattle.group_commit.specs.Promises.{LeavesWhatWas};
 ghost use Rattle.group_commit.specs.Refusals.{TellsNotFormatted, TellsDamage};
 ghost use Rattle.group_commit.specs.Steps.{IsReadFrom};
@@ -41,7 +41,7 @@ pub(crate) fn recover<D: Disk>(alloc: Global, disk: &mut D) -> Result<(Opened, T
 
     ensures settings { IfOk result (λ r. r.1.settings ≡ settings_of r.0) }
     ensures good { IfOk result (λ r. AreGood (settings_of r.0)) }
-    ensures end { IfOk result (λ r. end_of r.0 ≤ (D.view disk.new).sectors) }
+    ensures room { IfOk result (λ r. HasRoom (D.view disk.new).sectors r.0) }
     ensures number { IfOk result (λ r. number_of r.0 ≡ r.1.table.number + 1) }
     ensures below { IfOk result (λ r. r.1.table.number ≤ 2 ^ 62) }
 

@@ -9,6 +9,8 @@ use sector_disk::MemDisk;
 pub enum Step {
     Issue(Command),
     Commit,
+    /// The table is written to the other segment, whether it has to be or not.
+    Switch,
     /// The running event that was accepted first is marked as interrupted, at this moment (milliseconds since 1970, one past
     /// the greatest is taken as that) or the last command's, whichever is later.
     Resume(u64),
@@ -20,7 +22,7 @@ pub enum Step {
 #[derive(Clone, Copy, Debug, PartialEq, Eq)]
 pub enum StepAnswer {
     /// The number of the command that was issued (0 where a resumption found nothing that runs), how many commands are
-    /// durable after a commit, or how many were recovered after a stop.
+    /// durable after a commit or a switch, or how many were recovered after a stop.
     Number(u64),
     IssueRefused(IssueError),
     CommitRefused(CommitError),

@@ -1,9 +1,10 @@
-use Rattle.std.proofs.Common.{◌≡◌, ◌+◌, ◌++◌, ◌∷◌, [], List, take, sym, ◌∙◌, ap, subst, arith}
+use Rattle.std.proofs.Common.{◌≡◌, inr, refl, ◌+◌, ◌++◌, ◌∷◌, [], List, take, sym, ◌∙◌, ap, subst, arith}
 use Rattle.std.proofs.lemmas.List.{take_more, take_all}
 use Rattle.group_commit.specs.declared.script.Step.{Step}
 use Rattle.group_commit.specs.declared.script.StepAnswer.{StepAnswer}
 use Rattle.group_commit.specs.DrillBroker.{IsDrilled}
-use Rattle.group_commit.proofs.Drilled.{drilled_none, drilled_more}
+use Rattle.group_commit.proofs.Drilled.{drilled_none, drilled_more, cut_off}
+use Rattle.checkpoint.specs.declared.error.OpenError.TheVariants as open_error
 use Rattle.group_commit.proofs.drilling.drill.Goals as goal
 
 pub loop-index-init : goal.loop-index-init
@@ -34,3 +35,13 @@ pub returns-clause-run : goal.returns-clause-run
 returns-clause-run c s history durable legal stops =
     subst (λ (l : List Step). IsDrilled s history durable l c.loop-index.answers.items c.loop-index.broker) (take_all c.loop-index.index c.args.steps.now (omega arith))
     (c.loop-index.invariant s history durable legal stops)
+
+pub returns-then-is_err-clause-failed : goal.returns-then-is_err-clause-failed
+returns-then-is_err-clause-failed c s history durable legal stops =
+    inr (cut_off s history durable c.args.steps.now c.loop-index.index c.loop-index.answers.items c.loop-index.broker (c.loop-index.invariant s history durable legal stops)
+    c.index-steps-index.result c.loop-index-test.true c.index-steps-index.is open_error.OutOfMemory (inr refl))
+
+pub returns-in-Err-run_step-clause-failed : goal.returns-in-Err-run_step-clause-failed
+returns-in-Err-run_step-clause-failed c s history durable legal stops =
+    inr (cut_off s history durable c.args.steps.now c.loop-index.index c.loop-index.answers.items c.loop-index.broker (c.loop-index.invariant s history durable legal stops)
+    c.index-steps-index.result c.loop-index-test.true c.index-steps-index.is c.in-Err-run_step.cause c.in-Err-run_step.ensures.needs)

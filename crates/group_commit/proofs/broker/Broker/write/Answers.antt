@@ -19,19 +19,19 @@ appended old new s there pending given before after kept same replays leaves =
     (subst (λ (l : List Command). replay there before l ≡ Some after) (sym same) (subst (λ (r : Settings). replay r before pending ≡ Some after) kept replays)))
 
 pub returns-then-is_empty-clause-any_moment : goal.returns-then-is_empty-clause-any_moment
-returns-then-is_empty-clause-any_moment g c honest before after live replays =
+returns-then-is_empty-clause-any_moment g c honest before live replays =
     let old = c.args.self.now in
     (started g.D.Disk.view g.met.D.Disk.laws old.disk _ honest
     (λ image left. inl (subst (λ (s : Settings). RecoversTo s before image) (sym old.settings) (live_recovers _ _ _ live image left)))).leaves
 
 pub returns-in-Ok-clause-any_moment : goal.returns-in-Ok-clause-any_moment
-returns-in-Ok-clause-any_moment g c honest before after live replays =
+returns-in-Ok-clause-any_moment g c honest before live replays =
     let old = c.args.self.now in
-    appended (g.D.Disk.view old.disk) (g.D.Disk.view c.append.new.disk) old.table.settings old.opened.settings old.pending.items c.deref.result.now before after old.settings c.deref.ensures.value replays
-    (c.append.ensures.any_moment honest before after live)
+    appended (g.D.Disk.view old.disk) (g.D.Disk.view c.append.new.disk) old.table.settings old.opened.settings old.pending.items c.deref.result.now before old.table.table old.settings c.deref.ensures.value replays
+    (λ same. c.append.ensures.any_moment honest before old.table.table live same)
 
 pub returns-in-Err-Fault-clause-any_moment : goal.returns-in-Err-Fault-clause-any_moment
-returns-in-Err-Fault-clause-any_moment g c honest before after live replays =
+returns-in-Err-Fault-clause-any_moment g c honest before live replays =
     let old = c.args.self.now in
-    appended (g.D.Disk.view old.disk) (g.D.Disk.view c.append.new.disk) old.table.settings old.opened.settings old.pending.items c.deref.result.now before after old.settings c.deref.ensures.value replays
-    (c.append.ensures.any_moment honest before after live)
+    appended (g.D.Disk.view old.disk) (g.D.Disk.view c.append.new.disk) old.table.settings old.opened.settings old.pending.items c.deref.result.now before old.table.table old.settings c.deref.ensures.value replays
+    (λ same. c.append.ensures.any_moment honest before old.table.table live same)
