@@ -1,33 +1,38 @@
 // Steps on an open broker.
-use crate::answer::Answer;
 use crate::orders::{Order, read_order};
 use crate::refusals;
-use crate::tables::{read_retaken, read_table, reads_table};
-use crate::words::{StepError, Words};
-use group_commit::{Broker, Ticket};
+use crate::reply::Reply;
+use crate::tables::{retaken_step, table_step};
+use crate::text::Text;
+use crate::words::Words;
+use group_commit::{Broker, CommitError, Durable, Ticket};
 use invoke_records::GREATEST_MOMENT;
 use sector_disk::Disk;
-use std::alloc::{AllocError, Global};
+use std::alloc::Global;
 
 // Keeps a ticket: its number.
-fn keep(alloc: Global, tickets: &mut Vec<Ticket>, ticket: Ticket) -> Result<Answer, AllocError> {
+fn keep(tickets: &mut Vec<Ticket>, ticket: Ticket) -> Reply {
     let number = ticket.number();
-    tickets.push(ticket)?;
-    Answer::number(alloc, number)
+    match tickets.push(ticket) {
+        Ok(()) => Reply::Number(number),
+        Err(_) => Reply::NoMemory,
+    }
 }
 
 fn issue_one<D: Disk>(
     alloc: Global,
     broker: &mut Broker<D>,
     tickets: &mut Vec<Ticket>,
-    order: &Order,
+    order: Order,
     event: u64,
-) -> Result<Answer, AllocError> {
-    tickets.reserve(1)?;
-    let command = order.command(alloc, event)?;
+) -> Reply {
+    let command = match order.command(alloc, event) {
+        Ok(command) => command,
+        Err(reply) => return reply,
+    };
     match broker.issue(command) {
-        Ok(ticket) => keep(alloc, tickets, ticket),
-        Err(why) => Answer::refused(alloc, refusals::issue(why)),
+        Ok(ticket) => keep(tickets, ticket),
+        Err(why) => Reply::Refused(refusals::issue(why)),
     }
 }
 
@@ -36,56 +41,62 @@ fn issue<D: Disk>(
     alloc: Global,
     broker: &mut Broker<D>,
     tickets: &mut Vec<Ticket>,
+    word: &str,
     words: &mut Words,
-) -> Result<Answer, StepError> {
-    let order = read_order(alloc, words)?;
-    let mut answer = Answer::Done;
+) -> Reply {
+    let order = read_order(word, words);
+    if words.are_bad() {
+        return Reply::Unreadable;
+    }
+    let mut reply = Reply::Done;
     for event in order.first..=order.last {
-        answer = issue_one(alloc, broker, tickets, &order, event)?;
-        if answer.is_refused() {
+        reply = issue_one(alloc, broker, tickets, order, event);
+        if !matches!(reply, Reply::Number(_)) {
             break;
         }
     }
-    Ok(answer)
+    reply
 }
 
-fn commit<D: Disk>(alloc: Global, broker: &mut Broker<D>) -> Result<Answer, AllocError> {
-    match broker.commit() {
-        Ok(durable) => Answer::number(alloc, durable.number()),
-        Err(why) => Answer::refused(alloc, refusals::commit(why)),
+// How many commands are durable after a commit or a switch.
+fn settled(outcome: Result<Durable, CommitError>) -> Reply {
+    match outcome {
+        Ok(durable) => Reply::Number(durable.number()),
+        Err(why) => Reply::Refused(refusals::commit(why)),
     }
 }
 
-fn resume<D: Disk>(
-    alloc: Global,
-    broker: &mut Broker<D>,
-    tickets: &mut Vec<Ticket>,
-    words: &mut Words,
-) -> Result<Answer, StepError> {
-    let now = words.number_after("at")?.min(GREATEST_MOMENT);
-    tickets.reserve(1)?;
+// `at MOMENT`
+fn resume<D: Disk>(broker: &mut Broker<D>, tickets: &mut Vec<Ticket>, words: &mut Words) -> Reply {
+    words.expect("at");
+    let now = words.number().min(GREATEST_MOMENT);
+    if words.are_bad() {
+        return Reply::Unreadable;
+    }
     match broker.resume(now) {
-        Ok(Some(ticket)) => Ok(keep(alloc, tickets, ticket)?),
-        Ok(None) => Ok(Answer::told(alloc, "none")?),
-        Err(why) => Ok(Answer::refused(alloc, refusals::issue(why))?),
+        Ok(Some(ticket)) => keep(tickets, ticket),
+        Ok(None) => Reply::Word("none"),
+        Err(why) => Reply::Refused(refusals::issue(why)),
     }
 }
 
 // The receipt of the ticket with this number.
 fn redeem<D: Disk>(
-    alloc: Global,
     broker: &Broker<D>,
     tickets: &[Ticket],
     number: u64,
-) -> Result<Answer, StepError> {
-    let ticket = tickets
-        .iter()
-        .find(|ticket| ticket.number() == number)
-        .ok_or(StepError::Unreadable)?;
-    match broker.redeem(ticket) {
-        Some(receipt) => Ok(Answer::Told(format!(in alloc; "receipt {}", receipt.number())?)),
-        None => Ok(Answer::refused(alloc, "none")?),
+    answer: &mut Text,
+) -> Reply {
+    for ticket in tickets {
+        if ticket.number() == number {
+            let Some(receipt) = broker.redeem(ticket) else {
+                return Reply::NONE;
+            };
+            answer.add_with("receipt ", receipt.number());
+            return Reply::Told;
+        }
     }
+    Reply::Unreadable
 }
 
 /// What an open broker answers to a step.
@@ -93,22 +104,24 @@ pub fn broker_step<D: Disk>(
     alloc: Global,
     broker: &mut Broker<D>,
     tickets: &mut Vec<Ticket>,
-    line: &str,
-) -> Result<Answer, StepError> {
-    let mut words = Words::of(line);
-    let word = words.word()?;
-    if word == "retaken" {
-        return read_retaken(alloc, broker.table(), &mut words);
-    }
-    if reads_table(word) {
-        return read_table(alloc, broker.table(), word, &mut words);
-    }
+    word: &str,
+    words: &mut Words,
+    answer: &mut Text,
+) -> Reply {
     match word {
-        "commit" => Ok(commit(alloc, broker)?),
-        "resume" => resume(alloc, broker, tickets, &mut words),
-        "redeem" => redeem(alloc, broker, tickets, words.number()?),
-        "issued" => Ok(Answer::number(alloc, broker.issued())?),
-        "durable" => Ok(Answer::number(alloc, broker.durable().number())?),
-        _ => issue(alloc, broker, tickets, &mut Words::of(line)),
+        "commit" => settled(broker.commit()),
+        "switch" => settled(broker.switch()),
+        "resume" => resume(broker, tickets, words),
+        "redeem" => redeem(broker, tickets, words.number(), answer),
+        "issued" => Reply::Number(broker.issued()),
+        "durable" => Reply::Number(broker.durable().number()),
+        "retaken" => retaken_step(alloc, broker.table(), words, answer),
+        _ => {
+            let reply = table_step(alloc, broker.table(), word, words, answer);
+            if reply.is_no_step() {
+                return issue(alloc, broker, tickets, word, words);
+            }
+            reply
+        }
     }
 }

@@ -4,23 +4,27 @@
 //! proved, and what a case says is compared. `CONTRIBUTING.md` has the language of the cases.
 #![tactic(auto)]
 
-mod answer;
 mod bytes;
 mod case;
 mod disks;
 mod drilling;
 mod events;
+mod journals;
+mod memory;
 mod orders;
 mod records;
 mod refusals;
+mod reply;
 mod running;
 mod settings;
 mod tables;
+mod text;
 mod words;
 mod world;
 
-use crate::case::read_cases;
-use crate::running::{Difference, run_case};
+use crate::case::{Line, Purpose, read_lines};
+use crate::running::{Report, run_case};
+use crate::text::Text;
 use std::alloc::{AllocError, Global};
 use std::process::ExitCode;
 use std::{env, fs, io};
@@ -32,25 +36,37 @@ struct Tally {
     differ: u64,
 }
 
-// Runs the cases of a file: a line for each answer that is not what it says.
-fn report(alloc: Global, name: &str, text: &str, tally: &mut Tally) -> Result<String, AllocError> {
-    let mut lines = String::new(alloc);
-    for case in read_cases(alloc, text)?.iter() {
-        tally.cases = tally.cases.saturating_add(1);
-        let found = run_case(alloc, case)?;
-        if !found.is_empty() {
-            tally.differ = tally.differ.saturating_add(1);
-        }
-        for line in found.iter() {
-            add_line(&mut lines, name, line)?;
+// Runs a script of these lines.
+fn run_lines<'a>(alloc: Global, lines: &'a [Line<'a>], report: &mut Report, tally: &mut Tally) {
+    for (index, line) in lines.iter().enumerate() {
+        if matches!(line.purpose, Purpose::Title) {
+            let following = lines.get(index.saturating_add(1)..).unwrap_or(&[]);
+            tally.cases = tally.cases.saturating_add(1);
+            if !run_case(alloc, line, following, report) {
+                tally.differ = tally.differ.saturating_add(1);
+            }
         }
     }
-    Ok(lines)
 }
 
-fn add_line(lines: &mut String, name: &str, line: &Difference) -> Result<(), AllocError> {
-    let (at, said, answer) = (line.at, line.said.as_str(), line.answer.as_str());
-    writeln!(lines, "{name}:{at}: said {said}, found {answer}")
+// Runs a script: a line for each answer that is not what it says.
+fn run_script(
+    alloc: Global,
+    name: &str,
+    text: &str,
+    tally: &mut Tally,
+) -> Result<Text, AllocError> {
+    let lines = read_lines(alloc, text)?;
+    let mut report = Report {
+        name,
+        text: Text::new(alloc),
+    };
+    run_lines(alloc, &lines, &mut report, tally);
+    let Report { text, .. } = report;
+    if text.is_cut() {
+        return Err(AllocError);
+    }
+    Ok(text)
 }
 
 fn main(rt: HostRuntime) -> io::Result<ExitCode> {
@@ -63,7 +79,7 @@ fn main(rt: HostRuntime) -> io::Result<ExitCode> {
     let _ = names.next();
     for name in names {
         let text = fs::read_to_string(&rt, name.as_str())?;
-        let lines = report(alloc, name.as_str(), text.as_str(), &mut tally)?;
+        let lines = run_script(alloc, name.as_str(), text.as_str(), &mut tally)?;
         print!(rt; "{}", lines.as_str())?;
     }
     let Tally { cases, differ } = tally;

@@ -1,27 +1,28 @@
 // Commands as a script writes them: `KIND ID [in ENVIRONMENT] at MOMENT [BYTES]`, after `fail` with its cause.
 use crate::bytes::body;
-use crate::words::{StepError, Words, id_of, range_of};
+use crate::reply::Reply;
+use crate::words::{Words, id_of};
 use invoke_records::{Bytes, Cause, Command, Kind};
-use std::alloc::{AllocError, Global};
+use std::alloc::Global;
 
 /// A command for each of the events of a range.
-#[derive(Drop)]
-pub struct Order {
+#[derive(Clone, Copy)]
+pub struct Order<'a> {
     kind: Kind,
     pub first: u64,
     pub last: u64,
     environment: u16,
     time: u64,
-    bytes: Vec<u8>,
+    body: &'a str,
 }
 
-impl Order {
+impl Order<'_> {
     /// The command of one of the events.
-    pub fn command(&self, alloc: Global, number: u64) -> Result<Command, AllocError> {
-        let bytes = if self.bytes.is_empty() {
+    pub fn command(self, alloc: Global, number: u64) -> Result<Command, Reply> {
+        let bytes = if self.body.is_empty() {
             Bytes::empty(alloc)
         } else {
-            Bytes::from_vec(self.bytes.clone()?)
+            Bytes::from_vec(body(alloc, self.body)?)
         };
         Ok(Command {
             kind: self.kind,
@@ -33,50 +34,63 @@ impl Order {
     }
 }
 
-fn cause_of(word: &str) -> Option<Cause> {
+fn read_cause(words: &mut Words) -> Cause {
+    match words.word() {
+        "reported" => return Cause::Reported,
+        "timeout" => return Cause::Timeout,
+        "exited" => {}
+        _ => words.refuse(),
+    }
+    Cause::Exited
+}
+
+fn read_kind(word: &str, words: &mut Words) -> Kind {
     match word {
-        "reported" => Some(Cause::Reported),
-        "timeout" => Some(Cause::Timeout),
-        "exited" => Some(Cause::Exited),
-        _ => None,
+        "accept" => return Kind::Accept,
+        "start" => return Kind::Start,
+        "succeed" => return Kind::Succeed,
+        "fail" => return Kind::Fail(read_cause(words)),
+        "throttle" => return Kind::Throttle,
+        "interrupt" => return Kind::Interrupt,
+        "expire" => return Kind::Expire,
+        "collect" => {}
+        _ => words.refuse(),
     }
+    Kind::Collect
 }
 
-fn read_kind(words: &mut Words) -> Result<Kind, StepError> {
-    match words.word()? {
-        "accept" => Ok(Kind::Accept),
-        "start" => Ok(Kind::Start),
-        "succeed" => Ok(Kind::Succeed),
-        "fail" => Ok(Kind::Fail(cause_of(words.word()?).ok_or(StepError::Unreadable)?)),
-        "throttle" => Ok(Kind::Throttle),
-        "interrupt" => Ok(Kind::Interrupt),
-        "expire" => Ok(Kind::Expire),
-        "collect" => Ok(Kind::Collect),
-        _ => Err(StepError::Unreadable),
+/// The word `word` and an environment, where it is the next one.
+pub fn read_environment(words: &mut Words, word: &str) -> Option<u16> {
+    if !words.takes(word) {
+        return None;
     }
+    u16::try_from(words.number_to(65535)).ok()
 }
 
-/// Reads a command.
-pub fn read_order(alloc: Global, words: &mut Words) -> Result<Order, StepError> {
-    let kind = read_kind(words)?;
-    let (first, last) = range_of(words.word()?).ok_or(StepError::Unreadable)?;
-    let environment = if words.takes("in") {
-        u16::try_from(words.number()?)
-            .ok()
-            .ok_or(StepError::Unreadable)?
-    } else {
-        0
-    };
-    let time = words.number_after("at")?;
-    let bytes = body(alloc, words)?;
-    Ok(Order {
+/// Reads a command behind this word of its kind.
+pub fn read_order<'a>(word: &str, words: &mut Words<'a>) -> Order<'a> {
+    let kind = read_kind(word, words);
+    let (first, last) = words.range();
+    let environment = read_environment(words, "in").unwrap_or(0);
+    words.expect("at");
+    let time = words.number();
+    Order {
         kind,
         first,
         last,
         environment,
         time,
-        bytes,
-    })
+        body: words.rest(),
+    }
+}
+
+/// Reads the command of one event.
+pub fn read_command(alloc: Global, words: &mut Words) -> Result<Command, Reply> {
+    let order = read_order(words.word(), words);
+    if words.are_bad() {
+        return Err(Reply::Unreadable);
+    }
+    order.command(alloc, order.first)
 }
 
 /// A kind's word, as `next` answers it.

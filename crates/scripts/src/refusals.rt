@@ -1,8 +1,11 @@
-// The words of a script for what is refused.
+// What is answered for each refusal.
+use crate::reply::Reply;
+use crate::text::Text;
 use async_core::Illegal;
 use checkpoint::{FormatError, OpenError};
+use gate_journal::AppendError;
 use group_commit::{CommitError, IssueError};
-use std::alloc::{AllocError, Global};
+use invoke_records::RecordError;
 
 pub fn illegal(why: Illegal) -> &'static str {
     match why {
@@ -36,25 +39,49 @@ pub fn issue(why: IssueError) -> &'static str {
 pub fn commit(why: CommitError) -> &'static str {
     match why {
         CommitError::Broken => "broken",
-        CommitError::NoRoom => "no room",
+        CommitError::WornOut => "worn out",
+        CommitError::BadKind => "bad kind",
         CommitError::OutOfMemory => "out of memory",
         CommitError::Fault => "fault",
     }
 }
 
-pub fn open(alloc: Global, why: OpenError) -> Result<String, AllocError> {
+pub fn append(why: AppendError) -> &'static str {
     match why {
-        OpenError::Fault => String::from_str(alloc, "fault"),
-        OpenError::OutOfMemory => String::from_str(alloc, "out of memory"),
-        OpenError::NotFormatted => String::from_str(alloc, "not formatted"),
-        OpenError::Damaged { sector } => format!(in alloc; "damaged {sector}"),
+        AppendError::NoRoom => "no room",
+        AppendError::OutOfMemory => "out of memory",
+        AppendError::Fault => "device fault",
     }
 }
 
-pub fn format(alloc: Global, why: FormatError) -> Result<String, AllocError> {
+pub fn record(why: RecordError) -> Reply {
+    Reply::Refused(match why {
+        RecordError::Truncated => "truncated",
+        RecordError::BadKind => "bad kind",
+        RecordError::TooLong => "too long",
+        RecordError::OutOfMemory => "out of memory",
+    })
+}
+
+pub fn open(why: OpenError, answer: &mut Text) -> Reply {
     match why {
-        FormatError::TooSmall { least } => format!(in alloc; "too small {least}"),
-        FormatError::OutOfMemory => String::from_str(alloc, "out of memory"),
-        FormatError::Fault => String::from_str(alloc, "fault"),
+        OpenError::Fault => Reply::Refused("fault"),
+        OpenError::OutOfMemory => Reply::Refused("out of memory"),
+        OpenError::NotFormatted => Reply::Refused("not formatted"),
+        OpenError::Damaged { sector } => {
+            answer.add_with("damaged ", sector);
+            Reply::RefusalTold
+        }
+    }
+}
+
+pub fn format(why: FormatError, answer: &mut Text) -> Reply {
+    match why {
+        FormatError::TooSmall { least } => {
+            answer.add_with("too small ", least);
+            Reply::RefusalTold
+        }
+        FormatError::OutOfMemory => Reply::Refused("out of memory"),
+        FormatError::Fault => Reply::Refused("fault"),
     }
 }

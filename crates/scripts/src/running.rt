@@ -1,183 +1,263 @@
 // Running a case: its steps in order, for each choice of its loops' values.
-use crate::answer::Answer;
-use crate::case::{Case, Line};
-use crate::words::StepError;
+use crate::case::{Line, Purpose};
+use crate::reply::Reply;
+use crate::text::Text;
+use crate::words::{Words, range_of};
 use crate::world::World;
-use std::alloc::{AllocError, Global};
+use std::alloc::Global;
 
 /// What the steps of a case are done on.
 pub trait Scene {
-    /// Does a step.
-    fn step(&mut self, alloc: Global, line: &str) -> Result<Answer, StepError>;
+    /// Does a step. What its reply does not say itself is added to the answer.
+    fn step(&mut self, alloc: Global, words: &mut Words, answer: &mut Text) -> Reply;
 }
 
-/// A line whose answer is not what the script says.
+/// What is told of a script: a line for each answer that is not what the script says.
 #[derive(Drop)]
-pub struct Difference {
-    pub at: usize,
-    pub said: String,
-    pub answer: String,
+pub struct Report<'a> {
+    /// The script's name.
+    pub name: &'a str,
+    pub text: Text,
 }
 
-// A text with this value in place of this name.
-fn filled_in(alloc: Global, text: &str, name: &str, value: &str) -> Result<String, AllocError> {
-    let mut filled = String::new(alloc);
-    let mut is_first = true;
-    for part in text.split(name) {
-        if !is_first {
-            filled.push_str(value)?;
-        }
-        filled.push_str(part)?;
-        is_first = false;
+impl Report<'_> {
+    fn tell(&mut self, at: usize, said: &str, answer: &str, step: &str) {
+        self.text.add(self.name);
+        self.text.add(":");
+        self.text.add_number(at as u64);
+        self.text.add(": said ");
+        self.text.add(said);
+        self.text.add(", found ");
+        self.text.add(answer);
+        self.text.add(" to ");
+        self.text.add(step);
+        self.text.add("\n");
     }
-    Ok(filled)
 }
 
-// A text of the case with the values of its loops' n-th choice.
-fn chosen(alloc: Global, text: &str, case: &Case, n: usize) -> Result<String, AllocError> {
-    let mut text = String::from_str(alloc, text)?;
-    let mut left = n;
-    for each in case.loops.iter() {
-        let count = each.values.len().max(1);
-        if let Some(value) = each.values.get(left % count) {
-            text = filled_in(alloc, &text, each.name.as_str(), value.as_str())?;
-        }
-        left /= count;
+/// One of the choices of the loops' values of a case.
+#[derive(Clone, Copy)]
+struct Choice<'a> {
+    // The lines of the case.
+    lines: &'a [Line<'a>],
+    number: u64,
+}
+
+// A loop's name and its values.
+fn parts_of_loop(line: &str) -> (&str, &str) {
+    let (name, values) = line.split_once(" in ").unwrap_or((line, ""));
+    (name.strip_prefix("each ").unwrap_or(name).trim(), values)
+}
+
+// The first of a loop's values that are written as one word, where they are numbers, and how many they are. `FIRST..LAST`
+// stands for the numbers from the one to the other.
+fn values_of(word: &str) -> (Option<u64>, u64) {
+    if !word.contains("..") {
+        return (None, 1);
     }
-    Ok(text)
+    match range_of(word) {
+        Some((first, last)) => (Some(first), last.saturating_add(1).saturating_sub(first)),
+        None => (None, 0),
+    }
+}
+
+// How many values a loop has: 1 for another line.
+fn count_values(line: &Line) -> u64 {
+    if !matches!(line.purpose, Purpose::Loop) {
+        return 1;
+    }
+    let (_, values) = parts_of_loop(line.step);
+    let mut count = 0u64;
+    for word in values.split_whitespace() {
+        count = count.saturating_add(values_of(word).1);
+    }
+    count
 }
 
 // How many choices the loops of a case have.
-fn choices(case: &Case) -> usize {
-    let mut choices = 1usize;
-    for each in case.loops.iter() {
-        choices = choices.saturating_mul(each.values.len());
+fn choices(lines: &[Line]) -> u64 {
+    let mut choices = 1u64;
+    for line in lines {
+        choices = choices.saturating_mul(count_values(line));
     }
     choices
 }
 
-// What a line answers; where memory was refused, what it answers when it is repeated.
-fn answer_of<S: Scene>(alloc: Global, scene: &mut S, line: &str) -> Result<Answer, StepError> {
-    let answer = scene.step(alloc, line)?;
-    if let Answer::Refused(why) = &answer {
-        if why.as_str() == "out of memory" {
-            return scene.step(alloc, line);
+// Adds one of a loop's values.
+fn add_value(text: &mut Text, values: &str, index: u64) {
+    let mut left = index;
+    for word in values.split_whitespace() {
+        let (first, count) = values_of(word);
+        if left < count {
+            match first {
+                Some(first) => text.add_number(first.saturating_add(left)),
+                None => text.add(word),
+            }
+            return;
+        }
+        left -= count;
+    }
+}
+
+// Adds a text with one of a loop's values in place of its name.
+fn add_filled(filled: &mut Text, text: &str, line: &str, index: u64) {
+    let (name, values) = parts_of_loop(line);
+    let mut is_behind_mark = false;
+    for part in text.split('$') {
+        match part.strip_prefix(name) {
+            Some(others) if is_behind_mark => {
+                add_value(filled, values, index);
+                filled.add(others);
+            }
+            _ => {
+                filled.add(if is_behind_mark { "$" } else { "" });
+                filled.add(part);
+            }
+        }
+        is_behind_mark = true;
+    }
+}
+
+// A text of the case with the values of this choice.
+fn chosen(alloc: Global, text: &str, choice: Choice) -> Text {
+    let mut chosen = Text::new(alloc);
+    chosen.add(text);
+    let mut left = choice.number;
+    for line in choice.lines {
+        if matches!(line.purpose, Purpose::Loop) {
+            let count = count_values(line).max(1);
+            let mut filled = Text::new(alloc);
+            add_filled(&mut filled, chosen.as_str(), line.step, left % count);
+            chosen.turn_into(filled);
+            left /= count;
         }
     }
-    Ok(answer)
+    chosen
 }
 
-// Whether a line's answer is what the script says. Where it says nothing, the step must not be refused.
-fn is_as_said(alloc: Global, answer: &Answer, said: Option<&str>) -> Result<bool, AllocError> {
-    match said {
-        Some(said) => answer.is(alloc, said),
-        None => Ok(!answer.is_refused()),
+// Does a step, and puts what it answers into the text.
+fn attempt<S: Scene>(alloc: Global, scene: &mut S, step: &str, answer: &mut Text) -> Reply {
+    answer.clear();
+    let mut words = Words::of(step);
+    let mut reply = Reply::Unreadable;
+    if !step.contains('$') {
+        reply = scene.step(alloc, &mut words, answer);
     }
+    if words.are_bad() {
+        answer.clear();
+        reply = Reply::Unreadable;
+    }
+    reply.add_to(answer);
+    reply
 }
 
-// What a line's step answered for the n-th choice of the loops' values, where that is not what the script says.
+// Does a line's step for this choice, and once more where memory was refused. An answer that is not what the script says is
+// told.
 fn run_line<S: Scene>(
     alloc: Global,
     scene: &mut S,
-    case: &Case,
     line: &Line,
-    n: usize,
-) -> Result<Option<Difference>, AllocError> {
-    let said = match &line.said {
-        Some(said) => Some(chosen(alloc, said.as_str(), case, n)?),
-        None => None,
-    };
-    let said = said.as_ref().map(|said| said.as_str());
-    let step = chosen(alloc, line.step.as_str(), case, n)?;
-    match answer_of(alloc, scene, step.as_str()) {
-        Ok(answer) if is_as_said(alloc, &answer, said)? => Ok(None),
-        Ok(answer) => {
-            let answer = answer.text(alloc)?;
-            Ok(Some(told_apart(alloc, line.at, said, &answer, &step)?))
-        }
-        Err(StepError::OutOfMemory) => Err(AllocError),
-        Err(StepError::Unreadable) => Ok(Some(told_apart(
-            alloc,
-            line.at,
-            said,
-            "no answer, since it cannot be read,",
-            &step,
-        )?)),
+    choice: Choice,
+    report: &mut Report,
+) -> bool {
+    let step = chosen(alloc, line.step, choice);
+    let said = chosen(alloc, line.said.unwrap_or("done"), choice);
+    let mut answer = Text::new(alloc);
+    let mut reply = attempt(alloc, scene, step.as_str(), &mut answer);
+    if reply.is_out_of_memory() {
+        reply = attempt(alloc, scene, step.as_str(), &mut answer);
     }
+    let is_cut = step.is_cut() || said.is_cut() || answer.is_cut();
+    let is_as_said = reply.is_as_said(answer.as_str(), line.said.is_some(), said.as_str());
+    if is_cut {
+        report.text.cut();
+    } else if !is_as_said {
+        report.tell(line.at, said.as_str(), answer.as_str(), step.as_str());
+    }
+    is_as_said && !is_cut
 }
 
-fn told_apart(
-    alloc: Global,
-    at: usize,
-    said: Option<&str>,
-    answer: &str,
-    step: &str,
-) -> Result<Difference, AllocError> {
-    Ok(Difference {
-        at,
-        said: String::from_str(alloc, said.unwrap_or("done"))?,
-        answer: format!(in alloc; "{answer} to {step}")?,
-    })
-}
-
-// Does the steps of a case for the n-th choice of the loops' values.
-fn run_lines<S: Scene>(
-    alloc: Global,
-    scene: &mut S,
-    case: &Case,
-    n: usize,
-    found: &mut Vec<Difference>,
-) -> Result<(), AllocError> {
-    for line in case.lines.iter() {
-        if let Some(difference) = run_line(alloc, scene, case, line, n)? {
-            found.push(difference)?;
+// Does the steps of a case for this choice: whether each answer is what the script says.
+fn run_lines<S: Scene>(alloc: Global, scene: &mut S, choice: Choice, report: &mut Report) -> bool {
+    let mut is_as_said = true;
+    for line in choice.lines {
+        if matches!(line.purpose, Purpose::Step) && !run_line(alloc, scene, line, choice, report) {
+            is_as_said = false;
         }
     }
-    Ok(())
+    is_as_said
 }
 
 // The same, on a world of its own.
-fn run_choice(
-    alloc: Global,
-    case: &Case,
-    n: usize,
-    found: &mut Vec<Difference>,
-) -> Result<(), AllocError> {
-    let mut world = World::new(alloc)?;
-    run_lines(alloc, &mut world, case, n, found)
+fn run_choice(alloc: Global, choice: Choice, report: &mut Report) -> bool {
+    match World::new(alloc) {
+        Some(mut world) => run_lines(alloc, &mut world, choice, report),
+        None => {
+            report.text.cut();
+            false
+        }
+    }
 }
 
-// Whether a case was done as often as it says: at least once, where it says nothing.
+// Whether a case was done as often as this line says.
+fn is_count(alloc: Global, line: &Line, choices: u64, report: &mut Report) -> bool {
+    let said = line.said.unwrap_or("");
+    if range_of(said) == Some((choices, choices)) {
+        return true;
+    }
+    let mut answer = Text::new(alloc);
+    answer.add_number(choices);
+    report.tell(line.at, said, answer.as_str(), "tried");
+    false
+}
+
+// Whether a case was done as often as it says: at least once and with a step, where it says nothing.
 fn check_count(
     alloc: Global,
-    case: &Case,
-    choices: usize,
-    found: &mut Vec<Difference>,
-) -> Result<(), AllocError> {
-    let answer = format!(in alloc; "{choices}")?;
-    match &case.tried {
-        Some((at, said)) if said.as_str() != answer.as_str() => {
-            found.push(told_apart(alloc, *at, Some(said.as_str()), &answer, "tried")?)?;
+    title: &Line,
+    lines: &[Line],
+    choices: u64,
+    report: &mut Report,
+) -> bool {
+    let mut has_step = false;
+    for line in lines {
+        match line.purpose {
+            Purpose::Count => return is_count(alloc, line, choices, report),
+            Purpose::Step => has_step = true,
+            _ => {}
         }
-        None if choices == 0 || case.lines.is_empty() => {
-            found.push(told_apart(alloc, case.at, Some("steps"), "none", "case")?)?;
-        }
-        _ => {}
     }
-    Ok(())
+    if choices == 0 || !has_step {
+        report.tell(title.at, "steps", "none", "case");
+        return false;
+    }
+    true
 }
 
-/// The lines of a case whose answers are not what the script says, for the first choice of its loops' values where there
-/// are any.
-pub fn run_case(alloc: Global, case: &Case) -> Result<Vec<Difference>, AllocError> {
-    let mut found = Vec::new(alloc);
-    let choices = choices(case);
-    for n in 0..choices {
-        run_choice(alloc, case, n, &mut found)?;
-        if !found.is_empty() {
-            return Ok(found);
+// The lines of a case, of which these follow its title.
+fn lines_of_case<'a>(following: &'a [Line<'a>]) -> &'a [Line<'a>] {
+    for (index, line) in following.iter().enumerate() {
+        if matches!(line.purpose, Purpose::Title) {
+            return following.get(..index).unwrap_or(following);
         }
     }
-    check_count(alloc, case, choices, &mut found)?;
-    Ok(found)
+    following
+}
+
+/// Does a case, of which these lines follow the title, up to the first choice of its loops' values for which an answer is not
+/// what the script says: whether there is none.
+pub fn run_case<'a>(
+    alloc: Global,
+    title: &Line,
+    following: &'a [Line<'a>],
+    report: &mut Report,
+) -> bool {
+    let lines = lines_of_case(following);
+    let choices = choices(lines);
+    for number in 0..choices {
+        if !run_choice(alloc, Choice { lines, number }, report) {
+            return false;
+        }
+    }
+    check_count(alloc, title, lines, choices, report)
 }

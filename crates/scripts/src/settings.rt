@@ -1,15 +1,28 @@
 // The settings of a case.
-use crate::words::{StepError, Words};
+use crate::reply::Reply;
+use crate::words::{Words, number_of};
 use retry_rules::{Settings, Text};
-use std::alloc::{AllocError, Global};
+use std::alloc::Global;
 
-fn text(alloc: Global, bytes: &[u8]) -> Result<Text, AllocError> {
-    Ok(Text::from_vec(Vec::from_slice(alloc, bytes)?))
+fn text(alloc: Global, bytes: &[u8]) -> Option<Text> {
+    match Vec::from_slice(alloc, bytes) {
+        Ok(bytes) => Some(Text::from_vec(bytes)),
+        Err(_) => None,
+    }
 }
 
-/// The settings of a case that names no others.
-pub fn usual_settings(alloc: Global) -> Result<Settings, AllocError> {
-    Ok(Settings {
+/// The settings of a case that names no others: None where memory is refused.
+pub fn usual_settings(alloc: Global) -> Option<Settings> {
+    let name = text(alloc, b"my-function");
+    let handler = text(alloc, b"app.main");
+    let arn = text(
+        alloc,
+        b"arn:aws:lambda:us-east-2:123456789012:function:my-function",
+    );
+    let (Some(name), Some(handler), Some(arn)) = (name, handler, arn) else {
+        return None;
+    };
+    Some(Settings {
         retries: 2,
         age: 21600,
         timeout: 3,
@@ -18,52 +31,67 @@ pub fn usual_settings(alloc: Global) -> Result<Settings, AllocError> {
         events: 4,
         payload: 1024,
         response: 1024,
-        name: text(alloc, b"my-function")?,
-        handler: text(alloc, b"app.main")?,
-        arn: text(
-            alloc,
-            b"arn:aws:lambda:us-east-2:123456789012:function:my-function",
-        )?,
+        name,
+        handler,
+        arn,
     })
 }
 
-// The number that a word stands for, in a field's width.
-fn number<T: TryFrom<u64>>(word: &str) -> Result<T, StepError>
+// Puts the number that a word stands for into a field, if that is wide enough.
+fn put_number<T: TryFrom<u64>>(field: &mut T, word: &str) -> Reply
 where
     T::Error: Drop,
+    T: Drop,
 {
-    let number = word.parse::<u64>().ok().ok_or(StepError::Unreadable)?;
-    T::try_from(number).ok().ok_or(StepError::Unreadable)
+    let Some(number) = number_of(word) else {
+        return Reply::Unreadable;
+    };
+    match T::try_from(number) {
+        Ok(number) => {
+            *field = number;
+            Reply::Done
+        }
+        Err(_) => Reply::Unreadable,
+    }
 }
 
-fn set_field(
-    alloc: Global,
-    settings: &mut Settings,
-    field: &str,
-    value: &str,
-) -> Result<(), StepError> {
-    match field {
-        "retries" => settings.retries = number(value)?,
-        "age" => settings.age = number(value)?,
-        "timeout" => settings.timeout = number(value)?,
-        "concurrency" => settings.concurrency = number(value)?,
-        "environments" => settings.environments = number(value)?,
-        "events" => settings.events = number(value)?,
-        "payload" => settings.payload = number(value)?,
-        "response" => settings.response = number(value)?,
-        "name" => settings.name = text(alloc, value.as_bytes())?,
-        "handler" => settings.handler = text(alloc, value.as_bytes())?,
-        "arn" => settings.arn = text(alloc, value.as_bytes())?,
-        _ => return Err(StepError::Unreadable),
+fn put_text(alloc: Global, field: &mut Text, word: &str) -> Reply {
+    match text(alloc, word.as_bytes()) {
+        Some(text) => {
+            *field = text;
+            Reply::Done
+        }
+        None => Reply::NoMemory,
     }
-    Ok(())
+}
+
+fn set_field(alloc: Global, settings: &mut Settings, field: &str, value: &str) -> Reply {
+    match field {
+        "retries" => put_number(&mut settings.retries, value),
+        "age" => put_number(&mut settings.age, value),
+        "timeout" => put_number(&mut settings.timeout, value),
+        "concurrency" => put_number(&mut settings.concurrency, value),
+        "environments" => put_number(&mut settings.environments, value),
+        "events" => put_number(&mut settings.events, value),
+        "payload" => put_number(&mut settings.payload, value),
+        "response" => put_number(&mut settings.response, value),
+        "name" => put_text(alloc, &mut settings.name, value),
+        "handler" => put_text(alloc, &mut settings.handler, value),
+        "arn" => put_text(alloc, &mut settings.arn, value),
+        _ => Reply::Unreadable,
+    }
 }
 
 /// Sets the fields `FIELD=VALUE` of a line.
-pub fn set(alloc: Global, settings: &mut Settings, words: &mut Words) -> Result<(), StepError> {
+pub fn set(alloc: Global, settings: &mut Settings, words: &mut Words) -> Reply {
     for word in words.rest().split_whitespace() {
-        let (field, value) = word.split_once('=').ok_or(StepError::Unreadable)?;
-        set_field(alloc, settings, field, value)?;
+        let Some((field, value)) = word.split_once('=') else {
+            return Reply::Unreadable;
+        };
+        let reply = set_field(alloc, settings, field, value);
+        if !matches!(reply, Reply::Done) {
+            return reply;
+        }
     }
-    Ok(())
+    Reply::Done
 }

@@ -1,12 +1,12 @@
 // Steps that read the table of an open broker.
-use crate::answer::Answer;
-use crate::bytes::bytes_text;
-use crate::orders::{kind_word, read_order};
+use crate::orders::{kind_word, read_command, read_environment};
 use crate::records::spelling;
-use crate::refusals::illegal;
-use crate::words::{StepError, Words, id_of, number_of_id};
-use async_core::{Ended, Move, Side, Table};
-use invoke_records::{Answer as Answered, Outcome, Standing};
+use crate::refusals;
+use crate::reply::Reply;
+use crate::text::Text;
+use crate::words::{Words, id_of, number_of_id};
+use async_core::{Ended, Side, Table};
+use invoke_records::{Answer, EventRow, Outcome, Standing};
 use std::alloc::{AllocError, Global};
 
 fn outcome_word(outcome: Outcome) -> &'static str {
@@ -17,161 +17,188 @@ fn outcome_word(outcome: Outcome) -> &'static str {
     }
 }
 
-fn standing_text(alloc: Global, standing: Standing) -> Result<String, AllocError> {
+fn tell_standing(standing: Standing, answer: &mut Text) -> Reply {
     match standing {
-        Standing::Unknown => String::from_str(alloc, "unknown"),
-        Standing::Waiting { due } => format!(in alloc; "waiting due {due}"),
-        Standing::DueAgain { due } => format!(in alloc; "due again {due}"),
+        Standing::Unknown => answer.add("unknown"),
+        Standing::Waiting { due } => answer.add_with("waiting due ", due),
+        Standing::DueAgain { due } => answer.add_with("due again ", due),
         Standing::Running {
             environment,
             deadline,
-        } => format!(in alloc; "running in {environment} until {deadline}"),
+        } => {
+            answer.add_with("running in ", environment as u64);
+            answer.add_with(" until ", deadline);
+        }
         Standing::Ended { outcome, at } => {
-            format!(in alloc; "ended {} {at}", outcome_word(outcome))
+            answer.add("ended ");
+            answer.add(outcome_word(outcome));
+            answer.add_with(" ", at);
+        }
+    }
+    Reply::Told
+}
+
+fn tell_answer(told: &Answer, answer: &mut Text) {
+    match told {
+        Answer::None => answer.add(" no answer"),
+        Answer::Response(bytes) => {
+            answer.add(" response ");
+            answer.add_body(bytes.as_slice());
+        }
+        Answer::Error(bytes) => {
+            answer.add(" error ");
+            answer.add_body(bytes.as_slice());
         }
     }
 }
 
-fn move_text(alloc: Global, next: Move) -> Result<String, AllocError> {
-    let kind = kind_word(next.kind);
-    let event = number_of_id(&next.id);
-    if next.environment == 0 {
-        return format!(in alloc; "{kind} {event}");
-    }
-    format!(in alloc; "{kind} {event} in {}", next.environment)
+fn tell_ended(told: Option<Ended>, answer: &mut Text) -> Reply {
+    let Some(told) = told else {
+        return Reply::NONE;
+    };
+    answer.add(outcome_word(told.outcome));
+    answer.add_with(" ", told.at);
+    answer.add_with(" starts ", told.starts as u64);
+    answer.add(" payload ");
+    answer.add_body(told.payload);
+    tell_answer(told.answer, answer);
+    Reply::Told
 }
 
-fn answered_text(alloc: Global, answer: &Answered) -> Result<String, AllocError> {
-    match answer {
-        Answered::None => String::from_str(alloc, "no answer"),
-        Answered::Response(bytes) => {
-            format!(in alloc;
-                "response {}",
-                bytes_text(alloc, bytes.as_slice())?.as_str()
-            )
-        }
-        Answered::Error(bytes) => {
-            format!(in alloc; "error {}", bytes_text(alloc, bytes.as_slice())?.as_str())
-        }
-    }
+fn tell_counts(counts: Option<(u32, u32, u32)>, answer: &mut Text) -> Reply {
+    let Some((starts, failures, push_backs)) = counts else {
+        return Reply::NONE;
+    };
+    answer.add_with("starts ", starts as u64);
+    answer.add_with(" failures ", failures as u64);
+    answer.add_with(" pushbacks ", push_backs as u64);
+    Reply::Told
 }
 
-fn ended_text(alloc: Global, told: Ended) -> Result<String, AllocError> {
-    let outcome = outcome_word(told.outcome);
-    let (at, starts) = (told.at, told.starts);
-    let payload = bytes_text(alloc, told.payload)?;
-    let answer = answered_text(alloc, told.answer)?;
-    format!(in alloc;
-        "{outcome} {at} starts {starts} payload {} {}",
-        payload.as_str(),
-        answer.as_str()
-    )
+fn tell_payload(bytes: Option<&[u8]>, answer: &mut Text) -> Reply {
+    let Some(bytes) = bytes else {
+        return Reply::NONE;
+    };
+    answer.add_body(bytes);
+    Reply::Told
 }
 
-fn told_or_none(alloc: Global, text: Option<String>) -> Result<Answer, AllocError> {
-    match text {
-        Some(text) => Ok(Answer::Told(text)),
-        None => Answer::refused(alloc, "none"),
+fn tell_outcome(outcome: Option<Outcome>) -> Reply {
+    match outcome {
+        Some(outcome) => Reply::Word(outcome_word(outcome)),
+        None => Reply::NONE,
     }
 }
 
-fn counts(alloc: Global, table: &Table, id: &[u8; 16]) -> Result<Answer, AllocError> {
-    match table.counts(id) {
-        Some((starts, failures, push_backs)) => Ok(Answer::Told(format!(in alloc;
-            "starts {starts} failures {failures} pushbacks {push_backs}"
-        )?)),
-        None => Answer::refused(alloc, "none"),
+// What is told of one event.
+fn event_step(table: &Table, word: &str, id: &[u8; 16], answer: &mut Text) -> Reply {
+    match word {
+        "standing" => tell_standing(table.standing(id), answer),
+        "counts" => tell_counts(table.counts(id), answer),
+        "payload" => tell_payload(table.payload(id), answer),
+        "ended" => tell_ended(table.ended(id), answer),
+        "accepted" => Reply::number_or_none(table.accepted(id)),
+        "outcome" => tell_outcome(table.outcome(id)),
+        _ => Reply::NoStep,
     }
 }
 
-fn payload(alloc: Global, table: &Table, id: &[u8; 16]) -> Result<Answer, AllocError> {
-    match table.payload(id) {
-        Some(bytes) => Ok(Answer::Told(bytes_text(alloc, bytes)?)),
-        None => Answer::refused(alloc, "none"),
-    }
-}
-
-fn ended(alloc: Global, table: &Table, id: &[u8; 16]) -> Result<Answer, AllocError> {
-    match table.ended(id) {
-        Some(told) => Ok(Answer::Told(ended_text(alloc, told)?)),
-        None => Answer::refused(alloc, "none"),
-    }
-}
-
-fn accepted(alloc: Global, table: &Table, id: &[u8; 16]) -> Result<Answer, AllocError> {
-    match table.accepted(id) {
-        Some(at) => Answer::number(alloc, at),
-        None => Answer::refused(alloc, "none"),
-    }
-}
-
-fn outcome(alloc: Global, table: &Table, id: &[u8; 16]) -> Result<Answer, AllocError> {
-    match table.outcome(id) {
-        Some(outcome) => Answer::told(alloc, outcome_word(outcome)),
-        None => Answer::refused(alloc, "none"),
-    }
-}
-
-fn oldest(alloc: Global, table: &Table, words: &mut Words) -> Result<Answer, StepError> {
-    let side = match words.word()? {
+// `success` or `failure`: the event that ended first on that side.
+fn oldest(table: &Table, words: &mut Words) -> Reply {
+    let side = match words.word() {
         "success" => Side::Success,
         "failure" => Side::Failure,
-        _ => return Err(StepError::Unreadable),
+        _ => return Reply::Unreadable,
     };
     match table.oldest_ended(side) {
-        Some(id) => Ok(Answer::number(alloc, number_of_id(&id))?),
-        None => Ok(Answer::refused(alloc, "none")?),
+        Some(id) => Reply::Number(number_of_id(&id)),
+        None => Reply::NONE,
     }
 }
 
-fn running(alloc: Global, table: &Table, words: &mut Words) -> Result<Answer, StepError> {
-    let Some(first) = table.next_running(words.number_after("after")?) else {
-        return Ok(Answer::refused(alloc, "none")?);
+fn running(table: &Table, words: &mut Words, answer: &mut Text) -> Reply {
+    words.expect("after");
+    let Some(first) = table.next_running(words.number()) else {
+        return Reply::NONE;
     };
     let id = first.1;
-    let event = number_of_id(&id);
-    Ok(Answer::Told(format!(in alloc; "{event} by {}", first.0)?))
+    answer.add_number(number_of_id(&id));
+    answer.add_with(" by ", first.0);
+    Reply::Told
 }
 
-fn next_move(alloc: Global, table: &Table, words: &mut Words) -> Result<Answer, StepError> {
-    let now = words.number_after("at")?;
-    let ready = if words.takes("ready") {
-        Some(
-            u16::try_from(words.number()?)
-                .ok()
-                .ok_or(StepError::Unreadable)?,
-        )
-    } else {
-        None
+fn next_move(table: &Table, words: &mut Words, answer: &mut Text) -> Reply {
+    words.expect("at");
+    let now = words.number();
+    let Some(next) = table.next_move(now, read_environment(words, "ready")) else {
+        return Reply::NONE;
     };
-    let text = match table.next_move(now, ready) {
-        Some(next) => Some(move_text(alloc, next)?),
-        None => None,
-    };
-    Ok(told_or_none(alloc, text)?)
+    answer.add(kind_word(next.kind));
+    answer.add_with(" ", number_of_id(&next.id));
+    if next.environment != 0 {
+        answer.add_with(" in ", next.environment as u64);
+    }
+    Reply::Told
 }
 
-fn judge(alloc: Global, table: &Table, words: &mut Words) -> Result<Answer, StepError> {
-    let order = read_order(alloc, words)?;
-    let command = order.command(alloc, order.first)?;
+fn judge(alloc: Global, table: &Table, words: &mut Words) -> Reply {
+    let command = match read_command(alloc, words) {
+        Ok(command) => command,
+        Err(reply) => return reply,
+    };
     match table.judge(&command) {
-        Ok(()) => Ok(Answer::told(alloc, "legal")?),
-        Err(why) => Ok(Answer::refused(alloc, illegal(why))?),
+        Ok(()) => Reply::Word("legal"),
+        Err(why) => Reply::Refused(refusals::illegal(why)),
     }
 }
 
-// The spelling of the table's snapshot, or of one event's row of it.
-fn snapshot(alloc: Global, table: &Table) -> Result<Answer, AllocError> {
-    let snapshot = table.snapshot()?;
-    spelling(alloc, snapshot.encode(alloc))
+fn spell_row(alloc: Global, rows: &[EventRow], event: u64, answer: &mut Text) -> Reply {
+    for row in rows {
+        if number_of_id(&row.id) == event {
+            return spelling(row.encode(alloc), answer);
+        }
+    }
+    Reply::NONE
 }
 
-fn row(alloc: Global, table: &Table, event: u64) -> Result<Answer, AllocError> {
-    let snapshot = table.snapshot()?;
-    let rows = snapshot.rows.as_slice();
-    match rows.iter().find(|row| number_of_id(&row.id) == event) {
-        Some(row) => spelling(alloc, row.encode(alloc)),
-        None => Answer::refused(alloc, "none"),
+// `snapshot` or `row EVENT`: the spelling of the table's snapshot, or of one event's row of it.
+fn spell_part(alloc: Global, table: &Table, event: Option<u64>, answer: &mut Text) -> Reply {
+    let Ok(snapshot) = table.snapshot() else {
+        return Reply::NoMemory;
+    };
+    match event {
+        Some(event) => spell_row(alloc, snapshot.rows.as_slice(), event, answer),
+        None => spelling(snapshot.encode(alloc), answer),
+    }
+}
+
+/// What a table answers to a step that reads it.
+pub fn table_step(
+    alloc: Global,
+    table: &Table,
+    word: &str,
+    words: &mut Words,
+    answer: &mut Text,
+) -> Reply {
+    match word {
+        "oldest" => oldest(table, words),
+        "running" => running(table, words, answer),
+        "next" => next_move(table, words, answer),
+        "judge" => judge(alloc, table, words),
+        "number" => Reply::Number(table.number()),
+        "moment" => Reply::Number(table.last_moment()),
+        "snapshot" => spell_part(alloc, table, None, answer),
+        "row" => spell_part(alloc, table, Some(words.number()), answer),
+        _ => {
+            // The words are left to another step where it is none of an event's.
+            let mut others = *words;
+            let id = id_of(others.number());
+            let reply = event_step(table, word, &id, answer);
+            if !reply.is_no_step() {
+                *words = others;
+            }
+            reply
+        }
     }
 }
 
@@ -180,69 +207,11 @@ fn retake(alloc: Global, table: &Table) -> Result<Table, AllocError> {
     Table::from_snapshot(alloc, table.snapshot()?, table.settings().copy()?)
 }
 
-/// Whether a step reads the table.
-pub fn reads_table(word: &str) -> bool {
-    matches!(
-        word,
-        "standing"
-            | "counts"
-            | "payload"
-            | "ended"
-            | "accepted"
-            | "outcome"
-            | "oldest"
-            | "running"
-            | "next"
-            | "judge"
-            | "number"
-            | "moment"
-            | "row"
-            | "snapshot"
-    )
-}
-
-// What is told of one event.
-fn read_event(
-    alloc: Global,
-    table: &Table,
-    word: &str,
-    words: &mut Words,
-) -> Result<Answer, StepError> {
-    let id = id_of(words.number()?);
-    match word {
-        "standing" => Ok(Answer::Told(standing_text(alloc, table.standing(&id))?)),
-        "counts" => Ok(counts(alloc, table, &id)?),
-        "payload" => Ok(payload(alloc, table, &id)?),
-        "ended" => Ok(ended(alloc, table, &id)?),
-        "accepted" => Ok(accepted(alloc, table, &id)?),
-        "outcome" => Ok(outcome(alloc, table, &id)?),
-        _ => Err(StepError::Unreadable),
+/// `STEP`: what a table that is taken up from this one's snapshot answers to a step that reads it.
+pub fn retaken_step(alloc: Global, table: &Table, words: &mut Words, answer: &mut Text) -> Reply {
+    let word = words.word();
+    match retake(alloc, table) {
+        Ok(table) => table_step(alloc, &table, word, words, answer),
+        Err(_) => Reply::NoMemory,
     }
-}
-
-/// What the table answers to a step that reads it.
-pub fn read_table(
-    alloc: Global,
-    table: &Table,
-    word: &str,
-    words: &mut Words,
-) -> Result<Answer, StepError> {
-    match word {
-        "oldest" => oldest(alloc, table, words),
-        "running" => running(alloc, table, words),
-        "next" => next_move(alloc, table, words),
-        "judge" => judge(alloc, table, words),
-        "number" => Ok(Answer::number(alloc, table.number())?),
-        "moment" => Ok(Answer::number(alloc, table.last_moment())?),
-        "snapshot" => Ok(snapshot(alloc, table)?),
-        "row" => Ok(row(alloc, table, words.number()?)?),
-        _ => read_event(alloc, table, word, words),
-    }
-}
-
-/// What a table that is taken up from this one's snapshot answers to a step that reads it.
-pub fn read_retaken(alloc: Global, table: &Table, words: &mut Words) -> Result<Answer, StepError> {
-    let table = retake(alloc, table)?;
-    let word = words.word()?;
-    read_table(alloc, &table, word, words)
 }

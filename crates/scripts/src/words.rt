@@ -1,84 +1,83 @@
 // The words of a line, one after another.
-use std::alloc::{AllocError, AllocFailed};
 
 /// The moment that a script calls T, in milliseconds since 1970.
 pub const T: u64 = 1573755365568;
 
-/// Why a step has no answer.
-#[derive(Clone, Copy)]
-pub enum StepError {
-    /// The line is no step, or none that can be done now.
-    Unreadable,
-    OutOfMemory,
-}
-
-impl From<AllocError> for StepError {
-    fn from(_: AllocError) -> StepError {
-        StepError::OutOfMemory
-    }
-}
-
-impl<T: Drop> From<AllocFailed<T>> for StepError {
-    fn from(_: AllocFailed<T>) -> StepError {
-        StepError::OutOfMemory
-    }
-}
-
-/// What is left of a line.
+/// What is left of a line. Where a word is not what it was read as, the line is bad from then on, and a step that reads it
+/// does nothing.
 #[derive(Clone, Copy)]
 pub struct Words<'a> {
     left: &'a str,
+    are_bad: bool,
 }
 
 impl<'a> Words<'a> {
     pub fn of(line: &'a str) -> Words<'a> {
-        Words { left: line.trim() }
-    }
-
-    /// The next word, if one is left.
-    pub fn try_word(&mut self) -> Option<&'a str> {
-        let left = self.left;
-        if left.is_empty() {
-            return None;
-        }
-        match left.split_once(' ') {
-            Some((word, others)) => {
-                self.left = others.trim_start();
-                Some(word)
-            }
-            None => {
-                self.left = "";
-                Some(left)
-            }
+        Words {
+            left: line.trim(),
+            are_bad: false,
         }
     }
 
-    /// The next word.
-    pub fn word(&mut self) -> Result<&'a str, StepError> {
-        self.try_word().ok_or(StepError::Unreadable)
+    /// Whether a word was not what it was read as.
+    pub fn are_bad(&self) -> bool {
+        self.are_bad
+    }
+
+    /// Takes the line as bad.
+    pub fn refuse(&mut self) {
+        self.are_bad = true;
+    }
+
+    /// The next word: an empty one where none is left.
+    pub fn word(&mut self) -> &'a str {
+        let (word, others) = self.left.split_once(' ').unwrap_or((self.left, ""));
+        self.left = others.trim_start();
+        word
     }
 
     /// Takes this word if it is the next one.
     pub fn takes(&mut self, word: &str) -> bool {
         let mut others = *self;
-        if others.try_word() == Some(word) {
+        if others.word() == word {
             self.left = others.left;
             return true;
         }
         false
     }
 
-    /// The word `word`, and then a number or a moment.
-    pub fn number_after(&mut self, word: &str) -> Result<u64, StepError> {
-        if !self.takes(word) {
-            return Err(StepError::Unreadable);
+    /// The word `word`.
+    pub fn expect(&mut self, word: &str) {
+        if self.word() != word {
+            self.are_bad = true;
         }
-        self.number()
+    }
+
+    /// A number or a moment, of at most so much.
+    pub fn number_to(&mut self, most: u64) -> u64 {
+        match number_of(self.word()) {
+            Some(number) if number <= most => number,
+            _ => {
+                self.are_bad = true;
+                0
+            }
+        }
     }
 
     /// A number, or a moment.
-    pub fn number(&mut self) -> Result<u64, StepError> {
-        number_of(self.word()?).ok_or(StepError::Unreadable)
+    pub fn number(&mut self) -> u64 {
+        self.number_to(u64::MAX)
+    }
+
+    /// The first and the last of the numbers `FIRST..LAST`, or of one number alone.
+    pub fn range(&mut self) -> (u64, u64) {
+        match range_of(self.word()) {
+            Some(range) => range,
+            None => {
+                self.are_bad = true;
+                (0, 0)
+            }
+        }
     }
 
     /// All that is left.
@@ -102,12 +101,10 @@ pub fn number_of(word: &str) -> Option<u64> {
 
 /// The first and the last of the numbers `FIRST..LAST`, or of one number alone.
 pub fn range_of(word: &str) -> Option<(u64, u64)> {
-    match word.split_once("..") {
-        Some((first, last)) => Some((number_of(first)?, number_of(last)?)),
-        None => {
-            let number = number_of(word)?;
-            Some((number, number))
-        }
+    let (first, last) = word.split_once("..").unwrap_or((word, word));
+    match (number_of(first), number_of(last)) {
+        (Some(first), Some(last)) => Some((first, last)),
+        _ => None,
     }
 }
 

@@ -1,17 +1,19 @@
 // Where a case stands: its settings, its disk, and the broker on it.
-use crate::answer::Answer;
-use crate::disks::{disk_step, read_choice};
-use crate::drilling::drill_steps;
+use crate::disks::disk_step;
 use crate::events::broker_step;
+use crate::memory::{format_disk, memory_step};
 use crate::records::record_step;
 use crate::refusals;
+use crate::reply::Reply;
 use crate::running::Scene;
 use crate::settings::{set, usual_settings};
-use crate::words::{StepError, Words};
-use group_commit::{Broker, OpenFailure, Ticket, format};
+use crate::text::Text;
+use crate::words::Words;
+use checkpoint::OpenError;
+use group_commit::{Broker, OpenFailure, Ticket};
 use retry_rules::Settings;
-use sector_disk::{CallKind, Disk, FaultOnceDisk, FuseDisk, MemDisk};
-use std::alloc::{AllocError, Global};
+use sector_disk::{CallKind, FaultOnceDisk, FuseDisk, MemDisk};
+use std::alloc::Global;
 use std::mem;
 
 /// The disk of every case. Neither wrapper fails unless the case says so.
@@ -45,225 +47,231 @@ struct Failures {
     call: u64,
 }
 
+// A device that does not fail.
+const SOUND: Failures = Failures {
+    passes: u64::MAX,
+    kind: CallKind::Reads,
+    call: 0,
+};
+
 // `[fuse N] [fault reads|changes K]`
-fn read_failures(words: &mut Words) -> Result<Failures, StepError> {
-    let passes = if words.takes("fuse") {
-        words.number()?
-    } else {
-        u64::MAX
-    };
-    if !words.takes("fault") {
-        return Ok(Failures {
-            passes,
-            kind: CallKind::Reads,
-            call: 0,
-        });
+fn read_failures(words: &mut Words) -> Failures {
+    let mut failures = SOUND;
+    if words.takes("fuse") {
+        failures.passes = words.number();
     }
-    let kind = match words.word()? {
-        "reads" => CallKind::Reads,
-        "changes" => CallKind::Changes,
-        _ => return Err(StepError::Unreadable),
-    };
-    Ok(Failures {
-        passes,
-        kind,
-        call: words.number()?,
-    })
+    if words.takes("fault") {
+        match words.word() {
+            "reads" => {}
+            "changes" => failures.kind = CallKind::Changes,
+            _ => words.refuse(),
+        }
+        failures.call = words.number();
+    }
+    failures
 }
 
-fn wrapped(disk: MemDisk, failures: &Failures) -> CaseDisk {
+fn wrapped(disk: MemDisk, failures: Failures) -> CaseDisk {
     let once = FaultOnceDisk::new(disk, failures.kind, failures.call);
     FuseDisk::new(once, failures.passes)
 }
 
-fn unwrapped(disk: CaseDisk) -> MemDisk {
-    disk.into_inner().into_inner()
-}
-
-// A disk whose device does not fail.
-fn sound(disk: MemDisk) -> CaseDisk {
-    wrapped(
-        disk,
-        &Failures {
-            passes: u64::MAX,
-            kind: CallKind::Reads,
-            call: 0,
-        },
-    )
-}
-
-// What formatting a disk answers.
-fn formatted(alloc: Global, disk: &mut MemDisk, settings: &Settings) -> Result<Answer, AllocError> {
-    if let Err(why) = settings.check() {
-        return Ok(Answer::Refused(format!(in alloc; "{why}")?));
-    }
-    match format(alloc, disk, settings) {
-        Ok(()) => Ok(Answer::Done),
-        Err(why) => Ok(Answer::Refused(refusals::format(alloc, why)?)),
+// A disk of zeros.
+fn blank(alloc: Global, sectors: u64, failures: Failures) -> Result<CaseDisk, Reply> {
+    match MemDisk::new(alloc, sectors) {
+        Ok(disk) => Ok(wrapped(disk, failures)),
+        Err(_) => Err(Reply::NoMemory),
     }
 }
 
-// A disk that was opened, or why it was not.
-fn opened<D: Disk + Drop>(
+// A formatted disk.
+fn formatted(
     alloc: Global,
-    disk: D,
-) -> Result<Result<Broker<D>, (D, String)>, AllocError> {
+    sectors: u64,
+    failures: Failures,
+    settings: &Settings,
+    answer: &mut Text,
+) -> Result<CaseDisk, Reply> {
+    let Ok(mut disk) = MemDisk::new(alloc, sectors) else {
+        return Err(Reply::NoMemory);
+    };
+    match format_disk(alloc, &mut disk, settings, answer) {
+        Reply::Done => Ok(wrapped(disk, failures)),
+        reply => Err(reply),
+    }
+}
+
+// Opens a disk: where it stands then, and why it is not open.
+fn opened(alloc: Global, disk: CaseDisk) -> (Stage, Option<OpenError>) {
     match Broker::open(alloc, disk) {
-        Ok(broker) => Ok(Ok(broker)),
-        Err(OpenFailure { cause, disk }) => Ok(Err((disk, refusals::open(alloc, cause)?))),
+        Ok(broker) => (Stage::Open(broker), None),
+        Err(OpenFailure { cause, disk }) => (Stage::Closed(disk), Some(cause)),
     }
 }
 
 impl World {
-    /// With the usual settings and no disk.
-    pub fn new(alloc: Global) -> Result<World, AllocError> {
-        Ok(World {
-            settings: usual_settings(alloc)?,
-            stage: Stage::Nothing,
-            tickets: Vec::new(alloc),
-            durable: 0,
-            issued: 0,
-        })
+    /// With the usual settings and no disk: None where memory is refused.
+    pub fn new(alloc: Global) -> Option<World> {
+        match usual_settings(alloc) {
+            Some(settings) => Some(World {
+                settings,
+                stage: Stage::Nothing,
+                tickets: Vec::new(alloc),
+                durable: 0,
+                issued: 0,
+            }),
+            None => None,
+        }
     }
 
     // Takes the disk, closing the broker that is open on it.
-    fn take_disk(&mut self) -> Result<CaseDisk, StepError> {
+    fn take_disk(&mut self) -> Option<CaseDisk> {
         match mem::replace(&mut self.stage, Stage::Nothing) {
-            Stage::Nothing => Err(StepError::Unreadable),
-            Stage::Closed(disk) => Ok(disk),
+            Stage::Nothing => None,
+            Stage::Closed(disk) => Some(disk),
             Stage::Open(broker) => {
                 self.durable = broker.durable().number();
                 self.issued = broker.issued();
                 self.tickets.clear();
-                Ok(broker.close())
+                Some(broker.close())
             }
         }
     }
 
     // Opens the disk.
-    fn open(&mut self, alloc: Global) -> Result<Answer, StepError> {
-        let disk = self.take_disk()?;
-        match opened(alloc, disk)? {
-            Ok(broker) => {
-                let number = broker.issued();
-                self.stage = Stage::Open(broker);
-                Ok(Answer::Recovered {
-                    number,
-                    durable: self.durable,
-                    issued: self.issued,
-                })
-            }
-            Err((disk, why)) => {
+    fn open(&mut self, alloc: Global, answer: &mut Text) -> Reply {
+        let Some(disk) = self.take_disk() else {
+            return Reply::Unreadable;
+        };
+        let (stage, cause) = opened(alloc, disk);
+        self.stage = stage;
+        match (cause, &self.stage) {
+            (Some(cause), _) => refusals::open(cause, answer),
+            (None, Stage::Open(broker)) => Reply::Recovered {
+                number: broker.issued(),
+                durable: self.durable,
+                issued: self.issued,
+            },
+            _ => Reply::Unreadable,
+        }
+    }
+
+    fn close(&mut self) -> Reply {
+        let disk = self.take_disk();
+        self.place(disk.ok_or(Reply::Unreadable))
+    }
+
+    // Takes a disk that was made in place of what was there.
+    fn place(&mut self, made: Result<CaseDisk, Reply>) -> Reply {
+        match made {
+            Ok(disk) => {
                 self.stage = Stage::Closed(disk);
-                Ok(Answer::Refused(why))
+                Reply::Done
             }
+            Err(reply) => reply,
         }
     }
 
     // `N [fuse N] [fault reads|changes K]`: a disk of zeros.
-    fn make_blank(&mut self, alloc: Global, words: &mut Words) -> Result<Answer, StepError> {
-        let disk = MemDisk::new(alloc, words.number()?)?;
-        self.stage = Stage::Closed(wrapped(disk, &read_failures(words)?));
-        Ok(Answer::Done)
+    fn make_blank(&mut self, alloc: Global, words: &mut Words) -> Reply {
+        let sectors = words.number();
+        let failures = read_failures(words);
+        if words.are_bad() {
+            return Reply::Unreadable;
+        }
+        self.place(blank(alloc, sectors, failures))
     }
 
     // `N [fuse N] [fault reads|changes K]`: a formatted disk, which is opened.
-    fn make_disk(&mut self, alloc: Global, words: &mut Words) -> Result<Answer, StepError> {
-        let mut disk = MemDisk::new(alloc, words.number()?)?;
-        let answer = formatted(alloc, &mut disk, &self.settings)?;
-        if answer.is_refused() {
-            return Ok(answer);
+    fn make_disk(&mut self, alloc: Global, words: &mut Words, answer: &mut Text) -> Reply {
+        let sectors = words.number();
+        let failures = read_failures(words);
+        if words.are_bad() {
+            return Reply::Unreadable;
         }
-        self.stage = Stage::Closed(wrapped(disk, &read_failures(words)?));
-        self.open(alloc)
+        let made = formatted(alloc, sectors, failures, &self.settings, answer);
+        match self.place(made) {
+            Reply::Done => self.open(alloc, answer),
+            reply => reply,
+        }
     }
 
-    // Formats the disk, which stays closed.
-    fn format(&mut self, alloc: Global) -> Result<Answer, StepError> {
-        let mut disk = unwrapped(self.take_disk()?);
-        let answer = formatted(alloc, &mut disk, &self.settings)?;
-        self.stage = Stage::Closed(sound(disk));
-        Ok(answer)
-    }
-
-    fn close(&mut self) -> Result<Answer, StepError> {
-        let disk = self.take_disk()?;
-        self.stage = Stage::Closed(disk);
-        Ok(Answer::Done)
-    }
-
-    // `SECTORS`: stops the disk; an unsettled sector that is listed takes these bytes. From then on its device works.
-    fn halt(&mut self, alloc: Global, words: &mut Words) -> Result<Answer, StepError> {
-        let mut disk = unwrapped(self.take_disk()?);
-        let choice = read_choice(alloc, &mut disk, words.rest())?;
-        self.stage = Stage::Closed(sound(disk.stop(&choice)));
-        Ok(Answer::Done)
+    // Does a step on the disk in memory itself, whose device fails from then on as it is said.
+    fn memory_step(
+        &mut self,
+        alloc: Global,
+        word: &str,
+        failures: Failures,
+        words: &mut Words,
+        answer: &mut Text,
+    ) -> Reply {
+        let Some(disk) = self.take_disk() else {
+            return Reply::Unreadable;
+        };
+        let disk = disk.into_inner().into_inner();
+        let (reply, disk) = memory_step(alloc, disk, &self.settings, word, words, answer);
+        if let Some(disk) = disk {
+            self.stage = Stage::Closed(wrapped(disk, failures));
+        }
+        reply
     }
 
     // `[fuse N] [fault reads|changes K]`: when the device fails from now on.
-    fn fail(&mut self, words: &mut Words) -> Result<Answer, StepError> {
-        let failures = read_failures(words)?;
-        let disk = unwrapped(self.take_disk()?);
-        self.stage = Stage::Closed(wrapped(disk, &failures));
-        Ok(Answer::Done)
-    }
-
-    // How many barriers the disk has made.
-    fn barriers(&mut self, alloc: Global) -> Result<Answer, StepError> {
-        let disk = unwrapped(self.take_disk()?);
-        let barriers = disk.barriers();
-        self.stage = Stage::Closed(sound(disk));
-        Ok(Answer::number(alloc, barriers)?)
-    }
-
-    // `STEP; STEP; ..`: runs a drill on the disk, which stays closed.
-    fn drill(&mut self, alloc: Global, words: &mut Words) -> Result<Answer, StepError> {
-        let disk = unwrapped(self.take_disk()?);
-        let (answer, disk) = drill_steps(alloc, disk, words.rest())?;
-        if let Some(disk) = disk {
-            self.stage = Stage::Closed(sound(disk));
+    fn set_device(&mut self, alloc: Global, words: &mut Words, answer: &mut Text) -> Reply {
+        let failures = read_failures(words);
+        if words.are_bad() {
+            return Reply::Unreadable;
         }
-        Ok(answer)
+        self.memory_step(alloc, "device", failures, words, answer)
+    }
+
+    // `SECTORS`: stops the disk and opens it again.
+    fn stop(&mut self, alloc: Global, words: &mut Words, answer: &mut Text) -> Reply {
+        match self.memory_step(alloc, "halt", SOUND, words, answer) {
+            Reply::Done => self.open(alloc, answer),
+            reply => reply,
+        }
     }
 
     // A step of the broker, if one is open, or of the disk.
-    fn step_on_stage(&mut self, alloc: Global, line: &str) -> Result<Answer, StepError> {
+    fn step_on_stage(
+        &mut self,
+        alloc: Global,
+        word: &str,
+        words: &mut Words,
+        answer: &mut Text,
+    ) -> Reply {
         match &mut self.stage {
-            Stage::Nothing => Err(StepError::Unreadable),
-            Stage::Closed(disk) => disk_step(alloc, disk, line),
-            Stage::Open(broker) => broker_step(alloc, broker, &mut self.tickets, line),
+            Stage::Nothing => Reply::NoStep,
+            Stage::Closed(disk) => disk_step(alloc, disk, word, words, answer),
+            Stage::Open(broker) => {
+                broker_step(alloc, broker, &mut self.tickets, word, words, answer)
+            }
         }
     }
 }
 
 impl Scene for World {
-    fn step(&mut self, alloc: Global, line: &str) -> Result<Answer, StepError> {
-        if line.contains('$') {
-            return Err(StepError::Unreadable);
-        }
-        if let Some(answer) = record_step(alloc, &self.settings, line)? {
-            return Ok(answer);
-        }
-        let mut words = Words::of(line);
-        match words.word()? {
-            "settings" => {
-                set(alloc, &mut self.settings, &mut words)?;
-                Ok(Answer::Done)
-            }
-            "blank" => self.make_blank(alloc, &mut words),
-            "disk" => self.make_disk(alloc, &mut words),
-            "format" => self.format(alloc),
-            "open" => self.open(alloc),
+    fn step(&mut self, alloc: Global, words: &mut Words, answer: &mut Text) -> Reply {
+        let word = words.word();
+        match word {
+            "settings" => set(alloc, &mut self.settings, words),
+            "blank" => self.make_blank(alloc, words),
+            "disk" => self.make_disk(alloc, words, answer),
+            "open" => self.open(alloc, answer),
             "close" => self.close(),
-            "halt" => self.halt(alloc, &mut words),
-            "stop" => {
-                self.halt(alloc, &mut words)?;
-                self.open(alloc)
+            "stop" => self.stop(alloc, words, answer),
+            "device" => self.set_device(alloc, words, answer),
+            "halt" | "format" | "barriers" | "drill" => {
+                self.memory_step(alloc, word, SOUND, words, answer)
             }
-            "device" => self.fail(&mut words),
-            "barriers" => self.barriers(alloc),
-            "drill" => self.drill(alloc, &mut words),
-            _ => self.step_on_stage(alloc, line),
+            _ => {
+                let reply = record_step(alloc, &self.settings, word, words, answer);
+                if reply.is_no_step() {
+                    return self.step_on_stage(alloc, word, words, answer);
+                }
+                reply
+            }
         }
     }
 }
