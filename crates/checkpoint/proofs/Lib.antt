@@ -1,3 +1,4 @@
+pub mod Ranges
 pub mod Judging
 pub mod Refusals
 pub mod Segments

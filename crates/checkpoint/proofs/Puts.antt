@@ -1,6 +1,6 @@
 -- What is written in pieces, by its bytes and by what a stop leaves.
 use Rattle.std.proofs.Common.{◌≡◌, ℕ, ◌+◌, ◌-◌, ◌*◌, ◌<◌, ◌≤◌, List, [], ◌∷◌, ◌++◌, length, take, drop, replicate, get_or, Option, Some, None, Result, Ok, Err, IsErr, OnOk, refl, sym, ◌∙◌, ap, subst, append_assoc, length-append, arith}
-use Rattle.std.proofs.lemmas.List.{append-nil, take-append-drop, take-replicate, replicate-append-replicate, drop_more, take_more, flat_map_more, take_at, drop_at, take-take, drop-take, drop-drop, length-take-le}
+use Rattle.std.proofs.lemmas.List.{append-nil, take-append-drop, take-replicate, replicate-append-replicate, drop_more, take_more, flat_map_more, take_at, drop_at, take-take, drop-take, length-take-le}
 use Rattle.std.specs.List.{flat_map}
 use Rattle.invoke_records.specs.declared.row.EventRow.{EventRow}
 use Rattle.invoke_records.specs.declared.error.RecordError.{RecordError}
@@ -12,15 +12,11 @@ use Rattle.sector_disk.specs.laws.Moments.{started, writes, joined}
 use Rattle.sector_disk.specs.laws.Written.{same_part}
 use Rattle.std.proofs.lemmas.Result.{on_ok_weaker}
 use Rattle.std.proofs.lemmas.Bool.{false≢true}
+use Rattle.checkpoint.proofs.Ranges.{later_same}
 use Rattle.checkpoint.specs.declared.pieces.Pieces.{Pieces}
 use Rattle.checkpoint.specs.Pieces.{DiffersWithin, LeavesWithin, reached, front, HasSpace, IsEmptyFrom, Puts, StandsFrom, ending}
 
 -- ## Ranges
-
-later_same : (a k : ℕ) (xs ys : List ℕ) → drop a xs ≡ drop a ys → a ≤ k → drop k xs ≡ drop k ys
-later_same a k xs ys same le =
-    let more : a + (k - a) ≡ k = omega (arith, le) in
-    ap (λ (n : ℕ). drop n xs) (sym more) ∙ sym (drop-drop (k - a) a xs) ∙ ap (λ (l : List ℕ). drop (k - a) l) same ∙ drop-drop (k - a) a ys ∙ ap (λ (n : ℕ). drop n ys) more
 
 -- a write within the range
 written_within : (first last : ℕ) (was : List ℕ) (at n : ℕ) (earlier image : List ℕ) → first ≤ at → 512 * at + n ≤ 512 * last → DiffersWithin first last was earlier → MayDiffer (512 * at) n earlier image

@@ -1,13 +1,13 @@
 -- Sectors that are written and settled, one after another.
-use Rattle.std.proofs.Common.{◌≡◌, inl, inr, ⊎_elim, ℕ, ◌+◌, ◌-◌, ◌*◌, ◌≤◌, Bool, true, false, List, length, take, drop, Result, OnOk, refl, sym, ◌∙◌, ap, subst, arith}
+use Rattle.std.proofs.Common.{◌≡◌, inl, inr, ⊎_elim, ℕ, ◌+◌, ◌*◌, ◌≤◌, Bool, true, false, List, length, take, drop, Result, OnOk, refl, sym, ◌∙◌, ap, subst, arith}
 use Rattle.std.proofs.lemmas.Result.{on_ok_weaker}
-use Rattle.std.proofs.lemmas.List.{drop-drop}
 use Rattle.sector_disk.specs.declared.disk.Fault.{Fault}
 use Rattle.sector_disk.specs.Disk.{DiskView, IsDisk, HasOneImage, IsSameDisk, IsBarrier, Holds}
 use Rattle.sector_disk.specs.Moments.{LeavesOnly}
 use Rattle.sector_disk.specs.laws.Moments.{Run, started, settles}
 use Rattle.sector_disk.specs.laws.Written.{same_part, written_size, written_front, written_here, written_behind}
 use Rattle.gate_journal.specs.Frames.{is_open}
+use Rattle.checkpoint.proofs.Ranges.{later_same}
 use Rattle.checkpoint.specs.Image.{sector_at}
 use Rattle.checkpoint.specs.Pieces.{DiffersWithin, IsWithin, StandsFrom}
 use Rattle.checkpoint.specs.SwitchSteps.{IsRewritten, IsBeingClosed, IsSwitching, IsSwitched}
@@ -16,11 +16,6 @@ use Rattle.checkpoint.specs.SwitchSteps.{IsRewritten, IsBeingClosed, IsSwitching
 
 pub nothing_differs : (first last : ℕ) (image : List ℕ) → DiffersWithin first last image image
 nothing_differs first last image = record { size = refl; before = refl; behind = refl }
-
-later_same : (a k : ℕ) (xs ys : List ℕ) → drop a xs ≡ drop a ys → a ≤ k → drop k xs ≡ drop k ys
-later_same a k xs ys same le =
-    let more : a + (k - a) ≡ k = omega (arith, le) in
-    ap (λ (n : ℕ). drop n xs) (sym more) ∙ sym (drop-drop (k - a) a xs) ∙ ap (λ (l : List ℕ). drop (k - a) l) same ∙ drop-drop (k - a) a ys ∙ ap (λ (n : ℕ). drop n ys) more
 
 -- in more sectors
 pub wider : (first last low high : ℕ) (was image : List ℕ) → low ≤ first → last ≤ high → DiffersWithin first last was image → DiffersWithin low high was image

@@ -1,6 +1,5 @@
 -- What a stop leaves of a disk that is being formatted.
-use Rattle.std.proofs.Common.{◌≡◌, ◌⊎◌, inl, inr, ℕ, ◌+◌, ◌-◌, ◌*◌, ◌≤◌, false, List, length, take, drop, Result, refl, sym, ◌∙◌, ap, subst, arith}
-use Rattle.std.proofs.lemmas.List.{drop-drop}
+use Rattle.std.proofs.Common.{◌≡◌, ◌⊎◌, inl, inr, ℕ, ◌+◌, ◌-◌, ◌*◌, ◌≤◌, false, List, length, take, drop, Result, refl, ◌∙◌, ap, subst, arith}
 use Rattle.std.proofs.lemmas.Bool.{cases_Bool}
 use Rattle.sector_disk.specs.declared.disk.Fault.{Fault}
 use Rattle.sector_disk.specs.Disk.{DiskView, IsDisk, IsSameDisk, HasOneImage, IsWrite, MayDiffer}
@@ -8,6 +7,7 @@ use Rattle.sector_disk.specs.laws.Moments.{Run, started, writes}
 use Rattle.sector_disk.specs.laws.Written.{same_part}
 use Rattle.sector_disk.specs.laws.Moments.{leaves_weaker}
 use Rattle.gate_journal.specs.Frames.{is_open}
+use Rattle.checkpoint.proofs.Ranges.{later_same}
 use Rattle.checkpoint.specs.Image.{sector_at}
 use Rattle.checkpoint.specs.Formatting.{DiffersInGates, IsOldButForGates}
 use Rattle.checkpoint.specs.FormatSteps.{HoldsFirst, IsClosed, IsBeingFormatted}
@@ -16,18 +16,12 @@ use Rattle.checkpoint.specs.FormatSteps.{HoldsFirst, IsClosed, IsBeingFormatted}
 pub unchanged : (old : DiskView) {second : ℕ} (image : List ℕ) → old.may_leave image → IsOldButForGates old second image
 unchanged old image left = (image, left, record { size = refl; between = refl; behind = refl })
 
--- what agrees from one place on agrees from each later one on
-further : (a k : ℕ) (xs ys : List ℕ) → drop a xs ≡ drop a ys → a ≤ k → drop k xs ≡ drop k ys
-further a k xs ys same le =
-    let more : a + (k - a) ≡ k = omega (arith, le) in
-    ap (λ (n : ℕ). drop n xs) (sym more) ∙ sym (drop-drop (k - a) a xs) ∙ ap (λ (l : List ℕ). drop (k - a) l) same ∙ drop-drop (k - a) a ys ∙ ap (λ (n : ℕ). drop n ys) more
-
 module _ (second : ℕ) (second_is : 512 ≤ 512 * second) where
   gate_a_differs : (earlier image : List ℕ) → MayDiffer 0 512 earlier image → DiffersInGates second earlier image
   gate_a_differs earlier image differ = record {
     size = differ.size;
     between = ap (λ (l : List ℕ). take (512 * second - 512) l) differ.after;
-    behind = further 512 (512 * second + 512) image earlier differ.after (omega (arith, second_is));
+    behind = later_same 512 (512 * second + 512) image earlier differ.after (omega (arith, second_is));
   }
 
   gate_b_differs : (earlier mid image : List ℕ) → DiffersInGates second earlier mid → MayDiffer (512 * second) 512 mid image → DiffersInGates second earlier image
@@ -41,14 +35,14 @@ module _ (second : ℕ) (second_is : 512 ≤ 512 * second) where
   still_closed : (n : ℕ) (old image : List ℕ) → 512 + n ≤ 512 * second → IsClosed second old → MayDiffer 512 n old image → IsClosed second image
   still_closed n old image within was differ = record {
     gate_a = ap is_open differ.before ∙ was.gate_a;
-    gate_b = ap (λ (l : List ℕ). is_open (take 512 l)) (further (512 + n) (512 * second) image old differ.after within) ∙ was.gate_b;
+    gate_b = ap (λ (l : List ℕ). is_open (take 512 l)) (later_same (512 + n) (512 * second) image old differ.after within) ∙ was.gate_b;
   }
 
   -- the gate of A torn open or shut over a segment that is there
   closed_or_holds : (segment old image : List ℕ) → is_open (sector_at second old) ≡ false → take (length segment) (drop 512 old) ≡ segment → MayDiffer 0 512 old image
       → IsClosed second image ⊎ HoldsFirst second segment image
   closed_or_holds segment old image shut there differ =
-      let gate_b = ap (λ (l : List ℕ). is_open (take 512 l)) (further 512 (512 * second) image old differ.after second_is) ∙ shut in
+      let gate_b = ap (λ (l : List ℕ). is_open (take 512 l)) (later_same 512 (512 * second) image old differ.after second_is) ∙ shut in
       elim (cases_Bool (is_open (sector_at 0 image))) [
         | inl opened ↦ inr (record { gate_a = opened; gate_b = gate_b; behind = ap (λ (l : List ℕ). take (length segment) l) differ.after ∙ there })
         | inr closed ↦ inl (record { gate_a = closed; gate_b = gate_b })

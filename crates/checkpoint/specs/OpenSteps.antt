@@ -7,7 +7,7 @@ use Rattle.invoke_records.specs.declared.snapshot.Snapshot.{Snapshot}
 use Rattle.gate_journal.specs.Journal as journal
 use Rattle.retry_rules.specs.Settings.{bad_field}
 use Rattle.gate_journal.specs.Frames.{Frames, sectors_for}
-use Rattle.checkpoint.specs.Image.{SegmentImage, DiskImage, segment_sectors, area_of, snapshot_in, found_in, folded}
+use Rattle.checkpoint.specs.Image.{SegmentImage, DiskImage, segments_in, segment_sectors, area_of, snapshot_in, found_in, folded}
 use Rattle.checkpoint.specs.Live.{settings_of, IsLive}
 use Rattle.checkpoint.specs.declared.header.Header.{Header}
 use Rattle.checkpoint.specs.declared.choosing.Found.{Found}
@@ -112,3 +112,7 @@ pub record IsOpenedAs (read : Result DiskImage OpenError) (bytes : List ℕ) (op
   pub other : is_some image.older ≡ opened.other_open
   pub holds : journal.Holds image.live.area image.live.frames opened.journal bytes
   pub replays : replay (settings_of opened) snapshot commands ≡ Some image.live.table
+
+-- the segments that were found open in this image were opened so
+abbrev pub AreOpened : ℕ → Found → Option Found → List ℕ → Opened → Snapshot → List Command → Type 0
+AreOpened sectors live older bytes = IsOpenedAs (segments_in sectors bytes (Ok (live, older))) bytes

@@ -8,7 +8,7 @@ ghost use Rattle.checkpoint.specs.declared.error.OpenError.TheVariants as open_e
 ghost use Rattle.checkpoint.specs.Image.{folded, found_in, segments_in, read_image, recovered};
 ghost use Rattle.checkpoint.specs.Live.{settings_of, number_of, HasRoom};
 ghost use Rattle.checkpoint.specs.Opening.{IsRecovered, TellsNotFormatted, TellsDamage};
-ghost use Rattle.checkpoint.specs.OpenSteps.{OnlyReads, IsSoundFound, Refuses, Opens, IsOpened, AreBoth, IsOpenedAs};
+ghost use Rattle.checkpoint.specs.OpenSteps.{OnlyReads, IsSoundFound, Refuses, Opens, IsOpened, AreBoth, IsOpenedAs, AreOpened};
 
 use crate::choosing::{Found, choose};
 use crate::legality::{judge, without_gates};
@@ -126,7 +126,7 @@ fn read_found<D: Disk>(
     ensures below { IfOk result (λ r. r.1.number + length r.2.items ≤ 2 ^ 62) }
     ensures legal { IfOk result (λ r. IsSome (replay (settings_of r.0) r.1 r.2.items)) }
     ensures exact { (D.view disk.old).honest
-        → IfOk result (λ r. IsOpenedAs (segments_in sectors (D.view disk.old).content (Ok (live, older))) (D.view disk.old).content r.0 r.1 r.2.items) }
+        → IfOk result (λ r. AreOpened sectors live older (D.view disk.old).content r.0 r.1 r.2.items) }
     ensures refused { (D.view disk.old).honest
         → IfErr result (λ why. Refuses why (segments_in sectors (D.view disk.old).content (Ok (live, older)))) }
 {

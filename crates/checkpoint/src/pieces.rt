@@ -176,7 +176,8 @@ impl Pieces {
         // A stop at any moment leaves each other sector as it was.
         ensures any_moment { LeavesWithin (D.view disk.old) (D.view disk.new) first last }
 
-        ensures written { (D.view disk.old).honest → OnOk result (StandsFrom first (parts_text header.now snapshot.now) (D.view disk.new).content) }
+        ensures written { (D.view disk.old).honest
+            → OnOk result (StandsFrom first (parts_text header.now snapshot.now) (D.view disk.new).content) }
     {
         self.start(first, last);
         self.put(disk, header)?;

@@ -17,7 +17,8 @@ fn read_pieces<D: Disk>(disk: &mut D, at: u64, bytes: &mut [u8]) -> Result<(), F
     requires small { 512 * at + length bytes.old < 512 * 2 ^ 64 }
     ensures reads { OnlyReads (D.view disk.old) (D.view disk.new) }
     ensures cause { HasCause (D.fault_count disk.old) (D.fault_count disk.new) result }
-    ensures bytes { (D.view disk.old).honest → OnOk result (bytes.new ≡ take (length bytes.old) (drop (512 * at) (D.view disk.old).content)) }
+    ensures bytes { (D.view disk.old).honest
+        → OnOk result (bytes.new ≡ take (length bytes.old) (drop (512 * at) (D.view disk.old).content)) }
 {
     let mut done = 0;
     while done < bytes.len() {

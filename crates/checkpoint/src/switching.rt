@@ -33,7 +33,8 @@ fn write_gate<D: Disk>(disk: &mut D, sector: u64, gate: &[u8; 512]) -> Result<()
     ensures same { IsSameDisk (D.view disk.old) (D.view disk.new) }
     ensures cause { HasCause (D.fault_count disk.old) (D.fault_count disk.new) result }
     ensures any_moment { LeavesElsewhere (D.view disk.old) (D.view disk.new) sector (sector + 1) }
-    ensures written { Rewrites (D.view disk.old) (D.view disk.new) sector (sector + 1) result (λ content. sector_at sector content ≡ gate.now) }
+    ensures written { Rewrites (D.view disk.old) (D.view disk.new) sector (sector + 1) result
+        (λ content. sector_at sector content ≡ gate.now) }
 {
     disk.write(sector, gate)?;
     disk.barrier()
@@ -71,7 +72,8 @@ fn write_parts<D: Disk>(
     ensures same { IsSameDisk (D.view disk.old) (D.view disk.new) }
     ensures cause { HasCause (D.fault_count disk.old) (D.fault_count disk.new) result }
     ensures any_moment { LeavesElsewhere (D.view disk.old) (D.view disk.new) first last }
-    ensures written { Rewrites (D.view disk.old) (D.view disk.new) first last result (StandsFrom first (parts_text header.now snapshot.now)) }
+    ensures written { Rewrites (D.view disk.old) (D.view disk.new) first last result
+        (StandsFrom first (parts_text header.now snapshot.now)) }
 {
     pieces.write_segment(disk, first, last, header, snapshot)?;
     disk.barrier()
@@ -96,7 +98,8 @@ fn write_live<D: Disk>(
     ensures cause { HasCause (D.fault_count disk.old) (D.fault_count disk.new) result }
     ensures any_moment { LeavesSwitching (D.view disk.old) (D.view disk.new) base sectors was_open (parts_text header.now snapshot.now) }
     ensures written { HasGate (D.view disk.old) base was_open
-        → Rewrites (D.view disk.old) (D.view disk.new) base (base + sectors) result (IsSwitched base sectors (parts_text header.now snapshot.now) (D.view disk.old).content) }
+        → Rewrites (D.view disk.old) (D.view disk.new) base (base + sectors) result
+        (IsSwitched base sectors (parts_text header.now snapshot.now) (D.view disk.old).content) }
 {
     close_gate(disk, base, was_open)?;
     write_parts(disk, pieces, base + 1, base + sectors, header, snapshot)?;

@@ -14,7 +14,6 @@ use Rattle.group_commit.specs.declared.error.IssueError.TheVariants as issue_err
 use Rattle.group_commit.specs.declared.error.CommitError.{CommitError}
 use Rattle.group_commit.specs.declared.error.CommitError.TheVariants as commit_error
 use Rattle.group_commit.specs.declared.script.Step.{Step}
-use Rattle.group_commit.specs.declared.script.Step.TheVariants as step
 use Rattle.group_commit.specs.declared.script.StepAnswer.{StepAnswer}
 use Rattle.group_commit.specs.declared.script.StepAnswer.TheVariants as answer
 use Rattle.group_commit.specs.Broker.{settings_of, table_in, durable_of, is_broken, Stands, IsSameBroker, Breaks, IsReason}
