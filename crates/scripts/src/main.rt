@@ -6,6 +6,7 @@
 
 mod bytes;
 mod case;
+mod destinations;
 mod disks;
 mod drilling;
 mod events;

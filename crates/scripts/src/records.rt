@@ -1,5 +1,6 @@
 // Steps on records and rules alone: how a record is spelled, and what is read from bytes. They need no disk.
 use crate::bytes::hex_bytes;
+use crate::destinations::tell_stamp;
 use crate::orders::{kind_word, read_command};
 use crate::refusals;
 use crate::reply::Reply;
@@ -189,6 +190,7 @@ pub fn record_step(
         "wait" => wait(words),
         "too-old" => is_too_old(words),
         "check" => check(settings, answer),
+        "stamp" => tell_stamp(alloc, words, answer),
         "is-name" => Reply::yes_or_no(has_name_bytes(words.rest().as_bytes())),
         "is-plain" => Reply::yes_or_no(has_plain_bytes(words.rest().as_bytes())),
         _ => Reply::NoStep,

@@ -1,4 +1,5 @@
 // Where a case stands: its settings, its disk, and the broker on it.
+use crate::destinations::{tell_member, tell_record};
 use crate::disks::disk_step;
 use crate::events::broker_step;
 use crate::memory::{format_disk, memory_step};
@@ -37,6 +38,8 @@ pub struct World {
     // How many commands were durable and issued when the last broker was closed.
     durable: u64,
     issued: u64,
+    // The destination record that was told last.
+    record: Vec<u8>,
 }
 
 // When the device of a disk is to fail.
@@ -119,6 +122,7 @@ impl World {
                 tickets: Vec::new(alloc),
                 durable: 0,
                 issued: 0,
+                record: Vec::new(alloc),
             }),
             None => None,
         }
@@ -233,6 +237,16 @@ impl World {
         }
     }
 
+    // `ID`: the record of an event that has ended.
+    fn tell_record(&mut self, alloc: Global, words: &mut Words, answer: &mut Text) -> Reply {
+        match &self.stage {
+            Stage::Open(broker) => {
+                tell_record(alloc, broker.table(), &mut self.record, words, answer)
+            }
+            _ => Reply::NoStep,
+        }
+    }
+
     // A step of the broker, if one is open, or of the disk.
     fn step_on_stage(
         &mut self,
@@ -262,6 +276,8 @@ impl Scene for World {
             "close" => self.close(),
             "stop" => self.stop(alloc, words, answer),
             "device" => self.set_device(alloc, words, answer),
+            "record" => self.tell_record(alloc, words, answer),
+            "member" => tell_member(alloc, &self.record, words, answer),
             "halt" | "format" | "barriers" | "drill" => {
                 self.memory_step(alloc, word, SOUND, words, answer)
             }

@@ -1,0 +1,29 @@
+use Rattle.std.proofs.Common.{[], ◌∷◌, codes}
+use Rattle.std.specs.Fmt.{decimal}
+use Rattle.destination_json.specs.Record.{id_text, condition_text}
+use Rattle.destination_json.proofs.Pieces.{context}
+use Rattle.destination_json.proofs.context.add_context.Goals as goal
+
+pub returns : goal.returns
+returns c =
+    let e = c.args.ended.now in
+    rw (
+      c.in_ok-add-9.ensures,
+      c.in_ok-add-8.ensures,
+      c.in_ok-add-7.ensures,
+      c.in_ok-add-6.ensures,
+      c.in_ok-add-5.ensures,
+      c.in_ok-add-4.ensures,
+      c.in_ok-add-3.ensures,
+      c.in_ok-add-2.ensures,
+      c.in_ok-add.ensures,
+      c.as_bytes-4.ensures.value,
+      c.in_ok-starts.ensures,
+      c.as_bytes-3.ensures.value,
+      c.condition.ensures,
+      c.as_bytes-2.ensures,
+      c.as_bytes.ensures.value,
+      c.in_ok-id.ensures,
+    )
+    (context (123 ∷ []) (125 ∷ []) (44 ∷ []) (58 ∷ []) (34 ∷ []) c.args.out.now.items (codes "requestId") (codes "functionArn") (codes "condition") (codes "approximateInvokeCount")
+    (id_text e.id.now) c.args.settings.now.arn (codes ":$LATEST") (condition_text e.outcome) (decimal e.starts))

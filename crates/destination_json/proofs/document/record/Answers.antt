@@ -1,0 +1,29 @@
+use Rattle.std.proofs.Common.{[], ◌∷◌, codes}
+use Rattle.async_core.specs.Readers.{told}
+use Rattle.destination_json.specs.Json.{member, after_commas}
+use Rattle.destination_json.specs.Stamp.{stamp_text}
+use Rattle.destination_json.specs.Record.{request_context, record_text, answer_members}
+use Rattle.destination_json.proofs.Members.{joined}
+use Rattle.destination_json.proofs.Pieces.{whole}
+use Rattle.destination_json.proofs.document.record.Goals as goal
+
+pub returns : goal.returns
+unfolding record_text
+returns c =
+    let e = c.args.ended.now in
+    rw (
+      c.in_ok-add-6.ensures,
+      c.in_ok-add_answer.ensures,
+      c.in_ok-add-5.ensures,
+      c.in_ok-add-4.ensures,
+      c.in_ok-add_context.ensures,
+      c.in_ok-add-3.ensures,
+      c.in_ok-add-2.ensures,
+      c.in_ok-add.ensures,
+      c.in_ok-out.ensures.items,
+      c.as_bytes.ensures.value,
+      c.in_ok-at.ensures,
+      joined (member "requestPayload" e.payload.now) (answer_members e.outcome e.answer.now),
+    )
+    (whole (123 ∷ []) (125 ∷ []) (44 ∷ []) (58 ∷ []) (34 ∷ []) (codes "version") (codes "timestamp") (codes "requestContext") (codes "requestPayload") (codes "1.0")
+    (stamp_text e.at) (request_context c.args.settings.now (told e)) e.payload.now (after_commas (answer_members e.outcome e.answer.now)))

@@ -1,0 +1,6 @@
+pub mod Digits
+pub mod Stamp
+pub mod Json
+pub mod Record
+pub mod Laws
+pub mod Examples

@@ -1,0 +1,60 @@
+// What a record tells of the request: its id, the function, why the event ended, and after how many attempts.
+ghost use Rattle.std.specs.Prelude.{◌≡◌, ◌++◌, IfOk, OnOk, string_bytes, decimal};
+ghost use Rattle.async_core.specs.Readers.{told};
+ghost use Rattle.destination_json.specs.Record.{condition_text, id_text, request_context};
+
+use crate::parts::add;
+use async_core::Ended;
+use invoke_records::Outcome;
+use retry_rules::Settings;
+use std::alloc::{AllocError, Global};
+use uuid::Uuid;
+
+fn condition(outcome: Outcome) -> &'static str
+    ensures { result.now ≡ condition_text outcome }
+{
+    match outcome {
+        Outcome::Success => "Success",
+        Outcome::RetriesExhausted => "RetriesExhausted",
+        Outcome::EventAgeExceeded => "EventAgeExceeded",
+    }
+}
+
+/// The text of an id: with its hyphens, in lower case, as headers and records have it.
+#[tactic(auto, unfolding(crate::specs::Record::id_text))]
+pub fn id_text(alloc: Global, id: &[u8; 16]) -> Result<String, AllocError>
+    ensures { IfOk result (λ text. string_bytes text ≡ id_text id.now) }
+{
+    let mut buffer = Uuid::encode_buffer();
+    let id = Uuid::from_bytes(*id);
+    String::from_str(alloc, id.hyphenated().encode_lower(&mut buffer))
+}
+
+fn count(alloc: Global, starts: u32) -> Result<String, AllocError>
+    ensures { IfOk result (λ text. string_bytes text ≡ decimal starts) }
+{
+    format!(in alloc; "{starts}")
+}
+
+/// Puts the context behind a text.
+pub(crate) fn add_context(
+    alloc: Global,
+    out: &mut Vec<u8>,
+    ended: &Ended<'_>,
+    settings: &Settings,
+) -> Result<(), AllocError>
+    ensures { OnOk result (out.new.items ≡ out.old.items ++ request_context settings.now (told ended.now)) }
+{
+    let id = id_text(alloc, ended.id)?;
+    let starts = count(alloc, ended.starts)?;
+    add(out, b"{\"requestId\":\"")?;
+    add(out, id.as_bytes())?;
+    add(out, b"\",\"functionArn\":\"")?;
+    add(out, settings.arn.as_bytes())?;
+    add(out, b":$LATEST\",\"condition\":\"")?;
+    add(out, condition(ended.outcome).as_bytes())?;
+    add(out, b"\",\"approximateInvokeCount\":")?;
+    add(out, starts.as_bytes())?;
+    add(out, b"}")?;
+    Ok(())
+}
