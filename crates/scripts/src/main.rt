@@ -9,6 +9,7 @@ mod case;
 mod destinations;
 mod disks;
 mod drilling;
+mod environments;
 mod events;
 mod journals;
 mod memory;

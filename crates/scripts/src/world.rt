@@ -1,6 +1,7 @@
 // Where a case stands: its settings, its disk, and the broker on it.
 use crate::destinations::{tell_member, tell_record};
 use crate::disks::disk_step;
+use crate::environments::environment_step;
 use crate::events::broker_step;
 use crate::memory::{format_disk, memory_step};
 use crate::records::record_step;
@@ -11,6 +12,7 @@ use crate::settings::{set, usual_settings};
 use crate::text::Text;
 use crate::words::Words;
 use checkpoint::OpenError;
+use env_phase::Env;
 use group_commit::{Broker, OpenFailure, Ticket};
 use retry_rules::Settings;
 use sector_disk::{CallKind, FaultOnceDisk, FuseDisk, MemDisk};
@@ -40,6 +42,8 @@ pub struct World {
     issued: u64,
     // The destination record that was told last.
     record: Vec<u8>,
+    // An environment, which needs no disk.
+    environment: Option<Env>,
 }
 
 // When the device of a disk is to fail.
@@ -123,6 +127,7 @@ impl World {
                 durable: 0,
                 issued: 0,
                 record: Vec::new(alloc),
+                environment: None,
             }),
             None => None,
         }
@@ -277,6 +282,7 @@ impl Scene for World {
             "stop" => self.stop(alloc, words, answer),
             "device" => self.set_device(alloc, words, answer),
             "record" => self.tell_record(alloc, words, answer),
+            "env" => environment_step(alloc, &mut self.environment, words, answer),
             "member" => tell_member(alloc, &self.record, words, answer),
             "halt" | "format" | "barriers" | "drill" => {
                 self.memory_step(alloc, word, SOUND, words, answer)
