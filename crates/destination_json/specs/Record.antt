@@ -30,6 +30,7 @@ condition_text Success = codes "Success"
 condition_text RetriesExhausted = codes "RetriesExhausted"
 condition_text EventAgeExceeded = codes "EventAgeExceeded"
 
+-- which event, of which function, why it ended, and how often it was started; the ARN of good settings needs no escape
 abbrev pub request_context : Settings → Ending → List ℕ
 request_context s e = object (
     member "requestId" (in_quotes (id_text e.id))

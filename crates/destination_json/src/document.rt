@@ -15,7 +15,7 @@ use retry_rules::Settings;
 use std::alloc::{AllocError, Global};
 
 // More than a record takes beside the ARN, the payload and an answer that is copied.
-const FRAME: usize = 448;
+const FRAME: usize = 384;
 
 // What a record says of a function error.
 fn error_member(outcome: Outcome) -> &'static str
@@ -73,7 +73,7 @@ fn room(ended: &Ended<'_>, settings: &Settings) -> usize {
 
 /// The destination record of an event that has ended: one JSON object, without spaces outside copied bytes.
 ///
-/// Its members are those of the AWS Lambda Developer Guide, "Capturing records of asynchronous invocations", in its
+/// Its members are those of the AWS Lambda Developer Guide, "Capturing records of Lambda asynchronous invocations", in its
 /// order. Only want of memory is refused. The moment, in milliseconds since 1970, is at most the end of the year 9999.
 pub fn record(alloc: Global, ended: &Ended<'_>, settings: &Settings) -> Result<Vec<u8>, AllocError>
     requires { ended.now.at ≤ greatest_moment }

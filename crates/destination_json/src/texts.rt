@@ -1,6 +1,5 @@
 // Which bytes are JSON, and how an answer stands in a record.
-ghost use Rattle.std.specs.Prelude.{◌≡◌, ◌↔◌, ◌++◌, IfOk, OnOk, IsTrue, IsSome, IsUtf8, string_bytes};
-ghost use Rattle.serde_json.specs.Read.{read};
+ghost use Rattle.std.specs.Prelude.{◌≡◌, ◌++◌, IfOk, OnOk, string_bytes};
 ghost use Rattle.json.specs.Print.{quoted};
 ghost use Rattle.destination_json.specs.Json.{is_json};
 ghost use Rattle.destination_json.specs.Record.{answer_json};
@@ -9,29 +8,16 @@ use crate::parts::add;
 use serde_json::Value;
 use std::alloc::{AllocError, Global};
 
-// Whether the bytes are read.
-fn is_read(alloc: Global, bytes: &[u8]) -> Result<bool, AllocError>
-    ensures { IfOk result (λ answer. IsTrue answer ↔ (IsUtf8 bytes.now × IsSome (read bytes.now))) }
-{
-    match Value::from_slice(alloc, bytes) {
-        Ok(_) => Ok(true),
-        Err(error) => {
-            if error.is_memory() {
-                Err(AllocError)
-            } else {
-                Ok(false)
-            }
-        }
-    }
-}
-
 /// Whether the bytes are a JSON text: UTF-8 that `serde_json` reads. It takes numbers that a 64-bit float holds, no
 /// lone surrogates, and nests at most 127 deep. Only want of memory is refused.
 pub fn is_json(alloc: Global, bytes: &[u8]) -> Result<bool, AllocError>
     ensures { IfOk result (λ answer. answer ≡ is_json bytes.now) }
 {
-    let answer = is_read(alloc, bytes)?;
-    Ok(answer)
+    match Value::from_slice(alloc, bytes) {
+        Ok(_) => Ok(true),
+        Err(why) if why.is_memory() => Err(AllocError),
+        Err(_) => Ok(false),
+    }
 }
 
 // A text as a JSON string.
