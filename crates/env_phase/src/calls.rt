@@ -96,9 +96,12 @@ impl Env {
         poll_answers(self.alloc, call, &runtime, &self.extensions)
     }
 
-    // Judges the call, asks for memory, and makes it.
+    /// Makes a call: what each of the calls below does, for callers that have the call as a value.
+    ///
+    /// It is refused, and then changes nothing: by the first check that fails (`Give` by `WrongPhase` where the
+    /// environment is not ready), then by want of memory. A moment is at most the end of the year 9999.
     #[tactic(auto, using(crate::specs::laws::States::is_accepted, crate::specs::laws::States::is_refused))]
-    fn apply(&mut self, call: EnvCall) -> Result<Answered, EnvError>
+    pub fn call(&mut self, call: EnvCall) -> Result<Answered, EnvError>
         requires { IsMoment (moment_by call) }
         ensures ok { IfOk result (λ answers. Accepts self.old call self.new answers.items) }
         ensures refused { IfErr result (λ why. Refuses self.old call why) }
@@ -120,7 +123,7 @@ impl Env {
         ensures refused { IfErr result (λ why. Refuses self.old (RuntimeNext slot) why) }
         ensures err { OnErr result (self.new ≡ self.old) }
     {
-        self.apply(EnvCall::RuntimeNext { slot })
+        self.call(EnvCall::RuntimeNext { slot })
     }
 
     /// An extension registers under an identifier, for events, for the end of the environment, for both or neither.
@@ -139,7 +142,7 @@ impl Env {
         ensures refused { IfErr result (λ why. Refuses self.old (Register identifier.now invoke shutdown) why) }
         ensures err { OnErr result (self.new ≡ self.old) }
     {
-        self.apply(EnvCall::Register {
+        self.call(EnvCall::Register {
             identifier: *identifier,
             invoke,
             shutdown,
@@ -155,7 +158,7 @@ impl Env {
         ensures refused { IfErr result (λ why. Refuses self.old (ExtensionNext identifier.now slot) why) }
         ensures err { OnErr result (self.new ≡ self.old) }
     {
-        self.apply(EnvCall::ExtensionNext {
+        self.call(EnvCall::ExtensionNext {
             identifier: *identifier,
             slot,
         })
@@ -169,7 +172,7 @@ impl Env {
         ensures refused { IfErr result (λ why. Refuses self.old (Give id.now deadline) why) }
         ensures err { OnErr result (self.new ≡ self.old) }
     {
-        self.apply(EnvCall::Give { id: *id, deadline })
+        self.call(EnvCall::Give { id: *id, deadline })
     }
 
     /// The runtime answers the event that runs here.
@@ -181,7 +184,7 @@ impl Env {
         ensures refused { IfErr result (λ why. Refuses self.old (Answer id.now) why) }
         ensures err { OnErr result (self.new ≡ self.old) }
     {
-        self.apply(EnvCall::Answer { id: *id })
+        self.call(EnvCall::Answer { id: *id })
     }
 
     /// The runtime reports that it could not start: the environment is reset, and those who wait are told, with the
@@ -194,7 +197,7 @@ impl Env {
         ensures refused { IfErr result (λ why. Refuses self.old (InitError now) why) }
         ensures err { OnErr result (self.new ≡ self.old) }
     {
-        self.apply(EnvCall::InitError { now })
+        self.call(EnvCall::InitError { now })
     }
 
     /// An extension reports that it could not start (`in_init`), or that it ends: the environment is reset, and those
@@ -213,7 +216,7 @@ impl Env {
         ensures refused { IfErr result (λ why. Refuses self.old (ExtensionError identifier.now in_init now) why) }
         ensures err { OnErr result (self.new ≡ self.old) }
     {
-        self.apply(EnvCall::ExtensionError {
+        self.call(EnvCall::ExtensionError {
             identifier: *identifier,
             in_init,
             now,
@@ -230,7 +233,7 @@ impl Env {
         ensures refused { IfErr result (λ why. Refuses self.old (Timeout now) why) }
         ensures err { OnErr result (self.new ≡ self.old) }
     {
-        self.apply(EnvCall::Timeout { now })
+        self.call(EnvCall::Timeout { now })
     }
 
     /// Ends the environment for good: those who wait are told, with the reason `Spindown`, and later calls are refused.
@@ -241,6 +244,6 @@ impl Env {
         ensures refused { IfErr result (λ why. Refuses self.old (Shutdown now) why) }
         ensures err { OnErr result (self.new ≡ self.old) }
     {
-        self.apply(EnvCall::Shutdown { now })
+        self.call(EnvCall::Shutdown { now })
     }
 }

@@ -6,7 +6,9 @@ use crate::events::broker_step;
 use crate::memory::{format_disk, memory_step};
 use crate::records::record_step;
 use crate::refusals;
+use crate::replies::reply_step;
 use crate::reply::Reply;
+use crate::requests::request_step;
 use crate::running::Scene;
 use crate::settings::{set, usual_settings};
 use crate::text::Text;
@@ -282,6 +284,8 @@ impl Scene for World {
             "stop" => self.stop(alloc, words, answer),
             "device" => self.set_device(alloc, words, answer),
             "record" => self.tell_record(alloc, words, answer),
+            "request" => request_step(alloc, &self.settings, words, answer),
+            "reply" => reply_step(alloc, &self.settings, words, answer),
             "env" => environment_step(alloc, &mut self.environment, words, answer),
             "member" => tell_member(alloc, &self.record, words, answer),
             "halt" | "format" | "barriers" | "drill" => {

@@ -1,7 +1,7 @@
 use Rattle.std.proofs.Common.{rules, ◌≡◌, refl, None}
 use Rattle.env_phase.specs.Steps as step
 use Rattle.env_phase.specs.laws.States.{is_accepted}
-use Rattle.env_phase.proofs.env.Env.apply.Goals as goal
+use Rattle.env_phase.proofs.env.Env.call.Goals as goal
 
 -- src/calls.rt:99:5
 pub returns-clause-ok : goal.returns-clause-ok

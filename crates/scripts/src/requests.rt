@@ -1,0 +1,212 @@
+// Steps on requests alone: which call one is, or which check refuses it.
+use crate::bytes::body;
+use crate::reply::Reply;
+use crate::text::Text;
+use crate::words::{Words, number_of_id};
+use api_core::{Call, Refusal, RequestError, read_request};
+use async_core::Side;
+use http::Method;
+use http::header::{HeaderMap, HeaderName, HeaderValue};
+use retry_rules::Settings;
+use std::alloc::Global;
+
+/// A refusal's type, as its reply tells it.
+pub fn type_of(why: Refusal) -> &'static str {
+    match why {
+        Refusal::UnsupportedInvocationType => "UnsupportedInvocationType",
+        Refusal::InvalidRequestContent => "InvalidRequestContent",
+        Refusal::InvalidRequestId => "InvalidRequestID",
+        Refusal::InvalidExtensionHeader => "InvalidExtensionHeader",
+        Refusal::BadSubscription => "BadSubscription",
+        Refusal::UnknownExtension => "UnknownExtension",
+        Refusal::RegistrationClosed => "RegistrationClosed",
+        Refusal::TooManyExtensions => "TooManyExtensions",
+        Refusal::WrongPhase => "WrongPhase",
+        Refusal::NotFound => "NotFound",
+        Refusal::UnknownEvent => "UnknownEvent",
+        Refusal::MethodNotAllowed => "MethodNotAllowed",
+        Refusal::Replaced => "Replaced",
+        Refusal::NotEnded => "NotEnded",
+        Refusal::TooLarge => "TooLarge",
+        Refusal::TooManyEvents => "TooManyEvents",
+        Refusal::EnvironmentReset => "EnvironmentReset",
+        Refusal::IdInUse => "IdInUse",
+        Refusal::Unavailable => "Unavailable",
+    }
+}
+
+// ` ID`, or ` none` where it is no id.
+fn tell_id(id: Option<[u8; 16]>, answer: &mut Text) {
+    match id {
+        Some(id) => answer.add_with(" ", number_of_id(&id)),
+        None => answer.add(" none"),
+    }
+}
+
+// ` ENVIRONMENT ID BODY`
+fn tell_attempt(
+    word: &str,
+    environment: u16,
+    id: Option<[u8; 16]>,
+    body: &[u8],
+    answer: &mut Text,
+) {
+    answer.add_with(word, environment as u64);
+    tell_id(id, answer);
+    answer.add(" ");
+    answer.add_body(body);
+}
+
+// ` ENVIRONMENT IDENTIFIER`
+fn tell_extension(word: &str, environment: u16, identifier: &[u8; 16], answer: &mut Text) {
+    answer.add_with(word, environment as u64);
+    answer.add_with(" ", number_of_id(identifier));
+}
+
+fn tell_registration(
+    environment: u16,
+    name: &[u8],
+    invoke: bool,
+    shutdown: bool,
+    answer: &mut Text,
+) {
+    answer.add_with("register ", environment as u64);
+    answer.add(" ");
+    answer.add_body(name);
+    answer.add(if invoke { " invoke" } else { "" });
+    answer.add(if shutdown { " shutdown" } else { "" });
+}
+
+// A call of a runtime or of an extension.
+fn tell_environment_call(call: &Call, answer: &mut Text) {
+    match call {
+        Call::RuntimeNext { environment } => answer.add_with("runtime next ", *environment as u64),
+        Call::Response {
+            environment,
+            id,
+            body,
+        } => tell_attempt("response ", *environment, *id, body.as_slice(), answer),
+        Call::RuntimeError {
+            environment,
+            id,
+            body,
+        } => tell_attempt("error ", *environment, *id, body.as_slice(), answer),
+        Call::RuntimeInitError { environment } => {
+            answer.add_with("runtime init error ", *environment as u64)
+        }
+        Call::Register {
+            environment,
+            name,
+            invoke,
+            shutdown,
+        } => tell_registration(*environment, name.as_slice(), *invoke, *shutdown, answer),
+        Call::ExtensionNext {
+            environment,
+            identifier,
+        } => tell_extension("next ", *environment, identifier, answer),
+        Call::ExtensionInitError {
+            environment,
+            identifier,
+        } => tell_extension("init error ", *environment, identifier, answer),
+        Call::ExtensionExitError {
+            environment,
+            identifier,
+        } => tell_extension("exit error ", *environment, identifier, answer),
+        _ => {}
+    }
+}
+
+// A payload of more than 64 bytes is told by its length.
+fn tell_payload(payload: &[u8], answer: &mut Text) {
+    if payload.len() > 64 {
+        answer.add_with("invoke ", payload.len() as u64);
+        answer.add(" bytes");
+    } else {
+        answer.add("invoke ");
+        answer.add_body(payload);
+    }
+}
+
+fn tell_call(call: &Call, answer: &mut Text) -> Reply {
+    match call {
+        Call::Invoke { payload } => tell_payload(payload.as_slice(), answer),
+        Call::Oldest(Side::Success) => answer.add("oldest success"),
+        Call::Oldest(Side::Failure) => answer.add("oldest failure"),
+        Call::Delete(id) => {
+            answer.add("delete");
+            tell_id(*id, answer);
+        }
+        Call::StopBroker => answer.add("stop"),
+        _ => tell_environment_call(call, answer),
+    }
+    Reply::Told
+}
+
+// Adds the header `NAME=VALUE`, in which `~` stands for a space.
+fn add_header(alloc: Global, headers: &mut HeaderMap, pair: &str) -> Reply {
+    let (name, value) = pair.split_once('=').unwrap_or((pair, ""));
+    let Ok(value) = value.replace(alloc, "~", " ") else {
+        return Reply::NoMemory;
+    };
+    match (
+        HeaderName::from_bytes(alloc, name.as_bytes()),
+        HeaderValue::from_bytes(alloc, value.as_bytes()),
+    ) {
+        (Ok(name), Ok(value)) => match headers.append(name, value) {
+            Ok(_) => Reply::Done,
+            Err(_) => Reply::NoMemory,
+        },
+        _ => Reply::Unreadable,
+    }
+}
+
+// What a request is read as.
+fn read(
+    alloc: Global,
+    settings: &Settings,
+    port: u16,
+    method: &Method,
+    target: &str,
+    headers: &HeaderMap,
+    body: Vec<u8>,
+    answer: &mut Text,
+) -> Reply {
+    match read_request(alloc, settings, port, method, target, headers, body) {
+        Ok(call) => tell_call(&call, answer),
+        Err(RequestError::Refused(why)) => Reply::Refused(type_of(why)),
+        Err(RequestError::OutOfMemory) => Reply::Refused("out of memory"),
+    }
+}
+
+/// `PORT METHOD TARGET [NAME=VALUE ..] [body BYTES]`: the call, or why it is refused.
+pub fn request_step(
+    alloc: Global,
+    settings: &Settings,
+    words: &mut Words,
+    answer: &mut Text,
+) -> Reply {
+    let port = u16::try_from(words.number_to(65535)).unwrap_or(0);
+    let Ok(method) = Method::from_bytes(alloc, words.word().as_bytes()) else {
+        return Reply::Unreadable;
+    };
+    let target = words.word();
+    let mut headers: HeaderMap = HeaderMap::new(alloc);
+    let mut word = words.word();
+    while !word.is_empty() && word != "body" {
+        match add_header(alloc, &mut headers, word) {
+            Reply::Done => {}
+            reply => return reply,
+        }
+        word = words.word();
+    }
+    let body = match body(alloc, words.rest()) {
+        Ok(body) => body,
+        Err(reply) => return reply,
+    };
+    if words.are_bad() {
+        return Reply::Unreadable;
+    }
+    read(
+        alloc, settings, port, &method, target, &headers, body, answer,
+    )
+}
