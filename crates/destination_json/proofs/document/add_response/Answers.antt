@@ -9,9 +9,9 @@ pub returns : goal.returns
 returns c =
     rw (
       c.in_ok-add_answer_json.ensures,
-      c.in_ok-add-3.ensures,
-      c.in_ok-add-2.ensures,
-      c.in_ok-add.ensures,
+      c.in_ok-extend_from_slice-3.ensures.items,
+      c.in_ok-extend_from_slice-2.ensures.items,
+      c.in_ok-extend_from_slice.ensures.items,
       c.as_bytes.ensures.value,
       c.error_member.ensures,
       joined (member "executedVersion" (in_quotes latest)) (function_error c.args.outcome),

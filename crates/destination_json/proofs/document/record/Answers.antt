@@ -12,14 +12,14 @@ unfolding record_text
 returns c =
     let e = c.args.ended.now in
     rw (
-      c.in_ok-add-6.ensures,
+      c.in_ok-extend_from_slice-6.ensures.items,
       c.in_ok-add_answer.ensures,
-      c.in_ok-add-5.ensures,
-      c.in_ok-add-4.ensures,
+      c.in_ok-extend_from_slice-5.ensures.items,
+      c.in_ok-extend_from_slice-4.ensures.items,
       c.in_ok-add_context.ensures,
-      c.in_ok-add-3.ensures,
-      c.in_ok-add-2.ensures,
-      c.in_ok-add.ensures,
+      c.in_ok-extend_from_slice-3.ensures.items,
+      c.in_ok-extend_from_slice-2.ensures.items,
+      c.in_ok-extend_from_slice.ensures.items,
       c.in_ok-out.ensures.items,
       c.as_bytes.ensures.value,
       c.in_ok-at.ensures,
