@@ -2,7 +2,7 @@
 ghost use Rattle.std.specs.Prelude.{◌≡◌, ◌≤◌, ◌++◌, IfOk, OnOk};
 ghost use Rattle.invoke_records.specs.Spelling.{greatest_moment};
 ghost use Rattle.async_core.specs.Readers.{told};
-ghost use Rattle.destination_json.specs.Json.{after_commas};
+ghost use Rattle.destination_json.specs.Steps.{after_commas};
 ghost use Rattle.destination_json.specs.Record.{record_text, function_error, response_members, answer_members};
 
 use crate::context::add_context;

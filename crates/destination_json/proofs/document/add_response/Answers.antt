@@ -1,5 +1,6 @@
 use Rattle.std.proofs.Common.{[], ◌∷◌, codes}
-use Rattle.destination_json.specs.Json.{in_quotes, member, after_commas}
+use Rattle.destination_json.specs.Json.{in_quotes, member}
+use Rattle.destination_json.specs.Steps.{after_commas}
 use Rattle.destination_json.specs.Record.{latest, function_error, answer_json}
 use Rattle.destination_json.proofs.Members.{joined}
 use Rattle.destination_json.proofs.Pieces.{answered}

@@ -1,6 +1,7 @@
 use Rattle.std.proofs.Common.{[], ◌∷◌, codes}
 use Rattle.async_core.specs.Readers.{told}
-use Rattle.destination_json.specs.Json.{member, after_commas}
+use Rattle.destination_json.specs.Json.{member}
+use Rattle.destination_json.specs.Steps.{after_commas}
 use Rattle.destination_json.specs.Stamp.{stamp_text}
 use Rattle.destination_json.specs.Record.{request_context, record_text, answer_members}
 use Rattle.destination_json.proofs.Members.{joined}
