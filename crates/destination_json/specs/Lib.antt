@@ -3,4 +3,5 @@ pub mod Stamp
 pub mod Json
 pub mod Record
 pub mod Laws
+pub mod Steps
 pub mod Examples

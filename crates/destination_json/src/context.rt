@@ -3,7 +3,6 @@ ghost use Rattle.std.specs.Prelude.{◌≡◌, ◌++◌, IfOk, OnOk, string_byte
 ghost use Rattle.async_core.specs.Readers.{told};
 ghost use Rattle.destination_json.specs.Record.{condition_text, id_text, request_context};
 
-use crate::parts::add;
 use async_core::Ended;
 use invoke_records::Outcome;
 use retry_rules::Settings;
@@ -47,14 +46,14 @@ pub(crate) fn add_context(
 {
     let id = id_text(alloc, ended.id)?;
     let starts = count(alloc, ended.starts)?;
-    add(out, b"{\"requestId\":\"")?;
-    add(out, id.as_bytes())?;
-    add(out, b"\",\"functionArn\":\"")?;
-    add(out, settings.arn.as_bytes())?;
-    add(out, b":$LATEST\",\"condition\":\"")?;
-    add(out, condition(ended.outcome).as_bytes())?;
-    add(out, b"\",\"approximateInvokeCount\":")?;
-    add(out, starts.as_bytes())?;
-    add(out, b"}")?;
+    out.extend_from_slice(b"{\"requestId\":\"")?;
+    out.extend_from_slice(id.as_bytes())?;
+    out.extend_from_slice(b"\",\"functionArn\":\"")?;
+    out.extend_from_slice(settings.arn.as_bytes())?;
+    out.extend_from_slice(b":$LATEST\",\"condition\":\"")?;
+    out.extend_from_slice(condition(ended.outcome).as_bytes())?;
+    out.extend_from_slice(b"\",\"approximateInvokeCount\":")?;
+    out.extend_from_slice(starts.as_bytes())?;
+    out.extend_from_slice(b"}")?;
     Ok(())
 }

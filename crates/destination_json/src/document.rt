@@ -2,12 +2,11 @@
 ghost use Rattle.std.specs.Prelude.{◌≡◌, ◌≤◌, ◌++◌, IfOk, OnOk};
 ghost use Rattle.invoke_records.specs.Spelling.{greatest_moment};
 ghost use Rattle.async_core.specs.Readers.{told};
-ghost use Rattle.destination_json.specs.Json.{after_commas};
+ghost use Rattle.destination_json.specs.Steps.{after_commas};
 ghost use Rattle.destination_json.specs.Record.{record_text, function_error, response_members, answer_members};
 
 use crate::context::add_context;
 use crate::moment::stamp;
-use crate::parts::add;
 use crate::texts::add_answer_json;
 use async_core::Ended;
 use invoke_records::{Answer, Outcome};
@@ -35,12 +34,11 @@ fn add_response(
 ) -> Result<(), AllocError>
     ensures { OnOk result (out.new.items ≡ out.old.items ++ after_commas (response_members outcome answer.now)) }
 {
-    add(
-        out,
+    out.extend_from_slice(
         b",\"responseContext\":{\"statusCode\":200,\"executedVersion\":\"$LATEST\"",
     )?;
-    add(out, error_member(outcome).as_bytes())?;
-    add(out, b"},\"responsePayload\":")?;
+    out.extend_from_slice(error_member(outcome).as_bytes())?;
+    out.extend_from_slice(b"},\"responsePayload\":")?;
     add_answer_json(alloc, out, answer)?;
     Ok(())
 }
@@ -81,13 +79,13 @@ pub fn record(alloc: Global, ended: &Ended<'_>, settings: &Settings) -> Result<V
 {
     let at = stamp(alloc, ended.at)?;
     let mut out = Vec::with_capacity(alloc, room(ended, settings))?;
-    add(&mut out, b"{\"version\":\"1.0\",\"timestamp\":\"")?;
-    add(&mut out, at.as_bytes())?;
-    add(&mut out, b"\",\"requestContext\":")?;
+    out.extend_from_slice(b"{\"version\":\"1.0\",\"timestamp\":\"")?;
+    out.extend_from_slice(at.as_bytes())?;
+    out.extend_from_slice(b"\",\"requestContext\":")?;
     add_context(alloc, &mut out, ended, settings)?;
-    add(&mut out, b",\"requestPayload\":")?;
-    add(&mut out, ended.payload)?;
+    out.extend_from_slice(b",\"requestPayload\":")?;
+    out.extend_from_slice(ended.payload)?;
     add_answer(alloc, &mut out, ended.outcome, ended.answer)?;
-    add(&mut out, b"}")?;
+    out.extend_from_slice(b"}")?;
     Ok(out)
 }

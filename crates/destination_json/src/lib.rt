@@ -10,7 +10,6 @@ mod document;
 pub mod examples;
 mod laws;
 mod moment;
-mod parts;
 mod texts;
 
 pub use context::id_text;

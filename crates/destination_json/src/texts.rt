@@ -4,7 +4,6 @@ ghost use Rattle.json.specs.Print.{quoted};
 ghost use Rattle.destination_json.specs.Json.{is_json};
 ghost use Rattle.destination_json.specs.Record.{answer_json};
 
-use crate::parts::add;
 use serde_json::Value;
 use std::alloc::{AllocError, Global};
 
@@ -37,9 +36,9 @@ pub(crate) fn add_answer_json(
     ensures { OnOk result (out.new.items ≡ out.old.items ++ answer_json bytes.now) }
 {
     if is_json(alloc, bytes)? {
-        return add(out, bytes);
+        return out.extend_from_slice(bytes);
     }
     let text = String::from_utf8_lossy(alloc, bytes)?;
     let json = quote(alloc, text)?;
-    add(out, json.as_slice())
+    out.extend_from_slice(json.as_slice())
 }

@@ -34,10 +34,14 @@ pub fn tell_record(
     answer: &mut Text,
 ) -> Reply {
     let id = id_of(words.number());
+    if words.are_bad() {
+        return Reply::Unreadable;
+    }
+    kept.clear();
     let Some(ended) = table.ended(&id) else {
         return Reply::NONE;
     };
-    if words.are_bad() || ended.at > GREATEST_MOMENT {
+    if ended.at > GREATEST_MOMENT {
         return Reply::Unreadable;
     }
     match record(alloc, &ended, table.settings()) {

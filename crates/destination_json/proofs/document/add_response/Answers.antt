@@ -1,5 +1,6 @@
 use Rattle.std.proofs.Common.{[], ◌∷◌, codes}
-use Rattle.destination_json.specs.Json.{in_quotes, member, after_commas}
+use Rattle.destination_json.specs.Json.{in_quotes, member}
+use Rattle.destination_json.specs.Steps.{after_commas}
 use Rattle.destination_json.specs.Record.{latest, function_error, answer_json}
 use Rattle.destination_json.proofs.Members.{joined}
 use Rattle.destination_json.proofs.Pieces.{answered}
@@ -9,9 +10,9 @@ pub returns : goal.returns
 returns c =
     rw (
       c.in_ok-add_answer_json.ensures,
-      c.in_ok-add-3.ensures,
-      c.in_ok-add-2.ensures,
-      c.in_ok-add.ensures,
+      c.in_ok-extend_from_slice-3.ensures.items,
+      c.in_ok-extend_from_slice-2.ensures.items,
+      c.in_ok-extend_from_slice.ensures.items,
       c.as_bytes.ensures.value,
       c.error_member.ensures,
       joined (member "executedVersion" (in_quotes latest)) (function_error c.args.outcome),

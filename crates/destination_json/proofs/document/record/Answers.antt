@@ -1,6 +1,7 @@
 use Rattle.std.proofs.Common.{[], ◌∷◌, codes}
 use Rattle.async_core.specs.Readers.{told}
-use Rattle.destination_json.specs.Json.{member, after_commas}
+use Rattle.destination_json.specs.Json.{member}
+use Rattle.destination_json.specs.Steps.{after_commas}
 use Rattle.destination_json.specs.Stamp.{stamp_text}
 use Rattle.destination_json.specs.Record.{request_context, record_text, answer_members}
 use Rattle.destination_json.proofs.Members.{joined}
@@ -12,14 +13,14 @@ unfolding record_text
 returns c =
     let e = c.args.ended.now in
     rw (
-      c.in_ok-add-6.ensures,
+      c.in_ok-extend_from_slice-6.ensures.items,
       c.in_ok-add_answer.ensures,
-      c.in_ok-add-5.ensures,
-      c.in_ok-add-4.ensures,
+      c.in_ok-extend_from_slice-5.ensures.items,
+      c.in_ok-extend_from_slice-4.ensures.items,
       c.in_ok-add_context.ensures,
-      c.in_ok-add-3.ensures,
-      c.in_ok-add-2.ensures,
-      c.in_ok-add.ensures,
+      c.in_ok-extend_from_slice-3.ensures.items,
+      c.in_ok-extend_from_slice-2.ensures.items,
+      c.in_ok-extend_from_slice.ensures.items,
       c.in_ok-out.ensures.items,
       c.as_bytes.ensures.value,
       c.in_ok-at.ensures,
