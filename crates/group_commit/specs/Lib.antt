@@ -4,5 +4,7 @@ pub mod Promises
 pub mod Refusals
 pub mod Drill
 pub mod DrillBroker
+pub mod Issuer
+pub mod IssuerBroker
 pub mod Resume
 pub mod Steps

@@ -97,6 +97,13 @@ impl<D: Disk> Broker<D> {
         self.table.number()
     }
 
+    /// A ticket of all that was issued: its number is how many commands that is. It takes no memory.
+    pub fn ticket(&self) -> Ticket
+        ensures { result ≡ issued_of self.now }
+    {
+        Ticket::new(self.table.number())
+    }
+
     /// How many of them are durable: no stop takes them away.
     pub fn durable(&self) -> Durable
         ensures { result ≡ durable_of self.now }

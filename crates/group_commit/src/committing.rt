@@ -62,7 +62,7 @@ impl<D: Disk> Broker<D> {
         ensures nothing { pending_of self.old ≡ [] → AnswersAtOnce self.old self.new result }
         ensures worn_out { result ≡ Err commit_error.WornOut → IsWornOut self.old × NeedsSwitch self.old }
         ensures worn { IsWornOut self.old → NeedsSwitch self.old → result ≡ Err commit_error.WornOut }
-        ensures bad { result ≡ Err commit_error.BadKind → HasBadTable self.old }
+        ensures bad { result ≡ Err commit_error.BadKind → HasBadTable self.old × NeedsSwitch self.old }
         ensures ok { IfOk result (λ durable. Commits self.old self.new durable) }
         ensures stays { NeedsNoSwitch self.old → HasSwitched 0 self.old self.new }
         ensures switches { NeedsSwitch self.old → OnOk result (HasSwitched 1 self.old self.new) }
@@ -109,7 +109,7 @@ impl<D: Disk> Broker<D> {
         ensures nothing { is_broken self.old ≡ false → pending_of self.old ≡ [] → AnswersAtOnce self.old self.new result }
         ensures worn_out { result ≡ Err commit_error.WornOut → IsWornOut self.old × NeedsSwitch self.old }
         ensures worn { is_broken self.old ≡ false → IsWornOut self.old → NeedsSwitch self.old → result ≡ Err commit_error.WornOut }
-        ensures bad { result ≡ Err commit_error.BadKind → HasBadTable self.old }
+        ensures bad { result ≡ Err commit_error.BadKind → HasBadTable self.old × NeedsSwitch self.old }
 
         // At Ok all that was pending is durable. A fault breaks the broker, and any other refusal changes nothing. It
         // switches just where it has to.

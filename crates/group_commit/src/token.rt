@@ -1,9 +1,10 @@
 // Numbers of commands that only this crate gives out.
-ghost use Rattle.std.specs.Prelude.{◌≡◌};
+ghost use Rattle.std.specs.Prelude.{◌≡◌, ◌<◌, ◌≤◌, IfOk, IfErr};
 
 use std::marker::Model;
 
-/// An issued command's place in the history. It is not durable yet; `Broker::redeem` turns it into a receipt once it is.
+/// A place in the history: that of an issued command, or the end of all that was issued. It need not be durable yet;
+/// `Broker::redeem` or `settled_by` turn it into a receipt once it is.
 #[derive(Debug, Drop)]
 pub struct Ticket {
     number: u64,
@@ -24,15 +25,28 @@ impl Ticket {
         Ticket { number }
     }
 
-    /// The command's number, from 1 on.
+    /// The command's number, from 1 on, or how many commands were issued.
     pub fn number(&self) -> u64
         ensures { result ≡ self.now }
     {
         self.number
     }
+
+    /// A receipt exactly where the ticket's number is at most this one, which is meant to be durable; else the ticket is
+    /// handed back. It takes no memory.
+    pub fn settled_by(self, number: u64) -> Result<Receipt, Ticket>
+        ensures settled { IfOk result (λ receipt. (receipt ≡ self) × (self ≤ number)) }
+        ensures waits { IfErr result (λ ticket. (ticket ≡ self) × (number < self)) }
+    {
+        if self.number <= number {
+            Ok(Receipt::new(self.number))
+        } else {
+            Err(self)
+        }
+    }
 }
 
-/// That a command is durable: no stop of the disk takes it away.
+/// That a command is durable, and each before it: no stop of the disk takes them away.
 #[derive(Clone, Copy, Debug, PartialEq, Eq)]
 pub struct Receipt {
     number: u64,
@@ -55,7 +69,7 @@ impl Receipt {
         Receipt { number }
     }
 
-    /// The command's number, from 1 on.
+    /// The ticket's number: each command up to it is durable.
     pub fn number(&self) -> u64
         ensures { result ≡ self.now }
     {

@@ -33,4 +33,4 @@ returns-clause-acknowledged g c history stands =
     if_ok (λ durable. Commits old new durable) _ c.write.result (λ durable commits. (commits.number ∙ commits.all ∙ all, commits.all ∙ all)) c.write.ensures.ok
 
 pub returns-clause-sound : goal.returns-clause-sound
-returns-clause-sound g c history stands bad = never_bad g.D.Disk.view g.met.D.Disk.laws c.args.self.now c.write.new.self history stands c.if-self.false (c.write.ensures.bad bad)
+returns-clause-sound g c history stands bad = never_bad g.D.Disk.view g.met.D.Disk.laws c.args.self.now c.write.new.self history stands c.if-self.false (c.write.ensures.bad bad).0

@@ -1,0 +1,36 @@
+-- A broker as an issuer of commands.
+use Rattle.std.proofs.Common.{ap, ◌∙◌}
+use Rattle.sector_disk.specs.Disk.{DiskView}
+use Rattle.sector_disk.specs.declared.disk.Disk.{Ghosts}
+use Rattle.invoke_records.specs.declared.snapshot.Snapshot.{Snapshot}
+use Rattle.async_core.specs.laws.Tables.{number-table_of}
+use Rattle.group_commit.specs.declared.broker.Broker.{Broker}
+use Rattle.group_commit.specs.Broker.{settings_of, table_in, pending_of, durable_of, is_broken, Stands}
+use Rattle.group_commit.specs.Issuer.{IssuerView, IsIssuer}
+
+-- the broker at a moment, where its disk is seen so
+abbrev pub issuer_of : {D : Type 0} {g : Ghosts D} → (D → DiskView) → Broker D g → IssuerView
+issuer_of view broker = record {
+  settings = settings_of broker;
+  table = table_in broker;
+  pending = pending_of broker;
+  durable = durable_of broker;
+  broken = is_broken broker;
+  stands = λ history. Stands view broker history;
+}
+
+-- a broker is as an issuer has to be
+pub issuer_laws : {D : Type 0} {g : Ghosts D} (view : D → DiskView) (broker : Broker D g) → IsIssuer (issuer_of view broker)
+issuer_laws view broker = record {
+  good = broker.good;
+  counted = broker.counted;
+  most_issued = broker.below;
+  most_pending = broker.few;
+  each = λ history stands. record {
+    legal = stands.legal;
+    table_is = stands.table_is;
+    issued_is = ap (λ (t : Snapshot). t.number) stands.table_is ∙ number-table_of (settings_of broker) history;
+    durable_is = stands.durable_is;
+    pending_is = stands.pending_is;
+  };
+}
