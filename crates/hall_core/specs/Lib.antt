@@ -5,4 +5,5 @@ pub mod Run
 pub mod Slots
 pub mod Refusals
 pub mod Agreement
+pub mod Promises
 pub mod laws

@@ -6,5 +6,6 @@
 #![tactic(auto)]
 
 mod error;
+pub mod laws;
 
 pub use error::HallError;
