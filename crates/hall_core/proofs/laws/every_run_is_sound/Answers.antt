@@ -1,0 +1,10 @@
+use Rattle.hall_core.specs.laws.Sound.{step, kept_after, kept_at_opening, every_run_is_sound}
+use Rattle.hall_core.proofs.laws.every_run_is_sound.Goals as goal
+
+pub returns : goal.returns
+returns c = record {
+  opened = kept_at_opening;
+  step = λ s past call made. step s past call made.0 made.1;
+  kept = λ s past run made. kept_after s past run made.0 made.1;
+  sound = λ s opened run made. every_run_is_sound s opened run made.0 made.1;
+}

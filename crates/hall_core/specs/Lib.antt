@@ -1,0 +1,9 @@
+pub mod Past
+pub mod Firsts
+pub mod Effects
+pub mod Run
+pub mod Slots
+pub mod Refusals
+pub mod Agreement
+pub mod Promises
+pub mod laws

@@ -1,0 +1,11 @@
+//! The hall: what a list of its calls makes of a history, of the environments and of the replies that wait.
+//!
+//! What is meant is said over the run, the list of all calls that were not refused. The crates above use that each
+//! command is legal, that each environment accepts what is called of it, and that a reply is told once all that it shows
+//! is durable. No call is made here yet: this crate has the definitions and their laws.
+#![tactic(auto)]
+
+mod error;
+pub mod laws;
+
+pub use error::HallError;
