@@ -7,3 +7,4 @@ pub mod Refusals
 pub mod Agreement
 pub mod Promises
 pub mod laws
+pub mod Examples

@@ -6,6 +6,7 @@
 #![tactic(auto)]
 
 mod error;
+pub mod examples;
 pub mod laws;
 
 pub use error::HallError;
