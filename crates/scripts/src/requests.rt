@@ -178,6 +178,14 @@ fn read(
     }
 }
 
+// The headers of a request, and its body.
+fn parts_of_rest(rest: &str) -> (&str, &str) {
+    match rest.strip_prefix("body ") {
+        Some(text) => ("", text),
+        None => rest.split_once(" body ").unwrap_or((rest, "")),
+    }
+}
+
 /// `PORT METHOD TARGET [NAME=VALUE ..] [body BYTES]`: the call, or why it is refused.
 pub fn request_step(
     alloc: Global,
@@ -190,16 +198,15 @@ pub fn request_step(
         return Reply::Unreadable;
     };
     let target = words.word();
+    let (pairs, text) = parts_of_rest(words.rest());
     let mut headers: HeaderMap = HeaderMap::new(alloc);
-    let mut word = words.word();
-    while !word.is_empty() && word != "body" {
-        match add_header(alloc, &mut headers, word) {
+    for pair in pairs.split_whitespace() {
+        match add_header(alloc, &mut headers, pair) {
             Reply::Done => {}
             reply => return reply,
         }
-        word = words.word();
     }
-    let body = match body(alloc, words.rest()) {
+    let body = match body(alloc, text) {
         Ok(body) => body,
         Err(reply) => return reply,
     };
