@@ -8,3 +8,4 @@ pub mod Issuer
 pub mod IssuerBroker
 pub mod Resume
 pub mod Steps
+pub mod laws

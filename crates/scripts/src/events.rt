@@ -99,6 +99,35 @@ fn redeem<D: Disk>(
     Reply::Unreadable
 }
 
+// Takes the first ticket with this number.
+fn take_ticket(tickets: &mut Vec<Ticket>, number: u64) -> Option<Ticket> {
+    let index = tickets.iter().position(|ticket| ticket.number() == number)?;
+    Some(tickets.remove(index))
+}
+
+// `N by M`: the receipt of the ticket with number N, which is used up, where M is durable. Else the ticket is kept.
+fn settle(tickets: &mut Vec<Ticket>, words: &mut Words, answer: &mut Text) -> Reply {
+    let number = words.number();
+    words.expect("by");
+    let durable = words.number();
+    if words.are_bad() {
+        return Reply::Unreadable;
+    }
+    let Some(ticket) = take_ticket(tickets, number) else {
+        return Reply::Unreadable;
+    };
+    match ticket.settled_by(durable) {
+        Ok(receipt) => {
+            answer.add_with("receipt ", receipt.number());
+            Reply::Told
+        }
+        Err(ticket) => match tickets.push(ticket) {
+            Ok(()) => Reply::Refused("not settled"),
+            Err(_) => Reply::NoMemory,
+        },
+    }
+}
+
 /// What an open broker answers to a step.
 pub fn broker_step<D: Disk>(
     alloc: Global,
@@ -113,6 +142,8 @@ pub fn broker_step<D: Disk>(
         "switch" => settled(broker.switch()),
         "resume" => resume(broker, tickets, words),
         "redeem" => redeem(broker, tickets, words.number(), answer),
+        "ticket" => keep(tickets, broker.ticket()),
+        "settled" => settle(tickets, words, answer),
         "issued" => Reply::Number(broker.issued()),
         "durable" => Reply::Number(broker.durable().number()),
         "retaken" => retaken_step(alloc, broker.table(), words, answer),

@@ -1,0 +1,2 @@
+-- Laws that other crates cite.
+pub mod Issuer
