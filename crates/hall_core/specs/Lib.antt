@@ -6,5 +6,8 @@ pub mod Slots
 pub mod Refusals
 pub mod Agreement
 pub mod Promises
+pub mod Environments
+pub mod Answering
+pub mod Changes
 pub mod laws
 pub mod Examples
