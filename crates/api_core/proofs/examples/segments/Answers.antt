@@ -1,0 +1,26 @@
+-- Each one computes.
+use Rattle.std.proofs.Common.{refl}
+use Rattle.destination_json.specs.Json.{is_json}
+use Rattle.api_core.specs.Bodies.{subscription_of}
+use Rattle.api_core.specs.Paths.{fits, in_hole}
+use Rattle.std.specs.Str.{is_utf8, chars}
+use Rattle.uuid.proofs.OnLiterals.{uuid_on_literals}
+use Rattle.percent_encoding.proofs.OnLiterals.{percent_encoding_on_literals}
+use Rattle.serde_json.proofs.OnLiterals.{serde_json_on_literals}
+use Rattle.api_core.proofs.examples.segments.Goals as goal
+
+pub returns : goal.returns
+unfolding subscription_of fits in_hole is_json is_utf8 chars uuid_on_literals percent_encoding_on_literals serde_json_on_literals
+returns c = record {
+  escaped = refl;
+  bad_escape = refl;
+  escaped_slash = refl;
+  last_slash = refl;
+  two_slashes = refl;
+  no_slash = refl;
+  one_more = refl;
+  empty_id = refl;
+  empty_attempt = refl;
+  root = refl;
+  empty = refl;
+}

@@ -1,0 +1,8 @@
+use Rattle.std.proofs.Common.{◌≡◌, List, map, ap, ◌∙◌}
+use Rattle.api_core.specs.Paths.{fits, between_slashes}
+use Rattle.api_core.proofs.routing.fits.Goals as goal
+
+pub returns : goal.returns
+unfolding fits
+returns c =
+    rw (c.deref.ensures.value, c.in_ok-pieces.ensures, c.line.ensures.path) at c.all_taken.ensures

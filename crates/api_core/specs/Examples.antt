@@ -1,0 +1,137 @@
+-- Worked examples: requests and what they ask, and replies as they are sent.
+use Rattle.std.specs.Prelude.{ℕ, List, [], ◌∷◌, ◌++◌, Result, codes, replicate}
+use Prim.Native.String.{String}
+use Rattle.http_header.specs.FieldValue.{FieldValue, plain_value}
+use Rattle.retry_rules.specs.declared.settings.Settings.{Settings}
+use Rattle.destination_json.specs.Examples.{usual}
+use Rattle.api_core.specs.declared.call.Call.{Call}
+use Rattle.api_core.specs.declared.refusal.Refusal.{Refusal}
+use Rattle.api_core.specs.declared.reply.Reply.{Reply}
+use Rattle.api_core.specs.Headers.{RequestHeaders}
+use Rattle.api_core.specs.Requests.{call_of}
+use Rattle.api_core.specs.Replies.{reply_of_told, refused}
+
+-- ## Headers
+
+abbrev pub with_header : String → String → RequestHeaders → RequestHeaders
+with_header name value headers = (codes name, plain_value (codes value) ∷ []) ∷ headers
+
+abbrev pub of_type : String → RequestHeaders
+of_type value = with_header "x-amz-invocation-type" value []
+
+abbrev pub event : RequestHeaders
+event = of_type "Event"
+
+-- an extension that tells this identifier, and one that tells a good one
+abbrev pub identified : String → RequestHeaders
+identified text = with_header "lambda-extension-identifier" text []
+
+abbrev pub third : RequestHeaders
+third = identified "00000000-0000-4000-8000-000000000003"
+
+abbrev pub named : String → RequestHeaders
+named name = with_header "lambda-extension-name" name []
+
+-- ## Requests
+
+-- settings whose payloads and responses have at most 8 bytes
+abbrev pub small : Settings
+small = record usual { payload = 8; response = 8 }
+
+-- a request on a port
+abbrev pub on : ℕ → String → String → RequestHeaders → List ℕ → Result Call Refusal
+on port method target headers body = call_of usual port (codes method) (codes target) headers body
+
+-- the same without headers and body
+abbrev pub asks : ℕ → String → String → Result Call Refusal
+asks port method target = on port method target [] []
+
+-- an invocation of a function, behind whose path this stands
+abbrev pub invocations : String → String → List ℕ
+invocations name query = codes "/2015-03-31/functions/" ++ (codes name ++ (codes "/invocations" ++ codes query))
+
+abbrev pub invoke_as : String → String → Result Call Refusal
+invoke_as name query = call_of usual 0 (codes "POST") (invocations name query) event []
+
+-- of the function that is there, with these headers and this body
+abbrev pub invoke_with : Settings → RequestHeaders → List ℕ → Result Call Refusal
+invoke_with s headers body = call_of s 0 (codes "POST") (invocations "my-function" "") headers body
+
+abbrev pub invoke : List ℕ → Result Call Refusal
+invoke body = invoke_with usual event body
+
+-- the runtime of environment 1 tells of an attempt by this id
+abbrev pub told_of : String → String → List ℕ
+told_of id what = codes "/2018-06-01/runtime/invocation/" ++ (codes id ++ codes what)
+
+abbrev pub tells_in : Settings → String → List ℕ → Result Call Refusal
+tells_in s what body = call_of s 1 (codes "POST") (told_of "00000000-0000-4000-8000-000000000003" what) [] body
+
+abbrev pub tells : String → List ℕ → Result Call Refusal
+tells what body = tells_in usual what body
+
+-- an extension registers with this body
+abbrev pub register : List ℕ → Result Call Refusal
+register body = on 1 "POST" "/2020-01-01/extension/register" (named "my-extension") body
+
+-- arrays within one another
+abbrev pub nested : ℕ → List ℕ
+nested n = replicate n 91 ++ replicate n 93
+
+-- ## Replies
+
+abbrev pub header : String → String → List ℕ × List ℕ
+header name value = (codes name, codes value)
+
+abbrev pub empty_reply : ℕ → List (List ℕ × List ℕ) → Reply
+empty_reply status headers = record { status = status; headers = headers; body = [] }
+
+abbrev pub json_reply : ℕ → List (List ℕ × List ℕ) → List ℕ → Reply
+json_reply status headers body =
+    record { status = status; headers = headers ++ header "Content-Type" "application/json" ∷ []; body = body }
+
+abbrev pub accepted_headers : List (List ℕ × List ℕ)
+accepted_headers = header "X-Amzn-RequestId" "00000000-0000-4000-8000-000000000001" ∷ []
+
+abbrev pub registered_headers : List (List ℕ × List ℕ)
+registered_headers = header "Lambda-Extension-Identifier" "00000000-0000-4000-8000-000000000003" ∷ []
+
+-- what the runtime is told with an event
+abbrev pub next_headers : List (List ℕ × List ℕ)
+next_headers =
+    header "Lambda-Runtime-Aws-Request-Id" "00000000-0000-4000-8000-000000000001"
+    ∷ header "Lambda-Runtime-Deadline-Ms" "1573755368568"
+    ∷ header "Lambda-Runtime-Invoked-Function-Arn" "arn:aws:lambda:us-east-2:123456789012:function:my-function"
+    ∷ header "Lambda-Runtime-Trace-Id" "Root=1-00000000-000000000000000000000000;Sampled=0"
+    ∷ []
+
+abbrev pub registered_text : List ℕ
+registered_text = codes "{\"functionName\":\"my-function\",\"functionVersion\":\"$LATEST\",\"handler\":\"app.main\"}"
+
+abbrev pub invoked_text : List ℕ
+invoked_text =
+    codes "{\"eventType\":\"INVOKE\",\"deadlineMs\":1573755368568,"
+    ++ (codes "\"requestId\":\"00000000-0000-4000-8000-000000000001\","
+    ++ (codes "\"invokedFunctionArn\":\"arn:aws:lambda:us-east-2:123456789012:function:my-function\","
+    ++ codes "\"tracing\":{\"type\":\"X-Amzn-Trace-Id\",\"value\":\"Root=1-00000000-000000000000000000000000;Sampled=0\"}}"))
+
+abbrev pub spindown_text : List ℕ
+spindown_text = codes "{\"eventType\":\"SHUTDOWN\",\"shutdownReason\":\"SPINDOWN\",\"deadlineMs\":2000}"
+
+abbrev pub timeout_text : List ℕ
+timeout_text = codes "{\"eventType\":\"SHUTDOWN\",\"shutdownReason\":\"TIMEOUT\",\"deadlineMs\":2000}"
+
+abbrev pub failure_text : List ℕ
+failure_text = codes "{\"eventType\":\"SHUTDOWN\",\"shutdownReason\":\"FAILURE\",\"deadlineMs\":2000}"
+
+-- what is told where a request is refused, and how it is to be told
+abbrev pub refusal : Refusal → Reply
+refusal why = reply_of_told usual (refused why)
+
+abbrev pub error_reply : ℕ → String → String → Reply
+error_reply status error_type message =
+    json_reply status []
+    (codes "{\"errorMessage\":\"" ++ (codes message ++ (codes "\",\"errorType\":\"" ++ (codes error_type ++ codes "\"}"))))
+
+abbrev pub not_found_text : List ℕ
+not_found_text = codes "{\"errorMessage\":\"no such path or function\",\"errorType\":\"NotFound\"}"

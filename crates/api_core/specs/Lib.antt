@@ -1,0 +1,11 @@
+pub mod Ids
+pub mod Says
+pub mod Paths
+pub mod Headers
+pub mod Bodies
+pub mod Requests
+pub mod Refusals
+pub mod Reply
+pub mod Replies
+pub mod Steps
+pub mod Examples

@@ -1,0 +1,174 @@
+// The checks behind that of the line, in their order.
+ghost use Rattle.std.specs.Prelude.{◌≡◌, IfOk};
+ghost use Rattle.percent_encoding.specs.Percent.{percent_decode};
+ghost use Rattle.api_core.specs.Requests.{failed, refusal_of, most_bytes};
+ghost use Rattle.api_core.specs.Requests.{function_check, header_check, size_check, content_check};
+
+use crate::bodies::{or_empty_object, subscription_of};
+use crate::functions::{has_good_qualifier, is_function};
+use crate::headers::{extension_identifier, has_extension_name, is_event};
+use crate::{Refusal, Route};
+use destination_json::is_json;
+use http::header::HeaderMap;
+use retry_rules::Settings;
+use std::alloc::{AllocError, Global};
+
+// What is wrong with the function that is named, or with its qualifier.
+fn bad_function(
+    alloc: Global,
+    settings: &Settings,
+    target: &str,
+    part: &str,
+    route: Route,
+) -> Result<Option<Refusal>, AllocError>
+    ensures { IfOk result (λ bad. bad ≡ failed (function_check settings.now target.now (percent_decode part.now) route)) }
+{
+    match route {
+        Route::Invoke => {
+            if !is_function(alloc, settings, part)? {
+                Ok(Some(Refusal::NotFound))
+            } else if has_good_qualifier(alloc, target)? {
+                Ok(None)
+            } else {
+                Ok(Some(Refusal::NotFound))
+            }
+        }
+        Route::OldestSuccess
+        | Route::OldestFailure
+        | Route::Delete
+        | Route::StopBroker
+        | Route::RuntimeNext
+        | Route::Response
+        | Route::RuntimeError
+        | Route::RuntimeInitError
+        | Route::Register
+        | Route::ExtensionNext
+        | Route::ExtensionInitError
+        | Route::ExtensionExitError => Ok(None),
+    }
+}
+
+// What is wrong with the headers.
+fn bad_headers(headers: &HeaderMap, route: Route) -> Option<Refusal>
+    ensures { result ≡ failed (header_check headers.now route) }
+{
+    match route {
+        Route::Invoke => {
+            if is_event(headers) {
+                None
+            } else {
+                Some(Refusal::UnsupportedInvocationType)
+            }
+        }
+        Route::Register => {
+            if has_extension_name(headers) {
+                None
+            } else {
+                Some(Refusal::InvalidExtensionHeader)
+            }
+        }
+        Route::ExtensionNext | Route::ExtensionInitError | Route::ExtensionExitError => {
+            if extension_identifier(headers).is_some() {
+                None
+            } else {
+                Some(Refusal::InvalidExtensionHeader)
+            }
+        }
+        Route::OldestSuccess
+        | Route::OldestFailure
+        | Route::Delete
+        | Route::StopBroker
+        | Route::RuntimeNext
+        | Route::Response
+        | Route::RuntimeError
+        | Route::RuntimeInitError => None,
+    }
+}
+
+// How many bytes a body may have.
+fn most_bytes(settings: &Settings, route: Route) -> u32
+    ensures { result ≡ most_bytes settings.now route }
+{
+    match route {
+        Route::Invoke => settings.payload,
+        Route::Response | Route::RuntimeError => settings.response,
+        Route::OldestSuccess
+        | Route::OldestFailure
+        | Route::Delete
+        | Route::StopBroker
+        | Route::RuntimeNext
+        | Route::RuntimeInitError
+        | Route::Register
+        | Route::ExtensionNext
+        | Route::ExtensionInitError
+        | Route::ExtensionExitError => 4096,
+    }
+}
+
+// What is wrong with the size of a body.
+fn bad_size(settings: &Settings, body: &[u8], route: Route) -> Option<Refusal>
+    ensures { result ≡ failed (size_check settings.now body.now route) }
+{
+    if (most_bytes(settings, route) as usize) < body.len() {
+        Some(Refusal::TooLarge)
+    } else {
+        None
+    }
+}
+
+// What is wrong with what a body says.
+fn bad_content(alloc: Global, body: &[u8], route: Route) -> Result<Option<Refusal>, AllocError>
+    ensures { IfOk result (λ bad. bad ≡ failed (content_check body.now route)) }
+{
+    match route {
+        Route::Invoke => {
+            if is_json(alloc, or_empty_object(body))? {
+                Ok(None)
+            } else {
+                Ok(Some(Refusal::InvalidRequestContent))
+            }
+        }
+        Route::Register => match subscription_of(alloc, body)? {
+            Some(_) => Ok(None),
+            None => Ok(Some(Refusal::BadSubscription)),
+        },
+        Route::OldestSuccess
+        | Route::OldestFailure
+        | Route::Delete
+        | Route::StopBroker
+        | Route::RuntimeNext
+        | Route::Response
+        | Route::RuntimeError
+        | Route::RuntimeInitError
+        | Route::ExtensionNext
+        | Route::ExtensionInitError
+        | Route::ExtensionExitError => Ok(None),
+    }
+}
+
+/// The first check that fails, of those behind the route.
+pub(crate) fn first_failed(
+    alloc: Global,
+    settings: &Settings,
+    target: &str,
+    headers: &HeaderMap,
+    body: &[u8],
+    part: &str,
+    route: Route,
+) -> Result<Option<Refusal>, AllocError>
+    ensures { IfOk result (λ bad. bad ≡ refusal_of settings.now target.now headers.now body.now (percent_decode part.now) route) }
+{
+    if let Some(why) = bad_function(alloc, settings, target, part, route)? {
+        return Ok(Some(why));
+    }
+    if let Some(why) = bad_headers(headers, route) {
+        return Ok(Some(why));
+    }
+    if let Some(why) = bad_size(settings, body, route) {
+        return Ok(Some(why));
+    }
+    match bad_content(alloc, body, route)? {
+        Some(why) => Ok(Some(why)),
+        None => Ok(None),
+    }
+}

@@ -1,0 +1,45 @@
+// Which call a request is.
+ghost use Rattle.api_core.specs.Says.{Says};
+ghost use Rattle.api_core.specs.Requests.{call_of};
+
+use crate::calls::call_by;
+use crate::checks::first_failed;
+use crate::paths::parts_of;
+use crate::routing::{in_hole, read_route};
+use crate::{Call, RequestError};
+use http::Method;
+use http::header::HeaderMap;
+use retry_rules::Settings;
+use std::alloc::Global;
+
+/// The call of a request, or the first check that refuses it.
+///
+/// Port 0 is the callers', port n that of environment n. The target is the path and, behind a `?`, the query, as the
+/// request line has them. The checks come in this order: path, method, function and qualifier, headers, size of the
+/// body, content of the body. The body is moved into the call, not copied.
+///
+/// The requests are those of the public references: Invoke of the Lambda API for asynchronous invocation, the Lambda
+/// runtime API (2018-06-01), and the Lambda extensions API (2020-01-01); those under `/broker` are this broker's own.
+pub fn read_request(
+    alloc: Global,
+    settings: &Settings,
+    port: u16,
+    method: &Method,
+    target: &str,
+    headers: &HeaderMap,
+    body: Vec<u8>,
+) -> Result<Call, RequestError>
+    ensures { Says (call_of settings.now port method.now target.now headers.now body.items) result }
+{
+    let parts = parts_of(alloc, target)?;
+    let route = match read_route(alloc, settings, port, method.as_str(), &parts) {
+        Ok(route) => route,
+        Err(error) => return Err(error),
+    };
+    let part = in_hole(alloc, route, &parts)?;
+    if let Some(why) = first_failed(alloc, settings, target, headers, &body, part, route)? {
+        return Err(RequestError::Refused(why));
+    }
+    let call = call_by(alloc, port, headers, body, part, route)?;
+    Ok(call)
+}
