@@ -1,7 +1,7 @@
 -- Worked examples: requests and what they ask, and replies as they are sent.
 use Rattle.std.specs.Prelude.{ℕ, List, [], ◌∷◌, ◌++◌, Result, codes, replicate}
 use Prim.Native.String.{String}
-use Rattle.http_header.specs.FieldValue.{FieldValue, plain_value}
+use Rattle.http_header.specs.FieldValue.{plain_value}
 use Rattle.retry_rules.specs.declared.settings.Settings.{Settings}
 use Rattle.destination_json.specs.Examples.{usual}
 use Rattle.api_core.specs.declared.call.Call.{Call}

@@ -1,5 +1,5 @@
 -- Which call a request is, or the first check that refuses it.
-use Rattle.std.specs.Prelude.{ℕ, ◌==◌, List, [], ◌∷◌, length, Bool, false, not, ◌&&◌, ◌||◌, nat_lt, is_none, Option, Some, None, option_map, unwrap_or, replicate, Result, Ok, Err, if◌then◌else◌, codes, bytes_eq}
+use Rattle.std.specs.Prelude.{ℕ, List, [], ◌∷◌, length, Bool, false, not, ◌&&◌, ◌||◌, nat_lt, is_none, Option, Some, None, unwrap_or, replicate, Result, Ok, Err, if◌then◌else◌, codes, bytes_eq}
 use Rattle.std.specs.List.{list_all, list_any}
 use Rattle.retry_rules.specs.declared.settings.Settings.{Settings}
 use Rattle.async_core.specs.declared.choice.Side.TheVariants as side

@@ -5,10 +5,11 @@ ghost use Rattle.api_core.specs.Ids.{id_of};
 ghost use Rattle.api_core.specs.Bodies.{or_empty_object};
 ghost use Rattle.api_core.specs.Requests.{call_by, name_or_none, events_or_none, identifier_or_zeros};
 
+use crate::Call;
 use crate::bodies::subscription_of;
 use crate::headers::{extension_identifier, extension_name};
 use crate::ids::read_id;
-use crate::{Call, Route};
+use crate::route::Route;
 use async_core::Side;
 use http::header::HeaderMap;
 use invoke_records::Bytes;

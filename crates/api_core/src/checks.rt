@@ -1,17 +1,25 @@
 // The checks behind that of the line, in their order.
-ghost use Rattle.std.specs.Prelude.{◌≡◌, IfOk};
+ghost use Rattle.std.specs.Prelude.{◌≡◌, not, IfOk};
 ghost use Rattle.percent_encoding.specs.Percent.{percent_decode};
 ghost use Rattle.api_core.specs.Requests.{failed, refusal_of, most_bytes};
 ghost use Rattle.api_core.specs.Requests.{function_check, header_check, size_check, content_check};
 
+use crate::Refusal;
 use crate::bodies::{or_empty_object, subscription_of};
 use crate::functions::{has_good_qualifier, is_function};
 use crate::headers::{extension_identifier, has_extension_name, is_event};
-use crate::{Refusal, Route};
+use crate::route::Route;
 use destination_json::is_json;
 use http::header::HeaderMap;
 use retry_rules::Settings;
 use std::alloc::{AllocError, Global};
+
+// The refusal, unless the check holds.
+fn unless(holds: bool, why: Refusal) -> Option<Refusal>
+    ensures { result ≡ failed (not holds, why) }
+{
+    if holds { None } else { Some(why) }
+}
 
 // What is wrong with the function that is named, or with its qualifier.
 fn bad_function(
@@ -25,26 +33,11 @@ fn bad_function(
 {
     match route {
         Route::Invoke => {
-            if !is_function(alloc, settings, part)? {
-                Ok(Some(Refusal::NotFound))
-            } else if has_good_qualifier(alloc, target)? {
-                Ok(None)
-            } else {
-                Ok(Some(Refusal::NotFound))
-            }
+            let is_named = is_function(alloc, settings, part)?;
+            let is_qualified = has_good_qualifier(alloc, target)?;
+            Ok(unless(is_named && is_qualified, Refusal::NotFound))
         }
-        Route::OldestSuccess
-        | Route::OldestFailure
-        | Route::Delete
-        | Route::StopBroker
-        | Route::RuntimeNext
-        | Route::Response
-        | Route::RuntimeError
-        | Route::RuntimeInitError
-        | Route::Register
-        | Route::ExtensionNext
-        | Route::ExtensionInitError
-        | Route::ExtensionExitError => Ok(None),
+        _ => Ok(None),
     }
 }
 
@@ -53,35 +46,13 @@ fn bad_headers(headers: &HeaderMap, route: Route) -> Option<Refusal>
     ensures { result ≡ failed (header_check headers.now route) }
 {
     match route {
-        Route::Invoke => {
-            if is_event(headers) {
-                None
-            } else {
-                Some(Refusal::UnsupportedInvocationType)
-            }
-        }
-        Route::Register => {
-            if has_extension_name(headers) {
-                None
-            } else {
-                Some(Refusal::InvalidExtensionHeader)
-            }
-        }
-        Route::ExtensionNext | Route::ExtensionInitError | Route::ExtensionExitError => {
-            if extension_identifier(headers).is_some() {
-                None
-            } else {
-                Some(Refusal::InvalidExtensionHeader)
-            }
-        }
-        Route::OldestSuccess
-        | Route::OldestFailure
-        | Route::Delete
-        | Route::StopBroker
-        | Route::RuntimeNext
-        | Route::Response
-        | Route::RuntimeError
-        | Route::RuntimeInitError => None,
+        Route::Invoke => unless(is_event(headers), Refusal::UnsupportedInvocationType),
+        Route::Register => unless(has_extension_name(headers), Refusal::InvalidExtensionHeader),
+        Route::ExtensionNext | Route::ExtensionInitError | Route::ExtensionExitError => unless(
+            extension_identifier(headers).is_some(),
+            Refusal::InvalidExtensionHeader,
+        ),
+        _ => None,
     }
 }
 
@@ -92,16 +63,7 @@ fn most_bytes(settings: &Settings, route: Route) -> u32
     match route {
         Route::Invoke => settings.payload,
         Route::Response | Route::RuntimeError => settings.response,
-        Route::OldestSuccess
-        | Route::OldestFailure
-        | Route::Delete
-        | Route::StopBroker
-        | Route::RuntimeNext
-        | Route::RuntimeInitError
-        | Route::Register
-        | Route::ExtensionNext
-        | Route::ExtensionInitError
-        | Route::ExtensionExitError => 4096,
+        _ => 4096,
     }
 }
 
@@ -109,11 +71,8 @@ fn most_bytes(settings: &Settings, route: Route) -> u32
 fn bad_size(settings: &Settings, body: &[u8], route: Route) -> Option<Refusal>
     ensures { result ≡ failed (size_check settings.now body.now route) }
 {
-    if (most_bytes(settings, route) as usize) < body.len() {
-        Some(Refusal::TooLarge)
-    } else {
-        None
-    }
+    let fits = body.len() <= most_bytes(settings, route) as usize;
+    unless(fits, Refusal::TooLarge)
 }
 
 // What is wrong with what a body says.
@@ -122,27 +81,14 @@ fn bad_content(alloc: Global, body: &[u8], route: Route) -> Result<Option<Refusa
 {
     match route {
         Route::Invoke => {
-            if is_json(alloc, or_empty_object(body))? {
-                Ok(None)
-            } else {
-                Ok(Some(Refusal::InvalidRequestContent))
-            }
+            let is_good = is_json(alloc, or_empty_object(body))?;
+            Ok(unless(is_good, Refusal::InvalidRequestContent))
         }
-        Route::Register => match subscription_of(alloc, body)? {
-            Some(_) => Ok(None),
-            None => Ok(Some(Refusal::BadSubscription)),
-        },
-        Route::OldestSuccess
-        | Route::OldestFailure
-        | Route::Delete
-        | Route::StopBroker
-        | Route::RuntimeNext
-        | Route::Response
-        | Route::RuntimeError
-        | Route::RuntimeInitError
-        | Route::ExtensionNext
-        | Route::ExtensionInitError
-        | Route::ExtensionExitError => Ok(None),
+        Route::Register => {
+            let events = subscription_of(alloc, body)?;
+            Ok(unless(events.is_some(), Refusal::BadSubscription))
+        }
+        _ => Ok(None),
     }
 }
 

@@ -3,7 +3,8 @@ ghost use Rattle.std.specs.Prelude.{◌≡◌, ◌∷◌, [], codes, Ok, Err, So
 ghost use Rattle.destination_json.specs.Examples.{usual, id, grown_old, grown_old_text};
 ghost use Rattle.api_core.specs.Examples.{with_header, of_type, event, identified, third, named, small};
 ghost use Rattle.api_core.specs.Examples.{on, asks, invoke_as, invoke_with, invoke, tells_in, tells, register, nested};
-ghost use Rattle.api_core.specs.Examples.{empty_reply, json_reply, accepted_headers, registered_headers, next_headers, refusal, error_reply};
+ghost use Rattle.api_core.specs.Examples.{empty_reply, json_reply, accepted_headers, registered_headers, next_headers};
+ghost use Rattle.api_core.specs.Examples.{refusal, error_reply};
 ghost use Rattle.api_core.specs.Examples.{registered_text, invoked_text, spindown_text, timeout_text, failure_text, not_found_text};
 ghost use Rattle.api_core.specs.Replies.{reply_of_told, accepted, record_of, no_record, deleted, taken, registered};
 ghost use Rattle.api_core.specs.Replies.{runtime_event, invoke_event, shutdown_event};
@@ -145,7 +146,7 @@ pub fn refusals()
     ensures not_event { refusal Refusal.UnsupportedInvocationType ≡ error_reply 400 "UnsupportedInvocationType" "only Event is supported" }
     ensures no_json { refusal Refusal.InvalidRequestContent ≡ error_reply 400 "InvalidRequestContent" "payload is not JSON" }
     ensures no_attempt { refusal Refusal.InvalidRequestId ≡ error_reply 400 "InvalidRequestID" "no such request is running here" }
-    ensures name { refusal Refusal.InvalidExtensionHeader ≡ error_reply 400 "InvalidExtensionHeader" "missing or bad extension header" }
+    ensures bad { refusal Refusal.InvalidExtensionHeader ≡ error_reply 400 "InvalidExtensionHeader" "missing or bad extension header" }
     ensures bad_subscription { refusal Refusal.BadSubscription ≡ error_reply 400 "BadSubscription" "events must be INVOKE or SHUTDOWN" }
     ensures unknown_extension { refusal Refusal.UnknownExtension ≡ error_reply 403 "UnknownExtension" "extension is not registered" }
     ensures registration_closed { refusal Refusal.RegistrationClosed ≡ error_reply 403 "RegistrationClosed" "registration is closed" }

@@ -32,4 +32,3 @@ pub use reading::read_request;
 pub use refusal::{Refusal, RequestError};
 pub use reply::{Headers, Reply};
 pub use replying::reply_text;
-pub use route::Route;

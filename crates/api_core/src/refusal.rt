@@ -5,88 +5,106 @@ ghost use Rattle.api_core.specs.declared.refusal.RequestError.TheVariants.{OutOf
 
 use std::alloc::AllocError;
 
-/// Why a request is refused: each has one status, type and message.
+/// Why a call is refused: each has one status, type and message, told as JSON like the errors of AWS's services.
+/// `read_request` answers those of the request itself; the others are the broker's.
 #[derive(Clone, Copy, Debug, PartialEq, Eq)]
 pub enum Refusal {
-    /// The invocation type is not `Event`.
+    /// The invocation type is not `Event`: 400.
     UnsupportedInvocationType,
-    /// The payload is not JSON.
+    /// The payload is not JSON: 400.
     InvalidRequestContent,
-    /// No such attempt is running in this environment, or its time is over.
+    /// No such attempt is running in this environment, or its time is over: 400.
     InvalidRequestId,
-    /// An extension's name or identifier is missing or bad.
+    /// An extension's name or identifier is missing or bad: 400.
     InvalidExtensionHeader,
-    /// The events of a registration are not a list of known events.
+    /// The events of a registration are not a list of known events: 400.
     BadSubscription,
+    /// No extension is registered under this identifier: 403.
     UnknownExtension,
+    /// The environment has started, so that no extension can register: 403.
     RegistrationClosed,
+    /// As many extensions are registered as may be: 403.
     TooManyExtensions,
-    /// The environment is not in a phase for this.
+    /// The environment is not in a phase for this: 403.
     WrongPhase,
-    /// No such path or function.
+    /// No such path or function, or not this version of it: 404.
     NotFound,
-    /// No such event is held.
+    /// No such event is held: 404.
     UnknownEvent,
+    /// No line whose path fits has this method: 405.
     MethodNotAllowed,
-    /// A newer poll took the place of this one.
+    /// A newer poll took the place of this one: 409.
     Replaced,
-    /// The event has not ended.
+    /// The event has not ended: 409.
     NotEnded,
-    /// The body is too large.
+    /// The body is too large: 413.
     TooLarge,
-    /// As many events are held as may be.
+    /// As many events are held as may be: 429.
     TooManyEvents,
-    /// The environment was reset while this poll was parked.
+    /// The environment was reset while this poll was parked: 500.
     EnvironmentReset,
-    /// The id that was drawn is in use.
+    /// The id that was drawn is in use: 500.
     IdInUse,
-    /// The broker is broken or stopping.
+    /// The broker is broken or stopping: 503.
     Unavailable,
 }
 
 impl Refusal {
-    /// Its status, type and message.
-    pub(crate) fn fault(self) -> (u16, &'static str, &'static str)
-        ensures status { result.0 ≡ (fault_of self).status }
-        ensures error_type { result.1.now ≡ (fault_of self).error_type }
-        ensures message { result.2.now ≡ (fault_of self).message }
+    /// Its status.
+    pub(crate) fn status(self) -> u16
+        ensures { result ≡ (fault_of self).status }
+    {
+        match self {
+            Refusal::UnsupportedInvocationType
+            | Refusal::InvalidRequestContent
+            | Refusal::InvalidRequestId
+            | Refusal::InvalidExtensionHeader
+            | Refusal::BadSubscription => 400,
+            Refusal::UnknownExtension
+            | Refusal::RegistrationClosed
+            | Refusal::TooManyExtensions
+            | Refusal::WrongPhase => 403,
+            Refusal::NotFound | Refusal::UnknownEvent => 404,
+            Refusal::MethodNotAllowed => 405,
+            Refusal::Replaced | Refusal::NotEnded => 409,
+            Refusal::TooLarge => 413,
+            Refusal::TooManyEvents => 429,
+            Refusal::EnvironmentReset | Refusal::IdInUse => 500,
+            Refusal::Unavailable => 503,
+        }
+    }
+
+    /// Its type and message.
+    pub(crate) fn words(self) -> (&'static str, &'static str)
+        ensures error_type { result.0.now ≡ (fault_of self).error_type }
+        ensures message { result.1.now ≡ (fault_of self).message }
     {
         match self {
             Refusal::UnsupportedInvocationType => (
-                400,
                 "UnsupportedInvocationType",
                 "only Event is supported",
             ),
-            Refusal::InvalidRequestContent => (400, "InvalidRequestContent", "payload is not JSON"),
-            Refusal::InvalidRequestId => (
-                400,
-                "InvalidRequestID",
-                "no such request is running here",
-            ),
+            Refusal::InvalidRequestContent => ("InvalidRequestContent", "payload is not JSON"),
+            Refusal::InvalidRequestId => ("InvalidRequestID", "no such request is running here"),
             Refusal::InvalidExtensionHeader => (
-                400,
                 "InvalidExtensionHeader",
                 "missing or bad extension header",
             ),
-            Refusal::BadSubscription => (
-                400,
-                "BadSubscription",
-                "events must be INVOKE or SHUTDOWN",
-            ),
-            Refusal::UnknownExtension => (403, "UnknownExtension", "extension is not registered"),
-            Refusal::RegistrationClosed => (403, "RegistrationClosed", "registration is closed"),
-            Refusal::TooManyExtensions => (403, "TooManyExtensions", "at most 10 extensions"),
-            Refusal::WrongPhase => (403, "WrongPhase", "not allowed in this phase"),
-            Refusal::NotFound => (404, "NotFound", "no such path or function"),
-            Refusal::UnknownEvent => (404, "UnknownEvent", "no such event is held"),
-            Refusal::MethodNotAllowed => (405, "MethodNotAllowed", "method not allowed"),
-            Refusal::Replaced => (409, "Replaced", "a newer poll took this place"),
-            Refusal::NotEnded => (409, "NotEnded", "event has not ended"),
-            Refusal::TooLarge => (413, "TooLarge", "body is too large"),
-            Refusal::TooManyEvents => (429, "TooManyEvents", "table is full"),
-            Refusal::EnvironmentReset => (500, "EnvironmentReset", "environment was reset"),
-            Refusal::IdInUse => (500, "IdInUse", "drawn id is in use"),
-            Refusal::Unavailable => (503, "Unavailable", "broker is not available"),
+            Refusal::BadSubscription => ("BadSubscription", "events must be INVOKE or SHUTDOWN"),
+            Refusal::UnknownExtension => ("UnknownExtension", "extension is not registered"),
+            Refusal::RegistrationClosed => ("RegistrationClosed", "registration is closed"),
+            Refusal::TooManyExtensions => ("TooManyExtensions", "at most 10 extensions"),
+            Refusal::WrongPhase => ("WrongPhase", "not allowed in this phase"),
+            Refusal::NotFound => ("NotFound", "no such path or function"),
+            Refusal::UnknownEvent => ("UnknownEvent", "no such event is held"),
+            Refusal::MethodNotAllowed => ("MethodNotAllowed", "method not allowed"),
+            Refusal::Replaced => ("Replaced", "a newer poll took this place"),
+            Refusal::NotEnded => ("NotEnded", "event has not ended"),
+            Refusal::TooLarge => ("TooLarge", "body is too large"),
+            Refusal::TooManyEvents => ("TooManyEvents", "table is full"),
+            Refusal::EnvironmentReset => ("EnvironmentReset", "environment was reset"),
+            Refusal::IdInUse => ("IdInUse", "drawn id is in use"),
+            Refusal::Unavailable => ("Unavailable", "broker is not available"),
         }
     }
 }
@@ -94,8 +112,9 @@ impl Refusal {
 /// Why a request is not read.
 #[derive(Clone, Copy, Debug, PartialEq, Eq)]
 pub enum RequestError {
-    /// It is refused.
+    /// The first check that fails refuses it.
     Refused(Refusal),
+    /// Memory was wanting. Another try may succeed.
     OutOfMemory,
 }
 

@@ -78,9 +78,8 @@ fn runtime_event(
 fn refusing(alloc: Global, why: Refusal) -> Result<Reply, AllocError>
     ensures { IfOk result (λ reply. reply ≡ refusing (fault_of why)) }
 {
-    let (status, _, _) = why.fault();
     let text = error_text(alloc, why)?;
-    json(alloc, status, text)
+    json(alloc, why.status(), text)
 }
 
 /// The reply of an answer: its status, its headers in their order, and the bytes of its body.

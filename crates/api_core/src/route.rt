@@ -1,10 +1,10 @@
-// The lines of the table of requests.
+// The table of requests.
 ghost use Rattle.std.specs.Prelude.{◌≡◌};
 ghost use Rattle.api_core.specs.Paths.{line_of};
 
-/// What a path and a method ask for.
-#[derive(Clone, Copy, Debug, PartialEq, Eq)]
-pub enum Route {
+/// What a path and a method ask for: one variant for each line of the table of requests.
+#[derive(Clone, Copy)]
+pub(crate) enum Route {
     Invoke,
     OldestSuccess,
     OldestFailure,
@@ -22,7 +22,7 @@ pub enum Route {
 
 impl Route {
     /// The method and the path of a route. A segment as `{id}` is a hole.
-    pub fn line(self) -> (&'static str, &'static str)
+    pub(crate) fn line(self) -> (&'static str, &'static str)
         ensures method { result.0.now ≡ (line_of self).0 }
         ensures path { result.1.now ≡ (line_of self).1 }
     {

@@ -7,7 +7,8 @@ ghost use Rattle.api_core.specs.Steps.{texts, decoded};
 ghost use Rattle.api_core.specs.Says.{Says};
 
 use crate::paths::{between_slashes, is_word};
-use crate::{Refusal, RequestError, Route};
+use crate::route::Route;
+use crate::{Refusal, RequestError};
 use retry_rules::Settings;
 use std::alloc::{AllocError, Global};
 

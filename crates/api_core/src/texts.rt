@@ -29,7 +29,7 @@ pub(crate) fn digits(alloc: Global, n: u64) -> Result<String, AllocError>
 pub(crate) fn error_text(alloc: Global, why: Refusal) -> Result<Vec<u8>, AllocError>
     ensures { IfOk result (λ text. text.items ≡ error_text (fault_of why)) }
 {
-    let (_, error_type, message) = why.fault();
+    let (error_type, message) = why.words();
     let mut object = Object::of_text(alloc, "errorMessage", message.as_bytes());
     object.add_text("errorType", error_type.as_bytes());
     object.end()

@@ -1,5 +1,4 @@
-use Rattle.std.proofs.Common.{◌≡◌, List, map, ap, ◌∙◌}
-use Rattle.api_core.specs.Paths.{fits, between_slashes}
+use Rattle.api_core.specs.Paths.{fits}
 use Rattle.api_core.proofs.routing.fits.Goals as goal
 
 pub returns : goal.returns

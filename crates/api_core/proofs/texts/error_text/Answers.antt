@@ -10,6 +10,6 @@ returns c =
     let error_type = member "errorType" (in_quotes (fault_of c.args.why).error_type) in
     ended (message ∷ error_type ∷ []) c.add_text.new.self c.end.result
     (two message error_type c.of_text-object.result c.add_text.new.self
-    (rw (c.as_bytes.ensures.value, c.fault.ensures.message) at c.of_text-object.ensures)
-    (rw (c.as_bytes-2.ensures.value, c.fault.ensures.error_type) at c.add_text.ensures))
+    (rw (c.as_bytes.ensures.value, c.words.ensures.message) at c.of_text-object.ensures)
+    (rw (c.as_bytes-2.ensures.value, c.words.ensures.error_type) at c.add_text.ensures))
     c.end.ensures
