@@ -1,5 +1,5 @@
 // What a request calls that passes the checks.
-ghost use Rattle.std.specs.Prelude.{◌≡◌, IfOk};
+ghost use Rattle.std.specs.Prelude.{◌≡◌, [], IfOk};
 ghost use Rattle.percent_encoding.specs.Percent.{percent_decode};
 ghost use Rattle.api_core.specs.Ids.{id_of};
 ghost use Rattle.api_core.specs.Bodies.{or_empty_object};
@@ -25,14 +25,17 @@ fn id_in(alloc: Global, part: &str) -> Result<Option<[u8; 16]>, AllocError>
 }
 
 // A payload is an empty object where the body is empty.
-fn payload_of(alloc: Global, body: Vec<u8>) -> Result<Bytes, AllocError>
-    ensures { IfOk result (λ payload. payload ≡ or_empty_object body.items) }
+fn invoke(alloc: Global, body: Vec<u8>) -> Result<Call, AllocError>
+    ensures { IfOk result (λ call. call ≡ Call.Invoke (or_empty_object body.items)) }
 {
-    if body.is_empty() {
-        Ok(Bytes::from_vec(Vec::from_slice(alloc, b"{}")?))
+    let payload = if body.is_empty() {
+        Vec::from_slice(alloc, b"{}")?
     } else {
-        Ok(Bytes::from_vec(body))
-    }
+        body
+    };
+    Ok(Call::Invoke {
+        payload: Bytes::from_vec(payload),
+    })
 }
 
 fn name_in(alloc: Global, headers: &HeaderMap) -> Result<Bytes, AllocError>
@@ -62,71 +65,87 @@ fn events_in(alloc: Global, body: &[u8]) -> Result<(bool, bool), AllocError>
     }
 }
 
+fn response(alloc: Global, environment: u16, part: &str, body: Vec<u8>) -> Result<Call, AllocError>
+    ensures { IfOk result (λ call. call ≡ Call.Response environment (id_of (percent_decode part.now)) body.items) }
+{
+    let id = id_in(alloc, part)?;
+    let body = Bytes::from_vec(body);
+    Ok(Call::Response {
+        environment,
+        id,
+        body,
+    })
+}
+
+fn runtime_error(
+    alloc: Global,
+    environment: u16,
+    part: &str,
+    body: Vec<u8>,
+) -> Result<Call, AllocError>
+    ensures { IfOk result (λ call. call ≡ Call.RuntimeError environment (id_of (percent_decode part.now)) body.items) }
+{
+    let id = id_in(alloc, part)?;
+    let body = Bytes::from_vec(body);
+    Ok(Call::RuntimeError {
+        environment,
+        id,
+        body,
+    })
+}
+
+fn register(
+    alloc: Global,
+    environment: u16,
+    headers: &HeaderMap,
+    body: &[u8],
+) -> Result<Call, AllocError>
+    ensures { IfOk result (λ call. call ≡ call_by environment headers.now body.now [] Route.Register) }
+{
+    let (invoke, shutdown) = events_in(alloc, body)?;
+    let name = name_in(alloc, headers)?;
+    Ok(Call::Register {
+        environment,
+        name,
+        invoke,
+        shutdown,
+    })
+}
+
 /// What a request calls that passes the checks. A payload or a body is moved.
 pub(crate) fn call_by(
     alloc: Global,
-    port: u16,
+    environment: u16,
     headers: &HeaderMap,
     body: Vec<u8>,
     part: &str,
     route: Route,
 ) -> Result<Call, AllocError>
-    ensures { IfOk result (λ call. call ≡ call_by port headers.now body.items (percent_decode part.now) route) }
+    ensures { IfOk result (λ call. call ≡ call_by environment headers.now body.items (percent_decode part.now) route) }
 {
-    let environment = port;
+    let identifier = identifier_in(headers);
     match route {
-        Route::Invoke => {
-            let payload = payload_of(alloc, body)?;
-            Ok(Call::Invoke { payload })
-        }
+        Route::Invoke => invoke(alloc, body),
         Route::OldestSuccess => Ok(Call::Oldest(Side::Success)),
         Route::OldestFailure => Ok(Call::Oldest(Side::Failure)),
-        Route::Delete => {
-            let id = id_in(alloc, part)?;
-            Ok(Call::Delete(id))
-        }
+        Route::Delete => Ok(Call::Delete(id_in(alloc, part)?)),
         Route::StopBroker => Ok(Call::StopBroker),
         Route::RuntimeNext => Ok(Call::RuntimeNext { environment }),
-        Route::Response => {
-            let id = id_in(alloc, part)?;
-            let body = Bytes::from_vec(body);
-            Ok(Call::Response {
-                environment,
-                id,
-                body,
-            })
-        }
-        Route::RuntimeError => {
-            let id = id_in(alloc, part)?;
-            let body = Bytes::from_vec(body);
-            Ok(Call::RuntimeError {
-                environment,
-                id,
-                body,
-            })
-        }
+        Route::Response => response(alloc, environment, part, body),
+        Route::RuntimeError => runtime_error(alloc, environment, part, body),
         Route::RuntimeInitError => Ok(Call::RuntimeInitError { environment }),
-        Route::Register => {
-            let name = name_in(alloc, headers)?;
-            let (invoke, shutdown) = events_in(alloc, &body)?;
-            Ok(Call::Register {
-                environment,
-                name,
-                invoke,
-                shutdown,
-            })
-        }
+        Route::Register => register(alloc, environment, headers, &body),
         Route::ExtensionNext => Ok(Call::ExtensionNext {
             environment,
-            identifier: identifier_in(headers),
+            identifier,
         }),
         Route::ExtensionInitError => Ok(Call::ExtensionInitError {
             environment,
-            identifier: identifier_in(headers),
+            identifier,
         }),
         Route::ExtensionExitError => Ok(Call::ExtensionExitError {
             environment,
-            identifier: identifier_in(headers),
+            identifier,
         }),
     }
 }

@@ -143,7 +143,7 @@ pub fn replies()
 /// The replies that refuse.
 pub fn refusals()
     ensures whole { refusal Refusal.NotFound ≡ json_reply 404 [] not_found_text }
-    ensures not_event { refusal Refusal.UnsupportedInvocationType ≡ error_reply 400 "UnsupportedInvocationType" "only Event is supported" }
+    ensures mode { refusal Refusal.UnsupportedInvocationType ≡ error_reply 400 "UnsupportedInvocationType" "only Event is supported" }
     ensures no_json { refusal Refusal.InvalidRequestContent ≡ error_reply 400 "InvalidRequestContent" "payload is not JSON" }
     ensures no_attempt { refusal Refusal.InvalidRequestId ≡ error_reply 400 "InvalidRequestID" "no such request is running here" }
     ensures bad { refusal Refusal.InvalidExtensionHeader ≡ error_reply 400 "InvalidExtensionHeader" "missing or bad extension header" }

@@ -5,7 +5,7 @@ use Rattle.api_core.proofs.examples.refusals.Goals as goal
 pub returns : goal.returns
 returns c = record {
   whole = refl;
-  not_event = refl;
+  mode = refl;
   no_json = refl;
   no_attempt = refl;
   bad = refl;
