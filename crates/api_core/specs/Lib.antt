@@ -8,4 +8,6 @@ pub mod Refusals
 pub mod Reply
 pub mod Replies
 pub mod Steps
+pub mod Within
+pub mod laws
 pub mod Examples

@@ -2,8 +2,8 @@
 //! reply of an answer, byte for byte.
 //!
 //! A call is seen as the record of its parts, a reply as its status, its headers as names and values, and its body. The
-//! crates above use that `read_request` gives exactly the call, or the first check that fails, and `reply_text` exactly
-//! the reply. Both refuse nothing else but want of memory.
+//! crates above use that `read_request` gives exactly the call, which keeps to the settings, or the first check that
+//! fails, and `reply_text` exactly the reply. Both refuse nothing else but want of memory.
 #![tactic(auto)]
 
 mod answer;

@@ -1,5 +1,7 @@
 // Which call a request is.
+ghost use Rattle.std.specs.Prelude.{◌≤◌, IfOk};
 ghost use Rattle.api_core.specs.Says.{Says};
+ghost use Rattle.api_core.specs.Within.{IsWithin};
 ghost use Rattle.api_core.specs.Requests.{call_of};
 
 use crate::calls::call_by;
@@ -12,15 +14,7 @@ use http::header::HeaderMap;
 use retry_rules::Settings;
 use std::alloc::Global;
 
-/// The call of a request, or the first check that refuses it.
-///
-/// Port 0 is the callers', port n that of environment n. The target is the path and, behind a `?`, the query, as the
-/// request line has them. The checks come in this order: path, method, function and qualifier, headers, size of the
-/// body, content of the body. The body is moved into the call, not copied.
-///
-/// The requests are those of the public references: Invoke of the Lambda API for asynchronous invocation, the Lambda
-/// runtime API (2018-06-01), and the Lambda extensions API (2020-01-01); those under `/broker` are this broker's own.
-pub fn read_request(
+fn read_call(
     alloc: Global,
     settings: &Settings,
     port: u16,
@@ -42,4 +36,28 @@ pub fn read_request(
     }
     let call = call_by(alloc, port, headers, body, part, route)?;
     Ok(call)
+}
+
+/// The call of a request, or the first check that refuses it.
+///
+/// Port 0 is the callers', port n that of environment n. The target is the path and, behind a `?`, the query, as the
+/// request line has them. The checks come in this order: path, method, function and qualifier, headers, size of the
+/// body, content of the body. The body is moved into the call, not copied. A call keeps to the settings, so that it can
+/// be done as it is.
+///
+/// The requests are those of the public references: Invoke of the Lambda API for asynchronous invocation, the Lambda
+/// runtime API (2018-06-01), and the Lambda extensions API (2020-01-01); those under `/broker` are this broker's own.
+pub fn read_request(
+    alloc: Global,
+    settings: &Settings,
+    port: u16,
+    method: &Method,
+    target: &str,
+    headers: &HeaderMap,
+    body: Vec<u8>,
+) -> Result<Call, RequestError>
+    ensures call { Says (call_of settings.now port method.now target.now headers.now body.items) result }
+    ensures within { IfOk result (λ call. 2 ≤ settings.now.payload → IsWithin settings.now call) }
+{
+    read_call(alloc, settings, port, method, target, headers, body)
 }

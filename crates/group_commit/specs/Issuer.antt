@@ -52,6 +52,11 @@ pub record IsIssuer (issuer : IssuerView) : Type 0 where
   pub most_pending : length issuer.pending ≤ 256
   pub each : (history : List Command) → issuer.stands history → IsHistoryOf issuer history
 
+-- this holds between a moment and itself, and between two with one in between
+pub record GoesOn {S : Type 0} (same : S → S → Type 0) : Type 0 where
+  pub at_first : (a : S) → same a a
+  pub on : (a b c : S) → same a b → same b c → same a c
+
 -- this holds of each history that the issuer stands for
 abbrev pub ForEachHistory : IssuerView → (List Command → Type 0) → Type 0
 ForEachHistory issuer P = (history : List Command) → issuer.stands history → P history

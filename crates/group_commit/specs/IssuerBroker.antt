@@ -1,12 +1,12 @@
 -- A broker as an issuer of commands.
-use Rattle.std.proofs.Common.{ap, ◌∙◌}
+use Rattle.std.proofs.Common.{◌≡◌, refl, ap, ◌∙◌}
 use Rattle.sector_disk.specs.Disk.{DiskView}
 use Rattle.sector_disk.specs.declared.disk.Disk.{Ghosts}
 use Rattle.invoke_records.specs.declared.snapshot.Snapshot.{Snapshot}
 use Rattle.async_core.specs.laws.Tables.{number-table_of}
 use Rattle.group_commit.specs.declared.broker.Broker.{Broker}
-use Rattle.group_commit.specs.Broker.{settings_of, table_in, pending_of, durable_of, is_broken, Stands}
-use Rattle.group_commit.specs.Issuer.{IssuerView, IsIssuer}
+use Rattle.group_commit.specs.Broker.{disk_of, settings_of, table_in, pending_of, durable_of, is_broken, Stands}
+use Rattle.group_commit.specs.Issuer.{IssuerView, IsIssuer, GoesOn}
 
 -- the broker at a moment, where its disk is seen so
 abbrev pub issuer_of : {D : Type 0} {g : Ghosts D} → (D → DiskView) → Broker D g → IssuerView
@@ -34,3 +34,10 @@ issuer_laws view broker = record {
     pending_is = stands.pending_is;
   };
 }
+
+-- its disk was not called
+abbrev pub has_same_disk : {D : Type 0} {g : Ghosts D} → Broker D g → Broker D g → Type 0
+has_same_disk old new = disk_of new ≡ disk_of old
+
+pub same_disk_goes_on : {D : Type 0} {g : Ghosts D} → GoesOn (has_same_disk {D = D} {g = g})
+same_disk_goes_on = record { at_first = λ a. refl; on = λ a b c first second. second ∙ first }

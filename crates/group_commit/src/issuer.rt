@@ -2,7 +2,7 @@
 ghost use Rattle.std.specs.Prelude.{◌≡◌, ◌≤◌, ◌^◌, false, Err, IsTrue, IsOkUnless, OnErr, IfOk, IfErr};
 ghost use Rattle.async_core.specs.declared.illegal.Illegal.{Illegal};
 ghost use Rattle.group_commit.specs.declared.error.IssueError.TheVariants as issue_error;
-ghost use Rattle.group_commit.specs.Issuer.{IssuerView, IsIssuer, issued_in, state_in, ForEachHistory};
+ghost use Rattle.group_commit.specs.Issuer.{IssuerView, IsIssuer, issued_in, state_in, ForEachHistory, GoesOn};
 ghost use Rattle.group_commit.specs.Issuer.{OnUsable, IsLegalNow, Fails, IsFull, HasPlace, IsReason, IsSameIssuer, Issues, Accepts};
 ghost use Rattle.group_commit.specs.Refusals.{TellsIllegal};
 
@@ -15,6 +15,9 @@ use sector_disk::Disk;
 pub trait Issuer {
     /// The issuer at a moment: its table, what is pending, and the histories that it stands for.
     ghost view: { Self → IssuerView };
+
+    /// Nothing outside memory was called between these two moments.
+    ghost is_untouched: { Self → Self → Type 0 };
 
     /// How many commands were issued.
     fn issued(&self) -> u64
@@ -47,6 +50,7 @@ pub trait Issuer {
             → IsOkUnless result issue_error.OutOfMemory) }
 
         ensures reason { IfErr result (IsReason (view self.old) command) }
+        ensures no_call { is_untouched self.old self.new }
         ensures ok { IfOk result (λ ticket. Issues (view self.old) (view self.new) command ticket) }
         ensures err { OnErr result (IsSameIssuer (view self.old) (view self.new)) }
 
@@ -56,14 +60,21 @@ pub trait Issuer {
 
     /// What holds at each moment: it stands for histories of its table and its pending commands, and for no other.
     ghost laws: { (issuer : Self) → IsIssuer (view issuer) };
+
+    /// That holds where no time goes by, and adds up.
+    ghost goes_on: { GoesOn is_untouched };
 }
 
 impl<D: Disk> Issuer for Broker<D> {
-    ghost use Rattle.group_commit.specs.IssuerBroker.{issuer_of, issuer_laws};
+    ghost use Rattle.group_commit.specs.IssuerBroker.{issuer_of, issuer_laws, has_same_disk, same_disk_goes_on};
 
     ghost view = { issuer_of D.view };
 
+    ghost is_untouched = { has_same_disk };
+
     ghost laws = { issuer_laws D.view };
+
+    ghost goes_on = { same_disk_goes_on };
 
     fn issued(&self) -> u64 {
         Broker::issued(self)

@@ -12,19 +12,19 @@ use Rattle.hall_core.specs.Environments.{IsNumberIn, ForEachMade, HoldFor, Stand
 -- there are as many environments afterwards, and none but these are changed
 abbrev pub IsWithin : List EnvState → Changes → Type 0
 IsWithin envs changes.Nothing = Unit {0}
-IsWithin envs (changes.One env) = IsNumberIn envs env.number
+IsWithin envs (changes.One number env) = IsNumberIn envs number
 IsWithin envs (changes.All ended) = length ended ≡ length envs
 
 -- this environment stands for one call more, and that is the only one
-pub record IsOneMore (env : EnvState) (made more : List (ℕ × EnvCall)) : Type 0 where
+pub record IsOneMore (number : ℕ) (env : EnvState) (made more : List (ℕ × EnvCall)) : Type 0 where
   pub call : EnvCall
-  pub only : more ≡ (env.number, call) ∷ []
-  pub stands : StandsForMore env env.number made call
+  pub only : more ≡ (number, call) ∷ []
+  pub stands : StandsForMore env number made call
 
 -- whatever calls the environments hold for, by the change they hold for these too
 abbrev pub LeadsTo : List EnvState → Changes → List (ℕ × EnvCall) → Type 0
 LeadsTo envs changes.Nothing more = more ≡ []
-LeadsTo envs (changes.One env) more = ForEachMade envs (λ made. IsOneMore env made more)
+LeadsTo envs (changes.One number env) more = ForEachMade envs (λ made. IsOneMore number env made more)
 LeadsTo envs (changes.All ended) more = ForEachMade envs (λ made. HoldFor ended (made ++ more))
 
 -- the polls that these calls answer, each after those that were made before
