@@ -6,27 +6,36 @@ use Rattle.env_phase.specs.Polls.{answered_by}
 use Rattle.env_phase.specs.State.{EnvState}
 use Rattle.hall_core.specs.declared.changes.Changes.{Changes}
 use Rattle.hall_core.specs.declared.changes.Changes.TheVariants as changes
+use Rattle.env_phase.specs.Calls.{moment_by, IsMoment}
+use Rattle.hall_core.specs.declared.plan.Made.{Made}
+use Rattle.hall_core.specs.declared.plan.Made.TheVariants as made
 use Rattle.hall_core.specs.Past.{calls_in}
 use Rattle.hall_core.specs.Environments.{IsNumberIn, ForEachMade, HoldFor, StandsForMore}
 
 -- there are as many environments afterwards, and none but these are changed
 abbrev pub IsWithin : List EnvState → Changes → Type 0
 IsWithin envs changes.Nothing = Unit {0}
-IsWithin envs (changes.One number env) = IsNumberIn envs number
+IsWithin envs (changes.One env) = IsNumberIn envs env.number
 IsWithin envs (changes.All ended) = length ended ≡ length envs
 
 -- this environment stands for one call more, and that is the only one
-pub record IsOneMore (number : ℕ) (env : EnvState) (made more : List (ℕ × EnvCall)) : Type 0 where
+pub record IsOneMore (env : EnvState) (before more : List (ℕ × EnvCall)) : Type 0 where
   pub call : EnvCall
-  pub only : more ≡ (number, call) ∷ []
-  pub stands : StandsForMore env number made call
+  pub only : more ≡ (env.number, call) ∷ []
+  pub stands : StandsForMore env before call
 
 -- whatever calls the environments hold for, by the change they hold for these too
 abbrev pub LeadsTo : List EnvState → Changes → List (ℕ × EnvCall) → Type 0
 LeadsTo envs changes.Nothing more = more ≡ []
-LeadsTo envs (changes.One number env) more = ForEachMade envs (λ made. IsOneMore number env made more)
-LeadsTo envs (changes.All ended) more = ForEachMade envs (λ made. HoldFor ended (made ++ more))
+LeadsTo envs (changes.One env) more = ForEachMade envs (λ before. IsOneMore env before more)
+LeadsTo envs (changes.All ended) more = ForEachMade envs (λ before. HoldFor ended (before ++ more))
 
 -- the polls that these calls answer, each after those that were made before
 abbrev pub answered_to : List (ℕ × EnvCall) → List (ℕ × EnvCall) → List (ℕ × PollAnswer)
-answered_to made more = flat_map (λ (m : ℕ × EnvCall). answered_by (calls_in m.0 made) m.1) more
+answered_to before more = flat_map (λ (m : ℕ × EnvCall). answered_by (calls_in m.0 before) m.1) more
+
+-- the environments are there, and the moment is one
+abbrev pub AreCallable : List EnvState → Made → Type 0
+AreCallable envs made.Nothing = Unit {0}
+AreCallable envs (made.One environment call) = IsNumberIn envs environment × IsMoment (moment_by call)
+AreCallable envs (made.ShutdownAll count now) = (count ≡ length envs) × IsMoment now

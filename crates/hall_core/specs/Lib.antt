@@ -8,6 +8,7 @@ pub mod Refusals
 pub mod Agreement
 pub mod Promises
 pub mod Environments
+pub mod Plans
 pub mod Answering
 pub mod Changes
 pub mod laws

@@ -11,8 +11,8 @@ use env_phase::Env;
 #[derive(Drop)]
 pub(crate) enum Changes {
     Nothing,
-    /// This one comes in the place of the one of this number.
-    One(u16, Env),
+    /// This one comes in the place of the one of its number.
+    One(Env),
     /// These come in the place of all.
     All(Environments),
 }
@@ -27,7 +27,7 @@ impl Environments {
     {
         match changes {
             Changes::Nothing => {}
-            Changes::One(number, env) => self.put(number, env),
+            Changes::One(env) => self.put(env),
             Changes::All(environments) => *self = environments,
         }
     }

@@ -6,8 +6,10 @@
 #![tactic(auto)]
 
 mod answering;
+mod calling;
 mod changes;
 mod environments;
+mod plan;
 mod error;
 pub mod examples;
 pub mod laws;
