@@ -3,7 +3,8 @@ ghost use Rattle.std.specs.Prelude.{◌≡◌, ◌∷◌, [], Some, None, not, l
 ghost use Rattle.std.specs.List.{list_any};
 ghost use Rattle.env_phase.specs.declared.refusal.Refusal.TheVariants as refusal;
 ghost use Rattle.env_phase.specs.Calls as meant;
-ghost use Rattle.env_phase.specs.Polls.{first_failed};
+ghost use Rattle.env_phase.specs.Polls.{first_failed, refusal_of};
+ghost use Rattle.env_phase.specs.State.{ForEachList};
 ghost use Rattle.env_phase.specs.Steps as step;
 
 use crate::call::{EnvCall, Waiter};
@@ -91,5 +92,14 @@ impl Env {
             EnvCall::Timeout { .. } => wrong_phase(self.is_closing() || self.event.is_none()),
             EnvCall::Shutdown { .. } => None,
         }
+    }
+
+    /// Why the call is refused now, if it is: by the first check that fails, as by `call`. It changes nothing and takes
+    /// no memory.
+    #[tactic(auto, using(crate::specs::laws::States::is_refused))]
+    pub fn judge(&self, call: EnvCall) -> Option<Refusal>
+        ensures { ForEachList self.now (λ calls. result ≡ refusal_of calls call) }
+    {
+        self.refusal(call)
     }
 }
