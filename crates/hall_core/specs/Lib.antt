@@ -6,5 +6,6 @@ pub mod Slots
 pub mod Refusals
 pub mod Agreement
 pub mod Promises
+pub mod Environments
 pub mod laws
 pub mod Examples

@@ -5,6 +5,7 @@
 //! is durable. No call is made here yet: this crate has the definitions and their laws.
 #![tactic(auto)]
 
+mod environments;
 mod error;
 pub mod examples;
 pub mod laws;

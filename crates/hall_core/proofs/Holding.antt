@@ -1,0 +1,192 @@
+-- Lemmas: environments that hold for calls, and one call more.
+use Rattle.std.proofs.Common.{◌≡◌, ℕ, zero, suc, ◌+◌, ◌<◌, ◌≤◌, List, [], ◌∷◌, ◌++◌, length, map, Bool, true, false, refl, sym, subst, ap, ◌∙◌, arith, Some, ◌⊎◌, inl, inr, get_or, ◌==◌, length-append}
+use Rattle.std.specs.Prelude.{slice_get, slice_set, filter, find, flat_map}
+use Rattle.std.specs.List.{range_with_len}
+use Rattle.std.proofs.lemmas.Bool.{eqb-true, eqb-false, cases_lt}
+use Rattle.std.proofs.lemmas.List.{append-nil, map-append, flat_map_more}
+use Rattle.std.proofs.lemmas.List.Elements.{filter-append}
+use Rattle.std.proofs.lemmas.Option.{none-some, slice_get_within, slice_get_read}
+use Rattle.env_phase.specs.declared.answer.PollAnswer.{PollAnswer}
+use Rattle.env_phase.specs.declared.call.EnvCall.{EnvCall}
+use Rattle.env_phase.specs.declared.call.EnvCall.TheVariants.{Shutdown}
+use Rattle.env_phase.specs.Polls.{answered_by}
+use Rattle.env_phase.specs.State.{EnvState, StandsFor, ForEachList, IsAccepted, Accepts}
+use Rattle.hall_core.specs.Past.{calls_in}
+use Rattle.hall_core.specs.Environments.{HoldFor, ForEachMade, StandsForMore, numbers, shutdowns, answered_at_end}
+use Rattle.hall_core.proofs.Places.{get_of_more, get_of_set, first_behind, first_is_here, first_is_later, first_of_all, range_more}
+
+-- ## The calls of one environment
+
+pub calls_in_both : (n : ℕ) (made later : List (ℕ × EnvCall)) → calls_in n (made ++ later) ≡ calls_in n made ++ calls_in n later
+calls_in_both n made later =
+    ap (map (λ (m : ℕ × EnvCall). m.1)) (filter-append (λ (m : ℕ × EnvCall). m.0 == n) made later)
+    ∙ map-append (λ (m : ℕ × EnvCall). m.1) (filter (λ (m : ℕ × EnvCall). m.0 == n) made) (filter (λ (m : ℕ × EnvCall). m.0 == n) later)
+
+same_number : (n : ℕ) → (n == n) ≡ true
+same_number n = go (n == n) refl
+  where
+    go : (b : Bool) → (n == n) ≡ b → b ≡ true
+    go true e = refl
+    go false e = absurd (eqb-false n n e refl)
+
+other_number : (m n : ℕ) → (m ≡ n → ⊥) → (m == n) ≡ false
+other_number m n apart = go (m == n) refl
+  where
+    go : (b : Bool) → (m == n) ≡ b → b ≡ false
+    go true e = absurd (apart (eqb-true m n e))
+    go false e = refl
+
+pub its_own_call : (n : ℕ) (call : EnvCall) (later : List (ℕ × EnvCall)) → calls_in n ((n, call) ∷ later) ≡ call ∷ calls_in n later
+its_own_call n call later = rw (same_number n) refl
+
+pub call_of_another : (m n : ℕ) (call : EnvCall) (later : List (ℕ × EnvCall)) → (m ≡ n → ⊥) → calls_in n ((m, call) ∷ later) ≡ calls_in n later
+call_of_another m n call later apart = rw (other_number m n apart) refl
+
+pub one_call_more : (n : ℕ) (made : List (ℕ × EnvCall)) (call : EnvCall) → calls_in n (made ++ (n, call) ∷ []) ≡ calls_in n made ++ call ∷ []
+one_call_more n made call = calls_in_both n made ((n, call) ∷ []) ∙ ap (λ l. calls_in n made ++ l) (its_own_call n call [])
+
+pub no_call_more : (m n : ℕ) (made : List (ℕ × EnvCall)) (call : EnvCall) → (m ≡ n → ⊥) → calls_in n (made ++ (m, call) ∷ []) ≡ calls_in n made
+no_call_more m n made call apart =
+    calls_in_both n made ((m, call) ∷ []) ∙ ap (λ l. calls_in n made ++ l) (call_of_another m n call [] apart) ∙ append-nil (calls_in n made)
+
+-- ## So many environments
+
+pub none_hold : (made : List (ℕ × EnvCall)) → HoldFor [] made
+none_hold made = record {
+  number = λ place env here. absurd (none-some env here);
+  stands = λ place env here. absurd (none-some env here);
+}
+
+-- one environment more, in which nobody has asked for anything
+pub one_more_holds : (envs : List EnvState) (place : ℕ) (env : EnvState) → length envs ≡ place → HoldFor envs [] → env.number ≡ place + 1 → StandsFor env [] → HoldFor (envs ++ env ∷ []) []
+one_more_holds envs place env long hold number stands = record {
+  number = λ k e here. elim (get_of_more envs env k e here) [
+    | inl old ↦ hold.number k e old
+    | inr both ↦ ap (λ (s : EnvState). s.number) (sym both.1) ∙ number ∙ ap (λ n. n + 1) (sym long ∙ sym both.0)
+  ];
+  stands = λ k e here. elim (get_of_more envs env k e here) [
+    | inl old ↦ hold.stands k e old
+    | inr both ↦ subst (λ s. StandsFor s []) both.1 stands
+  ];
+}
+
+-- ## One call more
+
+-- this environment is put where its number says
+pub put_holds : (envs : List EnvState) (made : List (ℕ × EnvCall)) (place : ℕ) (env : EnvState) (call : EnvCall) → env.number ≡ place + 1
+    → HoldFor envs made → StandsFor env (calls_in env.number made ++ call ∷ []) → HoldFor (slice_set envs place env) (made ++ (env.number, call) ∷ [])
+put_holds envs made place env call number hold stands = record {
+  number = λ k e here. elim (get_of_set envs place env k e here) [
+    | inl both ↦ ap (λ (s : EnvState). s.number) (sym both.1) ∙ number ∙ ap (λ n. n + 1) (sym both.0)
+    | inr both ↦ hold.number k e both.1
+  ];
+  stands = λ k e here. elim (get_of_set envs place env k e here) [
+    | inl both ↦
+        let is : env.number ≡ k + 1 = number ∙ ap (λ n. n + 1) (sym both.0) in
+        let more : calls_in (k + 1) (made ++ (env.number, call) ∷ []) ≡ calls_in env.number made ++ call ∷ [] =
+        ap (λ n. calls_in n (made ++ (env.number, call) ∷ [])) (sym is) ∙ one_call_more env.number made call in
+        subst (StandsFor e) (sym more) (subst (λ s. StandsFor s (calls_in env.number made ++ call ∷ [])) both.1 stands)
+    | inr both ↦
+        subst (StandsFor e) (sym (no_call_more env.number (k + 1) made call (λ same. both.0 (omega arith)))) (hold.stands k e both.1)
+  ];
+}
+
+-- ## The environment at a place
+
+pub stands_at : (envs items : List EnvState) (i : ℕ) (env : EnvState) → items ≡ envs → i < length items → env ≡ get_or items i env → slice_get envs i ≡ Some env
+stands_at envs items i env same within is = ap (λ l. slice_get l i) (sym same) ∙ slice_get_read items (length items) i env refl within is
+
+-- what is so of each list of calls that it stands for
+pub so_of_calls : (envs : List EnvState) (i : ℕ) (env : EnvState) (holds : List EnvCall → Type 0) → slice_get envs i ≡ Some env → ForEachList env holds
+    → ForEachMade envs (λ made. holds (calls_in (i + 1) made))
+so_of_calls envs i env holds here each made hold = each (calls_in (i + 1) made) (hold.stands i env here)
+
+module _ (envs : List EnvState) (i : ℕ) (env : EnvState) (does : List EnvCall → Bool) (here : slice_get envs i ≡ Some env) where
+  -- the first that does is not among those that were asked before
+  abbrev pub NotBefore : ℕ → Type 0
+  NotBefore k =
+      ForEachMade envs (λ made.
+      first_behind (λ n. does (calls_in n made)) (length envs) 0 ≡ first_behind (λ n. does (calls_in n made)) (length envs) k)
+
+  pub first_does : NotBefore i → ForEachList env (λ calls. true ≡ does calls) → ForEachMade envs (λ made. Some env.number ≡ find (λ n. does (calls_in n made)) (numbers envs))
+  first_does before each made hold =
+      ap (λ n. Some n) (hold.number i env here)
+      ∙ sym (first_is_here (λ n. does (calls_in n made)) (length envs) i (slice_get_within envs i env here) (sym (so_of_calls envs i env (λ calls. true ≡ does calls) here each made hold)))
+      ∙ sym (before made hold)
+      ∙ first_of_all (λ n. does (calls_in n made)) (length envs)
+
+  pub first_does_later : NotBefore i → ForEachList env (λ calls. false ≡ does calls) → NotBefore (i + 1)
+  first_does_later before each made hold =
+      before made hold
+      ∙ first_is_later (λ n. does (calls_in n made)) (length envs) i (slice_get_within envs i env here) (sym (so_of_calls envs i env (λ calls. false ≡ does calls) here each made hold))
+
+-- ## The end of all
+
+other_ends : (m n count : ℕ) (now : ℕ) → n < m → calls_in n (shutdowns (range_with_len m count) now) ≡ []
+other_ends m n zero now h = refl
+other_ends m n (suc count) now h =
+    call_of_another m n (Shutdown now) (shutdowns (range_with_len (m + 1) count) now) (λ same. omega arith)
+    ∙ other_ends (m + 1) n count now (omega arith)
+
+ends_at : (m n count now : ℕ) → m ≤ n → n < m + suc count → ((k : ℕ) → m + 1 ≤ n → n < (m + 1) + count → calls_in n (shutdowns (range_with_len (m + 1) count) now) ≡ Shutdown now ∷ [])
+    → (m ≡ n) ⊎ (m < n) → calls_in n (shutdowns (range_with_len m (suc count)) now) ≡ Shutdown now ∷ []
+ends_at m n count now low high later (inl same) =
+    subst (λ k. calls_in k (shutdowns (range_with_len m (suc count)) now) ≡ Shutdown now ∷ []) same
+    (its_own_call m (Shutdown now) (shutdowns (range_with_len (m + 1) count) now) ∙ ap (λ l. Shutdown now ∷ l) (other_ends (m + 1) m count now (omega arith)))
+ends_at m n count now low high later (inr less) =
+    call_of_another m n (Shutdown now) (shutdowns (range_with_len (m + 1) count) now) (λ same. omega arith)
+    ∙ later 0 (omega arith) (omega arith)
+
+below_or_same : (m n : ℕ) → m ≤ n → (m ≡ n) ⊎ (m < n)
+below_or_same m n h = elim (cases_lt m n) [ inl less ↦ inr less | inr ge ↦ inl (omega arith) ]
+
+-- each of these environments is shut down once
+pub its_own_end : (m n count now : ℕ) → m ≤ n → n < m + count → calls_in n (shutdowns (range_with_len m count) now) ≡ Shutdown now ∷ []
+its_own_end m n zero now low high = absurd (omega arith)
+its_own_end m n (suc count) now low high =
+    ends_at m n count now low high (λ _ l h. its_own_end (m + 1) n count now l h) (below_or_same m n low)
+
+-- ended so far: as many as this, each the environment at its place after its shutdown
+pub record EndedSoFar (envs : List EnvState) (now : ℕ) (ended : List EnvState) (answers : List (ℕ × PollAnswer)) (so_far : ℕ) : Type 0 where
+  pub long : length ended ≡ so_far
+  pub each : (k : ℕ) (env : EnvState) → slice_get ended k ≡ Some env → ForEachMade envs (λ made. (env.number ≡ k + 1) × StandsForMore env (k + 1) made (Shutdown now))
+  pub answered : ForEachMade envs (λ made. answers ≡ answered_at_end made (range_with_len 1 so_far) now)
+
+pub none_ended : (envs : List EnvState) (now : ℕ) → EndedSoFar envs now [] [] 0
+none_ended envs now = record { long = refl; each = λ k env here. absurd (none-some env here); answered = λ made hold. refl }
+
+-- the next one ends
+pub one_more_ended : (envs : List EnvState) (now : ℕ) (ended : List EnvState) (answers : List (ℕ × PollAnswer)) (i : ℕ) (env after : EnvState) (told : List (ℕ × PollAnswer))
+    → slice_get envs i ≡ Some env → Accepts env (Shutdown now) after told → EndedSoFar envs now ended answers i → EndedSoFar envs now (ended ++ after ∷ []) (answers ++ told) (i + 1)
+one_more_ended envs now ended answers i env after told here accepts so_far = record {
+  long = length-append ended (after ∷ []) ∙ ap (λ n. n + 1) so_far.long;
+  each = λ k e at made hold. elim (get_of_more ended after k e at) [
+    | inl old ↦ so_far.each k e old made hold
+    | inr both ↦
+        let is : k ≡ i = both.0 ∙ so_far.long in
+        let number : after.number ≡ i + 1 = accepts.1 ∙ hold.number i env here in
+        let stands : StandsForMore after (i + 1) made (Shutdown now) = (so_of_calls envs i env (λ calls. IsAccepted calls (Shutdown now) after told) here accepts.0 made hold).1 in
+        subst (λ n. (e.number ≡ n + 1) × StandsForMore e (n + 1) made (Shutdown now)) (sym is)
+        (subst (λ (s : EnvState). (s.number ≡ i + 1) × StandsForMore s (i + 1) made (Shutdown now)) both.1 (number, stands))
+  ];
+  answered = λ made hold.
+      let own : told ≡ answered_by (calls_in (i + 1) made) (Shutdown now) = (so_of_calls envs i env (λ calls. IsAccepted calls (Shutdown now) after told) here accepts.0 made hold).2 in
+      ap (λ l. answers ++ l) own
+      ∙ ap (λ l. l ++ answered_by (calls_in (i + 1) made) (Shutdown now)) (so_far.answered made hold)
+      ∙ flat_map_more (λ n. answered_by (calls_in n made) (Shutdown now)) [] (range_with_len 1 i) (i + 1)
+      ∙ ap (flat_map (λ n. answered_by (calls_in n made) (Shutdown now))) (sym (range_more 1 i (i + 1) (omega arith)));
+}
+
+-- all have ended
+pub all_ended : (envs : List EnvState) (now : ℕ) (ended : List EnvState) (answers : List (ℕ × PollAnswer)) → EndedSoFar envs now ended answers (length envs)
+    → ForEachMade envs (λ made. HoldFor ended (made ++ shutdowns (numbers envs) now))
+all_ended envs now ended answers so_far made hold = record {
+  number = λ k env here. (so_far.each k env here made hold).0;
+  stands = λ k env here.
+      let within : k < length ended = slice_get_within ended k env here in
+      let long : length ended ≡ length envs = so_far.long in
+      let whole : calls_in (k + 1) (made ++ shutdowns (numbers envs) now) ≡ calls_in (k + 1) made ++ Shutdown now ∷ [] =
+      calls_in_both (k + 1) made (shutdowns (numbers envs) now)
+      ∙ ap (λ l. calls_in (k + 1) made ++ l) (its_own_end 1 (k + 1) (length envs) now (omega arith) (omega arith)) in
+      subst (StandsFor env) (sym whole) (so_far.each k env here made hold).1;
+}

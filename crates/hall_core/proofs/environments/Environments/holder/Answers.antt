@@ -1,0 +1,25 @@
+use Rattle.std.proofs.Common.{◌≡◌, true, false, sym, ap, ◌∙◌, arith, ◌<◌, length, Some}
+use Rattle.std.specs.Prelude.{slice_get}
+use Rattle.env_phase.specs.State.{ForEachList}
+use Rattle.env_phase.specs.Environment.{runs}
+use Rattle.hall_core.proofs.Holding.{stands_at, first_does, first_does_later}
+use Rattle.hall_core.proofs.environments.Environments.holder.Goals as goal
+
+pub returns-then-runs_in : goal.returns-then-runs_in
+returns-then-runs_in c =
+    let within : c.loop-env.env-index < length c.deref-env-items.result.now = omega arith in
+    let here : slice_get c.args.self.now c.loop-env.env-index ≡ Some c.env-item.result =
+    stands_at c.args.self.now c.deref-env-items.result.now c.loop-env.env-index c.env-item.result (c.deref-env-items.ensures.value ∙ c.self.view_is) within c.env-item.is in
+    let asked : ForEachList c.env-item.result (λ calls. true ≡ runs calls c.args.id.now) =
+    λ calls stands. sym c.if-runs_in.true ∙ c.runs_in.ensures calls stands in
+    λ made hold. ap (λ n. Some n) c.number.ensures
+    ∙ first_does c.args.self.now c.loop-env.env-index c.env-item.result (λ calls. runs calls c.args.id.now) here c.loop-env.invariant asked made hold
+
+pub loop-env-preserved : goal.loop-env-preserved
+loop-env-preserved c =
+    let within : c.loop-env.env-index < length c.deref-env-items.result.now = omega arith in
+    let here : slice_get c.args.self.now c.loop-env.env-index ≡ Some c.env-item.result =
+    stands_at c.args.self.now c.deref-env-items.result.now c.loop-env.env-index c.env-item.result (c.deref-env-items.ensures.value ∙ c.self.view_is) within c.env-item.is in
+    let asked : ForEachList c.env-item.result (λ calls. false ≡ runs calls c.args.id.now) =
+    λ calls stands. sym c.if-runs_in.false ∙ c.runs_in.ensures calls stands in
+    first_does_later c.args.self.now c.loop-env.env-index c.env-item.result (λ calls. runs calls c.args.id.now) here c.loop-env.invariant asked

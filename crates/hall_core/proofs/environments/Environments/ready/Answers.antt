@@ -1,0 +1,25 @@
+use Rattle.std.proofs.Common.{◌≡◌, true, false, sym, ap, ◌∙◌, arith, ◌<◌, length, Some}
+use Rattle.std.specs.Prelude.{slice_get}
+use Rattle.env_phase.specs.State.{ForEachList}
+use Rattle.env_phase.specs.Environment.{is_ready}
+use Rattle.hall_core.proofs.Holding.{stands_at, first_does, first_does_later}
+use Rattle.hall_core.proofs.environments.Environments.ready.Goals as goal
+
+pub returns-then-ready : goal.returns-then-ready
+returns-then-ready c =
+    let within : c.loop-env.env-index < length c.deref-env-items.result.now = omega arith in
+    let here : slice_get c.args.self.now c.loop-env.env-index ≡ Some c.env-item.result =
+    stands_at c.args.self.now c.deref-env-items.result.now c.loop-env.env-index c.env-item.result (c.deref-env-items.ensures.value ∙ c.self.view_is) within c.env-item.is in
+    let asked : ForEachList c.env-item.result (λ calls. true ≡ is_ready calls) =
+    λ calls stands. sym c.if-ready.true ∙ c.ready.ensures.by_calls calls stands in
+    λ made hold. ap (λ n. Some n) c.number.ensures
+    ∙ first_does c.args.self.now c.loop-env.env-index c.env-item.result is_ready here c.loop-env.invariant asked made hold
+
+pub loop-env-preserved : goal.loop-env-preserved
+loop-env-preserved c =
+    let within : c.loop-env.env-index < length c.deref-env-items.result.now = omega arith in
+    let here : slice_get c.args.self.now c.loop-env.env-index ≡ Some c.env-item.result =
+    stands_at c.args.self.now c.deref-env-items.result.now c.loop-env.env-index c.env-item.result (c.deref-env-items.ensures.value ∙ c.self.view_is) within c.env-item.is in
+    let asked : ForEachList c.env-item.result (λ calls. false ≡ is_ready calls) =
+    λ calls stands. sym c.if-ready.false ∙ c.ready.ensures.by_calls calls stands in
+    first_does_later c.args.self.now c.loop-env.env-index c.env-item.result is_ready here c.loop-env.invariant asked

@@ -1,0 +1,51 @@
+-- The environments of a hall as contracts see them, and which calls of environments they stand for.
+use Rattle.std.specs.Prelude.{◌≡◌, ℕ, ◌+◌, ◌≤◌, List, [], ◌∷◌, ◌++◌, length, map, flat_map, slice_get, Some}
+use Rattle.std.specs.List.{range_with_len}
+use Rattle.env_phase.specs.declared.answer.PollAnswer.{PollAnswer}
+use Rattle.env_phase.specs.declared.call.EnvCall.{EnvCall}
+use Rattle.env_phase.specs.declared.call.EnvCall.TheVariants.{Shutdown}
+use Rattle.env_phase.specs.Polls.{answered_by}
+use Rattle.env_phase.specs.State.{EnvState, StandsFor}
+use Rattle.hall_core.specs.Past.{calls_in}
+
+-- ## Numbers
+
+-- one number for each environment, from 1 on
+abbrev pub numbers : List EnvState → List ℕ
+numbers envs = range_with_len 1 (length envs)
+
+-- one of them has this number
+abbrev pub IsNumberIn : List EnvState → ℕ → Type 0
+IsNumberIn envs number = (1 ≤ number) × (number ≤ length envs)
+
+-- ## What they stand for
+
+-- the environment at each place has the number that is one greater, and stands for those of the calls that were made of it
+pub record HoldFor (envs : List EnvState) (made : List (ℕ × EnvCall)) : Type 0 where
+  pub number : (place : ℕ) (env : EnvState) → slice_get envs place ≡ Some env → env.number ≡ place + 1
+  pub stands : (place : ℕ) (env : EnvState) → slice_get envs place ≡ Some env → StandsFor env (calls_in (place + 1) made)
+
+-- this holds of each list of calls that the environments hold for
+abbrev pub ForEachMade : List EnvState → (List (ℕ × EnvCall) → Type 0) → Type 0
+ForEachMade envs holds = (made : List (ℕ × EnvCall)) → HoldFor envs made → holds made
+
+-- ## One call
+
+-- this environment is the one of this number after one call more
+abbrev pub StandsForMore : EnvState → ℕ → List (ℕ × EnvCall) → EnvCall → Type 0
+StandsForMore env number made call = StandsFor env (calls_in number made ++ call ∷ [])
+
+-- whichever calls the old ones held for and whichever call this one stands for beyond them, the new ones hold for them all
+abbrev pub IsPut : List EnvState → EnvState → List EnvState → Type 0
+IsPut old env new =
+    ForEachMade old (λ made. (call : EnvCall) → StandsForMore env env.number made call → HoldFor new (made ++ (env.number, call) ∷ []))
+
+-- ## The end of all
+
+-- each of so many environments is shut down, in turn
+abbrev pub shutdowns : List ℕ → ℕ → List (ℕ × EnvCall)
+shutdowns ns now = map (λ n. (n, Shutdown now)) ns
+
+-- the polls that this answers
+abbrev pub answered_at_end : List (ℕ × EnvCall) → List ℕ → ℕ → List (ℕ × PollAnswer)
+answered_at_end made ns now = flat_map (λ n. answered_by (calls_in n made) (Shutdown now)) ns

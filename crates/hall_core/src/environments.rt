@@ -1,0 +1,171 @@
+// The environments of a hall.
+ghost use Rattle.std.specs.Prelude.{◌≡◌, ◌++◌, ◌∷◌, [], ◌-◌, find, length, slice_get, Some, None, IfOk, IfErr};
+ghost use Rattle.env_phase.specs.Calls.{moment_by, IsMoment};
+ghost use Rattle.env_phase.specs.declared.call.EnvCall.TheVariants.{Shutdown};
+ghost use Rattle.env_phase.specs.Environment.{runs};
+ghost use Rattle.env_phase.specs.State.{ForEachList, Accepts};
+
+use env_phase::{Answered, Env, EnvCall, EnvError, Refusal};
+use std::alloc::{AllocError, Global};
+use std::marker::Model;
+
+/// The environments of a hall, numbered from 1 on.
+///
+/// Each stands for the calls that were made of it. A call is made of a copy, which is then put in its place.
+#[derive(Drop)]
+pub(crate) struct Environments {
+    alloc: Global,
+    /// The environment of number n stands at the place n - 1.
+    list: Vec<Env>,
+}
+
+impl Model for Environments {
+    ghost use Rattle.std.specs.Prelude.{List};
+    ghost use Rattle.env_phase.specs.State.{EnvState};
+
+    ghost Value = { List EnvState };
+
+    ghost view = { λ e. e.list.items };
+}
+
+// Whether the event runs in this environment.
+fn runs_in(env: &Env, id: &[u8; 16]) -> bool
+    ensures { ForEachList env.now (λ calls. result ≡ runs calls id.now) }
+{
+    match env.running() {
+        Some(event) => *id == event,
+        None => false,
+    }
+}
+
+// Shuts down a copy of the environment.
+fn shut_down_copy(env: &Env, now: u64) -> Result<(Env, Answered), AllocError>
+    requires { IsMoment now }
+    ensures { IfOk result (λ ended. Accepts env.now (Shutdown now) ended.0 ended.1.items) }
+{
+    let mut copy = env.copy()?;
+    match copy.shutdown(now) {
+        Ok(answers) => Ok((copy, answers)),
+        Err(_) => Err(AllocError),
+    }
+}
+
+impl Environments {
+    ghost use Rattle.env_phase.specs.Environment.{is_ready, running};
+    ghost use Rattle.env_phase.specs.Polls.{refusal_of};
+    ghost use Rattle.env_phase.specs.State.{IsAccepted, IsRefused};
+    ghost use Rattle.hall_core.specs.Past.{calls_in};
+    ghost use Rattle.hall_core.specs.Environments as meant;
+    ghost use Rattle.hall_core.specs.Environments.{numbers, IsNumberIn, HoldFor, ForEachMade, IsPut, shutdowns, answered_at_end};
+
+    /// So many environments, in which nobody has asked for anything.
+    pub fn new(alloc: Global, count: u8) -> Result<Environments, AllocError>
+        ensures length { IfOk result (λ made. length made ≡ count) }
+        ensures hold { IfOk result (λ made. HoldFor made []) }
+    {
+        let mut list = Vec::with_capacity(alloc, usize::from(count))?;
+        for place in 0..u16::from(count) {
+            list.push(Env::new(alloc, place + 1))?;
+        }
+        Ok(Environments { alloc, list })
+    }
+
+    /// The least-numbered environment that can be given an event.
+    pub fn ready(&self) -> Option<u16>
+        ensures { ForEachMade self.now (λ made. result ≡ find (λ n. is_ready (calls_in n made)) (numbers self.now)) }
+    {
+        for env in &self.list {
+            if env.ready() {
+                return Some(env.number());
+            }
+        }
+        None
+    }
+
+    /// The environment in which the event runs.
+    pub fn holder(&self, id: &[u8; 16]) -> Option<u16>
+        ensures { ForEachMade self.now (λ made. result ≡ find (λ n. runs (calls_in n made) id.now) (numbers self.now)) }
+    {
+        for env in &self.list {
+            if runs_in(env, id) {
+                return Some(env.number());
+            }
+        }
+        None
+    }
+
+    // The environment of this number.
+    fn env(&self, number: u16) -> &Env
+        requires { IsNumberIn self.now number }
+        ensures { slice_get self.now (number - 1) ≡ Some result.now }
+    {
+        &self.list[usize::from(number) - 1]
+    }
+
+    /// The event that runs in the environment of this number.
+    pub fn running(&self, number: u16) -> Option<[u8; 16]>
+        requires { IsNumberIn self.now number }
+        ensures { ForEachMade self.now (λ made. result ≡ running (calls_in number made)) }
+    {
+        self.env(number).running()
+    }
+
+    /// Why the environment of this number refuses the call now, if it does. It takes no memory.
+    pub fn judge(&self, number: u16, call: EnvCall) -> Option<Refusal>
+        requires { IsNumberIn self.now number }
+        ensures { ForEachMade self.now (λ made. result ≡ refusal_of (calls_in number made) call) }
+    {
+        self.env(number).judge(call)
+    }
+
+    /// The environment of this number after the call, and the polls that it answers; these stay as they are.
+    ///
+    /// It is refused as `Env::call` refuses it, then by want of memory.
+    pub fn called(&self, number: u16, call: EnvCall) -> Result<(Env, Answered), EnvError>
+        requires in_range { IsNumberIn self.now number }
+        requires moment { IsMoment (moment_by call) }
+        ensures number { IfOk result (λ called. ForEachMade self.now (λ made. called.0.number ≡ number)) }
+        ensures ok { IfOk result (λ called. ForEachMade self.now (λ made. IsAccepted (calls_in number made) call called.0 called.1.items)) }
+        ensures refused { IfErr result (λ why. ForEachMade self.now (λ made. IsRefused (calls_in number made) call why)) }
+    {
+        let env = self.env(number);
+        if let Some(why) = env.judge(call) {
+            return Err(EnvError::Refused(why));
+        }
+        let mut env = env.copy()?;
+        let answers = env.call(call)?;
+        Ok((env, answers))
+    }
+
+    /// Puts an environment in the place of the one of its number. It takes no memory.
+    pub fn put(&mut self, env: Env)
+        requires { IsNumberIn self.old env.number }
+        ensures length { length self.new ≡ length self.old }
+        ensures hold { IsPut self.old env self.new }
+    {
+        let place = usize::from(env.number()) - 1;
+        self.list[place] = env;
+    }
+
+    /// All environments after their shutdown, and the polls that it answers, by the environments in turn; these stay as
+    /// they are. A moment is at most the end of the year 9999.
+    pub fn shut_down(&self, now: u64) -> Result<(Environments, Answered), AllocError>
+        requires { IsMoment now }
+        ensures length { IfOk result (λ ended. length ended.0 ≡ length self.now) }
+        ensures hold { IfOk result (λ ended. ForEachMade self.now (λ made. HoldFor ended.0 (made ++ shutdowns (numbers self.now) now))) }
+        ensures answers { IfOk result (λ ended. ForEachMade self.now (λ made. ended.1.items ≡ answered_at_end made (numbers self.now) now)) }
+    {
+        let mut list = Vec::with_capacity(self.alloc, self.list.len())?;
+        let mut answers = Vec::new(self.alloc);
+        for env in &self.list {
+            let (ended, told) = shut_down_copy(env, now)?;
+            list.push(ended)?;
+            answers.extend_from_slice(&told)?;
+        }
+        let ended = Environments {
+            alloc: self.alloc,
+            list,
+        };
+        Ok((ended, answers))
+    }
+}
