@@ -1,2 +1,5 @@
 pub mod Places
 pub mod Holding
+mod Drawn
+mod Moments
+mod Oldest

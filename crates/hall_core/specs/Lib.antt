@@ -5,7 +5,9 @@ pub mod Run
 pub mod Slots
 pub mod Refusals
 pub mod Agreement
-pub mod Promises
 pub mod Environments
+pub mod Plans
+pub mod Planner
+pub mod Promises
 pub mod laws
 pub mod Examples

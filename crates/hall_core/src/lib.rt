@@ -5,9 +5,15 @@
 //! is durable. No call is made here yet: this crate has the definitions and their laws.
 #![tactic(auto)]
 
+mod callers;
 mod environments;
 mod error;
 pub mod examples;
+mod ids;
 pub mod laws;
+mod plan;
+mod planner;
+mod planning;
+mod requests;
 
 pub use error::HallError;

@@ -1,0 +1,106 @@
+-- What a call is planned from, and what its plan says.
+use Rattle.std.specs.Prelude.{◌≡◌, ℕ, Bool, List, [], ◌∷◌, length, map, Some, None, slice_index}
+use Rattle.std.specs.List.{range_with_len}
+use Rattle.retry_rules.specs.Settings.{bad_field}
+use Rattle.invoke_records.specs.declared.command.Kind.TheVariants.{Fail}
+use Rattle.invoke_records.specs.declared.command.Cause.TheVariants as cause
+use Rattle.async_core.specs.declared.illegal.Illegal.{Illegal}
+use Rattle.async_core.specs.declared.illegal.Illegal.TheVariants as illegal
+use Rattle.async_core.specs.History.{table_of}
+use Rattle.async_core.specs.State.{State}
+use Rattle.env_phase.specs.declared.call.EnvCall.{EnvCall}
+use Rattle.env_phase.specs.declared.call.EnvCall.TheVariants.{Register, Timeout, Shutdown}
+use Rattle.env_phase.specs.State.{EnvState}
+use Rattle.api_core.specs.declared.call.Call.{Call}
+use Rattle.api_core.specs.declared.call.Call.TheVariants as calls
+use Rattle.api_core.specs.declared.refusal.Refusal.{Refusal}
+use Rattle.api_core.specs.declared.refusal.Refusal.TheVariants as refusal
+use Rattle.hall_core.specs.declared.plan.Made.{Made}
+use Rattle.hall_core.specs.declared.plan.Made.TheVariants as made
+use Rattle.hall_core.specs.Past.{Past}
+use Rattle.api_core.specs.Replies as reply
+use Rattle.hall_core.specs.Effects.{Effect, Scene, command_for, requests, id_of, effect_of_request, scene}
+use Rattle.hall_core.specs.Agreement.{IsKept}
+use Rattle.hall_core.specs.Environments.{HoldFor, IsNumberIn}
+
+-- ## What is called
+
+-- the calls of environments by their numbers: none, one, or the shutdown of each
+abbrev pub calls_made : Made → List (ℕ × EnvCall)
+calls_made made.Nothing = []
+calls_made (made.One environment call) = (environment, call) ∷ []
+calls_made (made.ShutdownAll count now) = map (λ number. (number, Shutdown now)) (range_with_len 1 count)
+
+-- ## What a call is planned from
+
+-- the table and the environments are those of this past, which keeps what every call keeps
+pub record Meets (table : State) (environments : List EnvState) (past : Past) : Type 0 where
+  pub good : bad_field table.settings ≡ None
+  pub table_is : table.table ≡ table_of table.settings past.history
+  pub count : length environments ≡ table.settings.environments
+  pub hold : HoldFor environments past.made
+  pub kept : IsKept table.settings past
+
+-- a call that comes so now, and after this past, meets this
+abbrev pub scene_at : State → Past → ℕ → Scene
+scene_at table past at = record { settings = table.settings; past = past; now = at }
+
+-- this holds of each past that they meet
+abbrev pub ForEachPast : State → List EnvState → (Past → Type 0) → Type 0
+ForEachPast table environments holds = (past : Past) → Meets table environments past → holds past
+
+-- ## What its plan says
+
+-- the id that is drawn by two words
+unfoldable pub drawn_by : List ℕ → List ℕ
+drawn_by words = id_of (slice_index words 0, slice_index words 1)
+
+-- the effect is that of the request, whatever past it meets
+abbrev pub PlansRequest : State → List EnvState → ℕ → Call → ℕ → List ℕ → Effect → Type 0
+PlansRequest table environments slot call now words effect =
+    ForEachPast table environments (λ past. effect ≡ effect_of_request (scene table.settings past now) slot (drawn_by words) call)
+
+-- the environment of a request is one of these, if it is to one
+abbrev pub IsToOneOf : List EnvState → Call → Type 0
+IsToOneOf environments (calls.RuntimeNext environment) = IsNumberIn environments environment
+IsToOneOf environments (calls.Response environment id body) = IsNumberIn environments environment
+IsToOneOf environments (calls.RuntimeError environment id body) = IsNumberIn environments environment
+IsToOneOf environments (calls.RuntimeInitError environment) = IsNumberIn environments environment
+IsToOneOf environments (calls.Register environment name invoke shutdown) = IsNumberIn environments environment
+IsToOneOf environments (calls.ExtensionNext environment identifier) = IsNumberIn environments environment
+IsToOneOf environments (calls.ExtensionInitError environment identifier) = IsNumberIn environments environment
+IsToOneOf environments (calls.ExtensionExitError environment identifier) = IsNumberIn environments environment
+IsToOneOf environments call = Unit {0}
+
+-- ## Parts of effects
+
+-- a poll, which is parked where the environment accepts it
+abbrev pub parks : Scene → ℕ → EnvCall → Effect
+parks x environment call = requests x environment call None None
+
+-- a report, which is taken where the environment accepts it
+abbrev pub reports : Scene → ℕ → EnvCall → Effect
+reports x environment call = requests x environment call None (Some reply.taken)
+
+-- an extension registers under this identifier, for events, for the end of the environment, for both or neither
+abbrev pub registers : Scene → ℕ → List ℕ → Bool → Bool → Effect
+registers x environment identifier events end =
+    requests x environment (Register identifier events end) None (Some (reply.registered identifier))
+
+-- an answer came too late: the attempt ends as a timeout, and the environment is reset
+abbrev pub times_out : Scene → ℕ → List ℕ → Effect
+times_out x environment id = record {
+  command = Some (command_for (Fail cause.Timeout) id x.now []);
+  made = (environment, Timeout x.now) ∷ [];
+  reply = Some (reply.refused refusal.InvalidRequestId);
+}
+
+-- why an invocation is refused that is not legal
+abbrev pub why_not_accepted : Illegal → Refusal
+why_not_accepted illegal.Full = refusal.TooManyEvents
+why_not_accepted why = refusal.IdInUse
+
+-- why an event is not collected where that is not legal
+abbrev pub why_not_collected : Illegal → Refusal
+why_not_collected illegal.NotEnded = refusal.NotEnded
+why_not_collected why = refusal.UnknownEvent

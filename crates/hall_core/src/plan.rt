@@ -1,0 +1,84 @@
+// What a call does, as values: decided before anything changes.
+ghost use Rattle.std.specs.Prelude.{◌≡◌, Some, [], option_map};
+ghost use Rattle.api_core.specs.Replies.{told_by};
+ghost use Rattle.hall_core.specs.Effects as effect;
+
+use api_core::{Answer, Refusal};
+use env_phase::EnvCall;
+use invoke_records::Command;
+use std::marker::Model;
+
+/// Which environments a call calls.
+#[derive(Clone, Copy)]
+pub(crate) enum Made {
+    Nothing,
+    /// This call of one environment.
+    One { environment: u16, call: EnvCall },
+    /// The shutdown of each, from 1 to this count, at a moment in milliseconds since 1970.
+    ShutdownAll { count: u8, now: u64 },
+}
+
+/// What a call does: the command that it issues, the calls that it makes of environments, and the answer to its caller,
+/// which is none while it is parked.
+#[derive(Drop)]
+pub(crate) struct Plan<'a> {
+    pub(crate) command: Option<Command>,
+    pub(crate) made: Made,
+    pub(crate) reply: Option<Answer<'a>>,
+}
+
+impl<'a> Model for Plan<'a> {
+    ghost use Rattle.std.specs.Prelude.{option_map};
+    ghost use Rattle.api_core.specs.Replies.{told_by};
+    ghost use Rattle.hall_core.specs.Effects.{Effect};
+    ghost use Rattle.hall_core.specs.Plans.{calls_made};
+
+    ghost Value = { Effect };
+
+    ghost view = { λ plan. record {
+      command = plan.command;
+      made = calls_made plan.made;
+      reply = option_map told_by plan.reply;
+    } };
+}
+
+impl<'a> Plan<'a> {
+    pub(crate) fn nothing() -> Plan<'a>
+        ensures { result ≡ effect.nothing }
+    {
+        Plan {
+            command: None,
+            made: Made::Nothing,
+            reply: None,
+        }
+    }
+
+    /// An answer alone.
+    pub(crate) fn says(answer: Answer<'a>) -> Plan<'a>
+        ensures { result ≡ effect.says (told_by answer.entry) }
+    {
+        Plan {
+            command: None,
+            made: Made::Nothing,
+            reply: Some(answer),
+        }
+    }
+
+    /// A refusal alone.
+    pub(crate) fn refuses(why: Refusal) -> Plan<'a>
+        ensures { result ≡ effect.refuses why }
+    {
+        Plan::says(Answer::Refusal(why))
+    }
+
+    /// A command and an answer.
+    pub(crate) fn issues(command: Command, answer: Answer<'a>) -> Plan<'a>
+        ensures { result ≡ record { command = Some command; made = []; reply = Some (told_by answer.entry) } }
+    {
+        Plan {
+            command: Some(command),
+            made: Made::Nothing,
+            reply: Some(answer),
+        }
+    }
+}
