@@ -1,5 +1,5 @@
 -- Lemmas: environments that hold for calls, and one call more.
-use Rattle.std.proofs.Common.{◌≡◌, ℕ, zero, suc, ◌+◌, ◌<◌, ◌≤◌, List, [], ◌∷◌, ◌++◌, length, map, Bool, true, false, refl, sym, subst, ap, ◌∙◌, arith, Some, ◌⊎◌, inl, inr, get_or, ◌==◌, length-append}
+use Rattle.std.proofs.Common.{◌≡◌, ℕ, zero, suc, ◌+◌, ◌<◌, ◌≤◌, List, [], ◌∷◌, ◌++◌, length, map, Bool, true, false, refl, sym, subst, ap, ◌∙◌, arith, Option, Some, None, ◌⊎◌, inl, inr, get_or, ◌==◌, length-append}
 use Rattle.std.specs.Prelude.{slice_get, slice_set, filter, find, flat_map}
 use Rattle.std.specs.List.{range_with_len}
 use Rattle.std.proofs.lemmas.Bool.{eqb-true, eqb-false, cases_lt}
@@ -12,8 +12,8 @@ use Rattle.env_phase.specs.declared.call.EnvCall.TheVariants.{Shutdown}
 use Rattle.env_phase.specs.Polls.{answered_by}
 use Rattle.env_phase.specs.State.{EnvState, StandsFor, ForEachList, IsAccepted, Accepts}
 use Rattle.hall_core.specs.Past.{calls_in}
-use Rattle.hall_core.specs.Environments.{HoldFor, ForEachMade, StandsForMore, numbers, shutdowns, answered_at_end}
-use Rattle.hall_core.proofs.Places.{get_of_more, get_of_set, first_behind, first_is_here, first_is_later, first_of_all, range_more}
+use Rattle.hall_core.specs.Environments.{AreNumbered, HoldFor, ForEachMade, ForCallsOf, StandsForMore, numbers, shutdowns, answered_at_end, AreShutDown}
+use Rattle.hall_core.proofs.Places.{get_of_more, get_of_set, first_behind, first_is_here, first_is_later, first_is_none, first_of_all, range_more}
 
 -- ## The calls of one environment
 
@@ -53,17 +53,20 @@ no_call_more m n made call apart =
 
 pub none_hold : (made : List (ℕ × EnvCall)) → HoldFor [] made
 none_hold made = record {
-  number = λ place env here. absurd (none-some env here);
+  numbered = λ place env here. absurd (none-some env here);
   stands = λ place env here. absurd (none-some env here);
 }
+
+one_more_numbered : (envs : List EnvState) (place : ℕ) (env : EnvState) → length envs ≡ place → AreNumbered envs → env.number ≡ place + 1 → AreNumbered (envs ++ env ∷ [])
+one_more_numbered envs place env long numbered number k e here = elim (get_of_more envs env k e here) [
+  | inl old ↦ numbered k e old
+  | inr both ↦ ap (λ (s : EnvState). s.number) (sym both.1) ∙ number ∙ ap (λ n. n + 1) (sym long ∙ sym both.0)
+]
 
 -- one environment more, in which nobody has asked for anything
 pub one_more_holds : (envs : List EnvState) (place : ℕ) (env : EnvState) → length envs ≡ place → HoldFor envs [] → env.number ≡ place + 1 → StandsFor env [] → HoldFor (envs ++ env ∷ []) []
 one_more_holds envs place env long hold number stands = record {
-  number = λ k e here. elim (get_of_more envs env k e here) [
-    | inl old ↦ hold.number k e old
-    | inr both ↦ ap (λ (s : EnvState). s.number) (sym both.1) ∙ number ∙ ap (λ n. n + 1) (sym long ∙ sym both.0)
-  ];
+  numbered = one_more_numbered envs place env long hold.numbered number;
   stands = λ k e here. elim (get_of_more envs env k e here) [
     | inl old ↦ hold.stands k e old
     | inr both ↦ subst (λ s. StandsFor s []) both.1 stands
@@ -72,14 +75,17 @@ one_more_holds envs place env long hold number stands = record {
 
 -- ## One call more
 
+pub put_numbered : (envs : List EnvState) (place : ℕ) (env : EnvState) → env.number ≡ place + 1 → AreNumbered envs → AreNumbered (slice_set envs place env)
+put_numbered envs place env number numbered k e here = elim (get_of_set envs place env k e here) [
+  | inl both ↦ ap (λ (s : EnvState). s.number) (sym both.1) ∙ number ∙ ap (λ n. n + 1) (sym both.0)
+  | inr both ↦ numbered k e both.1
+]
+
 -- this environment is put where its number says
 pub put_holds : (envs : List EnvState) (made : List (ℕ × EnvCall)) (place : ℕ) (env : EnvState) (call : EnvCall) → env.number ≡ place + 1
-    → HoldFor envs made → StandsFor env (calls_in env.number made ++ call ∷ []) → HoldFor (slice_set envs place env) (made ++ (env.number, call) ∷ [])
+    → HoldFor envs made → StandsForMore env made call → HoldFor (slice_set envs place env) (made ++ (env.number, call) ∷ [])
 put_holds envs made place env call number hold stands = record {
-  number = λ k e here. elim (get_of_set envs place env k e here) [
-    | inl both ↦ ap (λ (s : EnvState). s.number) (sym both.1) ∙ number ∙ ap (λ n. n + 1) (sym both.0)
-    | inr both ↦ hold.number k e both.1
-  ];
+  numbered = put_numbered envs place env number hold.numbered;
   stands = λ k e here. elim (get_of_set envs place env k e here) [
     | inl both ↦
         let is : env.number ≡ k + 1 = number ∙ ap (λ n. n + 1) (sym both.0) in
@@ -101,24 +107,35 @@ pub so_of_calls : (envs : List EnvState) (i : ℕ) (env : EnvState) (holds : Lis
     → ForEachMade envs (λ made. holds (calls_in (i + 1) made))
 so_of_calls envs i env holds here each made hold = each (calls_in (i + 1) made) (hold.stands i env here)
 
-module _ (envs : List EnvState) (i : ℕ) (env : EnvState) (does : List EnvCall → Bool) (here : slice_get envs i ≡ Some env) where
-  -- the first that does is not among those that were asked before
-  abbrev pub NotBefore : ℕ → Type 0
-  NotBefore k =
-      ForEachMade envs (λ made.
-      first_behind (λ n. does (calls_in n made)) (length envs) 0 ≡ first_behind (λ n. does (calls_in n made)) (length envs) k)
+-- the first that does is none of so many
+abbrev pub NotAmong : List EnvState → (List EnvCall → Bool) → ℕ → Type 0
+NotAmong envs does k =
+    ForEachMade envs (λ made.
+    first_behind (λ n. does (calls_in n made)) (length envs) 0 ≡ first_behind (λ n. does (calls_in n made)) (length envs) k)
 
-  pub first_does : NotBefore i → ForEachList env (λ calls. true ≡ does calls) → ForEachMade envs (λ made. Some env.number ≡ find (λ n. does (calls_in n made)) (numbers envs))
-  first_does before each made hold =
-      ap (λ n. Some n) (hold.number i env here)
-      ∙ sym (first_is_here (λ n. does (calls_in n made)) (length envs) i (slice_get_within envs i env here) (sym (so_of_calls envs i env (λ calls. true ≡ does calls) here each made hold)))
-      ∙ sym (before made hold)
-      ∙ first_of_all (λ n. does (calls_in n made)) (length envs)
+abbrev pub IsFirst : List EnvState → (List EnvCall → Bool) → Option ℕ → Type 0
+IsFirst envs does number = ForEachMade envs (λ made. number ≡ find (λ n. does (calls_in n made)) (numbers envs))
 
-  pub first_does_later : NotBefore i → ForEachList env (λ calls. false ≡ does calls) → NotBefore (i + 1)
-  first_does_later before each made hold =
-      before made hold
-      ∙ first_is_later (λ n. does (calls_in n made)) (length envs) i (slice_get_within envs i env here) (sym (so_of_calls envs i env (λ calls. false ≡ does calls) here each made hold))
+pub first_does : (envs : List EnvState) (i : ℕ) (env : EnvState) (does : List EnvCall → Bool) → slice_get envs i ≡ Some env
+    → NotAmong envs does i → ForEachList env (λ calls. true ≡ does calls) → IsFirst envs does (Some env.number)
+first_does envs i env does here before each made hold =
+    let does_here : does (calls_in (i + 1) made) ≡ true = sym (so_of_calls envs i env (λ calls. true ≡ does calls) here each made hold) in
+    ap (λ n. Some n) (hold.numbered i env here)
+    ∙ sym (first_is_here (λ n. does (calls_in n made)) (length envs) i (slice_get_within envs i env here) does_here)
+    ∙ sym (before made hold)
+    ∙ first_of_all (λ n. does (calls_in n made)) (length envs)
+
+pub first_does_later : (envs : List EnvState) (i : ℕ) (env : EnvState) (does : List EnvCall → Bool) → slice_get envs i ≡ Some env
+    → NotAmong envs does i → ForEachList env (λ calls. false ≡ does calls) → NotAmong envs does (i + 1)
+first_does_later envs i env does here before each made hold =
+    let not_here : does (calls_in (i + 1) made) ≡ false = sym (so_of_calls envs i env (λ calls. false ≡ does calls) here each made hold) in
+    before made hold ∙ first_is_later (λ n. does (calls_in n made)) (length envs) i (slice_get_within envs i env here) not_here
+
+pub none_does : (envs : List EnvState) (i : ℕ) (does : List EnvCall → Bool) → length envs ≤ i → NotAmong envs does i → IsFirst envs does None
+none_does envs i does all before made hold =
+    sym (first_is_none (λ n. does (calls_in n made)) (length envs) i all)
+    ∙ sym (before made hold)
+    ∙ first_of_all (λ n. does (calls_in n made)) (length envs)
 
 -- ## The end of all
 
@@ -149,44 +166,51 @@ its_own_end m n (suc count) now low high =
 -- ended so far: as many as this, each the environment at its place after its shutdown
 pub record EndedSoFar (envs : List EnvState) (now : ℕ) (ended : List EnvState) (answers : List (ℕ × PollAnswer)) (so_far : ℕ) : Type 0 where
   pub long : length ended ≡ so_far
-  pub each : (k : ℕ) (env : EnvState) → slice_get ended k ≡ Some env → ForEachMade envs (λ made. (env.number ≡ k + 1) × StandsForMore env (k + 1) made (Shutdown now))
+  pub numbered : AreNumbered ended
+  pub stands : (k : ℕ) (env : EnvState) → slice_get ended k ≡ Some env → ForCallsOf envs (k + 1) (λ calls. StandsFor env (calls ++ Shutdown now ∷ []))
   pub answered : ForEachMade envs (λ made. answers ≡ answered_at_end made (range_with_len 1 so_far) now)
 
 pub none_ended : (envs : List EnvState) (now : ℕ) → EndedSoFar envs now [] [] 0
-none_ended envs now = record { long = refl; each = λ k env here. absurd (none-some env here); answered = λ made hold. refl }
+none_ended envs now = record {
+  long = refl;
+  numbered = λ k env here. absurd (none-some env here);
+  stands = λ k env here. absurd (none-some env here);
+  answered = λ made hold. refl;
+}
 
 -- the next one ends
 pub one_more_ended : (envs : List EnvState) (now : ℕ) (ended : List EnvState) (answers : List (ℕ × PollAnswer)) (i : ℕ) (env after : EnvState) (told : List (ℕ × PollAnswer))
-    → slice_get envs i ≡ Some env → Accepts env (Shutdown now) after told → EndedSoFar envs now ended answers i → EndedSoFar envs now (ended ++ after ∷ []) (answers ++ told) (i + 1)
-one_more_ended envs now ended answers i env after told here accepts so_far = record {
-  long = length-append ended (after ∷ []) ∙ ap (λ n. n + 1) so_far.long;
-  each = λ k e at made hold. elim (get_of_more ended after k e at) [
-    | inl old ↦ so_far.each k e old made hold
-    | inr both ↦
-        let is : k ≡ i = both.0 ∙ so_far.long in
-        let number : after.number ≡ i + 1 = accepts.1 ∙ hold.number i env here in
-        let stands : StandsForMore after (i + 1) made (Shutdown now) = (so_of_calls envs i env (λ calls. IsAccepted calls (Shutdown now) after told) here accepts.0 made hold).1 in
-        subst (λ n. (e.number ≡ n + 1) × StandsForMore e (n + 1) made (Shutdown now)) (sym is)
-        (subst (λ (s : EnvState). (s.number ≡ i + 1) × StandsForMore s (i + 1) made (Shutdown now)) both.1 (number, stands))
-  ];
-  answered = λ made hold.
-      let own : told ≡ answered_by (calls_in (i + 1) made) (Shutdown now) = (so_of_calls envs i env (λ calls. IsAccepted calls (Shutdown now) after told) here accepts.0 made hold).2 in
-      ap (λ l. answers ++ l) own
-      ∙ ap (λ l. l ++ answered_by (calls_in (i + 1) made) (Shutdown now)) (so_far.answered made hold)
-      ∙ flat_map_more (λ n. answered_by (calls_in n made) (Shutdown now)) [] (range_with_len 1 i) (i + 1)
-      ∙ ap (flat_map (λ n. answered_by (calls_in n made) (Shutdown now))) (sym (range_more 1 i (i + 1) (omega arith)));
-}
+    → AreNumbered envs → slice_get envs i ≡ Some env → Accepts env (Shutdown now) after told
+    → EndedSoFar envs now ended answers i → EndedSoFar envs now (ended ++ after ∷ []) (answers ++ told) (i + 1)
+one_more_ended envs now ended answers i env after told numbered here accepts so_far =
+    let accepted : ForCallsOf envs (i + 1) (λ calls. IsAccepted calls (Shutdown now) after told) =
+    so_of_calls envs i env (λ calls. IsAccepted calls (Shutdown now) after told) here accepts.0 in
+    record {
+      long = length-append ended (after ∷ []) ∙ ap (λ n. n + 1) so_far.long;
+      numbered = one_more_numbered ended i after so_far.long so_far.numbered (accepts.1 ∙ numbered i env here);
+      stands = λ k e at. elim (get_of_more ended after k e at) [
+        | inl old ↦ so_far.stands k e old
+        | inr both ↦ λ made hold.
+            subst (λ n. StandsFor e (calls_in (n + 1) made ++ Shutdown now ∷ [])) (sym (both.0 ∙ so_far.long))
+            (subst (λ (s : EnvState). StandsFor s (calls_in (i + 1) made ++ Shutdown now ∷ [])) both.1 (accepted made hold).1)
+      ];
+      answered = λ made hold.
+          ap (λ l. answers ++ l) (accepted made hold).2
+          ∙ ap (λ l. l ++ answered_by (calls_in (i + 1) made) (Shutdown now)) (so_far.answered made hold)
+          ∙ flat_map_more (λ n. answered_by (calls_in n made) (Shutdown now)) [] (range_with_len 1 i) (i + 1)
+          ∙ ap (flat_map (λ n. answered_by (calls_in n made) (Shutdown now))) (sym (range_more 1 i (i + 1) (omega arith)));
+    }
 
 -- all have ended
 pub all_ended : (envs : List EnvState) (now : ℕ) (ended : List EnvState) (answers : List (ℕ × PollAnswer)) → EndedSoFar envs now ended answers (length envs)
-    → ForEachMade envs (λ made. HoldFor ended (made ++ shutdowns (numbers envs) now))
+    → AreShutDown envs now ended
 all_ended envs now ended answers so_far made hold = record {
-  number = λ k env here. (so_far.each k env here made hold).0;
+  numbered = so_far.numbered;
   stands = λ k env here.
       let within : k < length ended = slice_get_within ended k env here in
       let long : length ended ≡ length envs = so_far.long in
       let whole : calls_in (k + 1) (made ++ shutdowns (numbers envs) now) ≡ calls_in (k + 1) made ++ Shutdown now ∷ [] =
       calls_in_both (k + 1) made (shutdowns (numbers envs) now)
       ∙ ap (λ l. calls_in (k + 1) made ++ l) (its_own_end 1 (k + 1) (length envs) now (omega arith) (omega arith)) in
-      subst (StandsFor env) (sym whole) (so_far.each k env here made hold).1;
+      subst (StandsFor env) (sym whole) (so_far.stands k env here made hold);
 }

@@ -14,38 +14,54 @@ use Rattle.hall_core.specs.Past.{calls_in}
 abbrev pub numbers : List EnvState → List ℕ
 numbers envs = range_with_len 1 (length envs)
 
+-- each has the number that is one greater than its place
+abbrev pub AreNumbered : List EnvState → Type 0
+AreNumbered envs = (place : ℕ) (env : EnvState) → slice_get envs place ≡ Some env → env.number ≡ place + 1
+
 -- one of them has this number
 abbrev pub IsNumberIn : List EnvState → ℕ → Type 0
 IsNumberIn envs number = (1 ≤ number) × (number ≤ length envs)
 
 -- ## What they stand for
 
--- the environment at each place has the number that is one greater, and stands for those of the calls that were made of it
+-- the environments are numbered, and each stands for those of the calls that were made of it
 pub record HoldFor (envs : List EnvState) (made : List (ℕ × EnvCall)) : Type 0 where
-  pub number : (place : ℕ) (env : EnvState) → slice_get envs place ≡ Some env → env.number ≡ place + 1
+  pub numbered : AreNumbered envs
   pub stands : (place : ℕ) (env : EnvState) → slice_get envs place ≡ Some env → StandsFor env (calls_in (place + 1) made)
 
 -- this holds of each list of calls that the environments hold for
 abbrev pub ForEachMade : List EnvState → (List (ℕ × EnvCall) → Type 0) → Type 0
 ForEachMade envs holds = (made : List (ℕ × EnvCall)) → HoldFor envs made → holds made
 
+-- this holds of the calls of the environment of this number, whichever they are
+abbrev pub ForCallsOf : List EnvState → ℕ → (List EnvCall → Type 0) → Type 0
+ForCallsOf envs number holds = ForEachMade envs (λ made. holds (calls_in number made))
+
 -- ## One call
 
--- this environment is the one of this number after one call more
-abbrev pub StandsForMore : EnvState → ℕ → List (ℕ × EnvCall) → EnvCall → Type 0
-StandsForMore env number made call = StandsFor env (calls_in number made ++ call ∷ [])
+-- this environment stands for the calls of its number among these and one call more
+abbrev pub StandsForMore : EnvState → List (ℕ × EnvCall) → EnvCall → Type 0
+StandsForMore env made call = StandsFor env (calls_in env.number made ++ call ∷ [])
 
 -- whichever calls the old ones held for and whichever call this one stands for beyond them, the new ones hold for them all
 abbrev pub IsPut : List EnvState → EnvState → List EnvState → Type 0
 IsPut old env new =
-    ForEachMade old (λ made. (call : EnvCall) → StandsForMore env env.number made call → HoldFor new (made ++ (env.number, call) ∷ []))
+    ForEachMade old (λ made. (call : EnvCall) → StandsForMore env made call → HoldFor new (made ++ (env.number, call) ∷ []))
 
 -- ## The end of all
 
--- each of so many environments is shut down, in turn
+-- the environments of these numbers are shut down, in turn
 abbrev pub shutdowns : List ℕ → ℕ → List (ℕ × EnvCall)
 shutdowns ns now = map (λ n. (n, Shutdown now)) ns
 
--- the polls that this answers
+-- the polls that this answers after these calls
 abbrev pub answered_at_end : List (ℕ × EnvCall) → List ℕ → ℕ → List (ℕ × PollAnswer)
 answered_at_end made ns now = flat_map (λ n. answered_by (calls_in n made) (Shutdown now)) ns
+
+-- the new ones hold for the calls that the old ones held for and the shutdowns of all
+abbrev pub AreShutDown : List EnvState → ℕ → List EnvState → Type 0
+AreShutDown old now new = ForEachMade old (λ made. HoldFor new (made ++ shutdowns (numbers old) now))
+
+-- these are the polls that the shutdowns answer
+abbrev pub AreAnsweredAtEnd : List EnvState → ℕ → List (ℕ × PollAnswer) → Type 0
+AreAnsweredAtEnd old now polls = ForEachMade old (λ made. polls ≡ answered_at_end made (numbers old) now)

@@ -1,5 +1,5 @@
 // The environments of a hall.
-ghost use Rattle.std.specs.Prelude.{◌≡◌, ◌++◌, ◌∷◌, [], ◌-◌, find, length, slice_get, Some, None, IfOk, IfErr};
+ghost use Rattle.std.specs.Prelude.{◌≡◌, [], ◌-◌, find, length, slice_get, Some, IfSome, IfOk, IfErr};
 ghost use Rattle.env_phase.specs.Calls.{moment_by, IsMoment};
 ghost use Rattle.env_phase.specs.declared.call.EnvCall.TheVariants.{Shutdown};
 ghost use Rattle.env_phase.specs.Environment.{runs};
@@ -25,7 +25,11 @@ impl Model for Environments {
 
     ghost Value = { List EnvState };
 
+    ghost use Rattle.hall_core.specs.Environments.{AreNumbered};
+
     ghost view = { λ e. e.list.items };
+
+    ghost invariant = { λ e. AreNumbered e.list.items };
 }
 
 // Whether the event runs in this environment.
@@ -55,8 +59,7 @@ impl Environments {
     ghost use Rattle.env_phase.specs.Polls.{refusal_of};
     ghost use Rattle.env_phase.specs.State.{IsAccepted, IsRefused};
     ghost use Rattle.hall_core.specs.Past.{calls_in};
-    ghost use Rattle.hall_core.specs.Environments as meant;
-    ghost use Rattle.hall_core.specs.Environments.{numbers, IsNumberIn, HoldFor, ForEachMade, IsPut, shutdowns, answered_at_end};
+    ghost use Rattle.hall_core.specs.Environments.{numbers, IsNumberIn, HoldFor, ForEachMade, ForCallsOf, IsPut, AreShutDown, AreAnsweredAtEnd};
 
     /// So many environments, in which nobody has asked for anything.
     pub fn new(alloc: Global, count: u8) -> Result<Environments, AllocError>
@@ -72,7 +75,8 @@ impl Environments {
 
     /// The least-numbered environment that can be given an event.
     pub fn ready(&self) -> Option<u16>
-        ensures { ForEachMade self.now (λ made. result ≡ find (λ n. is_ready (calls_in n made)) (numbers self.now)) }
+        ensures in_range { IfSome result (λ number. IsNumberIn self.now number) }
+        ensures first { ForEachMade self.now (λ made. result ≡ find (λ n. is_ready (calls_in n made)) (numbers self.now)) }
     {
         for env in &self.list {
             if env.ready() {
@@ -84,7 +88,8 @@ impl Environments {
 
     /// The environment in which the event runs.
     pub fn holder(&self, id: &[u8; 16]) -> Option<u16>
-        ensures { ForEachMade self.now (λ made. result ≡ find (λ n. runs (calls_in n made) id.now) (numbers self.now)) }
+        ensures in_range { IfSome result (λ number. IsNumberIn self.now number) }
+        ensures first { ForEachMade self.now (λ made. result ≡ find (λ n. runs (calls_in n made) id.now) (numbers self.now)) }
     {
         for env in &self.list {
             if runs_in(env, id) {
@@ -97,7 +102,8 @@ impl Environments {
     // The environment of this number.
     fn env(&self, number: u16) -> &Env
         requires { IsNumberIn self.now number }
-        ensures { slice_get self.now (number - 1) ≡ Some result.now }
+        ensures place { slice_get self.now (number - 1) ≡ Some result.now }
+        ensures number { result.now.number ≡ number }
     {
         &self.list[usize::from(number) - 1]
     }
@@ -105,7 +111,7 @@ impl Environments {
     /// The event that runs in the environment of this number.
     pub fn running(&self, number: u16) -> Option<[u8; 16]>
         requires { IsNumberIn self.now number }
-        ensures { ForEachMade self.now (λ made. result ≡ running (calls_in number made)) }
+        ensures { ForCallsOf self.now number (λ calls. result ≡ running calls) }
     {
         self.env(number).running()
     }
@@ -113,7 +119,7 @@ impl Environments {
     /// Why the environment of this number refuses the call now, if it does. It takes no memory.
     pub fn judge(&self, number: u16, call: EnvCall) -> Option<Refusal>
         requires { IsNumberIn self.now number }
-        ensures { ForEachMade self.now (λ made. result ≡ refusal_of (calls_in number made) call) }
+        ensures { ForCallsOf self.now number (λ calls. result ≡ refusal_of calls call) }
     {
         self.env(number).judge(call)
     }
@@ -124,9 +130,9 @@ impl Environments {
     pub fn called(&self, number: u16, call: EnvCall) -> Result<(Env, Answered), EnvError>
         requires in_range { IsNumberIn self.now number }
         requires moment { IsMoment (moment_by call) }
-        ensures number { IfOk result (λ called. ForEachMade self.now (λ made. called.0.number ≡ number)) }
-        ensures ok { IfOk result (λ called. ForEachMade self.now (λ made. IsAccepted (calls_in number made) call called.0 called.1.items)) }
-        ensures refused { IfErr result (λ why. ForEachMade self.now (λ made. IsRefused (calls_in number made) call why)) }
+        ensures number { IfOk result (λ called. called.0.number ≡ number) }
+        ensures ok { IfOk result (λ called. ForCallsOf self.now number (λ calls. IsAccepted calls call called.0 called.1.items)) }
+        ensures refused { IfErr result (λ why. ForCallsOf self.now number (λ calls. IsRefused calls call why)) }
     {
         let env = self.env(number);
         if let Some(why) = env.judge(call) {
@@ -152,8 +158,8 @@ impl Environments {
     pub fn shut_down(&self, now: u64) -> Result<(Environments, Answered), AllocError>
         requires { IsMoment now }
         ensures length { IfOk result (λ ended. length ended.0 ≡ length self.now) }
-        ensures hold { IfOk result (λ ended. ForEachMade self.now (λ made. HoldFor ended.0 (made ++ shutdowns (numbers self.now) now))) }
-        ensures answers { IfOk result (λ ended. ForEachMade self.now (λ made. ended.1.items ≡ answered_at_end made (numbers self.now) now)) }
+        ensures hold { IfOk result (λ ended. AreShutDown self.now now ended.0) }
+        ensures answers { IfOk result (λ ended. AreAnsweredAtEnd self.now now ended.1.items) }
     {
         let mut list = Vec::with_capacity(self.alloc, self.list.len())?;
         let mut answers = Vec::new(self.alloc);

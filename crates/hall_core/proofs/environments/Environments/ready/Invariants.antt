@@ -1,13 +1,7 @@
-use Rattle.std.proofs.Common.{◌≡◌, length}
 use Rattle.env_phase.specs.Environment.{is_ready}
-use Rattle.hall_core.specs.Past.{calls_in}
-use Rattle.hall_core.specs.Environments.{ForEachMade}
-use Rattle.hall_core.proofs.Places.{first_behind}
+use Rattle.hall_core.proofs.Holding.{NotAmong}
 use Rattle.hall_core.proofs.environments.Environments.ready.Given as goal
 
 -- the first is not among those that were asked
 abbrev pub invariant-loop-env : goal.invariant-loop-env
-invariant-loop-env l =
-    ForEachMade l.self (λ made.
-    first_behind (λ n. is_ready (calls_in n made)) (length l.self) 0
-    ≡ first_behind (λ n. is_ready (calls_in n made)) (length l.self) l.env-index)
+invariant-loop-env l = NotAmong l.self is_ready l.env-index

@@ -10,7 +10,7 @@ loop-env-preserved c =
     stands_at c.args.self.now c.deref-env-items.result.now c.loop-env.env-index c.env-item.result (c.deref-env-items.ensures.value ∙ c.self.view_is) within c.env-item.is in
     rw (c.in_ok-push.ensures.items, c.in_ok-extend_from_slice.ensures.items, c.deref.ensures.value)
     (one_more_ended c.args.self.now c.args.now c.loop-env.list.items c.loop-env.answers.items c.loop-env.env-index c.env-item.result c.in_ok-ended.ended c.in_ok-ended.told.items
-    here c.in_ok-ended.ensures c.loop-env.invariant)
+    (rw c.self.view_is at c.self.invariant) here c.in_ok-ended.ensures c.loop-env.invariant)
 
 pub returns-clause-hold : goal.returns-clause-hold
 returns-clause-hold c =
