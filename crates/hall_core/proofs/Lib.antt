@@ -1,3 +1,6 @@
 pub mod Places
 pub mod Holding
 pub mod Flat
+mod Drawn
+mod Moments
+mod Oldest

@@ -6,10 +6,11 @@ pub mod Slots
 pub mod Events
 pub mod Refusals
 pub mod Agreement
-pub mod Promises
 pub mod Environments
 pub mod Plans
 pub mod Answering
 pub mod Changes
+pub mod Planner
+pub mod Promises
 pub mod laws
 pub mod Examples

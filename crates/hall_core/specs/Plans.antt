@@ -1,5 +1,5 @@
 -- What a call is planned from, and what its plan says.
-use Rattle.std.specs.Prelude.{◌≡◌, ℕ, List, [], ◌∷◌, length, map, Some, None, slice_index}
+use Rattle.std.specs.Prelude.{◌≡◌, ℕ, Bool, List, [], ◌∷◌, length, map, Some, None, slice_index}
 use Rattle.std.specs.List.{range_with_len}
 use Rattle.retry_rules.specs.Settings.{bad_field}
 use Rattle.invoke_records.specs.declared.command.Kind.TheVariants.{Fail}
@@ -9,7 +9,7 @@ use Rattle.async_core.specs.declared.illegal.Illegal.TheVariants as illegal
 use Rattle.async_core.specs.History.{table_of}
 use Rattle.async_core.specs.State.{State}
 use Rattle.env_phase.specs.declared.call.EnvCall.{EnvCall}
-use Rattle.env_phase.specs.declared.call.EnvCall.TheVariants.{Timeout, Shutdown}
+use Rattle.env_phase.specs.declared.call.EnvCall.TheVariants.{Register, Timeout, Shutdown}
 use Rattle.env_phase.specs.State.{EnvState}
 use Rattle.api_core.specs.declared.call.Call.{Call}
 use Rattle.api_core.specs.declared.call.Call.TheVariants as calls
@@ -19,7 +19,7 @@ use Rattle.hall_core.specs.declared.plan.Made.{Made}
 use Rattle.hall_core.specs.declared.plan.Made.TheVariants as made
 use Rattle.hall_core.specs.Past.{Past}
 use Rattle.api_core.specs.Replies as reply
-use Rattle.hall_core.specs.Effects.{Effect, Scene, command_for, id_of, effect_of_request, scene}
+use Rattle.hall_core.specs.Effects.{Effect, Scene, command_for, requests, id_of, effect_of_request, scene}
 use Rattle.hall_core.specs.Agreement.{IsKept}
 use Rattle.hall_core.specs.Environments.{HoldFor, IsNumberIn}
 
@@ -73,6 +73,19 @@ IsToOneOf environments (calls.ExtensionExitError environment identifier) = IsNum
 IsToOneOf environments call = Unit {0}
 
 -- ## Parts of effects
+
+-- a poll, which is parked where the environment accepts it
+abbrev pub parks : Scene → ℕ → EnvCall → Effect
+parks x environment call = requests x environment call None None
+
+-- a report, which is taken where the environment accepts it
+abbrev pub reports : Scene → ℕ → EnvCall → Effect
+reports x environment call = requests x environment call None (Some reply.taken)
+
+-- an extension registers under this identifier, for events, for the end of the environment, for both or neither
+abbrev pub registers : Scene → ℕ → List ℕ → Bool → Bool → Effect
+registers x environment identifier events end =
+    requests x environment (Register identifier events end) None (Some (reply.registered identifier))
 
 -- an answer came too late: the attempt ends as a timeout, and the environment is reset
 abbrev pub times_out : Scene → ℕ → List ℕ → Effect

@@ -8,10 +8,15 @@
 mod answering;
 mod calling;
 mod changes;
+mod callers;
 mod environments;
 mod plan;
 mod error;
 pub mod examples;
+mod ids;
 pub mod laws;
+mod planner;
+mod planning;
+mod requests;
 
 pub use error::HallError;

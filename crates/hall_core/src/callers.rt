@@ -1,0 +1,90 @@
+// What requests of callers do.
+ghost use Rattle.std.specs.Prelude.{◌≡◌, Some};
+ghost use Rattle.invoke_records.specs.declared.command.Kind.TheVariants.{Accept};
+ghost use Rattle.hall_core.specs.Effects.{command_for, accepts, collects, tells_oldest, stops};
+ghost use Rattle.hall_core.specs.Planner.{ForEachScene};
+ghost use Rattle.hall_core.specs.Plans.{why_not_accepted, why_not_collected};
+
+use crate::plan::{Made, Plan};
+use crate::planner::Planner;
+use api_core::{Answer, Refusal};
+use async_core::{Illegal, Side};
+use invoke_records::{Bytes, Kind};
+
+fn why_not_accepted(why: Illegal) -> Refusal
+    ensures { result ≡ why_not_accepted why }
+{
+    match why {
+        Illegal::Full => Refusal::TooManyEvents,
+        _ => Refusal::IdInUse,
+    }
+}
+
+fn why_not_collected(why: Illegal) -> Refusal
+    ensures { result ≡ why_not_collected why }
+{
+    match why {
+        Illegal::NotEnded => Refusal::NotEnded,
+        _ => Refusal::UnknownEvent,
+    }
+}
+
+impl<'a> Planner<'a> {
+    /// An invocation: an event is accepted under the id that was drawn. The payload is moved into the command.
+    pub(crate) fn accept(&self, drawn: [u8; 16], payload: Bytes) -> Plan<'a>
+        ensures { ForEachScene self.now (λ x. result ≡ accepts x (command_for Accept drawn x.now payload)) }
+    {
+        let command = self.command(Kind::Accept, drawn, payload);
+        match self.table.judge(&command) {
+            Ok(()) => Plan::issues(command, Answer::Accepted(drawn)),
+            Err(why) => Plan::refuses(why_not_accepted(why)),
+        }
+    }
+
+    fn collect_event(&self, id: [u8; 16]) -> Plan<'a>
+        ensures { ForEachScene self.now (λ x. result ≡ collects x (Some id)) }
+    {
+        let command = self.bare(Kind::Collect, id);
+        match self.table.judge(&command) {
+            Ok(()) => Plan::issues(command, Answer::Deleted),
+            Err(why) => Plan::refuses(why_not_collected(why)),
+        }
+    }
+
+    /// An event that has ended is collected.
+    pub(crate) fn collect(&self, id: Option<[u8; 16]>) -> Plan<'a>
+        ensures { ForEachScene self.now (λ x. result ≡ collects x id) }
+    {
+        match id {
+            Some(id) => self.collect_event(id),
+            None => Plan::refuses(Refusal::UnknownEvent),
+        }
+    }
+
+    /// The record of the event that ended first on this side.
+    pub(crate) fn oldest(&self, side: Side) -> Plan<'a>
+        ensures { ForEachScene self.now (λ x. result ≡ tells_oldest x side) }
+    {
+        let Some(id) = self.table.oldest_ended(side) else {
+            return Plan::says(Answer::NoRecord);
+        };
+        match self.table.ended(&id) {
+            Some(ended) => Plan::says(Answer::Record(ended)),
+            None => Plan::says(Answer::NoRecord),
+        }
+    }
+
+    /// Each environment is shut down.
+    pub(crate) fn stop(&self) -> Plan<'a>
+        ensures { ForEachScene self.now (λ x. result ≡ stops x) }
+    {
+        Plan {
+            command: None,
+            made: Made::ShutdownAll {
+                count: self.table.settings().environments,
+                now: self.moment,
+            },
+            reply: Some(Answer::Taken),
+        }
+    }
+}

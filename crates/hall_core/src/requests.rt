@@ -1,0 +1,227 @@
+// What requests to an environment do.
+ghost use Rattle.std.specs.Prelude.{◌≡◌, true, Some, option_map};
+ghost use Rattle.env_phase.specs.declared.call.EnvCall.TheVariants.{RuntimeNext, ExtensionNext, InitError, ExtensionError};
+ghost use Rattle.env_phase.specs.Environment.{running, runs};
+ghost use Rattle.api_core.specs.Replies.{told_by};
+ghost use Rattle.hall_core.specs.Past.{calls_of};
+ghost use Rattle.env_phase.specs.Polls.{refusal_of};
+ghost use Rattle.hall_core.specs.Effects.{refusal_by, requests, is_late, responds, answers_event, exit_of, exits};
+ghost use Rattle.hall_core.specs.Environments.{IsNumberIn};
+ghost use Rattle.hall_core.specs.Planner.{ForEachScene};
+ghost use Rattle.hall_core.specs.Plans.{parks, reports, registers, times_out};
+
+use crate::plan::{Made, Plan};
+use crate::planner::Planner;
+use api_core::{Answer, Refusal};
+use env_phase::EnvCall;
+use invoke_records::{Bytes, Cause, Command, Kind};
+
+fn refusal_by(why: env_phase::Refusal) -> Refusal
+    ensures { result ≡ refusal_by why }
+{
+    match why {
+        env_phase::Refusal::UnknownExtension => Refusal::UnknownExtension,
+        env_phase::Refusal::RegistrationClosed => Refusal::RegistrationClosed,
+        env_phase::Refusal::TooManyExtensions => Refusal::TooManyExtensions,
+        env_phase::Refusal::InUse => Refusal::IdInUse,
+        env_phase::Refusal::WrongPhase => Refusal::WrongPhase,
+    }
+}
+
+impl<'a> Planner<'a> {
+    #[tactic(auto, unfolding(crate::specs::Past::calls_of))]
+    fn running(&self, environment: u16) -> Option<[u8; 16]>
+        requires { IsNumberIn self.now.environments.now environment }
+        ensures { ForEachScene self.now (λ x. result ≡ running (calls_of x.past environment)) }
+    {
+        self.environments.running(environment)
+    }
+
+    fn runs(&self, environment: u16, id: &[u8; 16]) -> bool
+        requires { IsNumberIn self.now.environments.now environment }
+        ensures { ForEachScene self.now (λ x. result ≡ runs (calls_of x.past environment) id.now) }
+    {
+        match self.running(environment) {
+            Some(other) => *id == other,
+            None => false,
+        }
+    }
+
+    #[tactic(auto, unfolding(crate::specs::Past::calls_of))]
+    fn judge(&self, environment: u16, call: EnvCall) -> Option<env_phase::Refusal>
+        requires { IsNumberIn self.now.environments.now environment }
+        ensures { ForEachScene self.now (λ x. result ≡ refusal_of (calls_of x.past environment) call) }
+    {
+        self.environments.judge(environment, call)
+    }
+
+    /// A call of the environment with this command and reply, where the environment accepts it.
+    pub(crate) fn request(
+        &self,
+        environment: u16,
+        call: EnvCall,
+        command: Option<Command>,
+        reply: Option<Answer<'a>>,
+    ) -> Plan<'a>
+        requires { IsNumberIn self.now.environments.now environment }
+        ensures { ForEachScene self.now (λ x. result ≡ requests x environment call command (option_map told_by reply.entry)) }
+    {
+        match self.judge(environment, call) {
+            None => Plan {
+                command,
+                made: Made::One { environment, call },
+                reply,
+            },
+            Some(why) => Plan::refuses(refusal_by(why)),
+        }
+    }
+
+    // The attempt is over before its answer came: the environment is reset.
+    fn time_out(&self, environment: u16, id: [u8; 16]) -> Plan<'a>
+        ensures { ForEachScene self.now (λ x. result ≡ times_out x environment id) }
+    {
+        Plan {
+            command: Some(self.bare(Kind::Fail(Cause::Timeout), id)),
+            made: Made::One {
+                environment,
+                call: EnvCall::Timeout { now: self.moment },
+            },
+            reply: Some(Answer::Refusal(Refusal::InvalidRequestId)),
+        }
+    }
+
+    // An answer in time ends the attempt, a late one is its timeout.
+    fn answer_event(&self, environment: u16, kind: Kind, id: [u8; 16], bytes: Bytes) -> Plan<'a>
+        ensures { ForEachScene self.now (λ x. result ≡ answers_event x environment kind id bytes) }
+    {
+        if self.is_late(&id) {
+            return self.time_out(environment, id);
+        }
+        Plan {
+            command: Some(self.command(kind, id, bytes)),
+            made: Made::One {
+                environment,
+                call: EnvCall::Answer { id },
+            },
+            reply: Some(Answer::Taken),
+        }
+    }
+
+    /// A response or an error for the event that the environment runs. Its body is moved into the command.
+    pub(crate) fn respond(
+        &self,
+        environment: u16,
+        kind: Kind,
+        id: Option<[u8; 16]>,
+        bytes: Bytes,
+    ) -> Plan<'a>
+        requires { IsNumberIn self.now.environments.now environment }
+        ensures { ForEachScene self.now (λ x. result ≡ responds x environment kind id bytes) }
+    {
+        match id {
+            Some(id) if self.runs(environment, &id) => {
+                self.answer_event(environment, kind, id, bytes)
+            }
+            _ => Plan::refuses(Refusal::InvalidRequestId),
+        }
+    }
+
+    // How an attempt fails whose environment an extension has left.
+    fn exit_command(&self, id: [u8; 16]) -> Command
+        ensures { ForEachScene self.now (λ x. result ≡ exit_of x id) }
+    {
+        let cause = if self.is_late(&id) {
+            Cause::Timeout
+        } else {
+            Cause::Exited
+        };
+        self.bare(Kind::Fail(cause), id)
+    }
+
+    /// A poll of the runtime or of an extension: its slot is parked.
+    fn park(&self, environment: u16, call: EnvCall) -> Plan<'a>
+        requires { IsNumberIn self.now.environments.now environment }
+        ensures { ForEachScene self.now (λ x. result ≡ parks x environment call) }
+    {
+        self.request(environment, call, None, None)
+    }
+
+    /// The runtime asks for the next event.
+    pub(crate) fn runtime_next(&self, environment: u16, slot: u64) -> Plan<'a>
+        requires { IsNumberIn self.now.environments.now environment }
+        ensures { ForEachScene self.now (λ x. result ≡ parks x environment (RuntimeNext slot)) }
+    {
+        self.park(environment, EnvCall::RuntimeNext { slot })
+    }
+
+    /// An extension asks for the next event.
+    pub(crate) fn extension_next(
+        &self,
+        environment: u16,
+        identifier: [u8; 16],
+        slot: u64,
+    ) -> Plan<'a>
+        requires { IsNumberIn self.now.environments.now environment }
+        ensures { ForEachScene self.now (λ x. result ≡ parks x environment (ExtensionNext identifier slot)) }
+    {
+        self.park(environment, EnvCall::ExtensionNext { identifier, slot })
+    }
+
+    /// The runtime could not start.
+    pub(crate) fn init_error(&self, environment: u16) -> Plan<'a>
+        requires { IsNumberIn self.now.environments.now environment }
+        ensures { ForEachScene self.now (λ x. result ≡ reports x environment (InitError x.now)) }
+    {
+        let call = EnvCall::InitError { now: self.moment };
+        self.request(environment, call, None, Some(Answer::Taken))
+    }
+
+    /// An extension registers under the identifier that was drawn.
+    pub(crate) fn register(
+        &self,
+        environment: u16,
+        drawn: [u8; 16],
+        invoke: bool,
+        shutdown: bool,
+    ) -> Plan<'a>
+        requires { IsNumberIn self.now.environments.now environment }
+        ensures { ForEachScene self.now (λ x. result ≡ registers x environment drawn invoke shutdown) }
+    {
+        let call = EnvCall::Register {
+            identifier: drawn,
+            invoke,
+            shutdown,
+        };
+        self.request(environment, call, None, Some(Answer::Registered(drawn)))
+    }
+
+    /// An extension could not start.
+    pub(crate) fn extension_init_error(&self, environment: u16, identifier: [u8; 16]) -> Plan<'a>
+        requires { IsNumberIn self.now.environments.now environment }
+        ensures { ForEachScene self.now (λ x. result ≡ reports x environment (ExtensionError identifier true x.now)) }
+    {
+        let call = EnvCall::ExtensionError {
+            identifier,
+            in_init: true,
+            now: self.moment,
+        };
+        self.request(environment, call, None, Some(Answer::Taken))
+    }
+
+    /// An extension exits: the event that runs fails.
+    pub(crate) fn exit(&self, environment: u16, identifier: [u8; 16]) -> Plan<'a>
+        requires { IsNumberIn self.now.environments.now environment }
+        ensures { ForEachScene self.now (λ x. result ≡ exits x environment identifier) }
+    {
+        let command = match self.running(environment) {
+            Some(id) => Some(self.exit_command(id)),
+            None => None,
+        };
+        let call = EnvCall::ExtensionError {
+            identifier,
+            in_init: false,
+            now: self.moment,
+        };
+        self.request(environment, call, command, Some(Answer::Taken))
+    }
+}
