@@ -3,7 +3,6 @@ pub mod Firsts
 pub mod Effects
 pub mod Run
 pub mod Slots
-pub mod Events
 pub mod Refusals
 pub mod Agreement
 pub mod Environments

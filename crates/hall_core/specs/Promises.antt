@@ -1,5 +1,6 @@
 -- Words of the public laws.
-use Rattle.std.specs.Prelude.{◌≡◌, ℕ, ◌+◌, Bool, true, false, List, length, [], ◌∷◌, ◌++◌, Option, Some, None, is_some, option_map}
+use Rattle.std.specs.Prelude.{◌≡◌, ℕ, Bool, true, List, [], ◌∷◌, Option, Some, None, is_some, option_map}
+use Rattle.std.specs.List.{list_any}
 use Rattle.retry_rules.specs.declared.settings.Settings.{Settings}
 use Rattle.invoke_records.specs.declared.command.Command.{Command}
 use Rattle.invoke_records.specs.declared.command.Kind.TheVariants.{Interrupt}
@@ -10,12 +11,11 @@ use Rattle.async_core.specs.Choice.{IsNextMove, command_of_move}
 use Rattle.env_phase.specs.declared.call.EnvCall.{EnvCall}
 use Rattle.env_phase.specs.Environment.{running}
 use Rattle.env_phase.specs.Polls.{refusal_of as env_refusal_of}
-use Rattle.hall_core.specs.Past.{HallCall, SlotEvent, tick, Past, opening, calls_in, calls_of, moment}
+use Rattle.hall_core.specs.Past.{HallCall, tick, Past, opening, calls_of, moment}
 use Rattle.hall_core.specs.Firsts.{Event, first_unheld, first_moving}
 use Rattle.hall_core.specs.Effects.{Scene, command_for, moves, effect_of, command_of}
-use Rattle.hall_core.specs.Run.{past_after}
-use Rattle.hall_core.specs.Slots.{Reply, reply_of, open_slots, is_open, released}
-use Rattle.hall_core.specs.Events.{with_event, released_after, released_of_call, without, open_after, is_open_after, IsOpenOnce}
+use Rattle.hall_core.specs.Run.{own_event, past_after}
+use Rattle.hall_core.specs.Slots.{Reply, asks, reply_of}
 use Rattle.hall_core.specs.Agreement.{IsUnrefused, IsRun, AllAgree, IsKept, IsUnheld}
 
 -- ## Calls and runs
@@ -46,6 +46,10 @@ abbrev pub move_command : Scene → Option Move → Option Command
 move_command x move = option_map (command_of_move x.now) move
 
 -- ## Replies
+
+-- a request comes with this slot
+abbrev pub comes_with : ℕ → HallCall → Bool
+comes_with slot call = list_any (asks slot) (own_event call)
 
 -- a reply to the slot that was computed is there after the call too
 abbrev pub ReplyStays : Settings → Past → HallCall → ℕ → Type 0
@@ -96,38 +100,3 @@ InterruptsUnheld s past call =
 -- an event that no environment holds later was so before
 abbrev pub LeavesNone : Settings → Past → Past → Type 0
 LeavesNone s past later = (id : List ℕ) → IsUnheld s later id → IsUnheld s past id
-
--- ## Slots, after one event and after one call
-
--- what a take gives then
-abbrev pub TellsAfter : Past → SlotEvent → ℕ → Type 0
-TellsAfter past event slot =
-    (broken : Bool) (durable : ℕ) → released broken durable (with_event past event) slot ≡ released_after broken durable past event slot
-
-abbrev pub TellsAfterCall : Settings → Past → HallCall → ℕ → Type 0
-TellsAfterCall s past call slot =
-    (broken : Bool) (durable : ℕ) → released broken durable (past_after s past call) slot ≡ released_of_call broken durable s past call slot
-
--- which slots are open then, and whether this one is
-abbrev pub OpenAfter : Bool → Past → SlotEvent → Type 0
-OpenAfter broken past event = open_slots broken (with_event past event) ≡ open_after broken past event
-
-abbrev pub IsOpenAfter : Bool → Past → SlotEvent → ℕ → Type 0
-IsOpenAfter broken past event slot = is_open broken (with_event past event) slot ≡ is_open_after broken past event slot
-
--- one slot less is open without one that is
-abbrev pub OneLess : Bool → Past → ℕ → Type 0
-OneLess broken past slot =
-    is_open broken past slot ≡ true → length (without slot (open_slots broken past)) + 1 ≡ length (open_slots broken past)
-
-abbrev pub NoneLess : Bool → Past → ℕ → Type 0
-NoneLess broken past slot = is_open broken past slot ≡ false → without slot (open_slots broken past) ≡ open_slots broken past
-
--- no slot is open twice then, if none was
-abbrev pub StaysOnce : Bool → Past → Past → Type 0
-StaysOnce broken past later = IsOpenOnce broken past → IsOpenOnce broken later
-
--- which calls an environment has had then
-abbrev pub CallsAfter : Settings → Past → HallCall → ℕ → Type 0
-CallsAfter s past call environment =
-    calls_of (past_after s past call) environment ≡ calls_of past environment ++ calls_in environment (effect_of s past call).made

@@ -1,10 +1,6 @@
 -- Laws that other crates and the proofs cite.
 pub mod Adding
-pub mod Slots
 pub mod Replies
-pub mod Closing
-pub mod Open
-pub mod Once
 pub mod Ranks
 pub mod Moving
 pub mod Keeping

@@ -97,7 +97,7 @@ pub fn faults()
     ensures once { released false 1 (done (invokes 1 t 1 ∷ take_slot 1 ∷ [])) 1 ≡ None }
     ensures parks { reply_in (invokes 1 t 1 ∷ take_slot 1 ∷ runtime_asks 2 t ∷ []) 2 ≡ None }
     ensures pending { released false 1 (done poll_and_second) 3 ≡ None }
-    ensures still_open { open_slots true (done poll_and_second) ≡ 2 ∷ 3 ∷ [] }
+    ensures open { open_slots true (done poll_and_second) ≡ 2 ∷ 3 ∷ [] }
     ensures poll { released true 1 (done poll_and_second) 2 ≡ refused_at Refusal.Unavailable 1 }
     ensures second { released true 1 (done poll_and_second) 3 ≡ refused_at Refusal.Unavailable 1 }
     ensures kept { released true 1 (done (invokes 1 t 1 ∷ runtime_asks 2 t ∷ invokes 3 t 2 ∷ [])) 1 ≡ accepted_at 1 1 }

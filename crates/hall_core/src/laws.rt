@@ -1,5 +1,5 @@
 // What follows from the definitions alone, for readers and for the crates above.
-ghost use Rattle.std.specs.Prelude.{◌≡◌, ◌||◌, ◌++◌, ℕ, List, Bool, false, None, Some, Option};
+ghost use Rattle.std.specs.Prelude.{◌≡◌, ◌++◌, ℕ, List, false, None, Some, Option};
 ghost use Rattle.retry_rules.specs.declared.settings.Settings.{Settings};
 ghost use Rattle.invoke_records.specs.declared.command.Command.{Command};
 ghost use Rattle.async_core.specs.declared.choice.Move.{Move};
@@ -7,17 +7,13 @@ ghost use Rattle.async_core.specs.Choice.{IsFree};
 ghost use Rattle.async_core.specs.History.{IsLegal};
 ghost use Rattle.env_phase.specs.declared.call.EnvCall.{EnvCall};
 ghost use Rattle.hall_core.specs.Firsts.{Event, first_unheld};
-ghost use Rattle.hall_core.specs.Past.{HallCall, SlotEvent, Past, opening, ready_in, is_stopping};
-ghost use Rattle.hall_core.specs.Effects.{Scene, effect_of, command_of};
+ghost use Rattle.hall_core.specs.Past.{HallCall, Past, opening, ready_in, is_stopping};
+ghost use Rattle.hall_core.specs.Effects.{Scene, command_of};
 ghost use Rattle.hall_core.specs.Run.{option_list, past_after, after, past_of};
-ghost use Rattle.hall_core.specs.Slots.{reply_of, is_wanted};
-ghost use Rattle.hall_core.specs.Events.{with_event, reply_after, wanted_after, is_forgotten, forgets_after, IsOpenOnce, IsFresh, AsksFresh};
-ghost use Rattle.hall_core.specs.Events.{events_of, comes_with, reply_of_call, wanted_of_call, asks_to_stop};
 ghost use Rattle.hall_core.specs.Agreement.{IsSound, AllAgree, IsKept, IsUnheld};
-ghost use Rattle.hall_core.specs.Promises.{TableAnswers, next_command, ReplyStays, RunsInOne, AllRunSomewhere};
+ghost use Rattle.hall_core.specs.Promises.{TableAnswers, next_command, comes_with, ReplyStays, RunsInOne, AllRunSomewhere};
 ghost use Rattle.hall_core.specs.Promises.{IsMade, AreMade, IsRunFrom, move_command, CommandIsLegal, CallIsAccepted};
 ghost use Rattle.hall_core.specs.Promises.{NoneUnheld, InterruptsFirst, InterruptsUnheld, LeavesNone};
-ghost use Rattle.hall_core.specs.Promises.{TellsAfter, TellsAfterCall, OpenAfter, IsOpenAfter, OneLess, NoneLess, StaysOnce, CallsAfter};
 
 /// Where nothing has to be interrupted, a tick's command is that of the move that the table answers.
 pub fn the_table_answers_the_move()
@@ -79,42 +75,4 @@ pub fn interrupts()
 pub fn nothing_is_left_behind()
     ensures step { (s : Settings) (past : Past) (call : HallCall) → IsMade s past call → LeavesNone s past (past_after s past call) }
     ensures run { (s : Settings) (past : Past) (run : List HallCall) → AreMade s past run → LeavesNone s past (after s past run) }
-{}
-
-/// What one event of slots more changes: the reply to a slot, whether it is wanted or forgotten, what a take
-/// gives of it, and which slots are open, none of them twice where no request comes with one that is.
-pub fn what_one_event_changes()
-    ensures reply { (past : Past) (event : SlotEvent) (slot : ℕ)
-        → reply_of (with_event past event) slot ≡ reply_after slot (reply_of past slot) event }
-    ensures wanted { (past : Past) (event : SlotEvent) (slot : ℕ)
-        → is_wanted (with_event past event) slot ≡ wanted_after slot (is_wanted past slot) event }
-    ensures told { (past : Past) (event : SlotEvent) (slot : ℕ) → TellsAfter past event slot }
-    ensures forgotten { (past : Past) (event : SlotEvent) (slot : ℕ)
-        → is_forgotten (with_event past event) slot ≡ forgets_after slot (is_forgotten past slot) event }
-    ensures open_slots { (broken : Bool) (past : Past) (event : SlotEvent) → IsOpenOnce broken past → OpenAfter broken past event }
-    ensures is_open { (broken : Bool) (past : Past) (event : SlotEvent) (slot : ℕ) → IsOpenOnce broken past
-        → IsOpenAfter broken past event slot }
-    ensures once { (broken : Bool) (past : Past) (event : SlotEvent) → IsFresh broken past event
-        → StaysOnce broken past (with_event past event) }
-    ensures one_less { (broken : Bool) (past : Past) (slot : ℕ) → IsOpenOnce broken past → OneLess broken past slot }
-    ensures none_less { (broken : Bool) (past : Past) (slot : ℕ) → NoneLess broken past slot }
-{}
-
-/// What one call more adds, and what it changes of a slot.
-pub fn what_one_call_adds()
-    ensures made { (s : Settings) (past : Past) (call : HallCall)
-        → (past_after s past call).made ≡ past.made ++ (effect_of s past call).made }
-    ensures slots { (s : Settings) (past : Past) (call : HallCall)
-        → (past_after s past call).slots ≡ past.slots ++ events_of s past call }
-    ensures calls { (s : Settings) (past : Past) (call : HallCall) (environment : ℕ) → CallsAfter s past call environment }
-    ensures reply { (s : Settings) (past : Past) (call : HallCall) (slot : ℕ)
-        → reply_of (past_after s past call) slot ≡ reply_of_call s past call slot }
-    ensures wanted { (s : Settings) (past : Past) (call : HallCall) (slot : ℕ)
-        → is_wanted (past_after s past call) slot ≡ wanted_of_call past call slot }
-    ensures told { (s : Settings) (past : Past) (call : HallCall) (slot : ℕ) → TellsAfterCall s past call slot }
-    ensures stopping { (s : Settings) (past : Past) (call : HallCall)
-        → is_stopping (past_after s past call) ≡ (is_stopping past || asks_to_stop call) }
-    ensures once { (s : Settings) (broken : Bool) (past : Past) (call : HallCall) → AsksFresh broken past call
-        → StaysOnce broken past (past_after s past call) }
-    ensures at_opening { (broken : Bool) (history : List Command) → IsOpenOnce broken (opening history) }
 {}

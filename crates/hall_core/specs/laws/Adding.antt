@@ -4,13 +4,12 @@ use Rattle.std.specs.Prelude.{map, filter}
 use Rattle.retry_rules.specs.declared.settings.Settings.{Settings}
 use Rattle.env_phase.specs.declared.call.EnvCall.{EnvCall}
 use Rattle.hall_core.specs.Past.{HallCall, Past, calls_of}
-use Rattle.hall_core.specs.Effects.{Effect, effect_of, command_of}
+use Rattle.hall_core.specs.Effects.{Effect, command_of}
 use Rattle.hall_core.specs.Run.{option_list, past_after, after}
 use Rattle.std.proofs.lemmas.List.{map-append}
 use Rattle.std.proofs.lemmas.List.Elements.{filter-append}
 use Rattle.hall_core.specs.Past.{calls_in}
 use Rattle.hall_core.specs.Run.{past_by}
-use Rattle.hall_core.specs.Events.{events_of}
 
 -- ## Runs
 
@@ -24,23 +23,9 @@ pub history_grows : (s : Settings) (past : Past) (call : HallCall) → (past_aft
 unfolding past_after
 history_grows s past call = refl
 
--- its calls of environments, and what it says of slots
-pub made_grows : (s : Settings) (past : Past) (call : HallCall) → (past_after s past call).made ≡ past.made ++ (effect_of s past call).made
-unfolding past_after
-made_grows s past call = refl
-
-pub slots_grow : (s : Settings) (past : Past) (call : HallCall) → (past_after s past call).slots ≡ past.slots ++ events_of s past call
-unfolding past_after
-slots_grow s past call = refl
-
 -- the calls of one environment
 pub calls_more : (past : Past) (call : HallCall) (effect : Effect) (environment : ℕ) → calls_of (past_by past call effect) environment ≡ calls_of past environment ++ calls_in environment effect.made
 unfolding calls_of
 calls_more past call effect environment =
     ap (map (λ (m : ℕ × EnvCall). m.1)) (filter-append (λ (m : ℕ × EnvCall). m.0 == environment) past.made effect.made)
     ∙ map-append (λ (m : ℕ × EnvCall). m.1) (filter (λ (m : ℕ × EnvCall). m.0 == environment) past.made) (filter (λ (m : ℕ × EnvCall). m.0 == environment) effect.made)
-
-pub calls_after : (s : Settings) (past : Past) (call : HallCall) (environment : ℕ)
-    → calls_of (past_after s past call) environment ≡ calls_of past environment ++ calls_in environment (effect_of s past call).made
-unfolding past_after
-calls_after s past call environment = calls_more past call (effect_of s past call) environment
