@@ -11,3 +11,4 @@ pub mod Interrupts
 pub mod Requests
 pub mod Ticks
 pub mod Sound
+pub mod Statuses
