@@ -12,3 +12,4 @@ pub mod Requests
 pub mod Ticks
 pub mod Sound
 pub mod Statuses
+pub mod Counts
