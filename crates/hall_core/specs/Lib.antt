@@ -3,6 +3,7 @@ pub mod Firsts
 pub mod Effects
 pub mod Run
 pub mod Slots
+pub mod Status
 pub mod Refusals
 pub mod Agreement
 pub mod Environments

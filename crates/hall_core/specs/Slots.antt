@@ -29,12 +29,18 @@ reply_by slot (replied other answer point) = if slot == other then Some (answer,
 reply_by slot event = None
 
 -- what became of a slot since the last request that came with it
+abbrev pub since : List SlotEvent → ℕ → List SlotEvent
+since events slot = after_last (asks slot) events
+
 unfoldable pub since_asked : Past → ℕ → List SlotEvent
-since_asked past slot = after_last (asks slot) past.slots
+since_asked past slot = since past.slots slot
 
 -- the reply to a slot: the first that was computed since its last request, if one was
+abbrev pub reply_in : List SlotEvent → ℕ → Option Reply
+reply_in events slot = slice_get (filter_map (reply_by slot) (since events slot)) 0
+
 unfoldable pub reply_of : Past → ℕ → Option Reply
-reply_of past slot = slice_get (filter_map (reply_by slot) (since_asked past slot)) 0
+reply_of past slot = reply_in past.slots slot
 
 -- ## Open slots
 
@@ -51,6 +57,9 @@ open_among broken (event ∷ later) = open_among broken later
 
 unfoldable pub open_slots : Bool → Past → List ℕ
 open_slots broken past = open_among broken past.slots
+
+abbrev pub is_open_in : Bool → List SlotEvent → ℕ → Bool
+is_open_in broken events slot = list_any (λ other. slot == other) (open_among broken events)
 
 abbrev pub is_open : Bool → Past → ℕ → Bool
 is_open broken past slot = list_any (λ other. slot == other) (open_slots broken past)
@@ -69,11 +78,18 @@ tell broken durable (Some told) =
     else None
 
 -- a request came with the slot, and since then it was neither taken nor forgotten
+abbrev pub is_wanted_in : List SlotEvent → ℕ → Bool
+is_wanted_in events slot =
+    list_any (asks slot) events
+    && not (list_any (takes slot) (since events slot) || list_any (forgets slot) (since events slot))
+
 abbrev pub is_wanted : Past → ℕ → Bool
-is_wanted past slot =
-    list_any (asks slot) past.slots
-    && not (list_any (takes slot) (since_asked past slot) || list_any (forgets slot) (since_asked past slot))
+is_wanted past slot = is_wanted_in past.slots slot
 
 -- what a take gives where so many commands are durable: the answer, and the number of its receipt
+abbrev pub released_in : Bool → ℕ → List SlotEvent → ℕ → Option Reply
+released_in broken durable events slot =
+    if is_wanted_in events slot then tell broken durable (reply_in events slot) else None
+
 unfoldable pub released : Bool → ℕ → Past → ℕ → Option Reply
-released broken durable past slot = if is_wanted past slot then tell broken durable (reply_of past slot) else None
+released broken durable past slot = released_in broken durable past.slots slot

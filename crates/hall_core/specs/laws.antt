@@ -11,3 +11,5 @@ pub mod Interrupts
 pub mod Requests
 pub mod Ticks
 pub mod Sound
+pub mod Statuses
+pub mod Counts

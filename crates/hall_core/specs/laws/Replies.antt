@@ -20,7 +20,7 @@ use Rattle.hall_core.specs.Slots.{Reply, asks, reply_by, since_asked, reply_of}
 
 -- ## Replies
 
-since_append : {A : Type 0} (p : A → Bool) (xs ys : List A) → list_any p ys ≡ false → after_last p (xs ++ ys) ≡ after_last p xs ++ ys
+pub since_append : {A : Type 0} (p : A → Bool) (xs ys : List A) → list_any p ys ≡ false → after_last p (xs ++ ys) ≡ after_last p xs ++ ys
 since_append p xs [] none = ap (after_last p) (append-nil xs) ∙ sym (append-nil (after_last p xs))
 since_append p xs (y ∷ ys) none =
     let parts = or_parts (p y) (list_any p ys) none in
