@@ -11,6 +11,7 @@ pub mod Plans
 pub mod Answering
 pub mod Changes
 pub mod Planner
+pub mod Prepared
 pub mod Promises
 pub mod laws
 pub mod Examples

@@ -1,5 +1,5 @@
 // The environments of a hall.
-ghost use Rattle.std.specs.Prelude.{◌≡◌, [], ◌-◌, find, length, slice_get, Some, IfSome, IfOk, IfErr};
+ghost use Rattle.std.specs.Prelude.{◌≡◌, ◌↔◌, IsTrue, [], ◌-◌, find, length, slice_get, Some, IfSome, IfOk, IfErr};
 ghost use Rattle.env_phase.specs.Calls.{moment_by, IsMoment};
 ghost use Rattle.env_phase.specs.declared.call.EnvCall.TheVariants.{Shutdown};
 ghost use Rattle.env_phase.specs.Environment.{runs};
@@ -71,6 +71,20 @@ impl Environments {
             list.push(Env::new(alloc, place + 1))?;
         }
         Ok(Environments { alloc, list })
+    }
+
+    /// How many they are.
+    pub fn count(&self) -> usize
+        ensures { result ≡ length self.now }
+    {
+        self.list.len()
+    }
+
+    /// Whether one of them has this number.
+    pub fn has(&self, number: u16) -> bool
+        ensures { IsTrue result ↔ IsNumberIn self.now number }
+    {
+        1 <= number && usize::from(number) <= self.list.len()
     }
 
     /// The least-numbered environment that can be given an event.

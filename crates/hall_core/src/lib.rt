@@ -16,6 +16,7 @@ pub mod examples;
 mod ids;
 pub mod laws;
 mod planner;
+mod preparing;
 mod planning;
 mod requests;
 

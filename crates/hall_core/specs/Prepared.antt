@@ -1,0 +1,19 @@
+-- What a call will change, as it is made before anything changes.
+use Rattle.std.specs.Prelude.{◌≡◌, List, option_map}
+use Rattle.async_core.specs.State.{State}
+use Rattle.env_phase.specs.State.{EnvState}
+use Rattle.api_core.specs.Replies.{reply_of_told}
+use Rattle.hall_core.specs.declared.preparing.Prepared.{Prepared}
+use Rattle.hall_core.specs.Effects.{Effect}
+use Rattle.hall_core.specs.Plans.{ForEachPast}
+use Rattle.hall_core.specs.Answering.{polls_told}
+use Rattle.hall_core.specs.Changes.{IsWithin, LeadsTo, answered_to}
+
+-- it is what this effect changes, of a table and environments whatever past they meet
+pub record IsPreparedFor (table : State) (environments : List EnvState) (effect : Effect) (p : Prepared) : Type 0 where
+  pub command : p.command ≡ effect.command
+  pub within : IsWithin environments p.changes
+  pub leads : LeadsTo environments p.changes effect.made
+  pub replies : ForEachPast table environments (λ past.
+      p.replies.items ≡ polls_told table.settings past.history (answered_to past.made effect.made))
+  pub own : p.own ≡ option_map (reply_of_told table.settings) effect.reply
