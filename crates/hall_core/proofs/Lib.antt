@@ -4,3 +4,5 @@ pub mod Flat
 mod Drawn
 mod Moments
 mod Oldest
+mod Kept
+pub mod Settled

@@ -11,7 +11,11 @@ pub mod Plans
 pub mod Answering
 pub mod Changes
 pub mod Planner
+pub mod OpenSlots
+pub mod SlotSteps
 pub mod Prepared
+pub mod Issuing
+pub mod Settling
 pub mod Promises
 pub mod laws
 pub mod Examples

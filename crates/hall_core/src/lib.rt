@@ -14,10 +14,15 @@ mod plan;
 mod error;
 pub mod examples;
 mod ids;
+mod issuing;
 pub mod laws;
+mod open_slot;
 mod planner;
 mod preparing;
 mod planning;
 mod requests;
+mod settling;
+mod slots;
 
 pub use error::HallError;
+pub use issuing::Issued;

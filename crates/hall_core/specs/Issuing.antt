@@ -1,0 +1,21 @@
+-- What becomes of an issuer by the command of a call.
+use Rattle.std.specs.Prelude.{◌≡◌, ℕ, ◌+◌, ◌++◌, List, length, Option, Some, None, option_map}
+use Rattle.invoke_records.specs.declared.command.Command.{Command}
+use Rattle.group_commit.specs.Issuer.{IssuerView, issued_in}
+use Rattle.hall_core.specs.declared.issuing.Issued.{Issued}
+use Rattle.hall_core.specs.Run.{option_list}
+
+-- what is told of a command: it is the next one
+abbrev pub told_of : ℕ → Command → Issued
+told_of before c = record { number = before + 1; kind = c.kind; id = c.id; time = c.time }
+
+-- the command of a call is told, if it has one
+abbrev pub IsAnswered : IssuerView → Option Command → Option Issued → Type 0
+IsAnswered issuer command told = told ≡ option_map (told_of (issued_in issuer)) command
+
+-- it stands for each history with the command, if there is one, and nothing else has changed
+pub record Continues (old new : IssuerView) (command : Option Command) : Type 0 where
+  pub settings : new.settings ≡ old.settings
+  pub durable : new.durable ≡ old.durable
+  pub broken : new.broken ≡ old.broken
+  pub stands : (history : List Command) → old.stands history → new.stands (history ++ option_list command)

@@ -1,0 +1,53 @@
+// Issuing the command of a call.
+ghost use Rattle.std.specs.Prelude.{◌≡◌, ◌++◌, false, option_map, IfOk, IfErr, OnOk, OnErr, is_some, is_none};
+ghost use Rattle.group_commit.specs.Issuer.{ForEachHistory, IsSameIssuer};
+ghost use Rattle.hall_core.specs.Run.{option_list};
+ghost use Rattle.hall_core.specs.Issuing.{IsAnswered, Continues};
+
+use crate::error::HallError;
+use group_commit::{IssueError, Issuer};
+use invoke_records::{Command, Kind};
+
+/// The command that a call issued: its number, kind, event and moment, in milliseconds since 1970.
+#[derive(Clone, Copy, Debug, PartialEq, Eq)]
+pub struct Issued {
+    pub number: u64,
+    pub kind: Kind,
+    pub id: [u8; 16],
+    pub time: u64,
+}
+
+fn error_of(why: IssueError) -> HallError {
+    match why {
+        IssueError::Broken => HallError::Broken,
+        IssueError::WornOut => HallError::WornOut,
+        IssueError::Backlog => HallError::Backlog,
+        IssueError::Illegal(_) | IssueError::OutOfMemory => HallError::OutOfMemory,
+    }
+}
+
+/// Issues the command of a call, if it has one.
+pub(crate) fn issue<I: Issuer>(
+    issuer: &mut I,
+    command: Option<Command>,
+) -> Result<Option<Issued>, HallError>
+    ensures ok { IfOk result (IsAnswered (I.view issuer.old) command) }
+    ensures goes_on { OnOk result (Continues (I.view issuer.old) (I.view issuer.new) command) }
+    ensures err { OnErr result (IsSameIssuer (I.view issuer.old) (I.view issuer.new)) }
+{
+    let Some(command) = command else {
+        return Ok(None);
+    };
+    let kind = command.kind;
+    let id = command.id;
+    let time = command.time;
+    match issuer.issue(command) {
+        Ok(ticket) => Ok(Some(Issued {
+            number: ticket.number(),
+            kind,
+            id,
+            time,
+        })),
+        Err(why) => Err(error_of(why)),
+    }
+}
