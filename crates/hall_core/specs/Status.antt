@@ -75,12 +75,7 @@ abbrev pub released_by : Bool → ℕ → Option Status → Option Reply
 released_by broken durable None = None
 released_by broken durable (Some status) = if status.is_forgotten then None else tell broken durable status.reply
 
--- ## Many slots
-
--- how many slots it is
-abbrev pub count_of : Option Status → ℕ
-count_of None = 0
-count_of (Some status) = 1
+-- ## Requests that come apart
 
 -- where a request comes, its slot is not open
 abbrev pub ComesApart : List SlotEvent → SlotEvent → Type 0

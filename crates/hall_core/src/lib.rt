@@ -8,5 +8,7 @@
 mod error;
 pub mod examples;
 pub mod laws;
+mod open_slot;
+mod slots;
 
 pub use error::HallError;

@@ -1,7 +1,8 @@
 -- Laws: how many slots are open after one event more, where each request came with a slot that was not open.
-use Rattle.std.proofs.Common.{◌≡◌, ℕ, zero, suc, ◌+◌, ◌<◌, ◌≤◌, List, [], ◌∷◌, ◌++◌, length, take, Bool, true, false, ◌||◌, cond, refl, sym, subst, ap, ◌∙◌, ◌⊎◌, inl, inr, arith, zero-add, Option, Some, None, is_some, append_assoc, length-append, ◌==◌}
+use Rattle.std.proofs.Common.{◌≡◌, ℕ, ◌+◌, ◌<◌, ◌≤◌, List, [], ◌∷◌, ◌++◌, length, take, Bool, true, false, ◌||◌, cond, refl, sym, subst, ap, ◌∙◌, ◌⊎◌, inl, inr, arith, zero-add, Option, Some, None, is_some, append_assoc, length-append, ◌==◌}
 use Rattle.std.specs.Prelude.{slice_get}
 use Rattle.std.specs.List.{list_any, count_by}
+use Rattle.std.specs.Option.{option_len}
 use Rattle.std.proofs.lemmas.List.{append-nil, take-append-le}
 use Rattle.std.proofs.lemmas.List.Folds.{list_any-append}
 use Rattle.std.proofs.lemmas.Bool.{false≢true, or_cases, cases_Bool, cases_lt, or_parts, eqb-true, eqb-false, ne_eqb, eq-eqb}
@@ -9,10 +10,9 @@ use Rattle.std.proofs.lemmas.Option.{none-some, slice_get_within}
 use Rattle.std.proofs.Math.Seq.{take-append_seam}
 use Rattle.async_core.specs.laws.Lives.{count_by-cons}
 use Rattle.async_core.specs.laws.Held.{slice_get-before, slice_get-seam}
-use Rattle.api_core.specs.declared.call.Call.{Call}
 use Rattle.hall_core.specs.Past.{SlotEvent, asked, replied, taken, forgotten}
 use Rattle.hall_core.specs.Slots.{Reply, asks, takes, forgets, reply_by, closes, open_among, is_open_in}
-use Rattle.hall_core.specs.Status.{Status, status_of, slot_of, status_after, count_of, ComesApart, AreApart}
+use Rattle.hall_core.specs.Status.{Status, status_of, slot_of, status_after, ComesApart, AreApart}
 use Rattle.hall_core.specs.laws.Statuses.{fewer, open_by_status, status_snoc}
 
 -- ## Requests that came with slots that were not open
@@ -233,18 +233,18 @@ at_most_once slot =
           omega arith
     ])
 
-counted : (o : Option Status) → count_of o ≡ cond (is_some o) 1 0
+counted : (o : Option Status) → option_len o ≡ cond (is_some o) 1 0
 counted None = refl
 counted (Some status) = refl
 
 -- a slot is among the open ones once where it has a status
-times_by_status : (slot : ℕ) (events : List SlotEvent) → AreApart events → times slot (open_among false events) ≡ count_of (status_of events slot)
+times_by_status : (slot : ℕ) (events : List SlotEvent) → AreApart events → times slot (open_among false events) ≡ option_len (status_of events slot)
 times_by_status slot events apart =
     elim (cases_Bool (is_open_in false events slot)) [
       | inl here ↦
           let most = at_most_once slot events apart in
           let least = times_some slot (open_among false events) here in
-          let one : count_of (status_of events slot) ≡ 1 = counted (status_of events slot) ∙ ap one_if (sym (open_by_status events slot) ∙ here) in
+          let one : option_len (status_of events slot) ≡ 1 = counted (status_of events slot) ∙ ap one_if (sym (open_by_status events slot) ∙ here) in
           omega arith
       | inr none ↦
           times_none slot (open_among false events) none
@@ -253,11 +253,11 @@ times_by_status slot events apart =
 
 -- how many slots are open after one event more, by what became of its own slot
 pub count_snoc : (events : List SlotEvent) (e : SlotEvent) → AreApart events → ComesApart events e
-    → length (open_among false (events ++ e ∷ [])) + count_of (status_of events (slot_of e))
-    ≡ length (open_among false events) + count_of (status_after e (slot_of e) (status_of events (slot_of e)))
+    → length (open_among false (events ++ e ∷ [])) + option_len (status_of events (slot_of e))
+    ≡ length (open_among false events) + option_len (status_after e (slot_of e) (status_of events (slot_of e)))
 count_snoc events e apart last =
     let was = times_by_status (slot_of e) events apart in
-    let is : times (slot_of e) (open_among false (events ++ e ∷ [])) ≡ count_of (status_after e (slot_of e) (status_of events (slot_of e)))
-    = times_by_status (slot_of e) (events ++ e ∷ []) (apart_more events e apart last) ∙ ap count_of (status_snoc events (slot_of e) e) in
+    let is : times (slot_of e) (open_among false (events ++ e ∷ [])) ≡ option_len (status_after e (slot_of e) (status_of events (slot_of e)))
+    = times_by_status (slot_of e) (events ++ e ∷ []) (apart_more events e apart last) ∙ ap option_len (status_snoc events (slot_of e) e) in
     let others = others_stay e events in
     omega arith

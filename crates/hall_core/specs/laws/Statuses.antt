@@ -1,5 +1,5 @@
 -- Laws: where a slot stands after one event more, and what follows from where it stands.
-use Rattle.std.proofs.Common.{◌≡◌, ℕ, ◌-◌, List, [], ◌∷◌, ◌++◌, length, take, drop, Bool, true, false, not, ◌&&◌, ◌||◌, cond, refl, sym, subst, ap, ◌∙◌, ◌⊎◌, inl, inr, Option, Some, None, is_some, append_assoc, ◌==◌}
+use Rattle.std.proofs.Common.{◌≡◌, ℕ, ◌-◌, List, [], ◌∷◌, ◌++◌, length, take, drop, Bool, true, false, not, ◌&&◌, ◌||◌, cond, refl, sym, subst, ap, ◌∙◌, inl, inr, Option, Some, None, is_some, append_assoc, ◌==◌}
 use Rattle.std.specs.Prelude.{slice_get}
 use Rattle.std.specs.List.{filter_map, cons_option, list_any, after_last, suffix_len}
 use Rattle.std.specs.Option.{option_or}
@@ -9,10 +9,9 @@ use Rattle.std.proofs.lemmas.Bool.{false≢true, cases_Bool, or_cases, or_parts,
 use Rattle.std.proofs.lemmas.Option.{none-some, same_Some}
 use Rattle.async_core.specs.laws.Lives.{after_last-snoc}
 use Rattle.api_core.specs.declared.call.Call.{Call}
-use Rattle.api_core.specs.Replies.{Told}
 use Rattle.hall_core.specs.Past.{SlotEvent, asked, replied, taken, forgotten, Past}
-use Rattle.hall_core.specs.Slots.{Reply, asks, takes, forgets, reply_by, since, since_asked, reply_in, reply_of, closes, open_among, is_open_in, tell, is_wanted_in, is_wanted, released_in, released}
-use Rattle.hall_core.specs.Status.{Status, status_of, slot_of, fresh, after_reply, after_forgetting, status_after, is_wanted_by, released_by}
+use Rattle.hall_core.specs.Slots.{Reply, asks, takes, forgets, reply_by, since, reply_in, reply_of, closes, open_among, is_open_in, tell, is_wanted_in, is_wanted, released_in, released}
+use Rattle.hall_core.specs.Status.{Status, status_of, fresh, after_reply, after_forgetting, status_after, is_wanted_by, released_by}
 use Rattle.hall_core.specs.laws.Replies.{since_append}
 
 -- ## What stands after the last

@@ -1,0 +1,61 @@
+-- The open slots of a hall as contracts see them, and the events that they keep.
+use Rattle.std.specs.Prelude.{◌≡◌, ℕ, Bool, false, List, [], ◌∷◌, ◌++◌, length, Option, is_some, option_map}
+use Rattle.std.specs.Ordering.{nat_cmp}
+use Rattle.std.specs.BTreeMap.{is_at}
+use Rattle.std.specs.Map.{lookup}
+use Rattle.retry_rules.specs.declared.settings.Settings.{Settings}
+use Rattle.api_core.specs.declared.call.Call.{Call}
+use Rattle.api_core.specs.declared.reply.Reply.{Reply as Text}
+use Rattle.api_core.specs.declared.refusal.Refusal.TheVariants.{Unavailable}
+use Rattle.api_core.specs.Replies.{refused, reply_of_told}
+use Rattle.hall_core.specs.declared.open_slot.OpenSlot.{OpenSlot}
+use Rattle.hall_core.specs.Past.{SlotEvent, asked}
+use Rattle.hall_core.specs.Slots.{Reply, open_among}
+use Rattle.hall_core.specs.Status.{Status, status_of, AreApart}
+
+-- the open slots behind their numbers
+abbrev pub Entries : Type 0
+Entries = List (ℕ × OpenSlot)
+
+-- what is kept of a slot, if it is open
+abbrev pub entry_at : Entries → ℕ → Option OpenSlot
+entry_at slots slot = lookup (is_at (nat_cmp slot)) slots
+
+abbrev pub has_open : Entries → ℕ → Bool
+has_open slots slot = is_some (entry_at slots slot)
+
+-- ## The events that they keep
+
+-- an answer as it is told, and the number of its receipt
+abbrev pub told_in : Settings → Reply → Text × ℕ
+told_in s reply = (reply_of_told s reply.0, reply.1)
+
+-- what a slot is told whose reply is not available
+abbrev pub unavailable_in : Settings → Text
+unavailable_in s = reply_of_told s (refused Unavailable)
+
+-- what is kept of an open slot
+abbrev pub kept : Settings → Status → OpenSlot
+kept s status = record {
+  is_forgotten = status.is_forgotten;
+  reply = option_map (told_in s) status.reply;
+  unavailable = unavailable_in s;
+}
+
+-- each request came with a slot that was not open, and the slots are kept that are open by these events, as they stand
+pub record KeepFor (s : Settings) (slots : Entries) (events : List SlotEvent) : Type 0 where
+  pub apart : AreApart events
+  pub each : (slot : ℕ) → entry_at slots slot ≡ option_map (kept s) (status_of events slot)
+  pub count : length slots ≡ length (open_among false events)
+
+-- this holds of all settings and events that they keep
+abbrev pub ForEachKept : Entries → (Settings → List SlotEvent → Type 0) → Type 0
+ForEachKept slots holds = (s : Settings) (events : List SlotEvent) → KeepFor s slots events → holds s events
+
+-- they keep these events and one more
+abbrev pub KeepMore : Settings → Entries → List SlotEvent → SlotEvent → Type 0
+KeepMore s slots events event = KeepFor s slots (events ++ event ∷ [])
+
+-- whichever events they kept before a request came with this slot, they keep them again
+abbrev pub IsUndone : Entries → Entries → ℕ → Type 0
+IsUndone old new slot = (s : Settings) (events : List SlotEvent) (call : Call) → KeepMore s old events (asked slot call) → KeepFor s new events

@@ -1,0 +1,186 @@
+// The open slots of a hall.
+ghost use Rattle.std.specs.Prelude.{◌≡◌, IfNone, OnSome, OnOk, OnErr, None, Some, is_some, option_map, length, false};
+
+use crate::open_slot::{OpenSlot, SlotStanding};
+use api_core::Reply;
+use std::alloc::{AllocError, Global};
+use std::collections::BTreeMap;
+use std::marker::Model;
+
+/// The slots that are open: for each the reply that waits to be taken, once there is one.
+///
+/// They keep what became of each slot, so that a reply is told once, and only where it is still wanted.
+#[derive(Drop)]
+pub(crate) struct Slots {
+    slots: BTreeMap<u64, OpenSlot>,
+}
+
+impl Model for Slots {
+    ghost use Rattle.hall_core.specs.OpenSlots.{Entries};
+
+    ghost Value = { Entries };
+
+    ghost view = { λ s. s.slots.entries };
+}
+
+impl Slots {
+    ghost use Rattle.std.specs.Prelude.{[]};
+    ghost use Rattle.retry_rules.specs.declared.settings.Settings.{Settings};
+    ghost use Rattle.api_core.specs.declared.call.Call.{Call};
+    ghost use Rattle.api_core.specs.Replies.{Told, reply_of_told};
+    ghost use Rattle.hall_core.specs.Past.{asked, replied, taken, forgotten};
+    ghost use Rattle.hall_core.specs.Slots.{open_among, is_open_in, released_in};
+    ghost use Rattle.hall_core.specs.OpenSlots.{entry_at, has_open, told_in, unavailable_in, KeepFor, ForEachKept, KeepMore, IsUndone};
+    ghost use Rattle.hall_core.specs.SlotSteps.{PutsEntry, standing_of, with_reply, marked, released_at};
+
+    /// No slot is open. It takes no memory.
+    pub(crate) fn new(alloc: Global) -> Slots
+        ensures { (s : Settings) → KeepFor s result [] }
+    {
+        Slots {
+            slots: BTreeMap::new(alloc),
+        }
+    }
+
+    /// How many are open.
+    pub(crate) fn len(&self) -> usize
+        ensures { ForEachKept self.now (λ _ events. result ≡ length (open_among false events)) }
+    {
+        self.slots.len()
+    }
+
+    /// Whether a slot is open.
+    pub(crate) fn is_open(&self, slot: u64) -> bool
+        ensures by_entry { result ≡ has_open self.now slot }
+        ensures by_events { ForEachKept self.now (λ _ events. result ≡ is_open_in false events slot) }
+    {
+        self.slots.contains_key(&slot)
+    }
+
+    /// Opens a slot for a request that came with it. A refusal changes nothing.
+    pub(crate) fn open(&mut self, slot: u64, unavailable: Reply) -> Result<(), AllocError>
+        requires { has_open self.old slot ≡ false }
+        ensures ok { ForEachKept self.old (λ s events. unavailable ≡ unavailable_in s
+            → OnOk result ((call : Call) → KeepMore s self.new events (asked slot call))) }
+        ensures err { OnErr result (self.new ≡ self.old) }
+    {
+        self.put(slot, OpenSlot::new(unavailable))
+    }
+
+    /// Takes back that a slot was opened, where nothing became of it since. It takes no memory.
+    pub(crate) fn undo(&mut self, slot: u64)
+        ensures { IsUndone self.old self.new slot }
+    {
+        let _ = self.close(slot);
+    }
+
+    /// Replies to a slot, at this point: so many commands have to be durable before it is told. The first reply stays, and
+    /// a slot whose reply is not wanted is closed. It takes no memory.
+    pub(crate) fn reply(&mut self, slot: u64, reply: Reply, point: u64)
+        ensures { ForEachKept self.old (λ s events. (answer : Told) → reply ≡ reply_of_told s answer
+            → KeepMore s self.new events (replied slot answer point)) }
+    {
+        match self.standing(slot) {
+            Some(SlotStanding::Waiting) => self.set_reply(slot, reply, point),
+            Some(SlotStanding::Forgotten) => {
+                let _ = self.close(slot);
+            }
+            Some(SlotStanding::Replied) => {}
+            None => {}
+        }
+    }
+
+    /// The reply of a slot and the number of its receipt, if it is told where so many commands are durable; the slot is
+    /// then closed. It takes no memory.
+    pub(crate) fn take(&mut self, slot: u64, is_broken: bool, durable: u64) -> Option<(Reply, u64)>
+        ensures gives { ForEachKept self.old (λ s events. result ≡ option_map (told_in s) (released_in is_broken durable events slot)) }
+        ensures some { ForEachKept self.old (λ s events. OnSome result (KeepMore s self.new events (taken slot))) }
+        ensures none { IfNone result (self.new ≡ self.old) }
+    {
+        self.release(slot, is_broken, durable)
+    }
+
+    /// Notes that the reply of a slot is not wanted: it is closed now, or once it is replied to. It takes no memory.
+    pub(crate) fn forget(&mut self, slot: u64)
+        ensures { ForEachKept self.old (λ s events. KeepMore s self.new events (forgotten slot)) }
+    {
+        match self.standing(slot) {
+            Some(SlotStanding::Waiting) => self.mark(slot),
+            Some(SlotStanding::Replied) => {
+                let _ = self.close(slot);
+            }
+            Some(SlotStanding::Forgotten) => {}
+            None => {}
+        }
+    }
+
+    // Puts a slot among the open ones.
+    fn put(&mut self, slot: u64, entry: OpenSlot) -> Result<(), AllocError>
+        ensures ok { OnOk result (PutsEntry self.old self.new slot (Some entry)) }
+        ensures err { OnErr result (self.new ≡ self.old) }
+    {
+        self.slots.insert(slot, entry)?;
+        Ok(())
+    }
+
+    // Whether the reply of a slot is told where so many commands are durable.
+    fn is_told(&self, slot: u64, is_broken: bool, durable: u64) -> bool
+        ensures { result ≡ is_some (released_at is_broken durable (entry_at self.now slot)) }
+    {
+        match self.slots.get(&slot) {
+            Some(entry) => entry.is_told(is_broken, durable),
+            None => false,
+        }
+    }
+
+    // Closes a slot whose reply is told.
+    fn release(&mut self, slot: u64, is_broken: bool, durable: u64) -> Option<(Reply, u64)>
+        ensures gives { result ≡ released_at is_broken durable (entry_at self.old slot) }
+        ensures some { OnSome result (PutsEntry self.old self.new slot None) }
+        ensures none { IfNone result (self.new ≡ self.old) }
+    {
+        if !self.is_told(slot, is_broken, durable) {
+            return None;
+        }
+        match self.close(slot) {
+            Some(entry) => Some(entry.into_told(durable)),
+            None => None,
+        }
+    }
+
+    // Where a slot stands, if it is open.
+    fn standing(&self, slot: u64) -> Option<SlotStanding>
+        ensures { result ≡ option_map standing_of (entry_at self.now slot) }
+    {
+        match self.slots.get(&slot) {
+            Some(entry) => Some(entry.standing()),
+            None => None,
+        }
+    }
+
+    // Closes a slot, and gives what was kept of it.
+    fn close(&mut self, slot: u64) -> Option<OpenSlot>
+        ensures entry { result ≡ entry_at self.old slot }
+        ensures closed { PutsEntry self.old self.new slot None }
+    {
+        self.slots.remove(&slot)
+    }
+
+    // Gives an open slot this reply.
+    fn set_reply(&mut self, slot: u64, reply: Reply, point: u64)
+        ensures { PutsEntry self.old self.new slot (option_map (with_reply (reply, point)) (entry_at self.old slot)) }
+    {
+        if let Some(entry) = self.slots.get_mut(&slot) {
+            entry.reply = Some((reply, point));
+        }
+    }
+
+    // Notes that the reply of an open slot is not wanted.
+    fn mark(&mut self, slot: u64)
+        ensures { PutsEntry self.old self.new slot (option_map marked (entry_at self.old slot)) }
+    {
+        if let Some(entry) = self.slots.get_mut(&slot) {
+            entry.is_forgotten = true;
+        }
+    }
+}
