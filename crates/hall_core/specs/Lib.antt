@@ -4,6 +4,8 @@ pub mod Effects
 pub mod Run
 pub mod Slots
 pub mod Status
+pub mod OpenSlots
+pub mod SlotSteps
 pub mod Refusals
 pub mod Agreement
 pub mod Environments
