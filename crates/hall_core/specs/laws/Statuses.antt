@@ -10,7 +10,7 @@ use Rattle.std.proofs.lemmas.Option.{none-some, same_Some}
 use Rattle.async_core.specs.laws.Lives.{after_last-snoc}
 use Rattle.api_core.specs.declared.call.Call.{Call}
 use Rattle.hall_core.specs.Past.{SlotEvent, asked, replied, taken, forgotten, Past}
-use Rattle.hall_core.specs.Slots.{Reply, asks, takes, forgets, reply_by, since, reply_in, reply_of, closes, open_among, is_open_in, tell, is_wanted_in, is_wanted, released_in, released}
+use Rattle.hall_core.specs.Slots.{Reply, asks, takes, forgets, reply_by, since, reply_in, reply_of, closes, open_among, open_slots, is_open, is_open_in, tell, is_wanted_in, is_wanted, released_in, released}
 use Rattle.hall_core.specs.Status.{Status, status_of, fresh, after_reply, after_forgetting, status_after, is_wanted_by, released_by}
 use Rattle.hall_core.specs.laws.Replies.{since_append}
 
@@ -352,3 +352,11 @@ pub released_of_status : (broken : Bool) (durable : ℕ) (past : Past) (slot : �
     → released broken durable past slot ≡ released_by broken durable (status_of past.slots slot)
 unfolding released
 released_of_status broken durable past slot = released_by_status broken durable past.slots slot
+
+pub open_slots_are : (broken : Bool) (past : Past) → open_slots broken past ≡ open_among broken past.slots
+unfolding open_slots
+open_slots_are broken past = refl
+
+pub open_of_status : (past : Past) (slot : ℕ) → is_open false past slot ≡ is_some (status_of past.slots slot)
+unfolding open_slots
+open_of_status past slot = open_by_status past.slots slot
