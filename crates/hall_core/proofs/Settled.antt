@@ -1,12 +1,13 @@
 -- Lemmas: replies that are given to their slots one after another.
+use Rattle.std.proofs.lemmas.Option.{none-some}
+use Rattle.std.specs.Prelude.{Option, Some, None, option_map}
 use Rattle.std.proofs.Common.{◌≡◌, ℕ, ◌+◌, List, [], ◌∷◌, ◌++◌, length, take, map, refl, sym, ap, ◌∙◌, arith, append_assoc}
-use Rattle.std.proofs.lemmas.List.{map-append}
 use Rattle.retry_rules.specs.declared.settings.Settings.{Settings}
 use Rattle.api_core.specs.declared.reply.Reply.{Reply}
 use Rattle.api_core.specs.Replies.{Told, reply_of_told}
 use Rattle.hall_core.specs.Past.{SlotEvent, replied}
 use Rattle.hall_core.specs.OpenSlots.{Entries, KeepFor}
-use Rattle.hall_core.specs.Settling.{replies_told, replied_at}
+use Rattle.hall_core.specs.Settling.{replies_told, replied_at, own_at}
 
 nothing_there : {A : Type 0} (x : A) (xs : List A) → x ∷ xs ≡ [] → ⊥
 nothing_there x xs h = cc
@@ -14,6 +15,9 @@ nothing_there x xs h = cc
 pub nothing_left : {A : Type 0} (xs : List A) → length xs ≡ 0 → xs ≡ []
 nothing_left [] h = refl
 nothing_left (x ∷ xs) h = absurd (omega (arith, h))
+
+same_reply : (x y : Reply) → Some x ≡ Some y → x ≡ y
+same_reply x y h = cc
 
 same_head : {A : Type 0} (x y : A) (xs ys : List A) → x ∷ xs ≡ y ∷ ys → x ≡ y
 same_head x y xs ys h = cc
@@ -56,3 +60,11 @@ pub keeps_next : (s : Settings) (slots : Entries) (events : List SlotEvent) (poi
     → slot ≡ t.0 → all ≡ done ++ t ∷ [] → KeepFor s slots ((events ++ replied_at point done) ++ replied slot t.1 point ∷ []) → KeepFor s slots (events ++ replied_at point all)
 keeps_next s slots events point slot done all t same is keep =
     rw (is, replied_last point done t, ← append_assoc events (replied_at point done) (replied t.0 t.1 point ∷ []), ← same) keep
+
+-- the reply to the caller is that to an answer
+pub keeps_own : (s : Settings) (slots : Entries) (events : List SlotEvent) (slot point : ℕ) (reply : Reply) (told : Option Told)
+    → Some reply ≡ option_map (reply_of_told s) told
+    → ((answer : Told) → reply ≡ reply_of_told s answer → KeepFor s slots (events ++ replied slot answer point ∷ []))
+    → KeepFor s slots (events ++ own_at slot point told)
+keeps_own s slots events slot point reply None h keep = absurd (none-some reply (sym h))
+keeps_own s slots events slot point reply (Some answer) h keep = keep answer (same_reply reply (reply_of_told s answer) h)

@@ -39,3 +39,7 @@ abbrev pub AreCallable : List EnvState → Made → Type 0
 AreCallable envs made.Nothing = Unit {0}
 AreCallable envs (made.One environment call) = IsNumberIn envs environment × IsMoment (moment_by call)
 AreCallable envs (made.ShutdownAll count now) = (count ≡ length envs) × IsMoment now
+
+-- by the change the environments hold for whichever calls it leads to
+abbrev pub Leads : List EnvState → Changes → List EnvState → Type 0
+Leads old change new = (more : List (ℕ × EnvCall)) → LeadsTo old change more → ForEachMade old (λ before. HoldFor new (before ++ more))

@@ -16,7 +16,8 @@ use Rattle.api_core.specs.declared.answer.ShutdownReason.{ShutdownReason}
 use Rattle.api_core.specs.Replies.{Told}
 use Rattle.api_core.specs.Replies as reply
 use Rattle.hall_core.specs.Past.{HallCall, arrive, tick, take_slot, Past, opening}
-use Rattle.hall_core.specs.Run.{past_of, history_of, Issued}
+use Rattle.hall_core.specs.declared.issuing.Issued.{Issued}
+use Rattle.hall_core.specs.Run.{past_of, history_of}
 use Rattle.hall_core.specs.Slots.{Reply, reply_of}
 
 -- ## Requests

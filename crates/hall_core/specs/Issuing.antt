@@ -1,7 +1,11 @@
 -- What becomes of an issuer by the command of a call.
-use Rattle.std.specs.Prelude.{◌≡◌, ℕ, ◌+◌, ◌++◌, List, length, Option, Some, None, option_map}
+use Rattle.std.specs.Prelude.{◌≡◌, ℕ, ◌+◌, ◌<◌, ◌^◌, ◌++◌, false, List, length, Option, Some, None, option_map}
 use Rattle.invoke_records.specs.declared.command.Command.{Command}
 use Rattle.group_commit.specs.Issuer.{IssuerView, issued_in}
+use Rattle.group_commit.specs.declared.error.IssueError.{IssueError}
+use Rattle.group_commit.specs.declared.error.IssueError.TheVariants as issue_error
+use Rattle.hall_core.specs.declared.error.HallError.{HallError}
+use Rattle.hall_core.specs.declared.error.HallError.TheVariants as error
 use Rattle.hall_core.specs.declared.issuing.Issued.{Issued}
 use Rattle.hall_core.specs.Run.{option_list}
 
@@ -19,3 +23,16 @@ pub record Continues (old new : IssuerView) (command : Option Command) : Type 0 
   pub durable : new.durable ≡ old.durable
   pub broken : new.broken ≡ old.broken
   pub stands : (history : List Command) → old.stands history → new.stands (history ++ option_list command)
+
+-- the issuer takes a command, if there is one
+abbrev pub HasPlaceFor : IssuerView → Option Command → Type 0
+HasPlaceFor issuer None = Unit {0}
+HasPlaceFor issuer (Some c) = (issuer.broken ≡ false) × (issued_in issuer < 2 ^ 62) × (length issuer.pending < 256)
+
+-- why the hall refuses, by why the issuer does. A command that a call has is legal
+abbrev pub error_of : IssueError → HallError
+error_of issue_error.Broken = error.Broken
+error_of issue_error.WornOut = error.WornOut
+error_of issue_error.Backlog = error.Backlog
+error_of (issue_error.Illegal why) = error.OutOfMemory
+error_of issue_error.OutOfMemory = error.OutOfMemory

@@ -13,11 +13,11 @@ pub mod Plans
 pub mod Answering
 pub mod Changes
 pub mod Planner
-pub mod OpenSlots
-pub mod SlotSteps
 pub mod Prepared
 pub mod Issuing
 pub mod Settling
+pub mod Doing
+pub mod Hall
 pub mod Promises
 pub mod laws
 pub mod Examples

@@ -16,6 +16,7 @@ use Rattle.api_core.specs.declared.refusal.Refusal.TheVariants as refusal
 use Rattle.api_core.specs.Replies.{Told}
 use Rattle.api_core.specs.Replies as reply
 use Rattle.hall_core.specs.Past.{HallCall, arrive, tick, take_slot, forget_slot, SlotEvent, asked, replied, taken, forgotten, Past, opening, calls_of}
+use Rattle.hall_core.specs.declared.issuing.Issued.{Issued}
 use Rattle.hall_core.specs.Effects.{Effect, effect_of, command_of}
 
 -- ## One call
@@ -73,12 +74,6 @@ unfoldable pub past_after : Settings → Past → HallCall → Past
 past_after s past call = past_by past call (effect_of s past call)
 
 -- what a call answers of its command: its number, kind, id and moment
-pub record Issued : Type 0 where
-  pub number : ℕ
-  pub kind : Kind
-  pub id : List ℕ
-  pub time : ℕ
-
 abbrev pub issued_by : Settings → Past → HallCall → Option Issued
 issued_by s past call =
     option_map (λ (c : Command). record { number = length past.history + 1; kind = c.kind; id = c.id; time = c.time })

@@ -1,5 +1,5 @@
 -- Replies that are given to their slots.
-use Rattle.std.specs.Prelude.{ℕ, List, map}
+use Rattle.std.specs.Prelude.{ℕ, List, [], ◌∷◌, map, Option, Some, None}
 use Rattle.retry_rules.specs.declared.settings.Settings.{Settings}
 use Rattle.api_core.specs.declared.reply.Reply.{Reply}
 use Rattle.api_core.specs.Replies.{Told, reply_of_told}
@@ -12,3 +12,8 @@ replies_told s told = map (λ (t : ℕ × Told). (t.0, reply_of_told s t.1)) tol
 -- they are computed at this point
 abbrev pub replied_at : ℕ → List (ℕ × Told) → List SlotEvent
 replied_at point told = map (λ (t : ℕ × Told). replied t.0 t.1 point) told
+
+-- the reply to the caller, if there is one now
+abbrev pub own_at : ℕ → ℕ → Option Told → List SlotEvent
+own_at slot point None = []
+own_at slot point (Some told) = replied slot told point ∷ []

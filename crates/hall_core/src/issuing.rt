@@ -2,7 +2,8 @@
 ghost use Rattle.std.specs.Prelude.{◌≡◌, ◌++◌, false, option_map, IfOk, IfErr, OnOk, OnErr, is_some, is_none};
 ghost use Rattle.group_commit.specs.Issuer.{ForEachHistory, IsSameIssuer};
 ghost use Rattle.hall_core.specs.Run.{option_list};
-ghost use Rattle.hall_core.specs.Issuing.{IsAnswered, Continues};
+ghost use Rattle.hall_core.specs.Issuing.{IsAnswered, Continues, HasPlaceFor, error_of};
+ghost use Rattle.hall_core.specs.declared.error.HallError.TheVariants as HallError;
 
 use crate::error::HallError;
 use group_commit::{IssueError, Issuer};
@@ -17,7 +18,9 @@ pub struct Issued {
     pub time: u64,
 }
 
-fn error_of(why: IssueError) -> HallError {
+fn error_of(why: IssueError) -> HallError
+    ensures { result ≡ error_of why }
+{
     match why {
         IssueError::Broken => HallError::Broken,
         IssueError::WornOut => HallError::WornOut,
@@ -34,6 +37,7 @@ pub(crate) fn issue<I: Issuer>(
     ensures ok { IfOk result (IsAnswered (I.view issuer.old) command) }
     ensures goes_on { OnOk result (Continues (I.view issuer.old) (I.view issuer.new) command) }
     ensures err { OnErr result (IsSameIssuer (I.view issuer.old) (I.view issuer.new)) }
+    ensures memory { HasPlaceFor (I.view issuer.old) command → IfErr result (λ why. why ≡ HallError.OutOfMemory) }
 {
     let Some(command) = command else {
         return Ok(None);

@@ -13,6 +13,7 @@ mod environments;
 mod plan;
 mod error;
 pub mod examples;
+mod hall;
 mod ids;
 mod issuing;
 pub mod laws;
@@ -25,4 +26,5 @@ mod settling;
 mod slots;
 
 pub use error::HallError;
+pub use hall::Hall;
 pub use issuing::Issued;

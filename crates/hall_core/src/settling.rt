@@ -1,8 +1,8 @@
 // Giving replies to their slots.
-ghost use Rattle.std.specs.Prelude.{◌≡◌, ◌++◌, ℕ, List};
-ghost use Rattle.api_core.specs.Replies.{Told};
+ghost use Rattle.std.specs.Prelude.{◌≡◌, ◌++◌, ℕ, List, Option, option_map};
+ghost use Rattle.api_core.specs.Replies.{Told, reply_of_told};
 ghost use Rattle.hall_core.specs.OpenSlots.{KeepFor, ForEachKept};
-ghost use Rattle.hall_core.specs.Settling.{replies_told, replied_at};
+ghost use Rattle.hall_core.specs.Settling.{replies_told, replied_at, own_at};
 
 use crate::slots::Slots;
 use api_core::Reply;
@@ -14,6 +14,16 @@ impl Slots {
             → KeepFor s self.new (events ++ replied_at point told)) }
     {
         for (slot, reply) in replies {
+            self.reply(slot, reply, point);
+        }
+    }
+
+    /// Gives the reply to the caller's slot, if there is one now.
+    pub(crate) fn reply_own(&mut self, slot: u64, own: Option<Reply>, point: u64)
+        ensures { ForEachKept self.old (λ s events. (told : Option Told) → own ≡ option_map (reply_of_told s) told
+            → KeepFor s self.new (events ++ own_at slot point told)) }
+    {
+        if let Some(reply) = own {
             self.reply(slot, reply, point);
         }
     }

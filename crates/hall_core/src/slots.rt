@@ -44,7 +44,8 @@ impl Slots {
 
     /// How many are open.
     pub(crate) fn len(&self) -> usize
-        ensures { ForEachKept self.now (λ _ events. result ≡ length (open_among false events)) }
+        ensures by_entries { result ≡ length self.now }
+        ensures by_events { ForEachKept self.now (λ _ events. result ≡ length (open_among false events)) }
     {
         self.slots.len()
     }

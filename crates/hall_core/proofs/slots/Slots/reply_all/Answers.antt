@@ -1,6 +1,5 @@
-use Rattle.std.proofs.Common.{rules, ◌≡◌, ◌++◌, ◌∷◌, [], length, take, refl, sym, ap, ◌∙◌, append_assoc}
+use Rattle.std.proofs.Common.{rules, ◌≡◌, ◌++◌, ◌∷◌, [], length, take, sym, ap, ◌∙◌, append_assoc}
 use Rattle.std.proofs.lemmas.List.{append-nil}
-use Rattle.hall_core.specs.OpenSlots.{KeepFor}
 use Rattle.hall_core.specs.Settling.{replied_at}
 use Rattle.hall_core.proofs.Settled.{next_answer, keeps_next, all_answers, nothing_left}
 use Rattle.hall_core.proofs.slots.Slots.reply_all.Goals as goal

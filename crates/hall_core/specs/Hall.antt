@@ -1,0 +1,89 @@
+-- A hall as contracts see it, and what its calls have done.
+use Rattle.std.specs.Prelude.{◌≡◌, ◌↔◌, ℕ, ◌-◌, ◌^◌, Bool, ◌&&◌, ◌||◌, List, [], ◌∷◌, length, Option, None, Some, nat_le, slice_index, option_map}
+use Rattle.retry_rules.specs.declared.settings.Settings.{Settings}
+use Rattle.env_phase.specs.State.{EnvState}
+use Rattle.api_core.specs.declared.call.Call.{Call}
+use Rattle.group_commit.specs.declared.issuer.Issuer.{Ghosts}
+use Rattle.group_commit.specs.Issuer.{IssuerView, issued_in, state_in, IsSameIssuer}
+use Rattle.hall_core.specs.declared.hall.Hall.{Hall}
+use Rattle.hall_core.specs.declared.error.HallError.{HallError}
+use Rattle.hall_core.specs.declared.error.HallError.TheVariants as error
+use Rattle.hall_core.specs.declared.issuing.Issued.{Issued}
+use Rattle.hall_core.specs.Past.{HallCall, arrive, Past, SlotEvent, is_stopping}
+use Rattle.hall_core.specs.Run.{past_after, issued_by}
+use Rattle.hall_core.specs.Refusals.{first_failed, why_refused}
+use Rattle.hall_core.specs.Plans.{Meets}
+use Rattle.hall_core.specs.OpenSlots.{Entries, KeepFor}
+
+-- the parts of a hall at a moment
+pub record HallView : Type 1 where
+  pub issuer : IssuerView
+  pub environments : List EnvState
+  pub slots : Entries
+  -- a request asked it to stop
+  pub stops : Bool
+
+abbrev pub view_of : {I : Type 0} {g : Ghosts I} → (I → IssuerView) → Hall I g → HallView
+view_of view hall = record { issuer = view hall.issuer; environments = hall.environments; slots = hall.slots; stops = hall.stops }
+
+abbrev pub settings_in : HallView → Settings
+settings_in hall = hall.issuer.settings
+
+-- ## What it has done
+
+-- each part of the hall is what these calls left
+pub record StandsFor (hall : HallView) (past : Past) : Type 0 where
+  pub history : hall.issuer.stands past.history
+  pub environments : Meets (state_in hall.issuer) hall.environments past
+  pub slots : KeepFor (settings_in hall) hall.slots past.slots
+  pub stopping : hall.stops ≡ is_stopping past
+
+-- this holds of all that the hall can have done
+abbrev pub ForEachPast : HallView → (Past → Type 0) → Type 0
+ForEachPast hall holds = (past : Past) → StandsFor hall past → holds past
+
+-- a request with two random words, as a call of the hall
+abbrev pub request : ℕ → Call → ℕ → List ℕ → HallCall
+request slot call now words = arrive slot call now (slice_index words 0, slice_index words 1)
+
+-- ## What a call makes of it
+
+-- whatever was done before, the call answers its command, and is done
+abbrev pub Does : HallView → HallView → HallCall → Option Issued → Type 0
+Does old new call issued =
+    ForEachPast old (λ past. (issued ≡ issued_by (settings_in old) past call) × StandsFor new (past_after (settings_in old) past call))
+
+-- the first check that fails, or want of memory where none does
+abbrev pub IsReason : Option HallError → HallError → Type 0
+IsReason refused error.OutOfMemory = refused ≡ None
+IsReason refused why = refused ≡ Some why
+
+-- whatever was done before, the call is refused for this reason
+abbrev pub Refuses : HallView → HallCall → HallError → Type 0
+Refuses hall call why =
+    ForEachPast hall (λ past. IsReason (why_refused hall.issuer.broken hall.issuer.durable (settings_in hall) past call) why)
+
+-- two moments of a hall between which nothing was done
+pub record IsSameHall (old new : HallView) : Type 0 where
+  pub issuer : IsSameIssuer old.issuer new.issuer
+  pub environments : new.environments ≡ old.environments
+  pub slots : (events : List SlotEvent) → KeepFor (settings_in old) old.slots events → KeepFor (settings_in old) new.slots events
+  pub stops : new.stops ≡ old.stops
+
+-- ## Its own refusals
+
+-- how many commands are not durable
+abbrev pub pending_in : IssuerView → ℕ
+pending_in issuer = issued_in issuer - issuer.durable
+
+-- by what it keeps, with whether the call has a command
+abbrev pub refusal_of_arrival : HallView → Bool → Option HallError
+refusal_of_arrival hall has_command =
+    first_failed (
+    (hall.issuer.broken, error.Broken)
+    ∷ (hall.stops, error.Stopping)
+    ∷ (has_command && nat_le (2 ^ 62) (issued_in hall.issuer), error.WornOut)
+    ∷ (nat_le 1024 (length hall.slots), error.Backlog)
+    ∷ (has_command && nat_le 256 (pending_in hall.issuer), error.Backlog)
+    ∷ []
+    )

@@ -1,0 +1,176 @@
+// The hall: requests and ticks make commands, calls of environments and replies.
+ghost use Rattle.std.specs.Prelude.{◌≡◌};
+
+use crate::environments::Environments;
+use crate::error::HallError;
+use crate::issuing::{Issued, issue};
+use crate::planning::plan_request;
+use crate::preparing::{Prepared, prepare};
+use crate::slots::Slots;
+use api_core::{Answer, Call, Refusal, Reply, reply_text};
+use group_commit::Issuer;
+use std::alloc::{AllocError, Global};
+
+/// How many slots may be open.
+const MOST_OPEN: usize = 1024;
+
+/// How many commands may be issued since the disk was formatted.
+const MOST_COMMANDS: u64 = 1 << 62;
+
+/// How many commands may be pending.
+const MOST_PENDING: u64 = 256;
+
+/// The hall over an issuer of commands.
+#[derive(Drop)]
+pub struct Hall<I: Issuer> {
+    alloc: Global,
+    issuer: I,
+    environments: Environments,
+    slots: Slots,
+    /// A request asked it to stop.
+    stops: bool,
+    /// The issuer failed.
+    broken: bool,
+    ghost knows: { broken ≡ (I.view issuer).broken },
+}
+
+impl<I: Issuer> Hall<I> {
+    ghost use Rattle.std.specs.Prelude.{◌&&◌, ◌||◌, ◌^◌, nat_le, length, false, IfOk, IfErr, OnOk, OnErr};
+    ghost use Rattle.hall_core.specs.declared.error.HallError.TheVariants as HallError;
+    ghost use Rattle.hall_core.specs.OpenSlots.{has_open, unavailable_in};
+    ghost use Rattle.hall_core.specs.Changes.{IsWithin, Leads};
+    ghost use Rattle.hall_core.specs.Issuing.{Continues, IsAnswered, HasPlaceFor};
+    ghost use Rattle.hall_core.specs.Doing.{KeepRequest};
+    ghost use Rattle.hall_core.specs.Agreement.{IsFit};
+    ghost use Rattle.hall_core.specs.Plans.{IsToOneOf};
+    ghost use Rattle.group_commit.specs.Issuer.{issued_in};
+    ghost use Rattle.hall_core.specs.Hall.{view_of, settings_in, pending_in, refusal_of_arrival, IsSameHall, request, Does, Refuses};
+
+    // Whether no number is left for a command.
+    fn is_worn_out(&self, has_command: bool) -> bool
+        ensures { result ≡ (has_command && nat_le (2 ^ 62) (issued_in (I.view self.now.issuer))) }
+    {
+        has_command && self.issuer.issued() >= MOST_COMMANDS
+    }
+
+    // Whether a command finds as many pending as may be.
+    fn is_full(&self, has_command: bool) -> bool
+        ensures { result ≡ (has_command && nat_le 256 (pending_in (I.view self.now.issuer))) }
+    {
+        let issued = self.issuer.issued();
+        let durable = self.issuer.durable().number();
+        has_command && issued.saturating_sub(durable) >= MOST_PENDING
+    }
+
+    // Why a request is refused that comes now, if it is.
+    fn refusal_of_arrival(&self, has_command: bool) -> Option<HallError>
+        ensures { result ≡ refusal_of_arrival (view_of I.view self.now) has_command }
+    {
+        if self.broken {
+            Some(HallError::Broken)
+        } else if self.stops {
+            Some(HallError::Stopping)
+        } else if self.is_worn_out(has_command) {
+            Some(HallError::WornOut)
+        } else if self.slots.len() >= MOST_OPEN {
+            Some(HallError::Backlog)
+        } else if self.is_full(has_command) {
+            Some(HallError::Backlog)
+        } else {
+            None
+        }
+    }
+
+    // Does what was prepared for a request that comes with this slot. Where the command is refused, nothing is done.
+    fn do_for(
+        &mut self,
+        slot: u64,
+        stops: bool,
+        unavailable: Reply,
+        prepared: Prepared,
+    ) -> Result<Option<Issued>, HallError>
+        requires free { has_open self.old.slots slot ≡ false }
+        requires within { IsWithin self.old.environments prepared.changes }
+        requires told { unavailable ≡ unavailable_in (settings_in (view_of I.view self.old)) }
+        ensures issuer { OnOk result (Continues (I.view self.old.issuer) (I.view self.new.issuer) prepared.command) }
+        ensures issued { IfOk result (IsAnswered (I.view self.old.issuer) prepared.command) }
+        ensures count { OnOk result (length self.new.environments ≡ length self.old.environments) }
+        ensures environments { OnOk result (Leads self.old.environments prepared.changes self.new.environments) }
+        ensures slots { OnOk result (KeepRequest self.old.slots self.new.slots slot unavailable prepared (issued_in (I.view self.new.issuer))) }
+        ensures stops { OnOk result (self.new.stops ≡ (self.old.stops || stops)) }
+        ensures err { OnErr result (IsSameHall (view_of I.view self.old) (view_of I.view self.new)) }
+        ensures memory { HasPlaceFor (I.view self.old.issuer) prepared.command → IfErr result (λ why. why ≡ HallError.OutOfMemory) }
+    {
+        let Prepared {
+            command,
+            changes,
+            replies,
+            own,
+        } = prepared;
+        self.slots.open(slot, unavailable)?;
+        match issue(&mut self.issuer, command) {
+            Ok(issued) => {
+                let point = self.issuer.issued();
+                self.environments.change(changes);
+                self.slots.reply_all(replies, point);
+                self.slots.reply_own(slot, own, point);
+                self.stops = self.stops || stops;
+                Ok(issued)
+            }
+            Err(why) => {
+                self.slots.undo(slot);
+                Err(why)
+            }
+        }
+    }
+
+    // What a slot is told whose reply is not available.
+    fn unavailable(&self) -> Result<Reply, AllocError>
+        ensures { IfOk result (λ reply. reply ≡ unavailable_in (settings_in (view_of I.view self.now))) }
+    {
+        let settings = self.issuer.table().settings();
+        reply_text(
+            self.alloc,
+            &Answer::Refusal(Refusal::Unavailable),
+            settings,
+        )
+    }
+
+    /// A request comes with a slot that is not open, now, with two random words: its command is issued, if it has one,
+    /// its environment is called, and replies are computed. A reply is told by `take` once all that it shows is durable.
+    ///
+    /// What an environment or the table refuses is an answer. The hall refuses by `Broken`, `Stopping`, `WornOut` (where
+    /// it has a command), `Backlog` (1024 slots are open, or 256 commands are pending and it has one), or `OutOfMemory`,
+    /// in this order, and then nothing has changed. Moments are milliseconds since 1970.
+    pub fn arrive(
+        &mut self,
+        slot: u64,
+        call: Call,
+        now: u64,
+        words: [u64; 2],
+    ) -> Result<Option<Issued>, HallError>
+        requires free { has_open self.old.slots slot ≡ false }
+        requires environment { IsToOneOf self.old.environments call }
+        requires fit { IsFit (settings_in (view_of I.view self.old)) (request slot call now words) }
+        ensures ok { IfOk result (Does (view_of I.view self.old) (view_of I.view self.new) (request slot call now words)) }
+        ensures refused { IfErr result (Refuses (view_of I.view self.old) (request slot call now words)) }
+        ensures err { OnErr result (IsSameHall (view_of I.view self.old) (view_of I.view self.new)) }
+    {
+        let stops = matches!(call, Call::StopBroker);
+        let plan = plan_request(
+            self.alloc,
+            self.issuer.table(),
+            &self.environments,
+            slot,
+            call,
+            now,
+            words,
+        );
+        if let Some(why) = self.refusal_of_arrival(plan.command.is_some()) {
+            return Err(why);
+        }
+        let unavailable = self.unavailable()?;
+        let prepared = prepare(self.alloc, self.issuer.table(), &self.environments, plan)?;
+        self.do_for(slot, stops, unavailable, prepared)
+    }
+}
