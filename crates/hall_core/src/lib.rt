@@ -26,5 +26,4 @@ mod settling;
 mod slots;
 
 pub use error::HallError;
-pub use hall::Hall;
 pub use issuing::Issued;
