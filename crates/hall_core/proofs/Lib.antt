@@ -3,3 +3,5 @@ pub mod Holding
 mod Drawn
 mod Moments
 mod Oldest
+mod Holders
+mod FirstUnheld

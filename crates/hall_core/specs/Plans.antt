@@ -17,9 +17,9 @@ use Rattle.api_core.specs.declared.refusal.Refusal.{Refusal}
 use Rattle.api_core.specs.declared.refusal.Refusal.TheVariants as refusal
 use Rattle.hall_core.specs.declared.plan.Made.{Made}
 use Rattle.hall_core.specs.declared.plan.Made.TheVariants as made
-use Rattle.hall_core.specs.Past.{Past}
+use Rattle.hall_core.specs.Past.{Past, is_stopping}
 use Rattle.api_core.specs.Replies as reply
-use Rattle.hall_core.specs.Effects.{Effect, Scene, command_for, requests, id_of, effect_of_request, scene}
+use Rattle.hall_core.specs.Effects.{Effect, Scene, command_for, requests, id_of, effect_of_request, effect_of_tick, scene}
 use Rattle.hall_core.specs.Agreement.{IsKept}
 use Rattle.hall_core.specs.Environments.{HoldFor, IsNumberIn}
 
@@ -59,6 +59,11 @@ drawn_by words = id_of (slice_index words 0, slice_index words 1)
 abbrev pub PlansRequest : State → List EnvState → ℕ → Call → ℕ → List ℕ → Effect → Type 0
 PlansRequest table environments slot call now words effect =
     ForEachPast table environments (λ past. effect ≡ effect_of_request (scene table.settings past now) slot (drawn_by words) call)
+
+-- the effect is that of a tick, whatever past it meets that is stopping or is not
+abbrev pub PlansTick : State → List EnvState → Bool → ℕ → Effect → Type 0
+PlansTick table environments stopping now effect =
+    ForEachPast table environments (λ past. stopping ≡ is_stopping past → effect ≡ effect_of_tick (scene table.settings past now))
 
 -- the environment of a request is one of these, if it is to one
 abbrev pub IsToOneOf : List EnvState → Call → Type 0

@@ -15,5 +15,7 @@ mod plan;
 mod planner;
 mod planning;
 mod requests;
+mod ticks;
+mod unheld;
 
 pub use error::HallError;

@@ -2,6 +2,7 @@
 ghost use Rattle.std.specs.Prelude.{◌≡◌, Some, [], option_map};
 ghost use Rattle.api_core.specs.Replies.{told_by};
 ghost use Rattle.hall_core.specs.Effects as effect;
+ghost use Rattle.hall_core.specs.Plans.{calls_made};
 
 use api_core::{Answer, Refusal};
 use env_phase::EnvCall;
@@ -42,6 +43,16 @@ impl<'a> Model for Plan<'a> {
     } };
 }
 
+/// A call of this environment, if it is one.
+pub(crate) fn told_to(environment: Option<u16>, call: EnvCall) -> Made
+    ensures { calls_made result ≡ effect.told_to environment call }
+{
+    match environment {
+        Some(environment) => Made::One { environment, call },
+        None => Made::Nothing,
+    }
+}
+
 impl<'a> Plan<'a> {
     pub(crate) fn nothing() -> Plan<'a>
         ensures { result ≡ effect.nothing }
@@ -79,6 +90,17 @@ impl<'a> Plan<'a> {
             command: Some(command),
             made: Made::Nothing,
             reply: Some(answer),
+        }
+    }
+
+    /// A command without a reply, and calls of environments.
+    pub(crate) fn does(command: Command, made: Made) -> Plan<'a>
+        ensures { result ≡ effect.does command (calls_made made) }
+    {
+        Plan {
+            command: Some(command),
+            made,
+            reply: None,
         }
     }
 }

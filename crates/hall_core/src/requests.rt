@@ -37,7 +37,7 @@ impl<'a> Planner<'a> {
         self.environments.running(environment)
     }
 
-    fn runs(&self, environment: u16, id: &[u8; 16]) -> bool
+    pub(crate) fn runs(&self, environment: u16, id: &[u8; 16]) -> bool
         requires { IsNumberIn self.now.environments.now environment }
         ensures { ForEachScene self.now (λ x. result ≡ runs (calls_of x.past environment) id.now) }
     {
