@@ -5,7 +5,7 @@ use Rattle.std.specs.List.{range_with_len}
 use Rattle.std.proofs.lemmas.Bool.{eqb-true, eqb-false, cases_lt}
 use Rattle.std.proofs.lemmas.List.{append-nil, map-append, flat_map_more}
 use Rattle.std.proofs.lemmas.List.Elements.{filter-append}
-use Rattle.std.proofs.lemmas.Option.{none-some, slice_get_within, slice_get_read}
+use Rattle.std.proofs.lemmas.Option.{slice_get_within, slice_get_read}
 use Rattle.env_phase.specs.declared.answer.PollAnswer.{PollAnswer}
 use Rattle.env_phase.specs.declared.call.EnvCall.{EnvCall}
 use Rattle.env_phase.specs.declared.call.EnvCall.TheVariants.{Shutdown}
@@ -50,12 +50,6 @@ no_call_more m n made call apart =
     calls_in_both n made ((m, call) ∷ []) ∙ ap (λ l. calls_in n made ++ l) (call_of_another m n call [] apart) ∙ append-nil (calls_in n made)
 
 -- ## So many environments
-
-pub none_hold : (made : List (ℕ × EnvCall)) → HoldFor [] made
-none_hold made = record {
-  numbered = λ place env here. absurd (none-some env here);
-  stands = λ place env here. absurd (none-some env here);
-}
 
 one_more_numbered : (envs : List EnvState) (place : ℕ) (env : EnvState) → length envs ≡ place → AreNumbered envs → env.number ≡ place + 1 → AreNumbered (envs ++ env ∷ [])
 one_more_numbered envs place env long numbered number k e here = elim (get_of_more envs env k e here) [
@@ -169,14 +163,6 @@ pub record EndedSoFar (envs : List EnvState) (now : ℕ) (ended : List EnvState)
   pub numbered : AreNumbered ended
   pub stands : (k : ℕ) (env : EnvState) → slice_get ended k ≡ Some env → ForCallsOf envs (k + 1) (λ calls. StandsFor env (calls ++ Shutdown now ∷ []))
   pub answered : ForEachMade envs (λ made. answers ≡ answered_at_end made (range_with_len 1 so_far) now)
-
-pub none_ended : (envs : List EnvState) (now : ℕ) → EndedSoFar envs now [] [] 0
-none_ended envs now = record {
-  long = refl;
-  numbered = λ k env here. absurd (none-some env here);
-  stands = λ k env here. absurd (none-some env here);
-  answered = λ made hold. refl;
-}
 
 -- the next one ends
 pub one_more_ended : (envs : List EnvState) (now : ℕ) (ended : List EnvState) (answers : List (ℕ × PollAnswer)) (i : ℕ) (env after : EnvState) (told : List (ℕ × PollAnswer))
