@@ -14,10 +14,6 @@ use Rattle.hall_core.specs.Plans.{Meets, scene_at}
 abbrev pub ForEachScene : Planner → (Scene → Type 0) → Type 0
 ForEachScene p holds = (past : Past) → Meets p.table.now p.environments.now past → holds (scene_at p.table.now past p.moment)
 
--- the same, of a scene at a moment that a record can hold
-abbrev pub ForEachTimely : Planner → (Scene → Type 0) → Type 0
-ForEachTimely p holds = ForEachScene p (λ x. x.now ≤ greatest_moment → holds x)
-
 -- where an event runs that stands so, if it does
 abbrev pub environment_of : Standing → Option ℕ
 environment_of (standing.Running environment deadline) = Some environment

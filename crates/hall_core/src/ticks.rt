@@ -6,7 +6,7 @@ ghost use Rattle.invoke_records.specs.declared.command.Kind.TheVariants.{Start, 
 ghost use Rattle.hall_core.specs.Firsts.{first_unheld, first_moving};
 ghost use Rattle.hall_core.specs.Past.{ready_in};
 ghost use Rattle.hall_core.specs.Effects.{moves_event, moves, interrupts_or_moves};
-ghost use Rattle.hall_core.specs.Planner.{ForEachScene, ForEachTimely};
+ghost use Rattle.hall_core.specs.Planner.{ForEachScene};
 ghost use Rattle.hall_core.specs.Plans.{PlansTick};
 
 use crate::environments::Environments;
@@ -25,17 +25,17 @@ impl<'a> Planner<'a> {
         self.environments.ready()
     }
 
-    // Until when an attempt may run that starts now. No scene comes near the greatest number.
+    // Until when an attempt may run that starts now.
     fn deadline(&self) -> u64
-        ensures { ForEachTimely self.now (λ x. result ≡ x.now + 1000 * x.settings.timeout) }
+        ensures { ForEachScene self.now (λ x. result ≡ x.now + 1000 * x.settings.timeout) }
     {
         let timeout = u64::from(self.table.settings().timeout);
-        self.moment.saturating_add(1000 * timeout)
+        self.moment + 1000 * timeout
     }
 
     // An attempt starts: the event is given to the environment that is ready.
     fn start(&self, ready: Option<u16>, id: [u8; 16]) -> Plan<'a>
-        ensures { ForEachTimely self.now (λ x. result ≡ moves_event x ready id Start) }
+        ensures { ForEachScene self.now (λ x. result ≡ moves_event x ready id Start) }
     {
         let command = Command {
             kind: Kind::Start,
@@ -63,7 +63,7 @@ impl<'a> Planner<'a> {
     }
 
     fn move_event(&self, ready: Option<u16>, id: [u8; 16], kind: Kind) -> Plan<'a>
-        ensures { ForEachTimely self.now (λ x. result ≡ moves_event x ready id kind) }
+        ensures { ForEachScene self.now (λ x. result ≡ moves_event x ready id kind) }
     {
         match kind {
             Kind::Start => self.start(ready, id),
@@ -79,7 +79,7 @@ impl<'a> Planner<'a> {
 
     // The event that moves next, where this environment is ready.
     fn next_move(&self, ready: Option<u16>) -> Plan<'a>
-        ensures { ForEachTimely self.now (λ x. result ≡ moves x ready (first_moving x.settings x.past.history x.now (is_some ready))) }
+        ensures { ForEachScene self.now (λ x. result ≡ moves x ready (first_moving x.settings x.past.history x.now (is_some ready))) }
     {
         match self.table.next_move(self.moment, ready) {
             Some(next) => self.move_event(ready, next.id, next.kind),
@@ -89,7 +89,7 @@ impl<'a> Planner<'a> {
 
     // An Interrupt, else the next move.
     fn tick(&self) -> Plan<'a>
-        ensures { ForEachTimely self.now (λ x. result ≡ interrupts_or_moves x (ready_in x.settings x.past) (first_unheld x.settings x.past)) }
+        ensures { ForEachScene self.now (λ x. result ≡ interrupts_or_moves x (ready_in x.settings x.past) (first_unheld x.settings x.past)) }
     {
         match self.first_unheld() {
             Some(id) => Plan::does(self.bare(Kind::Interrupt, id), Made::Nothing),
