@@ -5,3 +5,4 @@ mod Moments
 mod Oldest
 mod Holders
 mod FirstUnheld
+mod Ends

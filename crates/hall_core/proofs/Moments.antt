@@ -1,5 +1,5 @@
 -- Lemmas: the moment of a planner is that of the call.
-use Rattle.std.proofs.Common.{◌≡◌, ℕ, ◌≤◌, refl, ap, ◌∙◌, arith}
+use Rattle.std.proofs.Common.{◌≡◌, ℕ, ◌≤◌, refl, arith}
 use Rattle.std.specs.Prelude.{max, min}
 use Rattle.invoke_records.specs.Spelling.{greatest_moment}
 use Rattle.async_core.specs.State.{State}

@@ -108,6 +108,13 @@ impl Environments {
         &self.list[usize::from(number) - 1]
     }
 
+    /// How many there are.
+    pub fn len(&self) -> usize
+        ensures { result ≡ length self.now }
+    {
+        self.list.len()
+    }
+
     /// Whether one of them has this number.
     pub fn has(&self, number: u16) -> bool
         ensures { IsTrue result ↔ IsNumberIn self.now number }
