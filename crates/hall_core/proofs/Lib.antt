@@ -6,3 +6,6 @@ mod Moments
 mod Oldest
 mod Kept
 pub mod Settled
+mod Holders
+mod FirstUnheld
+mod Ends

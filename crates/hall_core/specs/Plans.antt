@@ -1,6 +1,6 @@
 -- What a call is planned from, and what its plan says.
-use Rattle.std.specs.Prelude.{◌≡◌, ℕ, Bool, List, [], ◌∷◌, length, map, Some, None, slice_index}
-use Rattle.std.specs.List.{range_with_len}
+use Rattle.std.specs.Prelude.{◌≡◌, ℕ, Bool, List, [], ◌∷◌, length, map, Option, Some, None, slice_index}
+use Rattle.std.specs.List.{range_with_len, AllByRecursion}
 use Rattle.retry_rules.specs.Settings.{bad_field}
 use Rattle.invoke_records.specs.declared.command.Kind.TheVariants.{Fail}
 use Rattle.invoke_records.specs.declared.command.Cause.TheVariants as cause
@@ -10,16 +10,20 @@ use Rattle.async_core.specs.History.{table_of}
 use Rattle.async_core.specs.State.{State}
 use Rattle.env_phase.specs.declared.call.EnvCall.{EnvCall}
 use Rattle.env_phase.specs.declared.call.EnvCall.TheVariants.{Register, Timeout, Shutdown}
+use Rattle.env_phase.specs.Calls.{moment_by, IsMoment}
 use Rattle.env_phase.specs.State.{EnvState}
+use Rattle.api_core.specs.declared.answer.Answer.{Answer}
+use Rattle.api_core.specs.declared.answer.Answer.TheVariants as answer
 use Rattle.api_core.specs.declared.call.Call.{Call}
 use Rattle.api_core.specs.declared.call.Call.TheVariants as calls
 use Rattle.api_core.specs.declared.refusal.Refusal.{Refusal}
 use Rattle.api_core.specs.declared.refusal.Refusal.TheVariants as refusal
 use Rattle.hall_core.specs.declared.plan.Made.{Made}
 use Rattle.hall_core.specs.declared.plan.Made.TheVariants as made
-use Rattle.hall_core.specs.Past.{Past}
+use Rattle.hall_core.specs.Past.{Past, is_stopping}
+use Rattle.api_core.specs.Replies.{IsTellable}
 use Rattle.api_core.specs.Replies as reply
-use Rattle.hall_core.specs.Effects.{Effect, Scene, command_for, requests, id_of, effect_of_request, scene}
+use Rattle.hall_core.specs.Effects.{Effect, Scene, command_for, requests, id_of, effect_of_request, effect_of_tick, scene}
 use Rattle.hall_core.specs.Agreement.{IsKept}
 use Rattle.hall_core.specs.Environments.{HoldFor, IsNumberIn}
 
@@ -30,6 +34,36 @@ abbrev pub calls_made : Made → List (ℕ × EnvCall)
 calls_made made.Nothing = []
 calls_made (made.One environment call) = (environment, call) ∷ []
 calls_made (made.ShutdownAll count now) = map (λ number. (number, Shutdown now)) (range_with_len 1 count)
+
+-- each is made of one of these environments
+abbrev pub AreIn : List EnvState → List (ℕ × EnvCall) → Type 0
+AreIn environments calls = AllByRecursion (λ (c : ℕ × EnvCall). IsNumberIn environments c.0) calls
+
+-- ## Moments, which a record holds and which have a text
+
+abbrev pub moment_made : Made → ℕ
+moment_made made.Nothing = 0
+moment_made (made.One environment call) = moment_by call
+moment_made (made.ShutdownAll count now) = now
+
+-- the moment of a record that is told
+abbrev pub moment_told : Answer → ℕ
+moment_told (answer.Record e) = e.at
+moment_told other = 0
+
+abbrev pub moment_replied : Option Answer → ℕ
+moment_replied None = 0
+moment_replied (Some answered) = moment_told answered
+
+-- what is called and what is told is at such moments
+pub record AreAtMoments (called : Made) (reply : Option Answer) : Type 0 where
+  pub called_at : IsMoment (moment_made called)
+  pub told_at : IsMoment (moment_replied reply)
+
+-- so that the answer is told
+pub is_tellable : (a : Answer) → IsMoment (moment_told a) → IsTellable a
+is_tellable (answer.Record e) at = at
+is_tellable other at = tt
 
 -- ## What a call is planned from
 
@@ -59,6 +93,11 @@ drawn_by words = id_of (slice_index words 0, slice_index words 1)
 abbrev pub PlansRequest : State → List EnvState → ℕ → Call → ℕ → List ℕ → Effect → Type 0
 PlansRequest table environments slot call now words effect =
     ForEachPast table environments (λ past. effect ≡ effect_of_request (scene table.settings past now) slot (drawn_by words) call)
+
+-- the effect is that of a tick, whatever past it meets that is stopping or is not
+abbrev pub PlansTick : State → List EnvState → Bool → ℕ → Effect → Type 0
+PlansTick table environments stopping now effect =
+    ForEachPast table environments (λ past. stopping ≡ is_stopping past → effect ≡ effect_of_tick (scene table.settings past now))
 
 -- the environment of a request is one of these, if it is to one
 abbrev pub IsToOneOf : List EnvState → Call → Type 0

@@ -1,6 +1,8 @@
 // What requests of callers do.
-ghost use Rattle.std.specs.Prelude.{◌≡◌, Some};
+ghost use Rattle.std.specs.Prelude.{◌≡◌, Some, IfSome, option_map};
 ghost use Rattle.invoke_records.specs.declared.command.Kind.TheVariants.{Accept};
+ghost use Rattle.async_core.specs.Readers.{told, ending_after};
+ghost use Rattle.env_phase.specs.Calls.{IsMoment};
 ghost use Rattle.hall_core.specs.Effects.{command_for, accepts, collects, tells_oldest, stops};
 ghost use Rattle.hall_core.specs.Planner.{ForEachScene};
 ghost use Rattle.hall_core.specs.Plans.{why_not_accepted, why_not_collected};
@@ -8,8 +10,8 @@ ghost use Rattle.hall_core.specs.Plans.{why_not_accepted, why_not_collected};
 use crate::plan::{Made, Plan};
 use crate::planner::Planner;
 use api_core::{Answer, Refusal};
-use async_core::{Illegal, Side};
-use invoke_records::{Bytes, Kind};
+use async_core::{Ended, Illegal, Side};
+use invoke_records::{Bytes, GREATEST_MOMENT, Kind};
 
 fn why_not_accepted(why: Illegal) -> Refusal
     ensures { result ≡ why_not_accepted why }
@@ -61,6 +63,21 @@ impl<'a> Planner<'a> {
         }
     }
 
+    // What an event leaves that has ended. None has ended at a moment that has no text.
+    fn ended(&self, id: &[u8; 16]) -> Option<Ended<'a>>
+        ensures moment { IfSome result (λ ended. IsMoment ended.at) }
+        ensures told { ForEachScene self.now (λ x. option_map told result ≡ ending_after x.settings id.now x.past.history) }
+    {
+        let Some(ended) = self.table.ended(id) else {
+            return None;
+        };
+        if ended.at <= GREATEST_MOMENT {
+            Some(ended)
+        } else {
+            None
+        }
+    }
+
     /// The record of the event that ended first on this side.
     pub(crate) fn oldest(&self, side: Side) -> Plan<'a>
         ensures { ForEachScene self.now (λ x. result ≡ tells_oldest x side) }
@@ -68,7 +85,7 @@ impl<'a> Planner<'a> {
         let Some(id) = self.table.oldest_ended(side) else {
             return Plan::says(Answer::NoRecord);
         };
-        match self.table.ended(&id) {
+        match self.ended(&id) {
             Some(ended) => Plan::says(Answer::Record(ended)),
             None => Plan::says(Answer::NoRecord),
         }
@@ -81,7 +98,7 @@ impl<'a> Planner<'a> {
         Plan {
             command: None,
             made: Made::ShutdownAll {
-                count: self.table.settings().environments,
+                count: self.environments.len(),
                 now: self.moment,
             },
             reply: Some(Answer::Taken),

@@ -1,5 +1,5 @@
 // The environments of a hall.
-ghost use Rattle.std.specs.Prelude.{◌≡◌, ◌↔◌, IsTrue, [], ◌-◌, find, length, slice_get, Some, IfSome, IfOk, IfErr};
+ghost use Rattle.std.specs.Prelude.{◌≡◌, ◌↔◌, [], ◌-◌, find, length, slice_get, Some, IfSome, IsTrue, IfOk, IfErr};
 ghost use Rattle.env_phase.specs.Calls.{moment_by, IsMoment};
 ghost use Rattle.env_phase.specs.declared.call.EnvCall.TheVariants.{Shutdown};
 ghost use Rattle.env_phase.specs.Environment.{runs};
@@ -120,6 +120,20 @@ impl Environments {
         ensures number { result.now.number ≡ number }
     {
         &self.list[usize::from(number) - 1]
+    }
+
+    /// How many there are.
+    pub fn len(&self) -> usize
+        ensures { result ≡ length self.now }
+    {
+        self.list.len()
+    }
+
+    /// Whether one of them has this number.
+    pub fn has(&self, number: u16) -> bool
+        ensures { IsTrue result ↔ IsNumberIn self.now number }
+    {
+        1 <= number && usize::from(number) <= self.list.len()
     }
 
     /// The event that runs in the environment of this number.

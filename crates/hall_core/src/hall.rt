@@ -4,10 +4,9 @@ ghost use Rattle.std.specs.Prelude.{◌≡◌};
 use crate::environments::Environments;
 use crate::error::HallError;
 use crate::issuing::{Issued, issue};
-use crate::planning::plan_request;
-use crate::preparing::{Prepared, prepare};
+use crate::preparing::Prepared;
 use crate::slots::Slots;
-use api_core::{Answer, Call, Refusal, Reply, reply_text};
+use api_core::{Answer, Refusal, Reply, reply_text};
 use group_commit::Issuer;
 use std::alloc::{AllocError, Global};
 

@@ -2,15 +2,14 @@
 //!
 //! What is meant is said over the run, the list of all calls that were not refused. The crates above use that each
 //! command is legal, that each environment accepts what is called of it, and that a reply is told once all that it shows
-//! is durable. No call is made here yet: this crate has the definitions and their laws.
+//! is durable. Its parts are here, each with its own contract; the hall's own calls are not public yet.
 #![tactic(auto)]
 
 mod answering;
+mod callers;
 mod calling;
 mod changes;
-mod callers;
 mod environments;
-mod plan;
 mod error;
 pub mod examples;
 mod hall;
@@ -18,12 +17,15 @@ mod ids;
 mod issuing;
 pub mod laws;
 mod open_slot;
+mod plan;
 mod planner;
-mod preparing;
 mod planning;
+mod preparing;
 mod requests;
 mod settling;
 mod slots;
+mod ticks;
+mod unheld;
 
 pub use error::HallError;
 pub use issuing::Issued;

@@ -2,6 +2,8 @@
 ghost use Rattle.std.specs.Prelude.{◌≡◌, Some, [], option_map};
 ghost use Rattle.api_core.specs.Replies.{told_by};
 ghost use Rattle.hall_core.specs.Effects as effect;
+ghost use Rattle.env_phase.specs.Calls.{moment_by, IsMoment};
+ghost use Rattle.hall_core.specs.Plans.{calls_made, moment_made, moment_told};
 
 use api_core::{Answer, Refusal};
 use env_phase::EnvCall;
@@ -15,7 +17,7 @@ pub(crate) enum Made {
     /// This call of one environment.
     One { environment: u16, call: EnvCall },
     /// The shutdown of each, from 1 to this count, at a moment in milliseconds since 1970.
-    ShutdownAll { count: u8, now: u64 },
+    ShutdownAll { count: usize, now: u64 },
 }
 
 /// What a call does: the command that it issues, the calls that it makes of environments, and the answer to its caller,
@@ -31,7 +33,7 @@ impl<'a> Model for Plan<'a> {
     ghost use Rattle.std.specs.Prelude.{option_map};
     ghost use Rattle.api_core.specs.Replies.{told_by};
     ghost use Rattle.hall_core.specs.Effects.{Effect};
-    ghost use Rattle.hall_core.specs.Plans.{calls_made};
+    ghost use Rattle.hall_core.specs.Plans.{calls_made, AreAtMoments};
 
     ghost Value = { Effect };
 
@@ -40,6 +42,20 @@ impl<'a> Model for Plan<'a> {
       made = calls_made plan.made;
       reply = option_map told_by plan.reply;
     } };
+
+    ghost invariant = { λ plan. AreAtMoments plan.made plan.reply };
+}
+
+/// A call of this environment, if it is one.
+pub(crate) fn told_to(environment: Option<u16>, call: EnvCall) -> Made
+    requires { IsMoment (moment_by call) }
+    ensures calls { calls_made result ≡ effect.told_to environment call }
+    ensures moment { IsMoment (moment_made result) }
+{
+    match environment {
+        Some(environment) => Made::One { environment, call },
+        None => Made::Nothing,
+    }
 }
 
 impl<'a> Plan<'a> {
@@ -55,6 +71,7 @@ impl<'a> Plan<'a> {
 
     /// An answer alone.
     pub(crate) fn says(answer: Answer<'a>) -> Plan<'a>
+        requires { IsMoment (moment_told answer) }
         ensures { result ≡ effect.says (told_by answer.entry) }
     {
         Plan {
@@ -73,12 +90,25 @@ impl<'a> Plan<'a> {
 
     /// A command and an answer.
     pub(crate) fn issues(command: Command, answer: Answer<'a>) -> Plan<'a>
+        requires { IsMoment (moment_told answer) }
         ensures { result ≡ record { command = Some command; made = []; reply = Some (told_by answer.entry) } }
     {
         Plan {
             command: Some(command),
             made: Made::Nothing,
             reply: Some(answer),
+        }
+    }
+
+    /// A command without a reply, and calls of environments.
+    pub(crate) fn does(command: Command, made: Made) -> Plan<'a>
+        requires { IsMoment (moment_made made) }
+        ensures { result ≡ effect.does command (calls_made made) }
+    {
+        Plan {
+            command: Some(command),
+            made,
+            reply: None,
         }
     }
 }

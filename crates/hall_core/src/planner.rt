@@ -1,11 +1,9 @@
 // What a call is planned from.
-ghost use Rattle.std.specs.Prelude.{◌≡◌, [], max};
-ghost use Rattle.hall_core.specs.Effects.{command_for, is_late};
-ghost use Rattle.hall_core.specs.Planner.{ForEachScene};
+ghost use Rattle.env_phase.specs.Calls.{IsMoment};
 
 use crate::environments::Environments;
 use async_core::Table;
-use invoke_records::{Bytes, Command, Kind, Standing};
+use invoke_records::{Bytes, Command, GREATEST_MOMENT, Kind, Standing};
 use std::alloc::Global;
 
 /// What a call is planned from: the table, the environments, and the moment of the call.
@@ -16,10 +14,17 @@ pub(crate) struct Planner<'a> {
     pub(crate) environments: &'a Environments,
     /// In milliseconds since 1970, not earlier than the last command.
     pub(crate) moment: u64,
+    ghost in_time: { IsMoment moment },
 }
 
 impl<'a> Planner<'a> {
-    /// For a call that comes now: its moment is that of the last command where that is later.
+    ghost use Rattle.std.specs.Prelude.{◌≡◌, [], max, min};
+    ghost use Rattle.invoke_records.specs.Spelling.{greatest_moment};
+    ghost use Rattle.hall_core.specs.Effects.{command_for, is_late};
+    ghost use Rattle.hall_core.specs.Planner.{ForEachScene};
+
+    /// For a call that comes now: its moment is that of the last command where that is later. No command is of a moment
+    /// later than the greatest that a record holds.
     pub(crate) fn new(
         alloc: Global,
         table: &'a Table,
@@ -28,13 +33,13 @@ impl<'a> Planner<'a> {
     ) -> Planner<'a>
         ensures table { result.table.now ≡ table.now }
         ensures environments { result.environments.now ≡ environments.now }
-        ensures moment { result.moment ≡ max now table.now.table.last_moment }
+        ensures moment { result.moment ≡ min (max now table.now.table.last_moment) greatest_moment }
     {
         Planner {
             alloc,
             table,
             environments,
-            moment: now.max(table.last_moment()),
+            moment: now.max(table.last_moment()).min(GREATEST_MOMENT),
         }
     }
 

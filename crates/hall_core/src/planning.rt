@@ -1,5 +1,6 @@
 // What a request does.
 ghost use Rattle.std.specs.Prelude.{◌≡◌};
+ghost use Rattle.env_phase.specs.Calls.{IsMoment};
 ghost use Rattle.hall_core.specs.Effects.{effect_of_request};
 ghost use Rattle.hall_core.specs.Planner.{ForEachScene};
 ghost use Rattle.hall_core.specs.Plans.{PlansRequest, IsToOneOf};
@@ -72,7 +73,8 @@ pub(crate) fn plan_request<'a>(
     now: u64,
     words: [u64; 2],
 ) -> Plan<'a>
-    requires { IsToOneOf environments.now call }
+    requires moment { IsMoment now }
+    requires environment { IsToOneOf environments.now call }
     ensures { PlansRequest table.now environments.now slot call now words result }
 {
     Planner::new(alloc, table, environments, now).request_of(slot, drawn_id(words), call)

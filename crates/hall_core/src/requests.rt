@@ -1,6 +1,7 @@
 // What requests to an environment do.
 ghost use Rattle.std.specs.Prelude.{◌≡◌, true, Some, option_map};
 ghost use Rattle.env_phase.specs.declared.call.EnvCall.TheVariants.{RuntimeNext, ExtensionNext, InitError, ExtensionError};
+ghost use Rattle.env_phase.specs.Calls.{moment_by, IsMoment};
 ghost use Rattle.env_phase.specs.Environment.{running, runs};
 ghost use Rattle.api_core.specs.Replies.{told_by};
 ghost use Rattle.hall_core.specs.Past.{calls_of};
@@ -8,7 +9,7 @@ ghost use Rattle.env_phase.specs.Polls.{refusal_of};
 ghost use Rattle.hall_core.specs.Effects.{refusal_by, requests, is_late, responds, answers_event, exit_of, exits};
 ghost use Rattle.hall_core.specs.Environments.{IsNumberIn};
 ghost use Rattle.hall_core.specs.Planner.{ForEachScene};
-ghost use Rattle.hall_core.specs.Plans.{parks, reports, registers, times_out};
+ghost use Rattle.hall_core.specs.Plans.{moment_replied, parks, reports, registers, times_out};
 
 use crate::plan::{Made, Plan};
 use crate::planner::Planner;
@@ -37,7 +38,7 @@ impl<'a> Planner<'a> {
         self.environments.running(environment)
     }
 
-    fn runs(&self, environment: u16, id: &[u8; 16]) -> bool
+    pub(crate) fn runs(&self, environment: u16, id: &[u8; 16]) -> bool
         requires { IsNumberIn self.now.environments.now environment }
         ensures { ForEachScene self.now (λ x. result ≡ runs (calls_of x.past environment) id.now) }
     {
@@ -63,7 +64,9 @@ impl<'a> Planner<'a> {
         command: Option<Command>,
         reply: Option<Answer<'a>>,
     ) -> Plan<'a>
-        requires { IsNumberIn self.now.environments.now environment }
+        requires number { IsNumberIn self.now.environments.now environment }
+        requires called_at { IsMoment (moment_by call) }
+        requires told_at { IsMoment (moment_replied reply) }
         ensures { ForEachScene self.now (λ x. result ≡ requests x environment call command (option_map told_by reply.entry)) }
     {
         match self.judge(environment, call) {
@@ -140,7 +143,8 @@ impl<'a> Planner<'a> {
 
     /// A poll of the runtime or of an extension: its slot is parked.
     fn park(&self, environment: u16, call: EnvCall) -> Plan<'a>
-        requires { IsNumberIn self.now.environments.now environment }
+        requires number { IsNumberIn self.now.environments.now environment }
+        requires called_at { IsMoment (moment_by call) }
         ensures { ForEachScene self.now (λ x. result ≡ parks x environment call) }
     {
         self.request(environment, call, None, None)

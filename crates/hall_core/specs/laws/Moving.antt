@@ -30,7 +30,7 @@ above_if true n c h e rest (inl p) = let f : n ≡ e.0 = ap (λ (v : Event). v.0
 above_if true n c h e rest (inr j) = let f : n + 1 ≤ e.0 = rest j in omega arith
 above_if false n c h e rest j = let f : n + 1 ≤ e.0 = rest j in omega arith
 
-above : (n : ℕ) (h : List Command) (e : Event) → IsIn e (held_from n h) → n ≤ e.0
+pub above : (n : ℕ) (h : List Command) (e : Event) → IsIn e (held_from n h) → n ≤ e.0
 above n [] e i = absurd i
 above n (c ∷ h) e i = above_if (is_kept c h) n c h e (above (n + 1) h e) i
 
@@ -50,7 +50,7 @@ apart_if true n c h a b rest (inr i) (inr j) e = rest i j
 apart_if false n c h a b rest i j e = rest i j
 
 -- two events of one number are one
-apart : (n : ℕ) (h : List Command) (a b : Event) → IsIn a (held_from n h) → IsIn b (held_from n h) → a.0 ≡ b.0 → a ≡ b
+pub apart : (n : ℕ) (h : List Command) (a b : Event) → IsIn a (held_from n h) → IsIn b (held_from n h) → a.0 ≡ b.0 → a ≡ b
 apart n [] a b i j e = absurd i
 apart n (c ∷ h) a b i j e = apart_if (is_kept c h) n c h a b (λ i j. apart (n + 1) h a b i j e) i j e
 

@@ -11,5 +11,5 @@ returns-in_default c past meets =
 pub returns-in-Some-ended : goal.returns-in-Some-ended
 returns-in-Some-ended c past meets =
     let e = ending_is c.args.self.now.table.now.settings past.history c.args.side meets.kept.all.legal (Some c.in-Some.id) (c.in-Some.ensures.by_history past.history meets.table_is) in
-    let a = c.in-Some-ended.ensures.by_history past.history meets.kept.all.legal meets.table_is in
+    let a = c.in-Some-ended.ensures.told past meets in
     c.says-in-Some-ended.ensures ∙ ap says_record a ∙ sym (ap says_record e)

@@ -1,0 +1,5 @@
+use Rattle.std.proofs.Common.{refl}
+use Rattle.hall_core.proofs.planner.Planner.stop.Goals as goal
+
+pub returns : goal.returns
+returns c past meets = rw (c.len.ensures, meets.count) refl
