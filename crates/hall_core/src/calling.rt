@@ -27,7 +27,7 @@ impl Environments {
     }
 
     // All environments after their shutdown.
-    fn call_all(&self, count: u8, now: u64) -> Result<(Changes, Answered), AllocError>
+    fn call_all(&self, count: usize, now: u64) -> Result<(Changes, Answered), AllocError>
         requires { AreCallable self.now (Made.ShutdownAll count now) }
         ensures within { IfOk result (λ made. IsWithin self.now made.0) }
         ensures leads { IfOk result (λ made. LeadsTo self.now made.0 (calls_made (Made.ShutdownAll count now))) }

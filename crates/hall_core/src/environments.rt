@@ -80,13 +80,6 @@ impl Environments {
         self.list.len()
     }
 
-    /// Whether one of them has this number.
-    pub fn has(&self, number: u16) -> bool
-        ensures { IsTrue result ↔ IsNumberIn self.now number }
-    {
-        1 <= number && usize::from(number) <= self.list.len()
-    }
-
     /// The least-numbered environment that can be given an event.
     pub fn ready(&self) -> Option<u16>
         ensures in_range { IfSome result (λ number. IsNumberIn self.now number) }

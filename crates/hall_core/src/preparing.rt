@@ -49,7 +49,7 @@ impl Environments {
                 self.has(environment) && moment_of(call) <= GREATEST_MOMENT
             }
             Made::ShutdownAll { count, now } => {
-                usize::from(count) == self.count() && now <= GREATEST_MOMENT
+                count == self.count() && now <= GREATEST_MOMENT
             }
         }
     }
