@@ -6,3 +6,4 @@ mod Oldest
 mod Holders
 mod FirstUnheld
 mod Ends
+mod Numbers
