@@ -9,3 +9,4 @@ pub mod Settled
 mod Holders
 mod FirstUnheld
 mod Ends
+mod Numbers

@@ -1,5 +1,5 @@
 -- What a call is planned from, and what its plan says.
-use Rattle.std.specs.Prelude.{◌≡◌, ℕ, Bool, List, [], ◌∷◌, length, map, Option, Some, None, slice_index}
+use Rattle.std.specs.Prelude.{◌≡◌, ℕ, Bool, List, [], ◌∷◌, length, map, Option, Some, None, IfSome, slice_index}
 use Rattle.std.specs.List.{range_with_len, AllByRecursion}
 use Rattle.retry_rules.specs.Settings.{bad_field}
 use Rattle.invoke_records.specs.declared.command.Kind.TheVariants.{Fail}
@@ -38,6 +38,10 @@ calls_made (made.ShutdownAll count now) = map (λ number. (number, Shutdown now)
 -- each is made of one of these environments
 abbrev pub AreIn : List EnvState → List (ℕ × EnvCall) → Type 0
 AreIn environments calls = AllByRecursion (λ (c : ℕ × EnvCall). IsNumberIn environments c.0) calls
+
+-- it is one of these, if it is any
+abbrev pub AnyIn : List EnvState → Option ℕ → Type 0
+AnyIn environments number = IfSome number (λ n. IsNumberIn environments n)
 
 -- ## Moments, which a record holds and which have a text
 

@@ -7,7 +7,7 @@ ghost use Rattle.hall_core.specs.Firsts.{first_unheld, first_moving};
 ghost use Rattle.hall_core.specs.Past.{ready_in};
 ghost use Rattle.hall_core.specs.Effects.{moves_event, moves, interrupts_or_moves};
 ghost use Rattle.hall_core.specs.Planner.{ForEachScene};
-ghost use Rattle.hall_core.specs.Plans.{PlansTick};
+ghost use Rattle.hall_core.specs.Plans.{AnyIn, AreIn, PlansTick};
 
 use crate::environments::Environments;
 use crate::plan::{Made, Plan, told_to};
@@ -20,7 +20,8 @@ use std::alloc::Global;
 impl<'a> Planner<'a> {
     #[tactic(auto, unfolding(crate::specs::Past::calls_of))]
     fn ready(&self) -> Option<u16>
-        ensures { ForEachScene self.now (λ x. result ≡ ready_in x.settings x.past) }
+        ensures ready { ForEachScene self.now (λ x. result ≡ ready_in x.settings x.past) }
+        ensures within { AnyIn self.now.environments.now result }
     {
         self.environments.ready()
     }
@@ -35,7 +36,9 @@ impl<'a> Planner<'a> {
 
     // An attempt starts: the event is given to the environment that is ready.
     fn start(&self, ready: Option<u16>, id: [u8; 16]) -> Plan<'a>
-        ensures { ForEachScene self.now (λ x. result ≡ moves_event x ready id Start) }
+        requires { AnyIn self.now.environments.now ready }
+        ensures effect { ForEachScene self.now (λ x. result ≡ moves_event x ready id Start) }
+        ensures within { AreIn self.now.environments.now result.made }
     {
         let command = Command {
             kind: Kind::Start,
@@ -53,7 +56,8 @@ impl<'a> Planner<'a> {
 
     // An attempt's time is over: the environment that holds the event is reset.
     fn fail(&self, ready: Option<u16>, id: [u8; 16], cause: Cause) -> Plan<'a>
-        ensures { ForEachScene self.now (λ x. result ≡ moves_event x ready id (Fail cause)) }
+        ensures effect { ForEachScene self.now (λ x. result ≡ moves_event x ready id (Fail cause)) }
+        ensures within { AreIn self.now.environments.now result.made }
     {
         let timeout = EnvCall::Timeout { now: self.moment };
         Plan::does(
@@ -63,7 +67,9 @@ impl<'a> Planner<'a> {
     }
 
     fn move_event(&self, ready: Option<u16>, id: [u8; 16], kind: Kind) -> Plan<'a>
-        ensures { ForEachScene self.now (λ x. result ≡ moves_event x ready id kind) }
+        requires { AnyIn self.now.environments.now ready }
+        ensures effect { ForEachScene self.now (λ x. result ≡ moves_event x ready id kind) }
+        ensures within { AreIn self.now.environments.now result.made }
     {
         match kind {
             Kind::Start => self.start(ready, id),
@@ -79,7 +85,9 @@ impl<'a> Planner<'a> {
 
     // The event that moves next, where this environment is ready.
     fn next_move(&self, ready: Option<u16>) -> Plan<'a>
-        ensures { ForEachScene self.now (λ x. result ≡ moves x ready (first_moving x.settings x.past.history x.now (is_some ready))) }
+        requires { AnyIn self.now.environments.now ready }
+        ensures effect { ForEachScene self.now (λ x. result ≡ moves x ready (first_moving x.settings x.past.history x.now (is_some ready))) }
+        ensures within { AreIn self.now.environments.now result.made }
     {
         match self.table.next_move(self.moment, ready) {
             Some(next) => self.move_event(ready, next.id, next.kind),
@@ -89,7 +97,8 @@ impl<'a> Planner<'a> {
 
     // An Interrupt, else the next move.
     fn tick(&self) -> Plan<'a>
-        ensures { ForEachScene self.now (λ x. result ≡ interrupts_or_moves x (ready_in x.settings x.past) (first_unheld x.settings x.past)) }
+        ensures effect { ForEachScene self.now (λ x. result ≡ interrupts_or_moves x (ready_in x.settings x.past) (first_unheld x.settings x.past)) }
+        ensures within { AreIn self.now.environments.now result.made }
     {
         match self.first_unheld() {
             Some(id) => Plan::does(self.bare(Kind::Interrupt, id), Made::Nothing),
@@ -108,7 +117,8 @@ pub(crate) fn plan_tick<'a>(
     now: u64,
 ) -> Plan<'a>
     requires { IsMoment now }
-    ensures { PlansTick table.now environments.now is_stopping now result }
+    ensures effect { PlansTick table.now environments.now is_stopping now result }
+    ensures within { AreIn environments.now result.made }
 {
     if is_stopping {
         return Plan::nothing();

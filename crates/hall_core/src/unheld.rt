@@ -2,6 +2,8 @@
 ghost use Rattle.std.specs.Prelude.{◌≡◌, ◌↔◌, IsTrue, option_map};
 ghost use Rattle.hall_core.specs.Firsts.{Event, first_unheld};
 ghost use Rattle.hall_core.specs.Past.{holder};
+ghost use Rattle.hall_core.specs.Environments.{IsNumberIn};
+ghost use Rattle.hall_core.specs.Plans.{AnyIn};
 ghost use Rattle.hall_core.specs.Planner.{ForEachScene, environment_of, Holds};
 
 use crate::planner::Planner;
@@ -19,14 +21,16 @@ fn environment_of(standing: Standing) -> Option<u16>
 impl<'a> Planner<'a> {
     // Whether the environment of this number, if there is one, runs the event.
     fn holds(&self, environment: u16, id: &[u8; 16]) -> bool
-        ensures { ForEachScene self.now (λ x. IsTrue result ↔ Holds x environment id.now) }
+        ensures holds { ForEachScene self.now (λ x. IsTrue result ↔ Holds x environment id.now) }
+        ensures within { IsTrue result → IsNumberIn self.now.environments.now environment }
     {
         self.environments.has(environment) && self.runs(environment, id)
     }
 
     /// The environment that holds the event: the one in which it runs by the table, if it runs there.
     pub(crate) fn holder(&self, id: &[u8; 16]) -> Option<u16>
-        ensures { ForEachScene self.now (λ x. result ≡ holder x.settings x.past id.now) }
+        ensures holder { ForEachScene self.now (λ x. result ≡ holder x.settings x.past id.now) }
+        ensures within { AnyIn self.now.environments.now result }
     {
         let Some(environment) = environment_of(self.table.standing(id)) else {
             return None;

@@ -2,14 +2,14 @@ use Rattle.std.proofs.Common.{◌∙◌, refl}
 use Rattle.hall_core.specs.laws.Moving.{first_moving-is, first_moving-none}
 use Rattle.hall_core.proofs.planner.Planner.next_move.Goals as goal
 
-pub returns-in-Some : goal.returns-in-Some
-returns-in-Some c past meets =
+pub returns-in-Some-clause-effect : goal.returns-in-Some-clause-effect
+returns-in-Some-clause-effect c past meets =
     let next = c.in-Some.ensures.by_history past.history meets.table_is in
-    c.move_event.ensures past meets
+    c.move_event.ensures.effect past meets
     ∙ rw (first_moving-is c.args.self.now.table.now.settings past.history c.args.self.now.moment _ next.0 c.in-Some.next.kind next.3, next.3.moves, next.1) refl
 
-pub returns-in-None : goal.returns-in-None
-returns-in-None c past meets =
+pub returns-in-None-clause-effect : goal.returns-in-None-clause-effect
+returns-in-None-clause-effect c past meets =
     let all = c.in-None.ensures.by_history past.history meets.table_is in
     c.nothing.ensures
     ∙ rw (first_moving-none c.args.self.now.table.now.settings past.history c.args.self.now.moment _ all) refl

@@ -2,6 +2,6 @@ use Rattle.std.proofs.Common.{◌∙◌, refl}
 use Rattle.hall_core.specs.Past.{calls_of}
 use Rattle.hall_core.proofs.planner.Planner.ready.Goals as goal
 
-pub returns : goal.returns
+pub returns-clause-ready : goal.returns-clause-ready
 unfolding calls_of
-returns c past meets = c.ready.ensures.first past.made meets.hold ∙ rw meets.count refl
+returns-clause-ready c past meets = c.ready.ensures.first past.made meets.hold ∙ rw meets.count refl
