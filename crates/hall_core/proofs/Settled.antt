@@ -1,7 +1,7 @@
 -- Lemmas: replies that are given to their slots one after another.
 use Rattle.std.proofs.lemmas.Option.{none-some}
 use Rattle.std.specs.Prelude.{Option, Some, None, option_map}
-use Rattle.std.proofs.Common.{◌≡◌, ℕ, ◌+◌, List, [], ◌∷◌, ◌++◌, length, take, map, refl, sym, ap, ◌∙◌, arith, append_assoc}
+use Rattle.std.proofs.Common.{◌≡◌, ℕ, List, [], ◌∷◌, ◌++◌, length, take, refl, sym, ap, arith, append_assoc}
 use Rattle.retry_rules.specs.declared.settings.Settings.{Settings}
 use Rattle.api_core.specs.declared.reply.Reply.{Reply}
 use Rattle.api_core.specs.Replies.{Told, reply_of_told}
@@ -49,7 +49,6 @@ all_answers s [] [] h = refl
 all_answers s [] (t ∷ told) h = absurd (nothing_there (t.0, reply_of_told s t.1) (replies_told s told) (sym h))
 all_answers s (x ∷ all) [] h = absurd (nothing_there x all h)
 all_answers s (x ∷ all) (t ∷ told) h = ap (λ l. t ∷ l) (all_answers s all told (same_tail x (t.0, reply_of_told s t.1) all (replies_told s told) h))
-
 
 replied_last : (point : ℕ) (done : List (ℕ × Told)) (t : ℕ × Told) → replied_at point (done ++ t ∷ []) ≡ replied_at point done ++ replied t.0 t.1 point ∷ []
 replied_last point [] t = refl

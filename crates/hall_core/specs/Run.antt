@@ -2,7 +2,6 @@
 use Rattle.std.specs.Prelude.{ℕ, ◌+◌, List, [], ◌∷◌, ◌++◌, length, map, flat_map, Option, Some, None, option_map}
 use Rattle.retry_rules.specs.declared.settings.Settings.{Settings}
 use Rattle.invoke_records.specs.declared.command.Command.{Command}
-use Rattle.invoke_records.specs.declared.command.Kind.{Kind}
 use Rattle.async_core.specs.Lives.{life, payload_of}
 use Rattle.env_phase.specs.declared.answer.Reason.{Reason}
 use Rattle.env_phase.specs.declared.answer.Reason.TheVariants as reason

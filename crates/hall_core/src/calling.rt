@@ -39,11 +39,7 @@ impl Environments {
     }
 
     /// What becomes of the environments by these calls, which they accept, and the polls that are answered.
-    pub(crate) fn call(
-        &self,
-        alloc: Global,
-        made: Made,
-    ) -> Result<(Changes, Answered), AllocError>
+    pub(crate) fn call(&self, alloc: Global, made: Made) -> Result<(Changes, Answered), AllocError>
         requires { AreCallable self.now made }
         ensures within { IfOk result (λ done. IsWithin self.now done.0) }
         ensures leads { IfOk result (λ done. LeadsTo self.now done.0 (calls_made made)) }

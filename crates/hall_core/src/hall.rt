@@ -128,10 +128,6 @@ impl<I: Issuer> Hall<I> {
         ensures { IfOk result (λ reply. reply ≡ unavailable_in (settings_in (view_of I.view self.now))) }
     {
         let settings = self.issuer.table().settings();
-        reply_text(
-            self.alloc,
-            &Answer::Refusal(Refusal::Unavailable),
-            settings,
-        )
+        reply_text(self.alloc, &Answer::Refusal(Refusal::Unavailable), settings)
     }
 }

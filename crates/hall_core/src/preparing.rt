@@ -48,9 +48,7 @@ impl Environments {
             Made::One { environment, call } => {
                 self.has(environment) && moment_of(call) <= GREATEST_MOMENT
             }
-            Made::ShutdownAll { count, now } => {
-                count == self.count() && now <= GREATEST_MOMENT
-            }
+            Made::ShutdownAll { count, now } => { count == self.count() && now <= GREATEST_MOMENT }
         }
     }
 }

@@ -10,13 +10,14 @@ loop-slot-preserved c =
     let came = c.loop-slot.yielded in
     let rest = c.next.new.self.rest.items in
     let step : c.loop-slot.slot-iterator.rest.items ≡ (c.in-Some.slot, c.in-Some.reply) ∷ rest = search rules in
-    let all : came ++ (c.in-Some.slot, c.in-Some.reply) ∷ rest ≡ c.args.replies.items = ap (λ l. came ++ l) (sym step) ∙ c.loop-slot.invariant.0 in
-    (append_assoc came ((c.in-Some.slot, c.in-Some.reply) ∷ []) rest ∙ all,
-    λ s events keep told is.
-        let next = next_answer s came (c.in-Some.slot, c.in-Some.reply) rest told (all ∙ is) in
-        let before = c.loop-slot.invariant.1 s events keep told is in
-        keeps_next s c.reply.new.self events c.args.point c.in-Some.slot (take (length came) told) _ next.answer next.slot next.more
-        (c.reply.ensures s (events ++ replied_at c.args.point (take (length came) told)) before next.answer.1 next.reply))
+    let all : came ++ (c.in-Some.slot, c.in-Some.reply) ∷ rest ≡ c.args.replies.items = ap (λ l. came ++ l) (sym step) ∙ c.loop-slot.invariant.0 in (
+      append_assoc came ((c.in-Some.slot, c.in-Some.reply) ∷ []) rest ∙ all,
+      λ s events keep told is.
+          let next = next_answer s came (c.in-Some.slot, c.in-Some.reply) rest told (all ∙ is) in
+          let before = c.loop-slot.invariant.1 s events keep told is in
+          keeps_next s c.reply.new.self events c.args.point c.in-Some.slot (take (length came) told) _ next.answer next.slot next.more
+          (c.reply.ensures s (events ++ replied_at c.args.point (take (length came) told)) before next.answer.1 next.reply),
+    )
 
 -- src/settling.rt:12:5
 pub returns : goal.returns
