@@ -95,7 +95,8 @@ impl<I: Issuer> Hall<I> {
         ensures issued { IfOk result (IsAnswered (I.view self.old.issuer) prepared.command) }
         ensures count { OnOk result (length self.new.environments ≡ length self.old.environments) }
         ensures environments { OnOk result (Leads self.old.environments prepared.changes self.new.environments) }
-        ensures slots { OnOk result (KeepRequest self.old.slots self.new.slots slot unavailable prepared (issued_in (I.view self.new.issuer))) }
+        ensures slots { OnOk result (KeepRequest self.old.slots self.new.slots slot unavailable prepared
+            (issued_in (I.view self.new.issuer))) }
         ensures stops { OnOk result (self.new.stops ≡ (self.old.stops || stops)) }
         ensures err { OnErr result (IsSameHall (view_of I.view self.old) (view_of I.view self.new)) }
         ensures memory { HasPlaceFor (I.view self.old.issuer) prepared.command → IfErr result (λ why. why ≡ HallError.OutOfMemory) }

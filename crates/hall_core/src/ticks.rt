@@ -86,7 +86,8 @@ impl<'a> Planner<'a> {
     // The event that moves next, where this environment is ready.
     fn next_move(&self, ready: Option<u16>) -> Plan<'a>
         requires { AnyIn self.now.environments.now ready }
-        ensures effect { ForEachScene self.now (λ x. result ≡ moves x ready (first_moving x.settings x.past.history x.now (is_some ready))) }
+        ensures effect { ForEachScene self.now (λ x.
+            result ≡ moves x ready (first_moving x.settings x.past.history x.now (is_some ready))) }
         ensures within { AreIn self.now.environments.now result.made }
     {
         match self.table.next_move(self.moment, ready) {
@@ -97,7 +98,8 @@ impl<'a> Planner<'a> {
 
     // An Interrupt, else the next move.
     fn tick(&self) -> Plan<'a>
-        ensures effect { ForEachScene self.now (λ x. result ≡ interrupts_or_moves x (ready_in x.settings x.past) (first_unheld x.settings x.past)) }
+        ensures effect { ForEachScene self.now (λ x.
+            result ≡ interrupts_or_moves x (ready_in x.settings x.past) (first_unheld x.settings x.past)) }
         ensures within { AreIn self.now.environments.now result.made }
     {
         match self.first_unheld() {
