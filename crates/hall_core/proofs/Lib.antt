@@ -10,3 +10,4 @@ mod Holders
 mod FirstUnheld
 mod Ends
 mod Numbers
+mod Arriving

@@ -1,5 +1,5 @@
 -- A hall as contracts see it, and what its calls have done.
-use Rattle.std.specs.Prelude.{◌≡◌, ℕ, ◌-◌, ◌^◌, Bool, ◌&&◌, List, [], ◌∷◌, length, Option, None, Some, nat_le, slice_index}
+use Rattle.std.specs.Prelude.{◌≡◌, ℕ, ◌-◌, ◌^◌, Bool, ◌&&◌, List, [], ◌∷◌, length, Option, None, Some, ◌⊎◌, nat_le, slice_index}
 use Rattle.retry_rules.specs.declared.settings.Settings.{Settings}
 use Rattle.env_phase.specs.State.{EnvState}
 use Rattle.api_core.specs.declared.call.Call.{Call}
@@ -53,10 +53,9 @@ abbrev pub Does : HallView → HallView → HallCall → Option Issued → Type 
 Does old new call issued =
     ForEachPast old (λ past. (issued ≡ issued_by (settings_in old) past call) × StandsFor new (past_after (settings_in old) past call))
 
--- the first check that fails, or want of memory where none does
+-- it is the first check that fails, or want of memory where none does
 abbrev pub IsReason : Option HallError → HallError → Type 0
-IsReason refused error.OutOfMemory = refused ≡ None
-IsReason refused why = refused ≡ Some why
+IsReason refused why = (refused ≡ Some why) ⊎ ((refused ≡ None) × (why ≡ error.OutOfMemory))
 
 -- whatever was done before, the call is refused for this reason
 abbrev pub Refuses : HallView → HallCall → HallError → Type 0

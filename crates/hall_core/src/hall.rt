@@ -4,9 +4,10 @@ ghost use Rattle.std.specs.Prelude.{◌≡◌};
 use crate::environments::Environments;
 use crate::error::HallError;
 use crate::issuing::{Issued, issue};
-use crate::preparing::Prepared;
+use crate::planning::plan_request;
+use crate::preparing::{Prepared, prepare};
 use crate::slots::Slots;
-use api_core::{Answer, Refusal, Reply, reply_text};
+use api_core::{Answer, Call, Refusal, Reply, reply_text};
 use group_commit::Issuer;
 use std::alloc::{AllocError, Global};
 
@@ -130,5 +131,43 @@ impl<I: Issuer> Hall<I> {
     {
         let settings = self.issuer.table().settings();
         reply_text(self.alloc, &Answer::Refusal(Refusal::Unavailable), settings)
+    }
+
+    /// A request comes with a slot that is not open, now, with two random words: its command is issued, if it has one,
+    /// its environment is called, and replies are computed. A reply is told by `take` once all that it shows is durable.
+    ///
+    /// What an environment or the table refuses is an answer. The hall refuses by `Broken`, `Stopping`, `WornOut` (where
+    /// it has a command), `Backlog` (1024 slots are open, or 256 commands are pending and it has one), or `OutOfMemory`,
+    /// in this order, and then nothing has changed. Moments are milliseconds since 1970.
+    pub fn arrive(
+        &mut self,
+        slot: u64,
+        call: Call,
+        now: u64,
+        words: [u64; 2],
+    ) -> Result<Option<Issued>, HallError>
+        requires free { has_open self.old.slots slot ≡ false }
+        requires environment { IsToOneOf self.old.environments call }
+        requires fit { IsFit (settings_in (view_of I.view self.old)) (request slot call now words) }
+        ensures ok { IfOk result (Does (view_of I.view self.old) (view_of I.view self.new) (request slot call now words)) }
+        ensures refused { IfErr result (Refuses (view_of I.view self.old) (request slot call now words)) }
+        ensures err { OnErr result (IsSameHall (view_of I.view self.old) (view_of I.view self.new)) }
+    {
+        let stops = matches!(call, Call::StopBroker);
+        let plan = plan_request(
+            self.alloc,
+            self.issuer.table(),
+            &self.environments,
+            slot,
+            call,
+            now,
+            words,
+        );
+        if let Some(why) = self.refusal_of_arrival(plan.command.is_some()) {
+            return Err(why);
+        }
+        let unavailable = self.unavailable()?;
+        let prepared = prepare(self.alloc, self.issuer.table(), &self.environments, plan)?;
+        self.do_for(slot, stops, unavailable, prepared)
     }
 }
