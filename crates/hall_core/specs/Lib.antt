@@ -8,6 +8,7 @@ pub mod Agreement
 pub mod Environments
 pub mod Plans
 pub mod Planner
+pub mod Steps
 pub mod Promises
 pub mod laws
 pub mod Examples
