@@ -56,3 +56,40 @@ refusal_is hall past slot call now words laws stands =
     (ap (λ n. has && nat_le (2 ^ 62) n) (sym issued))
     (λ sound. ap (nat_le 1024) (ap length (open_slots_are hall.issuer.broken past) ∙ ap (λ b. length (open_among b past.slots)) sound ∙ sym stands.slots.count))
     (ap (λ n. has && nat_le 256 (n - hall.issuer.durable)) (sym issued))
+
+-- a command that is not refused finds its place
+and_false : (b : Bool) → (true && b) ≡ false → b ≡ false
+and_false b h = h
+
+below : (m n : ℕ) → nat_le m n ≡ false → n < m
+below m n h = omega (arith, nat_le-false m n h)
+
+passes_all : (b st w o p : Bool) → first_failed ((b, error.Broken) ∷ (st, error.Stopping) ∷ (w, error.WornOut) ∷ (o, error.Backlog) ∷ (p, error.Backlog) ∷ []) ≡ None
+    → (b ≡ false) × (w ≡ false) × (p ≡ false)
+passes_all false false false false false h = (refl, refl, refl)
+passes_all true st w o p h = absurd (none-some error.Broken (sym h))
+passes_all false true w o p h = absurd (none-some error.Stopping (sym h))
+passes_all false false true o p h = absurd (none-some error.WornOut (sym h))
+passes_all false false false true p h = absurd (none-some error.Backlog (sym h))
+passes_all false false false false true h = absurd (none-some error.Backlog (sym h))
+
+pub finds_place : (hall : HallView) (command : Option Command) → IsIssuer hall.issuer → refusal_of_arrival hall (is_some command) ≡ None → HasPlaceFor hall.issuer command
+finds_place hall None laws h = tt
+finds_place hall (Some c) laws h =
+    let all = passes_all hall.issuer.broken hall.stops _ _ _ h in
+    (all.0, below (2 ^ 62) (issued_in hall.issuer) all.1, omega (arith, below 256 (pending_in hall.issuer) all.2, laws.counted))
+
+-- ## What was done
+
+made_told : (past : Past) (point : ℕ) (made : List (ℕ × EnvCall))
+    → flat_map (replies_to_polls past point) made
+    ≡ replied_at point (map (λ (poll : ℕ × PollAnswer). (poll.0, reply_to_poll past.history poll.1)) (answered_to past.made made))
+unfolding calls_of
+made_told past point [] = refl
+made_told past point (m ∷ made) =
+    let answers = answered_by (calls_in m.0 past.made) m.1 in
+    let one = map_map past point answers in
+    ap (λ l. replies_to_polls past point m ++ l) (made_told past point made)
+    ∙ ap (λ l. l ++ replied_at point (told_to_polls past (answered_to past.made made))) one
+    ∙ sym (map-append _ (told_to_polls past answers) (told_to_polls past (answered_to past.made made)))
+    ∙ ap (replied_at point) (sym (map-append _ answers (answered_to past.made made)))

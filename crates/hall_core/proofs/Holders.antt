@@ -7,7 +7,7 @@ use Rattle.async_core.specs.History.{standing_in}
 use Rattle.retry_rules.specs.declared.settings.Settings.{Settings}
 use Rattle.hall_core.specs.Past.{Past, environments, calls_of, holder}
 use Rattle.hall_core.specs.Agreement.{IsOne, AllAgree}
-use Rattle.hall_core.specs.Planner.{environment_of}
+use Rattle.hall_core.specs.Steps.{environment_of}
 use Rattle.hall_core.specs.laws.Choosing.{find_none, runs_is, is_runs, one_in, holder_runs}
 use Rattle.hall_core.specs.laws.Keeping.{runs_in_one}
 

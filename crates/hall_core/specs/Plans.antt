@@ -2,28 +2,21 @@
 use Rattle.std.specs.Prelude.{◌≡◌, ℕ, Bool, List, [], ◌∷◌, length, map, Option, Some, None, IfSome, slice_index}
 use Rattle.std.specs.List.{range_with_len, AllByRecursion}
 use Rattle.retry_rules.specs.Settings.{bad_field}
-use Rattle.invoke_records.specs.declared.command.Kind.TheVariants.{Fail}
-use Rattle.invoke_records.specs.declared.command.Cause.TheVariants as cause
-use Rattle.async_core.specs.declared.illegal.Illegal.{Illegal}
-use Rattle.async_core.specs.declared.illegal.Illegal.TheVariants as illegal
 use Rattle.async_core.specs.History.{table_of}
 use Rattle.async_core.specs.State.{State}
 use Rattle.env_phase.specs.declared.call.EnvCall.{EnvCall}
-use Rattle.env_phase.specs.declared.call.EnvCall.TheVariants.{Register, Timeout, Shutdown}
+use Rattle.env_phase.specs.declared.call.EnvCall.TheVariants.{Shutdown}
 use Rattle.env_phase.specs.Calls.{moment_by, IsMoment}
 use Rattle.env_phase.specs.State.{EnvState}
 use Rattle.api_core.specs.declared.answer.Answer.{Answer}
 use Rattle.api_core.specs.declared.answer.Answer.TheVariants as answer
 use Rattle.api_core.specs.declared.call.Call.{Call}
 use Rattle.api_core.specs.declared.call.Call.TheVariants as calls
-use Rattle.api_core.specs.declared.refusal.Refusal.{Refusal}
-use Rattle.api_core.specs.declared.refusal.Refusal.TheVariants as refusal
 use Rattle.hall_core.specs.declared.plan.Made.{Made}
 use Rattle.hall_core.specs.declared.plan.Made.TheVariants as made
 use Rattle.hall_core.specs.Past.{Past, is_stopping}
 use Rattle.api_core.specs.Replies.{IsTellable}
-use Rattle.api_core.specs.Replies as reply
-use Rattle.hall_core.specs.Effects.{Effect, Scene, command_for, requests, id_of, effect_of_request, effect_of_tick, scene}
+use Rattle.hall_core.specs.Effects.{Effect, Scene, id_of, effect_of_request, effect_of_tick, scene}
 use Rattle.hall_core.specs.Agreement.{IsKept}
 use Rattle.hall_core.specs.Environments.{HoldFor, IsNumberIn}
 
@@ -114,36 +107,3 @@ IsToOneOf environments (calls.ExtensionNext environment identifier) = IsNumberIn
 IsToOneOf environments (calls.ExtensionInitError environment identifier) = IsNumberIn environments environment
 IsToOneOf environments (calls.ExtensionExitError environment identifier) = IsNumberIn environments environment
 IsToOneOf environments call = Unit {0}
-
--- ## Parts of effects
-
--- a poll, which is parked where the environment accepts it
-abbrev pub parks : Scene → ℕ → EnvCall → Effect
-parks x environment call = requests x environment call None None
-
--- a report, which is taken where the environment accepts it
-abbrev pub reports : Scene → ℕ → EnvCall → Effect
-reports x environment call = requests x environment call None (Some reply.taken)
-
--- an extension registers under this identifier, for events, for the end of the environment, for both or neither
-abbrev pub registers : Scene → ℕ → List ℕ → Bool → Bool → Effect
-registers x environment identifier events end =
-    requests x environment (Register identifier events end) None (Some (reply.registered identifier))
-
--- an answer came too late: the attempt ends as a timeout, and the environment is reset
-abbrev pub times_out : Scene → ℕ → List ℕ → Effect
-times_out x environment id = record {
-  command = Some (command_for (Fail cause.Timeout) id x.now []);
-  made = (environment, Timeout x.now) ∷ [];
-  reply = Some (reply.refused refusal.InvalidRequestId);
-}
-
--- why an invocation is refused that is not legal
-abbrev pub why_not_accepted : Illegal → Refusal
-why_not_accepted illegal.Full = refusal.TooManyEvents
-why_not_accepted why = refusal.IdInUse
-
--- why an event is not collected where that is not legal
-abbrev pub why_not_collected : Illegal → Refusal
-why_not_collected illegal.NotEnded = refusal.NotEnded
-why_not_collected why = refusal.UnknownEvent

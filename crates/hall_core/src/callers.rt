@@ -5,7 +5,8 @@ ghost use Rattle.async_core.specs.Readers.{told, ending_after};
 ghost use Rattle.env_phase.specs.Calls.{IsMoment};
 ghost use Rattle.hall_core.specs.Effects.{command_for, accepts, collects, tells_oldest, stops};
 ghost use Rattle.hall_core.specs.Planner.{ForEachScene};
-ghost use Rattle.hall_core.specs.Plans.{AreIn, why_not_accepted, why_not_collected};
+ghost use Rattle.hall_core.specs.Plans.{AreIn};
+ghost use Rattle.hall_core.specs.Steps.{why_not_accepted, why_not_collected};
 
 use crate::plan::{Made, Plan};
 use crate::planner::Planner;

@@ -9,7 +9,8 @@ ghost use Rattle.env_phase.specs.Polls.{refusal_of};
 ghost use Rattle.hall_core.specs.Effects.{refusal_by, requests, is_late, responds, answers_event, exit_of, exits};
 ghost use Rattle.hall_core.specs.Environments.{IsNumberIn};
 ghost use Rattle.hall_core.specs.Planner.{ForEachScene};
-ghost use Rattle.hall_core.specs.Plans.{AreIn, moment_replied, parks, reports, registers, times_out};
+ghost use Rattle.hall_core.specs.Plans.{AreIn, moment_replied};
+ghost use Rattle.hall_core.specs.Steps.{parks, reports, registers, times_out};
 
 use crate::plan::{Made, Plan};
 use crate::planner::Planner;

@@ -1,13 +1,13 @@
 // What a tick does.
-ghost use Rattle.std.specs.Prelude.{◌≡◌, ◌+◌, ◌*◌, is_some};
+ghost use Rattle.std.specs.Prelude.{◌≡◌, ◌+◌, ◌*◌};
 ghost use Rattle.env_phase.specs.Calls.{IsMoment};
 ghost use Rattle.invoke_records.specs.declared.command.Cause.{Cause};
 ghost use Rattle.invoke_records.specs.declared.command.Kind.TheVariants.{Start, Fail};
-ghost use Rattle.hall_core.specs.Firsts.{first_unheld, first_moving};
 ghost use Rattle.hall_core.specs.Past.{ready_in};
-ghost use Rattle.hall_core.specs.Effects.{moves_event, moves, interrupts_or_moves};
+ghost use Rattle.hall_core.specs.Effects.{moves_event};
 ghost use Rattle.hall_core.specs.Planner.{ForEachScene};
 ghost use Rattle.hall_core.specs.Plans.{AnyIn, AreIn, PlansTick};
+ghost use Rattle.hall_core.specs.Steps.{moves_next, goes_on};
 
 use crate::environments::Environments;
 use crate::plan::{Made, Plan, told_to};
@@ -86,8 +86,7 @@ impl<'a> Planner<'a> {
     // The event that moves next, where this environment is ready.
     fn next_move(&self, ready: Option<u16>) -> Plan<'a>
         requires { AnyIn self.now.environments.now ready }
-        ensures effect { ForEachScene self.now (λ x.
-            result ≡ moves x ready (first_moving x.settings x.past.history x.now (is_some ready))) }
+        ensures effect { ForEachScene self.now (λ x. result ≡ moves_next x ready) }
         ensures within { AreIn self.now.environments.now result.made }
     {
         match self.table.next_move(self.moment, ready) {
@@ -98,8 +97,7 @@ impl<'a> Planner<'a> {
 
     // An Interrupt, else the next move.
     fn tick(&self) -> Plan<'a>
-        ensures effect { ForEachScene self.now (λ x.
-            result ≡ interrupts_or_moves x (ready_in x.settings x.past) (first_unheld x.settings x.past)) }
+        ensures effect { ForEachScene self.now (λ x. result ≡ goes_on x) }
         ensures within { AreIn self.now.environments.now result.made }
     {
         match self.first_unheld() {

@@ -4,7 +4,8 @@ ghost use Rattle.hall_core.specs.Firsts.{Event, first_unheld};
 ghost use Rattle.hall_core.specs.Past.{holder};
 ghost use Rattle.hall_core.specs.Environments.{IsNumberIn};
 ghost use Rattle.hall_core.specs.Plans.{AnyIn};
-ghost use Rattle.hall_core.specs.Planner.{ForEachScene, environment_of, Holds};
+ghost use Rattle.hall_core.specs.Planner.{ForEachScene};
+ghost use Rattle.hall_core.specs.Steps.{environment_of, Holds};
 
 use crate::planner::Planner;
 use invoke_records::Standing;

@@ -1,6 +1,6 @@
 use Rattle.std.proofs.Common.{◌∙◌, sym, ap}
 use Rattle.std.proofs.lemmas.Bool.{true≢false}
-use Rattle.hall_core.specs.Planner.{environment_of}
+use Rattle.hall_core.specs.Steps.{environment_of}
 use Rattle.hall_core.proofs.Holders.{holder_is, unplaced, not_there}
 use Rattle.hall_core.proofs.planner.Planner.holder.Goals as goal
 
