@@ -2,7 +2,9 @@
 use Rattle.std.proofs.Common.{◌≡◌, ℕ, ◌+◌, ◌-◌, ◌<◌, ◌≤◌, ◌^◌, List, [], ◌∷◌, ◌++◌, length, map, Bool, true, false, ◌&&◌, ◌||◌, refl, sym, ap, subst, ◌∙◌, arith, append_assoc, Option, Some, None}
 use Rattle.std.specs.Prelude.{is_some, nat_le, option_map, flat_map}
 use Rattle.std.specs.List.{list_any}
-use Rattle.std.proofs.lemmas.List.{append-nil, map-append}
+use Rattle.std.proofs.lemmas.Option.{none-some}
+use Rattle.std.proofs.lemmas.Bool.{leb-false}
+use Rattle.env_phase.specs.Polls.{answered_by}
 use Rattle.std.proofs.lemmas.List.Folds.{list_any-append}
 use Rattle.retry_rules.specs.declared.settings.Settings.{Settings}
 use Rattle.retry_rules.specs.Settings.{bad_field}
@@ -16,7 +18,7 @@ use Rattle.group_commit.specs.Issuer.{IssuerView, IsIssuer, issued_in, state_in}
 use Rattle.hall_core.specs.declared.error.HallError.{HallError}
 use Rattle.hall_core.specs.declared.error.HallError.TheVariants as error
 use Rattle.hall_core.specs.Past.{HallCall, arrive, tick, Past, SlotEvent, asked, replied, calls_in, calls_of, call_stops, asks_stop, is_stopping}
-use Rattle.hall_core.specs.Effects.{Effect, effect_of, command_of}
+use Rattle.hall_core.specs.Effects.{Effect, scene, effect_of_request, effect_of, command_of}
 use Rattle.hall_core.specs.Run.{option_list, reply_to_poll, replies_to_polls, own_reply, slot_events, past_by, past_after, issued_by}
 use Rattle.hall_core.specs.Slots.{open_slots, open_among}
 use Rattle.hall_core.specs.Refusals.{first_failed, why_refused}
@@ -24,13 +26,19 @@ use Rattle.hall_core.specs.Agreement.{IsFit, IsUnrefused, IsKept}
 use Rattle.hall_core.specs.laws.Sound.{step}
 use Rattle.hall_core.specs.laws.Statuses.{open_slots_are}
 use Rattle.hall_core.specs.Environments.{HoldFor}
-use Rattle.hall_core.specs.Plans.{Meets}
-use Rattle.hall_core.specs.OpenSlots.{KeepFor}
+use Rattle.hall_core.specs.Plans.{Meets, PlansRequest, drawn_by}
+use Rattle.hall_core.specs.OpenSlots.{KeepFor, unavailable_in}
 use Rattle.hall_core.specs.Answering.{polls_told}
-use Rattle.hall_core.specs.Changes.{answered_to}
+use Rattle.hall_core.specs.Changes.{Leads, answered_to}
 use Rattle.hall_core.specs.Settling.{replies_told, replied_at, own_at}
-use Rattle.hall_core.specs.Issuing.{HasPlaceFor}
-use Rattle.hall_core.specs.Hall.{HallView, StandsFor, settings_in, pending_in, refusal_of_arrival}
+use Rattle.hall_core.specs.Issuing.{HasPlaceFor, Continues, IsAnswered, told_of}
+use Rattle.hall_core.specs.Hall.{HallView, StandsFor, settings_in, pending_in, refusal_of_arrival, request}
+use Rattle.std.specs.Prelude.{slice_index}
+use Rattle.api_core.specs.declared.reply.Reply.{Reply}
+use Rattle.hall_core.specs.declared.preparing.Prepared.{Prepared}
+use Rattle.hall_core.specs.declared.issuing.Issued.{Issued}
+use Rattle.hall_core.specs.Prepared.{IsPreparedFor}
+use Rattle.hall_core.specs.Doing.{KeepRequest, Tells}
 
 -- ## Refusals
 
@@ -58,11 +66,8 @@ refusal_is hall past slot call now words laws stands =
     (ap (λ n. has && nat_le 256 (n - hall.issuer.durable)) (sym issued))
 
 -- a command that is not refused finds its place
-and_false : (b : Bool) → (true && b) ≡ false → b ≡ false
-and_false b h = h
-
 below : (m n : ℕ) → nat_le m n ≡ false → n < m
-below m n h = omega (arith, nat_le-false m n h)
+below m n h = omega (arith, leb-false m n h)
 
 passes_all : (b st w o p : Bool) → first_failed ((b, error.Broken) ∷ (st, error.Stopping) ∷ (w, error.WornOut) ∷ (o, error.Backlog) ∷ (p, error.Backlog) ∷ []) ≡ None
     → (b ≡ false) × (w ≡ false) × (p ≡ false)
@@ -81,15 +86,153 @@ finds_place hall (Some c) laws h =
 
 -- ## What was done
 
-made_told : (past : Past) (point : ℕ) (made : List (ℕ × EnvCall))
-    → flat_map (replies_to_polls past point) made
-    ≡ replied_at point (map (λ (poll : ℕ × PollAnswer). (poll.0, reply_to_poll past.history poll.1)) (answered_to past.made made))
+abbrev told_to_polls : Past → List (ℕ × PollAnswer) → List (ℕ × Told)
+told_to_polls past polls = map (λ (poll : ℕ × PollAnswer). (poll.0, reply_to_poll past.history poll.1)) polls
+
+one_told : (past : Past) (point : ℕ) (polls : List (ℕ × PollAnswer))
+    → map (λ (poll : ℕ × PollAnswer). replied poll.0 (reply_to_poll past.history poll.1) point) polls ≡ replied_at point (told_to_polls past polls)
+one_told past point [] = refl
+one_told past point (poll ∷ polls) = ap (λ l. replied poll.0 (reply_to_poll past.history poll.1) point ∷ l) (one_told past point polls)
+
+told_both : (past : Past) (point : ℕ) (a b : List (ℕ × PollAnswer)) → replied_at point (told_to_polls past (a ++ b)) ≡ replied_at point (told_to_polls past a) ++ replied_at point (told_to_polls past b)
+told_both past point [] b = refl
+told_both past point (poll ∷ a) b = ap (λ l. replied poll.0 (reply_to_poll past.history poll.1) point ∷ l) (told_both past point a b)
+
+-- the polls that are answered have these replies
+pub made_told : (past : Past) (point : ℕ) (made : List (ℕ × EnvCall))
+    → flat_map (replies_to_polls past point) made ≡ replied_at point (told_to_polls past (answered_to past.made made))
 unfolding calls_of
 made_told past point [] = refl
 made_told past point (m ∷ made) =
-    let answers = answered_by (calls_in m.0 past.made) m.1 in
-    let one = map_map past point answers in
-    ap (λ l. replies_to_polls past point m ++ l) (made_told past point made)
-    ∙ ap (λ l. l ++ replied_at point (told_to_polls past (answered_to past.made made))) one
-    ∙ sym (map-append _ (told_to_polls past answers) (told_to_polls past (answered_to past.made made)))
-    ∙ ap (replied_at point) (sym (map-append _ answers (answered_to past.made made)))
+    ap (λ l. l ++ flat_map (replies_to_polls past point) made) (one_told past point (answered_by (calls_in m.0 past.made) m.1))
+    ∙ ap (λ l. replied_at point (told_to_polls past (answered_by (calls_in m.0 past.made) m.1)) ++ l) (made_told past point made)
+    ∙ sym (told_both past point (answered_by (calls_in m.0 past.made) m.1) (answered_to past.made made))
+
+pub polls_are_told : (s : Settings) (past : Past) (polls : List (ℕ × PollAnswer)) → polls_told s past.history polls ≡ replies_told s (told_to_polls past polls)
+polls_are_told s past [] = refl
+polls_are_told s past (poll ∷ polls) = ap (λ l. (poll.0, reply_of_told s (reply_to_poll past.history poll.1)) ∷ l) (polls_are_told s past polls)
+
+own_told : (slot point : ℕ) (call : Call) (now : ℕ) (words : ℕ × ℕ) (own : Option Told) → own_reply point (arrive slot call now words) own ≡ own_at slot point own
+own_told slot point call now words None = refl
+own_told slot point call now words (Some told) = refl
+
+-- what a request says of slots
+pub request_events : (past : Past) (slot : ℕ) (call : Call) (now : ℕ) (words : ℕ × ℕ) (effect : Effect) (point : ℕ)
+    → past.slots ++ slot_events past (arrive slot call now words) effect point
+    ≡ past.slots ++ asked slot call ∷ [] ++ replied_at point (told_to_polls past (answered_to past.made effect.made)) ++ own_at slot point effect.reply
+request_events past slot call now words effect point =
+    let told = replied_at point (told_to_polls past (answered_to past.made effect.made)) in
+    ap (λ l. past.slots ++ (asked slot call ∷ [] ++ l ++ own_reply point (arrive slot call now words) effect.reply)) (made_told past point effect.made)
+    ∙ ap (λ l. past.slots ++ (asked slot call ∷ [] ++ told ++ l)) (own_told slot point call now words effect.reply)
+    ∙ sym (append_assoc past.slots (asked slot call ∷ [] ++ told) (own_at slot point effect.reply))
+    ∙ ap (λ l. l ++ own_at slot point effect.reply) (sym (append_assoc past.slots (asked slot call ∷ []) told))
+
+-- ## Stopping
+
+none_asks : (point : ℕ) (told : List (ℕ × Told)) → list_any asks_stop (replied_at point told) ≡ false
+none_asks point [] = refl
+none_asks point (t ∷ told) = none_asks point told
+
+own_asks_not : (slot point : ℕ) (own : Option Told) → list_any asks_stop (own_at slot point own) ≡ false
+own_asks_not slot point None = refl
+own_asks_not slot point (Some told) = refl
+
+or_false : (b : Bool) → (b || false) ≡ b
+or_false true = refl
+or_false false = refl
+
+pub request_stops : (past : Past) (slot : ℕ) (call : Call) (now : ℕ) (words : ℕ × ℕ) (effect : Effect) (point : ℕ)
+    → list_any asks_stop (past.slots ++ slot_events past (arrive slot call now words) effect point) ≡ (is_stopping past || call_stops call)
+request_stops past slot call now words effect point =
+    let told = replied_at point (told_to_polls past (answered_to past.made effect.made)) in
+    let own = own_at slot point effect.reply in
+    ap (list_any asks_stop) (request_events past slot call now words effect point)
+    ∙ list_any-append asks_stop ((past.slots ++ asked slot call ∷ []) ++ told) own
+    ∙ ap (λ b. list_any asks_stop ((past.slots ++ asked slot call ∷ []) ++ told) || b) (own_asks_not slot point effect.reply)
+    ∙ or_false _
+    ∙ list_any-append asks_stop (past.slots ++ asked slot call ∷ []) told
+    ∙ ap (λ b. list_any asks_stop (past.slots ++ asked slot call ∷ []) || b) (none_asks point (told_to_polls past (answered_to past.made effect.made)))
+    ∙ or_false _
+    ∙ list_any-append asks_stop past.slots (asked slot call ∷ [])
+    ∙ ap (λ b. is_stopping past || b) (or_false (call_stops call))
+
+-- ## After a call
+
+pub stands_after : (old new : HallView) (past : Past) (call : HallCall) (effect : Effect)
+    → StandsFor old past → effect ≡ effect_of (settings_in old) past call → IsUnrefused (settings_in old) past call → IsIssuer new.issuer
+    → new.issuer.settings ≡ old.issuer.settings
+    → new.issuer.stands (past.history ++ option_list effect.command)
+    → length new.environments ≡ length old.environments
+    → HoldFor new.environments (past.made ++ effect.made)
+    → KeepFor (settings_in old) new.slots (past.slots ++ slot_events past call effect (length (past.history ++ option_list effect.command)))
+    → new.stops ≡ list_any asks_stop (past.slots ++ slot_events past call effect (length (past.history ++ option_list effect.command)))
+    → StandsFor new (past_after (settings_in old) past call)
+unfolding past_after
+stands_after old new past call effect stands is unrefused laws same history count hold keep stops =
+    subst (λ e. StandsFor new (past_by past call e)) is (record {
+      history = history;
+      environments = record {
+        good = rw same stands.environments.good;
+        table_is = (laws.each (past.history ++ option_list effect.command) history).table_is;
+        count = rw (count, same) stands.environments.count;
+        hold = hold;
+        kept = rw same (subst (λ e. IsKept (settings_in old) (past_by past call e)) (sym is) (step (settings_in old) past call stands.environments.kept unrefused));
+      };
+      slots = rw same keep;
+      stopping = stops;
+    })
+
+-- ## A request
+
+effect_is : (s : Settings) (past : Past) (slot : ℕ) (call : Call) (now : ℕ) (words : List ℕ)
+    → effect_of_request (scene s past now) slot (drawn_by words) call ≡ effect_of s past (request slot call now words)
+unfolding effect_of drawn_by
+effect_is s past slot call now words = refl
+
+told_with : (n m : ℕ) (c d : Option Command) → n ≡ m → c ≡ d
+    → option_map (told_of n) c ≡ option_map (λ (c : Command). record { number = m + 1; kind = c.kind; id = c.id; time = c.time }) d
+told_with n m c d is same = rw (is, same) refl
+
+-- why a request is refused that was planned
+pub refused_by : (old : HallView) (past : Past) (slot : ℕ) (call : Call) (now : ℕ) (words : List ℕ) (effect : Effect)
+    → IsIssuer old.issuer → StandsFor old past → PlansRequest (state_in old.issuer) old.environments slot call now words effect
+    → why_refused old.issuer.broken old.issuer.durable (settings_in old) past (request slot call now words) ≡ refusal_of_arrival old (is_some effect.command)
+refused_by old past slot call now words effect laws stands plans =
+    let is : effect ≡ effect_of (settings_in old) past (request slot call now words) = plans past stands.environments ∙ effect_is (settings_in old) past slot call now words in
+    refusal_is old past slot call now (slice_index words 0, slice_index words 1) laws stands ∙ ap (λ e. refusal_of_arrival old (is_some e.command)) (sym is)
+
+pub arrived : (old new : HallView) (past : Past) (slot : ℕ) (call : Call) (now : ℕ) (words : List ℕ) (effect : Effect) (p : Prepared) (stops : Bool) (unavailable : Reply) (issued : Option Issued)
+    → IsIssuer old.issuer → IsIssuer new.issuer → StandsFor old past → IsFit (settings_in old) (request slot call now words)
+    → refusal_of_arrival old (is_some effect.command) ≡ None
+    → PlansRequest (state_in old.issuer) old.environments slot call now words effect
+    → IsPreparedFor (state_in old.issuer) old.environments effect p
+    → Continues old.issuer new.issuer p.command → IsAnswered old.issuer p.command issued
+    → length new.environments ≡ length old.environments → Leads old.environments p.changes new.environments
+    → KeepRequest old.slots new.slots slot unavailable p (issued_in new.issuer) → unavailable ≡ unavailable_in (settings_in old)
+    → new.stops ≡ (old.stops || stops) → stops ≡ call_stops call
+    → (issued ≡ issued_by (settings_in old) past (request slot call now words)) × StandsFor new (past_after (settings_in old) past (request slot call now words))
+arrived old new past slot call now words effect p stops unavailable issued before after stands fit passes plans prepared continues answered count leads keeps told_503 stopping asks =
+    let s = settings_in old in
+    let req = request slot call now words in
+    let is : effect ≡ effect_of s past req = plans past stands.environments ∙ effect_is s past slot call now words in
+    let same_command : effect.command ≡ command_of s past req = ap (λ e. e.command) is in
+    let unrefused : IsUnrefused s past req = record {
+      fit = fit;
+      broken = old.issuer.broken;
+      durable = old.issuer.durable;
+      unrefused = refusal_is old past slot call now (slice_index words 0, slice_index words 1) before stands
+      ∙ ap (λ c. refusal_of_arrival old (is_some c)) (sym same_command) ∙ passes;
+    } in
+    let history : new.issuer.stands (past.history ++ option_list effect.command) =
+        subst (λ c. new.issuer.stands (past.history ++ option_list c)) prepared.command (continues.stands past.history stands.history) in
+    let point : issued_in new.issuer ≡ length (past.history ++ option_list effect.command) = (after.each (past.history ++ option_list effect.command) history).issued_is in
+    let told = told_to_polls past (answered_to past.made effect.made) in
+    let tells : Tells s p told effect.reply = (prepared.replies past stands.environments ∙ polls_are_told s past (answered_to past.made effect.made), prepared.own) in
+    let kept = keeps s past.slots stands.slots told_503 told effect.reply tells call in
+    let keep : KeepFor s new.slots (past.slots ++ slot_events past req effect (length (past.history ++ option_list effect.command))) =
+        rw (request_events past slot call now (slice_index words 0, slice_index words 1) effect (length (past.history ++ option_list effect.command)), ← point) kept in
+    let stops_so : new.stops ≡ list_any asks_stop (past.slots ++ slot_events past req effect (length (past.history ++ option_list effect.command))) =
+        stopping ∙ ap (λ b. b || stops) stands.stopping ∙ ap (λ b. is_stopping past || b) asks
+        ∙ sym (request_stops past slot call now (slice_index words 0, slice_index words 1) effect (length (past.history ++ option_list effect.command))) in
+    (answered ∙ told_with (issued_in old.issuer) (length past.history) p.command (command_of s past req) ((before.each past.history stands.history).issued_is) (prepared.command ∙ same_command),
+    stands_after old new past req effect stands is unrefused after continues.settings history count (leads effect.made prepared.leads past.made stands.environments.hold) keep stops_so)

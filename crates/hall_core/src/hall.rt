@@ -1,5 +1,6 @@
 // The hall: requests and ticks make commands, calls of environments and replies.
 ghost use Rattle.std.specs.Prelude.{◌≡◌};
+ghost use Rattle.hall_core.specs.Past.{call_stops};
 
 use crate::environments::Environments;
 use crate::error::HallError;
@@ -19,6 +20,13 @@ const MOST_COMMANDS: u64 = 1 << 62;
 
 /// How many commands may be pending.
 const MOST_PENDING: u64 = 256;
+
+// Whether a request asks the broker to stop.
+fn is_stop(call: &Call) -> bool
+    ensures { result ≡ call_stops call.now }
+{
+    matches!(call, Call::StopBroker)
+}
 
 /// The hall over an issuer of commands.
 #[derive(Drop)]
@@ -153,7 +161,7 @@ impl<I: Issuer> Hall<I> {
         ensures refused { IfErr result (Refuses (view_of I.view self.old) (request slot call now words)) }
         ensures err { OnErr result (IsSameHall (view_of I.view self.old) (view_of I.view self.new)) }
     {
-        let stops = matches!(call, Call::StopBroker);
+        let stops = is_stop(&call);
         let plan = plan_request(
             self.alloc,
             self.issuer.table(),
@@ -166,8 +174,15 @@ impl<I: Issuer> Hall<I> {
         if let Some(why) = self.refusal_of_arrival(plan.command.is_some()) {
             return Err(why);
         }
-        let unavailable = self.unavailable()?;
-        let prepared = prepare(self.alloc, self.issuer.table(), &self.environments, plan)?;
-        self.do_for(slot, stops, unavailable, prepared)
+        let Ok(unavailable) = self.unavailable() else {
+            return Err(HallError::OutOfMemory);
+        };
+        let Ok(prepared) = prepare(self.alloc, self.issuer.table(), &self.environments, plan) else {
+            return Err(HallError::OutOfMemory);
+        };
+        match self.do_for(slot, stops, unavailable, prepared) {
+            Ok(issued) => Ok(issued),
+            Err(why) => Err(why),
+        }
     }
 }
