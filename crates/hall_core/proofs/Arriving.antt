@@ -66,7 +66,7 @@ refusal_is hall past slot call now words laws stands =
     (ap (λ n. has && nat_le 256 (n - hall.issuer.durable)) (sym issued))
 
 -- a command that is not refused finds its place
-below : (m n : ℕ) → nat_le m n ≡ false → n < m
+pub below : (m n : ℕ) → nat_le m n ≡ false → n < m
 below m n h = omega (arith, leb-false m n h)
 
 passes_all : (b st w o p : Bool) → first_failed ((b, error.Broken) ∷ (st, error.Stopping) ∷ (w, error.WornOut) ∷ (o, error.Backlog) ∷ (p, error.Backlog) ∷ []) ≡ None
@@ -86,7 +86,7 @@ finds_place hall (Some c) laws h =
 
 -- ## What was done
 
-abbrev told_to_polls : Past → List (ℕ × PollAnswer) → List (ℕ × Told)
+abbrev pub told_to_polls : Past → List (ℕ × PollAnswer) → List (ℕ × Told)
 told_to_polls past polls = map (λ (poll : ℕ × PollAnswer). (poll.0, reply_to_poll past.history poll.1)) polls
 
 one_told : (past : Past) (point : ℕ) (polls : List (ℕ × PollAnswer))
@@ -129,7 +129,7 @@ request_events past slot call now words effect point =
 
 -- ## Stopping
 
-none_asks : (point : ℕ) (told : List (ℕ × Told)) → list_any asks_stop (replied_at point told) ≡ false
+pub none_asks : (point : ℕ) (told : List (ℕ × Told)) → list_any asks_stop (replied_at point told) ≡ false
 none_asks point [] = refl
 none_asks point (t ∷ told) = none_asks point told
 
@@ -137,7 +137,7 @@ own_asks_not : (slot point : ℕ) (own : Option Told) → list_any asks_stop (ow
 own_asks_not slot point None = refl
 own_asks_not slot point (Some told) = refl
 
-or_false : (b : Bool) → (b || false) ≡ b
+pub or_false : (b : Bool) → (b || false) ≡ b
 or_false true = refl
 or_false false = refl
 
@@ -189,7 +189,7 @@ effect_is : (s : Settings) (past : Past) (slot : ℕ) (call : Call) (now : ℕ) 
 unfolding effect_of drawn_by
 effect_is s past slot call now words = refl
 
-told_with : (n m : ℕ) (c d : Option Command) → n ≡ m → c ≡ d
+pub told_with : (n m : ℕ) (c d : Option Command) → n ≡ m → c ≡ d
     → option_map (told_of n) c ≡ option_map (λ (c : Command). record { number = m + 1; kind = c.kind; id = c.id; time = c.time }) d
 told_with n m c d is same = rw (is, same) refl
 

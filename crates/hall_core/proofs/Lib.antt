@@ -11,3 +11,4 @@ mod FirstUnheld
 mod Ends
 mod Numbers
 mod Arriving
+mod Ticking

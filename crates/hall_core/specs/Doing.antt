@@ -1,4 +1,4 @@
--- What becomes of the slots by a request.
+-- What becomes of the slots by a request and by a tick.
 use Rattle.std.specs.Prelude.{◌≡◌, ℕ, List, ◌∷◌, [], ◌++◌, Option, option_map}
 use Rattle.retry_rules.specs.declared.settings.Settings.{Settings}
 use Rattle.api_core.specs.declared.call.Call.{Call}
@@ -18,3 +18,8 @@ abbrev pub KeepRequest : Entries → Entries → ℕ → Reply → Prepared → 
 KeepRequest old new slot unavailable p point =
     ForEachKept old (λ s events. unavailable ≡ unavailable_in s → (told : List (ℕ × Told)) (own : Option Told) → Tells s p told own
     → (call : Call) → KeepFor s new (events ++ asked slot call ∷ [] ++ replied_at point told ++ own_at slot point own))
+
+-- the polls are answered
+abbrev pub KeepTick : Entries → Entries → Prepared → ℕ → Type 0
+KeepTick old new p point =
+    ForEachKept old (λ s events. (told : List (ℕ × Told)) → p.replies.items ≡ replies_told s told → KeepFor s new (events ++ replied_at point told))

@@ -1,5 +1,5 @@
 -- A hall as contracts see it, and what its calls have done.
-use Rattle.std.specs.Prelude.{◌≡◌, ℕ, ◌-◌, ◌^◌, Bool, ◌&&◌, List, [], ◌∷◌, length, Option, None, Some, ◌⊎◌, nat_le, slice_index}
+use Rattle.std.specs.Prelude.{◌≡◌, ℕ, ◌-◌, ◌^◌, Bool, ◌&&◌, List, [], ◌∷◌, length, Option, None, Some, ◌⊎◌, nat_le, slice_index, option_map}
 use Rattle.retry_rules.specs.declared.settings.Settings.{Settings}
 use Rattle.env_phase.specs.State.{EnvState}
 use Rattle.api_core.specs.declared.call.Call.{Call}
@@ -11,6 +11,9 @@ use Rattle.hall_core.specs.declared.error.HallError.TheVariants as error
 use Rattle.hall_core.specs.declared.issuing.Issued.{Issued}
 use Rattle.hall_core.specs.Past.{HallCall, arrive, Past, SlotEvent, is_stopping}
 use Rattle.hall_core.specs.Run.{past_after, issued_by}
+use Rattle.hall_core.specs.declared.released.Released.{Released}
+use Rattle.api_core.specs.Replies.{reply_of_told}
+use Rattle.hall_core.specs.Slots.{Reply, released}
 use Rattle.hall_core.specs.Refusals.{first_failed, why_refused}
 use Rattle.hall_core.specs.Plans.{Meets}
 use Rattle.hall_core.specs.OpenSlots.{Entries, KeepFor}
@@ -86,3 +89,28 @@ refusal_of_arrival hall has_command =
     ∷ (has_command && nat_le 256 (pending_in hall.issuer), error.Backlog)
     ∷ []
     )
+
+abbrev pub refusal_of_moving : HallView → Bool → Option HallError
+refusal_of_moving hall has_command =
+    first_failed (
+    (hall.issuer.broken, error.Broken)
+    ∷ (has_command && nat_le (2 ^ 62) (issued_in hall.issuer), error.WornOut)
+    ∷ (has_command && nat_le 256 (pending_in hall.issuer), error.Backlog)
+    ∷ []
+    )
+
+-- ## Replies
+
+-- a reply that is told, with its receipt
+abbrev pub released_to : Settings → Reply → Released
+released_to s told = record { reply = reply_of_told s told.0; receipt = told.1 }
+
+-- whatever was done, the slot is told this
+abbrev pub Gives : HallView → ℕ → Option Released → Type 0
+Gives hall slot given =
+    ForEachPast hall (λ past.
+    given ≡ option_map (released_to (settings_in hall)) (released hall.issuer.broken hall.issuer.durable past slot))
+
+-- whatever was done before, the call is done
+abbrev pub IsDone : HallView → HallView → HallCall → Type 0
+IsDone old new call = ForEachPast old (λ past. StandsFor new (past_after (settings_in old) past call))

@@ -7,9 +7,12 @@ use crate::error::HallError;
 use crate::issuing::{Issued, issue};
 use crate::planning::plan_request;
 use crate::preparing::{Prepared, prepare};
+use crate::released::Released;
 use crate::slots::Slots;
+use crate::ticks::plan_tick;
 use api_core::{Answer, Call, Refusal, Reply, reply_text};
-use group_commit::Issuer;
+use async_core::Table;
+use group_commit::{Durable, Issuer, Receipt, Ticket};
 use std::alloc::{AllocError, Global};
 
 /// How many slots may be open.
@@ -39,20 +42,25 @@ pub struct Hall<I: Issuer> {
     stops: bool,
     /// The issuer failed.
     broken: bool,
+    /// Of all that is durable.
+    receipt: Receipt,
     ghost knows: { broken ≡ (I.view issuer).broken },
+    ghost counted: { receipt ≡ (I.view issuer).durable },
 }
 
 impl<I: Issuer> Hall<I> {
-    ghost use Rattle.std.specs.Prelude.{◌&&◌, ◌||◌, ◌^◌, nat_le, length, false, IfOk, IfErr, OnOk, OnErr};
+    ghost use Rattle.std.specs.Prelude.{◌&&◌, ◌||◌, ◌^◌, nat_le, length, false, IfOk, IfErr, IfNone, OnOk, OnErr, OnSome};
     ghost use Rattle.hall_core.specs.declared.error.HallError.TheVariants as HallError;
     ghost use Rattle.hall_core.specs.OpenSlots.{has_open, unavailable_in};
     ghost use Rattle.hall_core.specs.Changes.{IsWithin, Leads};
     ghost use Rattle.hall_core.specs.Issuing.{Continues, IsAnswered, HasPlaceFor};
-    ghost use Rattle.hall_core.specs.Doing.{KeepRequest};
+    ghost use Rattle.hall_core.specs.Doing.{KeepRequest, KeepTick};
     ghost use Rattle.hall_core.specs.Agreement.{IsFit};
     ghost use Rattle.hall_core.specs.Plans.{IsToOneOf};
-    ghost use Rattle.group_commit.specs.Issuer.{issued_in};
-    ghost use Rattle.hall_core.specs.Hall.{view_of, settings_in, pending_in, refusal_of_arrival, IsSameHall, request, Does, Refuses};
+    ghost use Rattle.group_commit.specs.Issuer.{issued_in, state_in};
+    ghost use Rattle.hall_core.specs.Past.{tick, take_slot, forget_slot};
+    ghost use Rattle.hall_core.specs.Hall.{view_of, settings_in, pending_in, refusal_of_arrival, refusal_of_moving, IsSameHall, request, Does, Refuses};
+    ghost use Rattle.hall_core.specs.Hall.{Gives, IsDone};
 
     // Whether no number is left for a command.
     fn is_worn_out(&self, has_command: bool) -> bool
@@ -119,10 +127,9 @@ impl<I: Issuer> Hall<I> {
         self.slots.open(slot, unavailable)?;
         match issue(&mut self.issuer, command) {
             Ok(issued) => {
-                let point = self.issuer.issued();
                 self.environments.change(changes);
-                self.slots.reply_all(replies, point);
-                self.slots.reply_own(slot, own, point);
+                self.slots.reply_all(replies, &self.issuer);
+                self.slots.reply_own(slot, own, self.issuer.ticket());
                 self.stops = self.stops || stops;
                 Ok(issued)
             }
@@ -184,5 +191,126 @@ impl<I: Issuer> Hall<I> {
             Ok(issued) => Ok(issued),
             Err(why) => Err(why),
         }
+    }
+
+    // Why a tick is refused now, if it is.
+    fn refusal_of_moving(&self, has_command: bool) -> Option<HallError>
+        ensures { result ≡ refusal_of_moving (view_of I.view self.now) has_command }
+    {
+        if self.broken {
+            Some(HallError::Broken)
+        } else if self.is_worn_out(has_command) {
+            Some(HallError::WornOut)
+        } else if self.is_full(has_command) {
+            Some(HallError::Backlog)
+        } else {
+            None
+        }
+    }
+
+    // Does what was prepared for a tick. Where the command is refused, nothing is done.
+    fn do_moving(&mut self, prepared: Prepared) -> Result<Option<Issued>, HallError>
+        requires { IsWithin self.old.environments prepared.changes }
+        ensures issuer { OnOk result (Continues (I.view self.old.issuer) (I.view self.new.issuer) prepared.command) }
+        ensures issued { IfOk result (IsAnswered (I.view self.old.issuer) prepared.command) }
+        ensures count { OnOk result (length self.new.environments ≡ length self.old.environments) }
+        ensures environments { OnOk result (Leads self.old.environments prepared.changes self.new.environments) }
+        ensures slots { OnOk result (KeepTick self.old.slots self.new.slots prepared (issued_in (I.view self.new.issuer))) }
+        ensures stops { OnOk result (self.new.stops ≡ self.old.stops) }
+        ensures err { OnErr result (IsSameHall (view_of I.view self.old) (view_of I.view self.new)) }
+        ensures memory { HasPlaceFor (I.view self.old.issuer) prepared.command → IfErr result (λ why. why ≡ HallError.OutOfMemory) }
+    {
+        let Prepared {
+            command,
+            changes,
+            replies,
+            ..
+        } = prepared;
+        let issued = issue(&mut self.issuer, command)?;
+        self.environments.change(changes);
+        self.slots.reply_all(replies, &self.issuer);
+        Ok(issued)
+    }
+
+    /// Makes one move that is due now: first an Interrupt for an event that runs in no environment, else the table's
+    /// next move, a Start with the least-numbered environment that is ready. None where nothing is due, and once the
+    /// hall stops.
+    ///
+    /// It is refused by `Broken`, `WornOut` or `Backlog` (256 commands are pending) where there is a command to issue,
+    /// or `OutOfMemory`, in this order, and then nothing has changed. A moment is at most the end of the year 9999.
+    pub fn tick(&mut self, now: u64) -> Result<Option<Issued>, HallError>
+        requires { IsFit (settings_in (view_of I.view self.old)) (tick now) }
+        ensures ok { IfOk result (Does (view_of I.view self.old) (view_of I.view self.new) (tick now)) }
+        ensures refused { IfErr result (Refuses (view_of I.view self.old) (tick now)) }
+        ensures err { OnErr result (IsSameHall (view_of I.view self.old) (view_of I.view self.new)) }
+    {
+        let plan = plan_tick(
+            self.alloc,
+            self.issuer.table(),
+            &self.environments,
+            self.stops,
+            now,
+        );
+        if let Some(why) = self.refusal_of_moving(plan.command.is_some()) {
+            return Err(why);
+        }
+        let Ok(prepared) = prepare(self.alloc, self.issuer.table(), &self.environments, plan) else {
+            return Err(HallError::OutOfMemory);
+        };
+        match self.do_moving(prepared) {
+            Ok(issued) => Ok(issued),
+            Err(why) => Err(why),
+        }
+    }
+
+    /// The reply of a slot, where all that it shows is durable, with the receipt of that; the slot is then closed. In a
+    /// broken hall a slot whose reply is not durable, or that has none, is told that the broker is not available, with
+    /// the receipt of all that is durable. None where the slot is not open or its reply is not wanted, and as long as it
+    /// waits. It takes no memory.
+    pub fn take(&mut self, slot: u64) -> Option<Released>
+        ensures gives { Gives (view_of I.view self.old) slot result }
+        ensures some { OnSome result (IsDone (view_of I.view self.old) (view_of I.view self.new) (take_slot slot)) }
+        ensures none { IfNone result (IsSameHall (view_of I.view self.old) (view_of I.view self.new)) }
+    {
+        match self.slots.take(slot, self.broken, self.receipt) {
+            Some((reply, receipt)) => Some(Released { reply, receipt }),
+            None => None,
+        }
+    }
+
+    /// The reply of a slot is not wanted any more: it is thrown away, now or when it is computed, which closes the slot.
+    /// A parked poll stays parked. For a slot that is not open it does nothing. It takes no memory.
+    pub fn forget(&mut self, slot: u64)
+        ensures { IsDone (view_of I.view self.old) (view_of I.view self.new) (forget_slot slot) }
+    {
+        self.slots.forget(slot);
+    }
+
+    /// How many commands were issued.
+    pub fn issued(&self) -> u64
+        ensures { result ≡ issued_in (I.view self.now.issuer) }
+    {
+        self.issuer.issued()
+    }
+
+    /// How many of them are durable.
+    pub fn durable(&self) -> Durable
+        ensures { result ≡ (I.view self.now.issuer).durable }
+    {
+        self.issuer.durable()
+    }
+
+    /// A ticket of all that was issued.
+    pub fn ticket(&self) -> Ticket
+        ensures { result ≡ issued_in (I.view self.now.issuer) }
+    {
+        self.issuer.ticket()
+    }
+
+    /// The table after all that was issued.
+    pub fn table(&self) -> &Table
+        ensures { result.now ≡ state_in (I.view self.now.issuer) }
+    {
+        self.issuer.table()
     }
 }

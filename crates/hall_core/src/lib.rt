@@ -21,6 +21,7 @@ mod plan;
 mod planner;
 mod planning;
 mod preparing;
+mod released;
 mod requests;
 mod settling;
 mod slots;

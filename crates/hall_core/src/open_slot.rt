@@ -2,14 +2,15 @@
 ghost use Rattle.std.specs.Prelude.{◌≡◌, is_some};
 
 use api_core::Reply;
+use group_commit::{Receipt, Ticket};
 
 /// A slot that is open: a request came with it, and its reply waits to be taken or is not there yet.
 #[derive(Drop)]
 pub(crate) struct OpenSlot {
     /// Its reply is not wanted.
     pub(crate) is_forgotten: bool,
-    /// The reply, and how many commands have to be durable before it is told.
-    pub(crate) reply: Option<(Reply, u64)>,
+    /// The reply, and the ticket of all that has to be durable before it is told.
+    pub(crate) reply: Option<(Reply, Ticket)>,
     /// What a broken hall tells in its place. It was made when the slot was opened, so that no memory is needed then.
     pub(crate) unavailable: Reply,
 }
@@ -53,28 +54,32 @@ impl OpenSlot {
     }
 
     /// Whether its reply can be told: it is wanted and durable, or the hall is broken.
-    pub(crate) fn is_told(&self, is_broken: bool, durable: u64) -> bool
-        ensures { result ≡ is_some (released_entry is_broken durable self.now) }
+    pub(crate) fn is_told(&self, is_broken: bool, receipt: Receipt) -> bool
+        ensures { result ≡ is_some (released_entry is_broken receipt self.now) }
     {
         let is_durable = match &self.reply {
-            Some((_, point)) => *point <= durable,
+            Some((_, ticket)) => ticket.number() <= receipt.number(),
             None => false,
         };
         !self.is_forgotten && (is_durable || is_broken)
     }
 
-    /// Its reply with the number of its receipt: its own where that is durable, else that it is not available.
-    pub(crate) fn into_told(self, durable: u64) -> (Reply, u64)
-        ensures { result ≡ told_entry durable self }
+    /// Its reply with the receipt that goes with it: its own where that is durable by this one, else that it is not
+    /// available, with this one.
+    pub(crate) fn into_told(self, receipt: Receipt) -> (Reply, Receipt)
+        ensures { result ≡ told_entry receipt self }
     {
         let OpenSlot {
             reply,
             unavailable,
             ..
         } = self;
-        match reply {
-            Some((reply, point)) if point <= durable => (reply, point),
-            _ => (unavailable, durable),
+        let Some((reply, ticket)) = reply else {
+            return (unavailable, receipt);
+        };
+        match ticket.settled_by(receipt.number()) {
+            Ok(told) => (reply, told),
+            Err(_) => (unavailable, receipt),
         }
     }
 }

@@ -3,6 +3,7 @@ ghost use Rattle.std.specs.Prelude.{◌≡◌, IfNone, OnSome, OnOk, OnErr, None
 
 use crate::open_slot::{OpenSlot, SlotStanding};
 use api_core::Reply;
+use group_commit::{Receipt, Ticket};
 use std::alloc::{AllocError, Global};
 use std::collections::BTreeMap;
 use std::marker::Model;
@@ -75,14 +76,14 @@ impl Slots {
         let _ = self.close(slot);
     }
 
-    /// Replies to a slot, at this point: so many commands have to be durable before it is told. The first reply stays, and
+    /// Replies to a slot: all up to the ticket has to be durable before it is told. The first reply stays, and
     /// a slot whose reply is not wanted is closed. It takes no memory.
-    pub(crate) fn reply(&mut self, slot: u64, reply: Reply, point: u64)
+    pub(crate) fn reply(&mut self, slot: u64, reply: Reply, ticket: Ticket)
         ensures { ForEachKept self.old (λ s events. (answer : Told) → reply ≡ reply_of_told s answer
-            → KeepMore s self.new events (replied slot answer point)) }
+            → KeepMore s self.new events (replied slot answer ticket)) }
     {
         match self.standing(slot) {
-            Some(SlotStanding::Waiting) => self.set_reply(slot, reply, point),
+            Some(SlotStanding::Waiting) => self.set_reply(slot, reply, ticket),
             Some(SlotStanding::Forgotten) => {
                 let _ = self.close(slot);
             }
@@ -91,14 +92,14 @@ impl Slots {
         }
     }
 
-    /// The reply of a slot and the number of its receipt, if it is told where so many commands are durable; the slot is
+    /// The reply of a slot and its receipt, if it is told where all up to this receipt is durable; the slot is
     /// then closed. It takes no memory.
-    pub(crate) fn take(&mut self, slot: u64, is_broken: bool, durable: u64) -> Option<(Reply, u64)>
-        ensures gives { ForEachKept self.old (λ s events. result ≡ option_map (told_in s) (released_in is_broken durable events slot)) }
+    pub(crate) fn take(&mut self, slot: u64, is_broken: bool, receipt: Receipt) -> Option<(Reply, Receipt)>
+        ensures gives { ForEachKept self.old (λ s events. result ≡ option_map (told_in s) (released_in is_broken receipt events slot)) }
         ensures some { ForEachKept self.old (λ s events. OnSome result (KeepMore s self.new events (taken slot))) }
         ensures none { IfNone result (self.new ≡ self.old) }
     {
-        self.release(slot, is_broken, durable)
+        self.release(slot, is_broken, receipt)
     }
 
     /// Notes that the reply of a slot is not wanted: it is closed now, or once it is replied to. It takes no memory.
@@ -125,26 +126,26 @@ impl Slots {
     }
 
     // Whether the reply of a slot is told where so many commands are durable.
-    fn is_told(&self, slot: u64, is_broken: bool, durable: u64) -> bool
-        ensures { result ≡ is_some (released_at is_broken durable (entry_at self.now slot)) }
+    fn is_told(&self, slot: u64, is_broken: bool, receipt: Receipt) -> bool
+        ensures { result ≡ is_some (released_at is_broken receipt (entry_at self.now slot)) }
     {
         match self.slots.get(&slot) {
-            Some(entry) => entry.is_told(is_broken, durable),
+            Some(entry) => entry.is_told(is_broken, receipt),
             None => false,
         }
     }
 
     // Closes a slot whose reply is told.
-    fn release(&mut self, slot: u64, is_broken: bool, durable: u64) -> Option<(Reply, u64)>
-        ensures gives { result ≡ released_at is_broken durable (entry_at self.old slot) }
+    fn release(&mut self, slot: u64, is_broken: bool, receipt: Receipt) -> Option<(Reply, Receipt)>
+        ensures gives { result ≡ released_at is_broken receipt (entry_at self.old slot) }
         ensures some { OnSome result (PutsEntry self.old self.new slot None) }
         ensures none { IfNone result (self.new ≡ self.old) }
     {
-        if !self.is_told(slot, is_broken, durable) {
+        if !self.is_told(slot, is_broken, receipt) {
             return None;
         }
         match self.close(slot) {
-            Some(entry) => Some(entry.into_told(durable)),
+            Some(entry) => Some(entry.into_told(receipt)),
             None => None,
         }
     }
@@ -168,11 +169,11 @@ impl Slots {
     }
 
     // Gives an open slot this reply.
-    fn set_reply(&mut self, slot: u64, reply: Reply, point: u64)
-        ensures { PutsEntry self.old self.new slot (option_map (with_reply (reply, point)) (entry_at self.old slot)) }
+    fn set_reply(&mut self, slot: u64, reply: Reply, ticket: Ticket)
+        ensures { PutsEntry self.old self.new slot (option_map (with_reply (reply, ticket)) (entry_at self.old slot)) }
     {
         if let Some(entry) = self.slots.get_mut(&slot) {
-            entry.reply = Some((reply, point));
+            entry.reply = Some((reply, ticket));
         }
     }
 

@@ -1,7 +1,9 @@
-use Rattle.std.proofs.Common.{rules, ◌++◌, ◌∷◌, [], refl}
+use Rattle.std.proofs.Common.{rules, ◌++◌, ◌∷◌, [], refl, subst}
 use Rattle.api_core.specs.declared.call.Call.TheVariants as calls
 use Rattle.hall_core.specs.Past.{asked}
-use Rattle.hall_core.specs.Settling.{replied_at}
+use Rattle.group_commit.specs.Issuer.{issued_in}
+use Rattle.hall_core.specs.OpenSlots.{KeepFor}
+use Rattle.hall_core.specs.Settling.{replied_at, own_at}
 use Rattle.hall_core.proofs.hall.Hall.do_for.Goals as goal
 
 -- src/hall.rt:83:5
@@ -9,8 +11,8 @@ pub returns-after-self-clause-slots : goal.returns-after-self-clause-slots
 returns-after-self-clause-slots g c = λ s events keep is told own tells call.
     let opened = c.in_ok-open.ensures.ok s events keep is call in
     let polls = c.reply_all.ensures s (events ++ asked c.args.slot call ∷ []) opened told tells.0 in
-    let all = c.reply_own.ensures s ((events ++ asked c.args.slot call ∷ []) ++ replied_at c.issued-point.result told) polls own tells.1 in
-    rw (← c.issued-point.ensures) all
+    let all = c.reply_own.ensures s ((events ++ asked c.args.slot call ∷ []) ++ replied_at (issued_in (g.I.Issuer.view c.issue.new.issuer)) told) polls own tells.1 in
+    subst (λ n. KeepFor s c.reply_own.new.self (((events ++ asked c.args.slot call ∷ []) ++ replied_at (issued_in (g.I.Issuer.view c.issue.new.issuer)) told) ++ own_at c.args.slot n own)) c.ticket.ensures all
 
 -- src/hall.rt:83:5
 pub returns-in-Err-clause-err : goal.returns-in-Err-clause-err

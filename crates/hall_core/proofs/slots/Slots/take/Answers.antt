@@ -5,7 +5,7 @@ use Rattle.hall_core.proofs.slots.Slots.take.Goals as goal
 
 pub returns-clause-gives : goal.returns-clause-gives
 returns-clause-gives c =
-    λ s events keeps. c.release.ensures.gives ∙ gives_released s c.args.is_broken c.args.durable c.args.self.now events c.args.slot keeps
+    λ s events keeps. c.release.ensures.gives ∙ gives_released s c.args.is_broken c.args.receipt c.args.self.now events c.args.slot keeps
 
 pub returns-clause-some : goal.returns-clause-some
 returns-clause-some c =

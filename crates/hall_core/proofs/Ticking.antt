@@ -1,0 +1,167 @@
+-- Lemmas: what a hall stands for after a tick, a take and a forget, and why it refuses a tick.
+use Rattle.std.proofs.Common.{◌≡◌, ℕ, ◌+◌, ◌-◌, ◌<◌, ◌^◌, List, [], ◌∷◌, ◌++◌, length, Bool, true, false, ◌&&◌, ◌||◌, refl, sym, ap, subst, ◌∙◌, arith, append_assoc, Option, Some, None}
+use Rattle.std.specs.Prelude.{is_some, nat_le, option_map}
+use Rattle.std.specs.List.{list_any}
+use Rattle.std.proofs.lemmas.List.{append-nil}
+use Rattle.std.proofs.lemmas.Option.{none-some}
+use Rattle.std.proofs.lemmas.Bool.{leb-false}
+use Rattle.std.proofs.lemmas.List.Folds.{list_any-append}
+use Rattle.retry_rules.specs.declared.settings.Settings.{Settings}
+use Rattle.invoke_records.specs.declared.command.Command.{Command}
+use Rattle.group_commit.specs.Issuer.{IsIssuer, issued_in, state_in}
+use Rattle.hall_core.specs.declared.error.HallError.TheVariants as error
+use Rattle.hall_core.specs.declared.preparing.Prepared.{Prepared}
+use Rattle.hall_core.specs.declared.issuing.Issued.{Issued}
+use Rattle.hall_core.specs.Past.{HallCall, tick, take_slot, forget_slot, taken, forgotten, Past, SlotEvent, asks_stop, is_stopping}
+use Rattle.hall_core.specs.Effects.{Effect, nothing, scene, effect_of_tick, effect_of, command_of}
+use Rattle.hall_core.specs.Run.{option_list, slot_events, past_after, issued_by}
+use Rattle.hall_core.specs.Refusals.{first_failed, why_refused}
+use Rattle.hall_core.specs.Agreement.{IsFit, IsUnrefused}
+use Rattle.hall_core.specs.Plans.{PlansTick}
+use Rattle.hall_core.specs.Prepared.{IsPreparedFor}
+use Rattle.api_core.specs.declared.reply.Reply.{Reply as Text}
+use Rattle.hall_core.specs.declared.released.Released.{Released}
+use Rattle.hall_core.specs.Slots.{Reply, released, released_in}
+use Rattle.hall_core.specs.OpenSlots.{KeepFor, told_in}
+use Rattle.hall_core.specs.Changes.{Leads, answered_to}
+use Rattle.hall_core.specs.Settling.{replied_at}
+use Rattle.hall_core.specs.Issuing.{HasPlaceFor, Continues, IsAnswered}
+use Rattle.hall_core.specs.Doing.{KeepTick}
+use Rattle.hall_core.specs.Hall.{HallView, StandsFor, settings_in, pending_in, refusal_of_moving, released_to}
+use Rattle.hall_core.proofs.Arriving.{told_to_polls, made_told, polls_are_told, told_with, none_asks, or_false, below, stands_after}
+
+-- ## Refusals
+
+tick_refusal_is : (hall : HallView) (past : Past) (now : ℕ) → IsIssuer hall.issuer → StandsFor hall past
+    → why_refused hall.issuer.broken hall.issuer.durable (settings_in hall) past (tick now)
+    ≡ refusal_of_moving hall (is_some (command_of (settings_in hall) past (tick now)))
+unfolding why_refused
+tick_refusal_is hall past now laws stands =
+    let issued : issued_in hall.issuer ≡ length past.history = (laws.each past.history stands.history).issued_is in
+    rw issued refl
+
+passes_both : (b w p : Bool) → first_failed ((b, error.Broken) ∷ (w, error.WornOut) ∷ (p, error.Backlog) ∷ []) ≡ None → (b ≡ false) × (w ≡ false) × (p ≡ false)
+passes_both false false false h = (refl, refl, refl)
+passes_both true w p h = absurd (none-some error.Broken (sym h))
+passes_both false true p h = absurd (none-some error.WornOut (sym h))
+passes_both false false true h = absurd (none-some error.Backlog (sym h))
+
+pub moving_finds_place : (hall : HallView) (command : Option Command) → IsIssuer hall.issuer → refusal_of_moving hall (is_some command) ≡ None → HasPlaceFor hall.issuer command
+moving_finds_place hall None laws h = tt
+moving_finds_place hall (Some c) laws h =
+    let all = passes_both hall.issuer.broken _ _ h in
+    (all.0, below (2 ^ 62) (issued_in hall.issuer) all.1, omega (arith, below 256 (pending_in hall.issuer) all.2, laws.counted))
+
+-- ## A tick
+
+tick_effect_is : (s : Settings) (past : Past) (now : ℕ) → effect_of_tick (scene s past now) ≡ effect_of s past (tick now)
+unfolding effect_of
+tick_effect_is s past now = refl
+
+pub tick_refused_by : (old : HallView) (past : Past) (now : ℕ) (effect : Effect) → IsIssuer old.issuer → StandsFor old past
+    → PlansTick (state_in old.issuer) old.environments old.stops now effect
+    → why_refused old.issuer.broken old.issuer.durable (settings_in old) past (tick now) ≡ refusal_of_moving old (is_some effect.command)
+tick_refused_by old past now effect laws stands plans =
+    let is : effect ≡ effect_of (settings_in old) past (tick now) = plans past stands.environments stands.stopping ∙ tick_effect_is (settings_in old) past now in
+    tick_refusal_is old past now laws stands ∙ ap (λ e. refusal_of_moving old (is_some e.command)) (sym is)
+
+tick_events : (past : Past) (now : ℕ) (effect : Effect) (point : ℕ)
+    → past.slots ++ slot_events past (tick now) effect point ≡ past.slots ++ replied_at point (told_to_polls past (answered_to past.made effect.made))
+tick_events past now effect point = ap (λ l. past.slots ++ l) (append-nil _ ∙ made_told past point effect.made)
+
+pub ticked : (old new : HallView) (past : Past) (now : ℕ) (effect : Effect) (p : Prepared) (issued : Option Issued)
+    → IsIssuer old.issuer → IsIssuer new.issuer → StandsFor old past → IsFit (settings_in old) (tick now)
+    → refusal_of_moving old (is_some effect.command) ≡ None
+    → PlansTick (state_in old.issuer) old.environments old.stops now effect
+    → IsPreparedFor (state_in old.issuer) old.environments effect p
+    → Continues old.issuer new.issuer p.command → IsAnswered old.issuer p.command issued
+    → length new.environments ≡ length old.environments → Leads old.environments p.changes new.environments
+    → KeepTick old.slots new.slots p (issued_in new.issuer) → new.stops ≡ old.stops
+    → (issued ≡ issued_by (settings_in old) past (tick now)) × StandsFor new (past_after (settings_in old) past (tick now))
+ticked old new past now effect p issued before after stands fit passes plans prepared continues answered count leads keeps stopping =
+    let s = settings_in old in
+    let is : effect ≡ effect_of s past (tick now) = plans past stands.environments stands.stopping ∙ tick_effect_is s past now in
+    let same_command : effect.command ≡ command_of s past (tick now) = ap (λ e. e.command) is in
+    let unrefused : IsUnrefused s past (tick now) = record {
+      fit = fit;
+      broken = old.issuer.broken;
+      durable = old.issuer.durable;
+      unrefused = tick_refusal_is old past now before stands ∙ ap (λ c. refusal_of_moving old (is_some c)) (sym same_command) ∙ passes;
+    } in
+    let history : new.issuer.stands (past.history ++ option_list effect.command) =
+        subst (λ c. new.issuer.stands (past.history ++ option_list c)) prepared.command (continues.stands past.history stands.history) in
+    let point : issued_in new.issuer ≡ length (past.history ++ option_list effect.command) = (after.each (past.history ++ option_list effect.command) history).issued_is in
+    let told = told_to_polls past (answered_to past.made effect.made) in
+    let kept = keeps s past.slots stands.slots told (prepared.replies past stands.environments ∙ polls_are_told s past (answered_to past.made effect.made)) in
+    let keep : KeepFor s new.slots (past.slots ++ slot_events past (tick now) effect (length (past.history ++ option_list effect.command))) =
+        rw (tick_events past now effect (length (past.history ++ option_list effect.command)), ← point) kept in
+    let stops_so : new.stops ≡ list_any asks_stop (past.slots ++ slot_events past (tick now) effect (length (past.history ++ option_list effect.command))) =
+        stopping ∙ stands.stopping
+        ∙ sym (ap (list_any asks_stop) (tick_events past now effect (length (past.history ++ option_list effect.command)))
+        ∙ list_any-append asks_stop past.slots (replied_at (length (past.history ++ option_list effect.command)) told)
+        ∙ ap (λ b. is_stopping past || b) (none_asks (length (past.history ++ option_list effect.command)) told) ∙ or_false (is_stopping past)) in
+    (answered ∙ told_with (issued_in old.issuer) (length past.history) p.command (command_of s past (tick now)) ((before.each past.history stands.history).issued_is) (prepared.command ∙ same_command),
+    stands_after old new past (tick now) effect stands is unrefused after continues.settings history count (leads effect.made prepared.leads past.made stands.environments.hold) keep stops_so)
+
+-- ## A take and a forget
+
+take_is_unrefused : (s : Settings) (past : Past) (slot : ℕ) → IsUnrefused s past (take_slot slot)
+unfolding why_refused
+take_is_unrefused s past slot = record { fit = tt; broken = false; durable = 0; unrefused = refl }
+
+forget_is_unrefused : (s : Settings) (past : Past) (slot : ℕ) → IsUnrefused s past (forget_slot slot)
+unfolding why_refused
+forget_is_unrefused s past slot = record { fit = tt; broken = false; durable = 0; unrefused = refl }
+
+take_does_nothing : (s : Settings) (past : Past) (slot : ℕ) → nothing ≡ effect_of s past (take_slot slot)
+unfolding effect_of
+take_does_nothing s past slot = refl
+
+forget_does_nothing : (s : Settings) (past : Past) (slot : ℕ) → nothing ≡ effect_of s past (forget_slot slot)
+unfolding effect_of
+forget_does_nothing s past slot = refl
+
+one_event_more : (old new : HallView) (past : Past) (call : HallCall) (event : SlotEvent)
+    → StandsFor old past → nothing ≡ effect_of (settings_in old) past call → IsUnrefused (settings_in old) past call → IsIssuer new.issuer
+    → new.issuer ≡ old.issuer → new.environments ≡ old.environments → new.stops ≡ old.stops
+    → slot_events past call nothing (length (past.history ++ [])) ≡ event ∷ [] → asks_stop event ≡ false
+    → KeepFor (settings_in old) new.slots (past.slots ++ event ∷ []) → StandsFor new (past_after (settings_in old) past call)
+one_event_more old new past call event stands is unrefused laws issuer environments stops events asks keep =
+    stands_after old new past call nothing stands is unrefused laws (ap (λ i. i.settings) issuer)
+    (rw (issuer, append-nil past.history) stands.history)
+    (ap length environments)
+    (rw (environments, append-nil past.made) stands.environments.hold)
+    (rw events keep)
+    (stops ∙ stands.stopping ∙ sym (ap (λ l. list_any asks_stop (past.slots ++ l)) events ∙ list_any-append asks_stop past.slots (event ∷ []) ∙ ap (λ b. is_stopping past || (b || false)) asks ∙ or_false (is_stopping past)))
+
+pub taken_from : (old new : HallView) (past : Past) (slot : ℕ) → StandsFor old past → IsIssuer new.issuer
+    → new.issuer ≡ old.issuer → new.environments ≡ old.environments → new.stops ≡ old.stops
+    → KeepFor (settings_in old) new.slots (past.slots ++ taken slot ∷ []) → StandsFor new (past_after (settings_in old) past (take_slot slot))
+taken_from old new past slot stands laws issuer environments stops keep =
+    one_event_more old new past (take_slot slot) (taken slot) stands (take_does_nothing (settings_in old) past slot) (take_is_unrefused (settings_in old) past slot) laws issuer environments stops refl refl keep
+
+pub forgotten_in : (old new : HallView) (past : Past) (slot : ℕ) → StandsFor old past → IsIssuer new.issuer
+    → new.issuer ≡ old.issuer → new.environments ≡ old.environments → new.stops ≡ old.stops
+    → KeepFor (settings_in old) new.slots (past.slots ++ forgotten slot ∷ []) → StandsFor new (past_after (settings_in old) past (forget_slot slot))
+forgotten_in old new past slot stands laws issuer environments stops keep =
+    one_event_more old new past (forget_slot slot) (forgotten slot) stands (forget_does_nothing (settings_in old) past slot) (forget_is_unrefused (settings_in old) past slot) laws issuer environments stops refl refl keep
+
+-- ## What a take gives
+
+abbrev pub as_released : Text × ℕ → Released
+as_released told = record { reply = told.0; receipt = told.1 }
+
+same_release : (s : Settings) (o : Option Reply) → option_map as_released (option_map (told_in s) o) ≡ option_map (released_to s) o
+same_release s None = refl
+same_release s (Some reply) = refl
+
+released_is : (broken : Bool) (durable : ℕ) (past : Past) (slot : ℕ) → released_in broken durable past.slots slot ≡ released broken durable past slot
+unfolding released
+released_is broken durable past slot = refl
+
+pub gives : (s : Settings) (past : Past) (slot : ℕ) (b c : Bool) (r d : ℕ) (result : Option (Text × ℕ))
+    → result ≡ option_map (told_in s) (released_in b r past.slots slot) → b ≡ c → r ≡ d
+    → option_map as_released result ≡ option_map (released_to s) (released c d past slot)
+gives s past slot b c r d result is broken durable =
+    ap (option_map as_released) is ∙ same_release s (released_in b r past.slots slot)
+    ∙ ap (option_map (released_to s)) (released_is b r past slot ∙ ap (λ x. released x r past slot) broken ∙ ap (λ n. released c n past slot) durable)
