@@ -12,3 +12,4 @@ mod Ends
 mod Numbers
 mod Arriving
 mod Ticking
+mod Opened

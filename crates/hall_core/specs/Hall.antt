@@ -4,6 +4,8 @@ use Rattle.retry_rules.specs.declared.settings.Settings.{Settings}
 use Rattle.env_phase.specs.State.{EnvState}
 use Rattle.api_core.specs.declared.call.Call.{Call}
 use Rattle.group_commit.specs.declared.issuer.Issuer.{Ghosts}
+use Rattle.group_commit.specs.declared.error.CommitError.{CommitError}
+use Rattle.group_commit.specs.declared.error.CommitError.TheVariants as commit_error
 use Rattle.group_commit.specs.Issuer.{IssuerView, issued_in, state_in, IsSameIssuer}
 use Rattle.hall_core.specs.declared.hall.Hall.{Hall}
 use Rattle.hall_core.specs.declared.error.HallError.{HallError}
@@ -114,3 +116,15 @@ Gives hall slot given =
 -- whatever was done before, the call is done
 abbrev pub IsDone : HallView → HallView → HallCall → Type 0
 IsDone old new call = ForEachPast old (λ past. StandsFor new (past_after (settings_in old) past call))
+
+-- all that was issued is durable, which is so much
+abbrev pub IsAllDurable : HallView → ℕ → Type 0
+IsAllDurable hall durable = (durable ≡ issued_in hall.issuer) × (hall.issuer.durable ≡ issued_in hall.issuer)
+
+-- how the hall tells why a commit was refused
+abbrev pub commit_error_of : CommitError → HallError
+commit_error_of commit_error.Broken = error.Broken
+commit_error_of commit_error.WornOut = error.WornOut
+commit_error_of commit_error.BadKind = error.BadKind
+commit_error_of commit_error.OutOfMemory = error.OutOfMemory
+commit_error_of commit_error.Fault = error.Fault

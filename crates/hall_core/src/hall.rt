@@ -34,16 +34,16 @@ fn is_stop(call: &Call) -> bool
 /// The hall over an issuer of commands.
 #[derive(Drop)]
 pub struct Hall<I: Issuer> {
-    alloc: Global,
-    issuer: I,
-    environments: Environments,
-    slots: Slots,
+    pub(crate) alloc: Global,
+    pub(crate) issuer: I,
+    pub(crate) environments: Environments,
+    pub(crate) slots: Slots,
     /// A request asked it to stop.
-    stops: bool,
+    pub(crate) stops: bool,
     /// The issuer failed.
-    broken: bool,
+    pub(crate) broken: bool,
     /// Of all that is durable.
-    receipt: Receipt,
+    pub(crate) receipt: Receipt,
     ghost knows: { broken ≡ (I.view issuer).broken },
     ghost counted: { receipt ≡ (I.view issuer).durable },
 }

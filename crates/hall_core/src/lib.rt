@@ -17,6 +17,7 @@ mod ids;
 mod issuing;
 pub mod laws;
 mod open_slot;
+mod over_broker;
 mod plan;
 mod planner;
 mod planning;
@@ -29,4 +30,7 @@ mod ticks;
 mod unheld;
 
 pub use error::HallError;
+pub use hall::Hall;
 pub use issuing::Issued;
+pub use over_broker::HallFailure;
+pub use released::Released;

@@ -1,0 +1,103 @@
+// A hall over a broker: opening it, committing, and closing it.
+ghost use Rattle.std.specs.Prelude.{◌≡◌, List, [], false, true, Err, IfOk, IfErr, OnOk};
+ghost use Rattle.invoke_records.specs.declared.command.Command.{Command};
+ghost use Rattle.group_commit.specs.Broker.{disk_of, pending_of, is_broken, Stands};
+ghost use Rattle.group_commit.specs.Promises.{LeavesLegalStops};
+ghost use Rattle.group_commit.specs.IssuerBroker.{issuer_of};
+ghost use Rattle.hall_core.specs.declared.error.HallError.TheVariants as HallError;
+ghost use Rattle.hall_core.specs.Past.{opening};
+ghost use Rattle.hall_core.specs.Hall.{view_of, StandsFor, ForEachPast, IsAllDurable, commit_error_of};
+
+use crate::environments::Environments;
+use crate::error::HallError;
+use crate::hall::Hall;
+use crate::slots::Slots;
+use group_commit::{Broker, CommitError, Durable};
+use sector_disk::Disk;
+use std::alloc::Global;
+
+/// A broker over which no hall was made, for want of memory. It is handed back.
+#[derive(Drop)]
+pub struct HallFailure<D: Disk> {
+    pub broker: Broker<D>,
+}
+
+// Why a commit was refused, as the hall tells it.
+fn error_of(why: CommitError) -> HallError
+    ensures { result ≡ commit_error_of why }
+{
+    match why {
+        CommitError::Broken => HallError::Broken,
+        CommitError::WornOut => HallError::WornOut,
+        CommitError::BadKind => HallError::BadKind,
+        CommitError::OutOfMemory => HallError::OutOfMemory,
+        CommitError::Fault => HallError::Fault,
+    }
+}
+
+impl<D: Disk> Hall<Broker<D>> {
+    /// A hall over a broker that is not broken and has nothing pending, in which nothing has come yet. Want of memory
+    /// hands the broker back.
+    pub fn new(alloc: Global, broker: Broker<D>) -> Result<Hall<Broker<D>>, HallFailure<D>>
+        requires nothing { pending_of broker ≡ [] }
+        requires sound { is_broken broker ≡ false }
+        ensures stands { (history : List Command) → Stands D.view broker history
+            → IfOk result (λ hall. StandsFor (view_of (issuer_of D.view) hall) (opening history)) }
+        ensures same { IfOk result (λ hall. hall.issuer ≡ broker) }
+        ensures err { IfErr result (λ failure. failure.broker ≡ broker) }
+    {
+        let count = broker.table().settings().environments;
+        let Ok(environments) = Environments::new(alloc, count) else {
+            return Err(HallFailure { broker });
+        };
+        match broker.ticket().settled_by(broker.durable().number()) {
+            Ok(receipt) => Ok(Hall {
+                alloc,
+                issuer: broker,
+                environments,
+                slots: Slots::new(alloc),
+                stops: false,
+                broken: false,
+                receipt,
+            }),
+            Err(_) => Err(HallFailure { broker }),
+        }
+    }
+
+    /// Makes all that was issued durable: how many commands that is. Replies that show no more can then be told.
+    ///
+    /// It is refused, and nothing else has changed: `Broken`, `WornOut` and `BadKind` (where the broker has to switch),
+    /// `OutOfMemory`, and `Fault`, after which the hall is broken: every slot whose reply is not durable is told that the
+    /// broker is not available. What the disk may hold then is said by `any_moment`.
+    pub fn commit(&mut self) -> Result<Durable, HallError>
+        ensures durable { IfOk result (λ durable. IsAllDurable (view_of (issuer_of D.view) self.new) durable) }
+        ensures stands { ForEachPast (view_of (issuer_of D.view) self.old) (λ past. StandsFor (view_of (issuer_of D.view) self.new) past) }
+        ensures sound { OnOk result (is_broken self.new.issuer ≡ is_broken self.old.issuer) }
+        ensures fault { is_broken self.old.issuer ≡ false → is_broken self.new.issuer ≡ true → result ≡ Err HallError.Fault }
+        ensures any_moment { LeavesLegalStops D.view self.old.issuer (disk_of self.new.issuer) }
+    {
+        match self.issuer.commit() {
+            Ok(durable) => {
+                if let Ok(receipt) = self.issuer.ticket().settled_by(durable.number()) {
+                    self.receipt = receipt;
+                }
+                Ok(durable)
+            }
+            Err(why) => {
+                if matches!(why, CommitError::Fault) {
+                    self.broken = true;
+                }
+                Err(error_of(why))
+            }
+        }
+    }
+
+    /// The disk, also of a broken hall. What is pending is given up.
+    pub fn close(self) -> D
+        ensures disk { result ≡ disk_of self.issuer }
+        ensures any_moment { LeavesLegalStops D.view self.issuer result }
+    {
+        let Hall { issuer, .. } = self;
+        issuer.close()
+    }
+}
