@@ -1,5 +1,5 @@
 -- Lemmas: what a hall that makes a call stands for afterwards, and why it refuses one.
-use Rattle.std.proofs.Common.{◌≡◌, ℕ, ◌+◌, ◌-◌, ◌<◌, ◌≤◌, ◌^◌, List, [], ◌∷◌, ◌++◌, length, map, Bool, true, false, ◌&&◌, ◌||◌, refl, sym, ap, subst, ◌∙◌, arith, append_assoc, Option, Some, None}
+use Rattle.std.proofs.Common.{◌≡◌, ℕ, ◌+◌, ◌-◌, ◌<◌, ◌^◌, List, [], ◌∷◌, ◌++◌, length, map, Bool, true, false, ◌&&◌, ◌||◌, refl, sym, ap, subst, ◌∙◌, arith, append_assoc, Option, Some, None}
 use Rattle.std.specs.Prelude.{is_some, nat_le, option_map, flat_map}
 use Rattle.std.specs.List.{list_any}
 use Rattle.std.proofs.lemmas.Option.{none-some}
@@ -7,17 +7,14 @@ use Rattle.std.proofs.lemmas.Bool.{leb-false}
 use Rattle.env_phase.specs.Polls.{answered_by}
 use Rattle.std.proofs.lemmas.List.Folds.{list_any-append}
 use Rattle.retry_rules.specs.declared.settings.Settings.{Settings}
-use Rattle.retry_rules.specs.Settings.{bad_field}
 use Rattle.invoke_records.specs.declared.command.Command.{Command}
-use Rattle.async_core.specs.History.{table_of}
 use Rattle.env_phase.specs.declared.call.EnvCall.{EnvCall}
 use Rattle.env_phase.specs.declared.answer.PollAnswer.{PollAnswer}
 use Rattle.api_core.specs.declared.call.Call.{Call}
 use Rattle.api_core.specs.Replies.{Told, reply_of_told}
-use Rattle.group_commit.specs.Issuer.{IssuerView, IsIssuer, issued_in, state_in}
-use Rattle.hall_core.specs.declared.error.HallError.{HallError}
+use Rattle.group_commit.specs.Issuer.{IsIssuer, issued_in, state_in}
 use Rattle.hall_core.specs.declared.error.HallError.TheVariants as error
-use Rattle.hall_core.specs.Past.{HallCall, arrive, tick, Past, SlotEvent, asked, replied, calls_in, calls_of, call_stops, asks_stop, is_stopping}
+use Rattle.hall_core.specs.Past.{HallCall, arrive, Past, asked, replied, calls_in, calls_of, call_stops, asks_stop, is_stopping}
 use Rattle.hall_core.specs.Effects.{Effect, scene, effect_of_request, effect_of, command_of}
 use Rattle.hall_core.specs.Run.{option_list, reply_to_poll, replies_to_polls, own_reply, slot_events, past_by, past_after, issued_by}
 use Rattle.hall_core.specs.Slots.{open_slots, open_among}
@@ -26,7 +23,7 @@ use Rattle.hall_core.specs.Agreement.{IsFit, IsUnrefused, IsKept}
 use Rattle.hall_core.specs.laws.Sound.{step}
 use Rattle.hall_core.specs.laws.Statuses.{open_slots_are}
 use Rattle.hall_core.specs.Environments.{HoldFor}
-use Rattle.hall_core.specs.Plans.{Meets, PlansRequest, drawn_by}
+use Rattle.hall_core.specs.Plans.{PlansRequest, drawn_by}
 use Rattle.hall_core.specs.OpenSlots.{KeepFor, unavailable_in}
 use Rattle.hall_core.specs.Answering.{polls_told}
 use Rattle.hall_core.specs.Changes.{Leads, answered_to}
@@ -221,18 +218,19 @@ arrived old new past slot call now words effect p stops unavailable issued befor
       broken = old.issuer.broken;
       durable = old.issuer.durable;
       unrefused = refusal_is old past slot call now (slice_index words 0, slice_index words 1) before stands
-      ∙ ap (λ c. refusal_of_arrival old (is_some c)) (sym same_command) ∙ passes;
+          ∙ ap (λ c. refusal_of_arrival old (is_some c)) (sym same_command) ∙ passes;
     } in
     let history : new.issuer.stands (past.history ++ option_list effect.command) =
-        subst (λ c. new.issuer.stands (past.history ++ option_list c)) prepared.command (continues.stands past.history stands.history) in
+    subst (λ c. new.issuer.stands (past.history ++ option_list c)) prepared.command (continues.stands past.history stands.history) in
     let point : issued_in new.issuer ≡ length (past.history ++ option_list effect.command) = (after.each (past.history ++ option_list effect.command) history).issued_is in
     let told = told_to_polls past (answered_to past.made effect.made) in
     let tells : Tells s p told effect.reply = (prepared.replies past stands.environments ∙ polls_are_told s past (answered_to past.made effect.made), prepared.own) in
     let kept = keeps s past.slots stands.slots told_503 told effect.reply tells call in
     let keep : KeepFor s new.slots (past.slots ++ slot_events past req effect (length (past.history ++ option_list effect.command))) =
-        rw (request_events past slot call now (slice_index words 0, slice_index words 1) effect (length (past.history ++ option_list effect.command)), ← point) kept in
+    rw (request_events past slot call now (slice_index words 0, slice_index words 1) effect (length (past.history ++ option_list effect.command)), ← point) kept in
     let stops_so : new.stops ≡ list_any asks_stop (past.slots ++ slot_events past req effect (length (past.history ++ option_list effect.command))) =
-        stopping ∙ ap (λ b. b || stops) stands.stopping ∙ ap (λ b. is_stopping past || b) asks
-        ∙ sym (request_stops past slot call now (slice_index words 0, slice_index words 1) effect (length (past.history ++ option_list effect.command))) in
-    (answered ∙ told_with (issued_in old.issuer) (length past.history) p.command (command_of s past req) ((before.each past.history stands.history).issued_is) (prepared.command ∙ same_command),
-    stands_after old new past req effect stands is unrefused after continues.settings history count (leads effect.made prepared.leads past.made stands.environments.hold) keep stops_so)
+    stopping ∙ ap (λ b. b || stops) stands.stopping ∙ ap (λ b. is_stopping past || b) asks
+    ∙ sym (request_stops past slot call now (slice_index words 0, slice_index words 1) effect (length (past.history ++ option_list effect.command))) in (
+      answered ∙ told_with (issued_in old.issuer) (length past.history) p.command (command_of s past req) ((before.each past.history stands.history).issued_is) (prepared.command ∙ same_command),
+      stands_after old new past req effect stands is unrefused after continues.settings history count (leads effect.made prepared.leads past.made stands.environments.hold) keep stops_so,
+    )

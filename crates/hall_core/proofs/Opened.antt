@@ -1,5 +1,5 @@
 -- Lemmas: what a hall stands for in which nothing has come yet.
-use Rattle.std.proofs.Common.{◌≡◌, List, [], length, false, refl, ◌∙◌}
+use Rattle.std.proofs.Common.{◌≡◌, List, [], length, false}
 use Rattle.retry_rules.specs.declared.settings.Settings.{Settings}
 use Rattle.invoke_records.specs.declared.command.Command.{Command}
 use Rattle.group_commit.specs.Issuer.{IsIssuer}

@@ -1,10 +1,9 @@
 -- Lemmas: what a hall stands for after a tick, a take and a forget, and why it refuses a tick.
-use Rattle.std.proofs.Common.{◌≡◌, ℕ, ◌+◌, ◌-◌, ◌<◌, ◌^◌, List, [], ◌∷◌, ◌++◌, length, Bool, true, false, ◌&&◌, ◌||◌, refl, sym, ap, subst, ◌∙◌, arith, append_assoc, Option, Some, None}
-use Rattle.std.specs.Prelude.{is_some, nat_le, option_map}
+use Rattle.std.proofs.Common.{◌≡◌, ℕ, ◌^◌, [], ◌∷◌, ◌++◌, length, Bool, true, false, ◌||◌, refl, sym, ap, subst, ◌∙◌, arith, Option, Some, None}
+use Rattle.std.specs.Prelude.{is_some, option_map}
 use Rattle.std.specs.List.{list_any}
 use Rattle.std.proofs.lemmas.List.{append-nil}
 use Rattle.std.proofs.lemmas.Option.{none-some}
-use Rattle.std.proofs.lemmas.Bool.{leb-false}
 use Rattle.std.proofs.lemmas.List.Folds.{list_any-append}
 use Rattle.retry_rules.specs.declared.settings.Settings.{Settings}
 use Rattle.invoke_records.specs.declared.command.Command.{Command}
@@ -89,19 +88,20 @@ ticked old new past now effect p issued before after stands fit passes plans pre
       unrefused = tick_refusal_is old past now before stands ∙ ap (λ c. refusal_of_moving old (is_some c)) (sym same_command) ∙ passes;
     } in
     let history : new.issuer.stands (past.history ++ option_list effect.command) =
-        subst (λ c. new.issuer.stands (past.history ++ option_list c)) prepared.command (continues.stands past.history stands.history) in
+    subst (λ c. new.issuer.stands (past.history ++ option_list c)) prepared.command (continues.stands past.history stands.history) in
     let point : issued_in new.issuer ≡ length (past.history ++ option_list effect.command) = (after.each (past.history ++ option_list effect.command) history).issued_is in
     let told = told_to_polls past (answered_to past.made effect.made) in
     let kept = keeps s past.slots stands.slots told (prepared.replies past stands.environments ∙ polls_are_told s past (answered_to past.made effect.made)) in
     let keep : KeepFor s new.slots (past.slots ++ slot_events past (tick now) effect (length (past.history ++ option_list effect.command))) =
-        rw (tick_events past now effect (length (past.history ++ option_list effect.command)), ← point) kept in
+    rw (tick_events past now effect (length (past.history ++ option_list effect.command)), ← point) kept in
     let stops_so : new.stops ≡ list_any asks_stop (past.slots ++ slot_events past (tick now) effect (length (past.history ++ option_list effect.command))) =
-        stopping ∙ stands.stopping
-        ∙ sym (ap (list_any asks_stop) (tick_events past now effect (length (past.history ++ option_list effect.command)))
-        ∙ list_any-append asks_stop past.slots (replied_at (length (past.history ++ option_list effect.command)) told)
-        ∙ ap (λ b. is_stopping past || b) (none_asks (length (past.history ++ option_list effect.command)) told) ∙ or_false (is_stopping past)) in
-    (answered ∙ told_with (issued_in old.issuer) (length past.history) p.command (command_of s past (tick now)) ((before.each past.history stands.history).issued_is) (prepared.command ∙ same_command),
-    stands_after old new past (tick now) effect stands is unrefused after continues.settings history count (leads effect.made prepared.leads past.made stands.environments.hold) keep stops_so)
+    stopping ∙ stands.stopping
+    ∙ sym (ap (list_any asks_stop) (tick_events past now effect (length (past.history ++ option_list effect.command)))
+    ∙ list_any-append asks_stop past.slots (replied_at (length (past.history ++ option_list effect.command)) told)
+    ∙ ap (λ b. is_stopping past || b) (none_asks (length (past.history ++ option_list effect.command)) told) ∙ or_false (is_stopping past)) in (
+      answered ∙ told_with (issued_in old.issuer) (length past.history) p.command (command_of s past (tick now)) ((before.each past.history stands.history).issued_is) (prepared.command ∙ same_command),
+      stands_after old new past (tick now) effect stands is unrefused after continues.settings history count (leads effect.made prepared.leads past.made stands.environments.hold) keep stops_so,
+    )
 
 -- ## A take and a forget
 

@@ -58,6 +58,10 @@ abbrev pub Does : HallView → HallView → HallCall → Option Issued → Type 
 Does old new call issued =
     ForEachPast old (λ past. (issued ≡ issued_by (settings_in old) past call) × StandsFor new (past_after (settings_in old) past call))
 
+-- nothing has become durable in between, and the device did not fail
+abbrev pub IsAsDurable : HallView → HallView → Type 0
+IsAsDurable old new = (new.issuer.durable ≡ old.issuer.durable) × (new.issuer.broken ≡ old.issuer.broken)
+
 -- it is the first check that fails, or want of memory where none does
 abbrev pub IsReason : Option HallError → HallError → Type 0
 IsReason refused why = (refused ≡ Some why) ⊎ ((refused ≡ None) × (why ≡ error.OutOfMemory))

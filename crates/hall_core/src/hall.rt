@@ -60,7 +60,7 @@ impl<I: Issuer> Hall<I> {
     ghost use Rattle.group_commit.specs.Issuer.{issued_in, state_in};
     ghost use Rattle.hall_core.specs.Past.{tick, take_slot, forget_slot};
     ghost use Rattle.hall_core.specs.Hall.{view_of, settings_in, pending_in, refusal_of_arrival, refusal_of_moving, IsSameHall, request, Does, Refuses};
-    ghost use Rattle.hall_core.specs.Hall.{Gives, IsDone};
+    ghost use Rattle.hall_core.specs.Hall.{Gives, IsDone, IsAsDurable};
 
     // Whether no number is left for a command.
     fn is_worn_out(&self, has_command: bool) -> bool
@@ -115,6 +115,7 @@ impl<I: Issuer> Hall<I> {
         ensures slots { OnOk result (KeepRequest self.old.slots self.new.slots slot unavailable prepared
             (issued_in (I.view self.new.issuer))) }
         ensures stops { OnOk result (self.new.stops ≡ (self.old.stops || stops)) }
+        ensures no_call { I.is_untouched self.old.issuer self.new.issuer }
         ensures err { OnErr result (IsSameHall (view_of I.view self.old) (view_of I.view self.new)) }
         ensures memory { HasPlaceFor (I.view self.old.issuer) prepared.command → IfErr result (λ why. why ≡ HallError.OutOfMemory) }
     {
@@ -165,6 +166,8 @@ impl<I: Issuer> Hall<I> {
         requires environment { IsToOneOf self.old.environments call }
         requires fit { IsFit (settings_in (view_of I.view self.old)) (request slot call now words) }
         ensures ok { IfOk result (Does (view_of I.view self.old) (view_of I.view self.new) (request slot call now words)) }
+        ensures kept { OnOk result (IsAsDurable (view_of I.view self.old) (view_of I.view self.new)) }
+        ensures no_call { I.is_untouched self.old.issuer self.new.issuer }
         ensures refused { IfErr result (Refuses (view_of I.view self.old) (request slot call now words)) }
         ensures err { OnErr result (IsSameHall (view_of I.view self.old) (view_of I.view self.new)) }
     {
@@ -217,6 +220,7 @@ impl<I: Issuer> Hall<I> {
         ensures environments { OnOk result (Leads self.old.environments prepared.changes self.new.environments) }
         ensures slots { OnOk result (KeepTick self.old.slots self.new.slots prepared (issued_in (I.view self.new.issuer))) }
         ensures stops { OnOk result (self.new.stops ≡ self.old.stops) }
+        ensures no_call { I.is_untouched self.old.issuer self.new.issuer }
         ensures err { OnErr result (IsSameHall (view_of I.view self.old) (view_of I.view self.new)) }
         ensures memory { HasPlaceFor (I.view self.old.issuer) prepared.command → IfErr result (λ why. why ≡ HallError.OutOfMemory) }
     {
@@ -241,6 +245,8 @@ impl<I: Issuer> Hall<I> {
     pub fn tick(&mut self, now: u64) -> Result<Option<Issued>, HallError>
         requires { IsFit (settings_in (view_of I.view self.old)) (tick now) }
         ensures ok { IfOk result (Does (view_of I.view self.old) (view_of I.view self.new) (tick now)) }
+        ensures kept { OnOk result (IsAsDurable (view_of I.view self.old) (view_of I.view self.new)) }
+        ensures no_call { I.is_untouched self.old.issuer self.new.issuer }
         ensures refused { IfErr result (Refuses (view_of I.view self.old) (tick now)) }
         ensures err { OnErr result (IsSameHall (view_of I.view self.old) (view_of I.view self.new)) }
     {
@@ -271,6 +277,7 @@ impl<I: Issuer> Hall<I> {
         ensures gives { Gives (view_of I.view self.old) slot result }
         ensures some { OnSome result (IsDone (view_of I.view self.old) (view_of I.view self.new) (take_slot slot)) }
         ensures none { IfNone result (IsSameHall (view_of I.view self.old) (view_of I.view self.new)) }
+        ensures issuer { self.new.issuer ≡ self.old.issuer }
     {
         match self.slots.take(slot, self.broken, self.receipt) {
             Some((reply, receipt)) => Some(Released { reply, receipt }),
@@ -281,7 +288,8 @@ impl<I: Issuer> Hall<I> {
     /// The reply of a slot is not wanted any more: it is thrown away, now or when it is computed, which closes the slot.
     /// A parked poll stays parked. For a slot that is not open it does nothing. It takes no memory.
     pub fn forget(&mut self, slot: u64)
-        ensures { IsDone (view_of I.view self.old) (view_of I.view self.new) (forget_slot slot) }
+        ensures done { IsDone (view_of I.view self.old) (view_of I.view self.new) (forget_slot slot) }
+        ensures issuer { self.new.issuer ≡ self.old.issuer }
     {
         self.slots.forget(slot);
     }

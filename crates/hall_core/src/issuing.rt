@@ -36,6 +36,7 @@ pub(crate) fn issue<I: Issuer>(
 ) -> Result<Option<Issued>, HallError>
     ensures ok { IfOk result (IsAnswered (I.view issuer.old) command) }
     ensures goes_on { OnOk result (Continues (I.view issuer.old) (I.view issuer.new) command) }
+    ensures no_call { I.is_untouched issuer.old issuer.new }
     ensures err { OnErr result (IsSameIssuer (I.view issuer.old) (I.view issuer.new)) }
     ensures memory { HasPlaceFor (I.view issuer.old) command → IfErr result (λ why. why ≡ HallError.OutOfMemory) }
 {

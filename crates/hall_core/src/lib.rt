@@ -1,8 +1,10 @@
-//! The hall: what a list of its calls makes of a history, of the environments and of the replies that wait.
+//! The hall: one call gives at most one command and one reply, and the reply is held back until all that it shows is
+//! durable.
 //!
-//! What is meant is said over the run, the list of all calls that were not refused. The crates above use that each
-//! command is legal, that each environment accepts what is called of it, and that a reply is told once all that it shows
-//! is durable. Its parts are here, each with its own contract; the hall's own calls are not public yet.
+//! A hall stands for what its run did: the history, the calls of its environments, and what became of slots. What is
+//! meant is said over the list of all calls that were not refused. The crates above use that each call answers the
+//! command that the definitions give, and then stands for the run with it, and that `take` gives exactly the replies
+//! that may be told.
 #![tactic(auto)]
 
 mod answering;

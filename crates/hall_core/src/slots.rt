@@ -94,7 +94,12 @@ impl Slots {
 
     /// The reply of a slot and its receipt, if it is told where all up to this receipt is durable; the slot is
     /// then closed. It takes no memory.
-    pub(crate) fn take(&mut self, slot: u64, is_broken: bool, receipt: Receipt) -> Option<(Reply, Receipt)>
+    pub(crate) fn take(
+        &mut self,
+        slot: u64,
+        is_broken: bool,
+        receipt: Receipt,
+    ) -> Option<(Reply, Receipt)>
         ensures gives { ForEachKept self.old (λ s events. result ≡ option_map (told_in s) (released_in is_broken receipt events slot)) }
         ensures some { ForEachKept self.old (λ s events. OnSome result (KeepMore s self.new events (taken slot))) }
         ensures none { IfNone result (self.new ≡ self.old) }

@@ -1,10 +1,10 @@
-use Rattle.std.proofs.Common.{rules, ◌≡◌, refl}
+use Rattle.std.proofs.Common.{refl}
 use Rattle.hall_core.specs.Hall.{view_of}
 use Rattle.hall_core.proofs.Ticking.{forgotten_in}
 use Rattle.hall_core.proofs.hall.Hall.forget.Goals as goal
 
-pub returns : goal.returns
-returns g c = λ past stands.
+pub returns-clause-done : goal.returns-clause-done
+returns-clause-done g c = λ past stands.
     let old = view_of g.I.Issuer.view c.args.self.now in
     forgotten_in old (record old { slots = c.forget.new.self }) past c.args.slot stands (g.met.I.Issuer.laws c.args.self.now.issuer) refl refl refl
     (c.forget.ensures _ past.slots stands.slots)

@@ -1,4 +1,4 @@
-use Rattle.std.proofs.Common.{rules, ◌≡◌, refl, sym, ap, subst, ◌∙◌, inl, inr, None, Some}
+use Rattle.std.proofs.Common.{rules, ◌≡◌, refl, subst, ◌∙◌, inl, inr, None, Some}
 use Rattle.std.specs.Prelude.{is_some}
 use Rattle.hall_core.specs.Plans.{PlansTick}
 use Rattle.hall_core.specs.Prepared.{IsPreparedFor}
