@@ -1,5 +1,5 @@
 // Whether a request is one that the hall can be asked.
-ghost use Rattle.std.specs.Prelude.{◌≡◌, ℕ, List, IsTrue, false, length};
+ghost use Rattle.std.specs.Prelude.{◌≡◌, IsTrue, false, length};
 ghost use Rattle.hall_core.specs.OpenSlots.{has_open};
 ghost use Rattle.hall_core.specs.Plans.{IsToOneOf};
 ghost use Rattle.hall_core.specs.Agreement.{IsFit, text_of};
@@ -52,11 +52,12 @@ impl<I: Issuer> Hall<I> {
 
     /// Whether `arrive` can be asked this now: the slot is not open, the environment is there, the text of an answer is
     /// within the settings' limit, and the moment is at most the end of the year 9999.
-    pub fn fits(&self, slot: u64, call: &Call, now: u64) -> bool
+    pub fn fits(&self, slot: u64, call: &Call, now: u64, words: &[u64; 2]) -> bool
         ensures free { IsTrue result → has_open self.now.slots slot ≡ false }
         ensures environment { IsTrue result → IsToOneOf self.now.environments call.now }
-        ensures fit { IsTrue result → (words : List ℕ) → IsFit (settings_in (view_of I.view self.now)) (request slot call.now now words) }
+        ensures fit { IsTrue result → IsFit (settings_in (view_of I.view self.now)) (request slot call.now now words.now) }
     {
+        let _ = words;
         let most = self.issuer.table().settings().response as usize;
         !self.slots.is_open(slot)
             && self.environments.has_that_of(call)
