@@ -14,6 +14,7 @@ mod changes;
 mod environments;
 mod error;
 pub mod examples;
+mod fitting;
 mod hall;
 mod ids;
 mod issuing;

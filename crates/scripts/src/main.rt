@@ -11,6 +11,7 @@ mod disks;
 mod drilling;
 mod environments;
 mod events;
+mod halls;
 mod journals;
 mod memory;
 mod orders;

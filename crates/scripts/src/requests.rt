@@ -160,21 +160,29 @@ fn add_header(alloc: Global, headers: &mut HeaderMap, pair: &str) -> Reply {
     }
 }
 
-// What a request is read as.
-fn read(
-    alloc: Global,
-    settings: &Settings,
-    port: u16,
-    method: &Method,
-    target: &str,
-    headers: &HeaderMap,
-    body: Vec<u8>,
-    answer: &mut Text,
-) -> Reply {
-    match read_request(alloc, settings, port, method, target, headers, body) {
-        Ok(call) => tell_call(&call, answer),
-        Err(RequestError::Refused(why)) => Reply::Refused(type_of(why)),
-        Err(RequestError::OutOfMemory) => Reply::Refused("out of memory"),
+/// The call of the request `PORT METHOD TARGET [NAME=VALUE ..] [body BYTES]`, or what is answered at once.
+pub fn read_call(alloc: Global, settings: &Settings, words: &mut Words) -> Result<Call, Reply> {
+    let port = u16::try_from(words.number_to(65535)).unwrap_or(0);
+    let Ok(method) = Method::from_bytes(alloc, words.word().as_bytes()) else {
+        return Err(Reply::Unreadable);
+    };
+    let target = words.word();
+    let (pairs, text) = parts_of_rest(words.rest());
+    let mut headers: HeaderMap = HeaderMap::new(alloc);
+    for pair in pairs.split_whitespace() {
+        match add_header(alloc, &mut headers, pair) {
+            Reply::Done => {}
+            reply => return Err(reply),
+        }
+    }
+    let body = body(alloc, text)?;
+    if words.are_bad() {
+        return Err(Reply::Unreadable);
+    }
+    match read_request(alloc, settings, port, &method, target, &headers, body) {
+        Ok(call) => Ok(call),
+        Err(RequestError::Refused(why)) => Err(Reply::Refused(type_of(why))),
+        Err(RequestError::OutOfMemory) => Err(Reply::Refused("out of memory")),
     }
 }
 
@@ -193,27 +201,8 @@ pub fn request_step(
     words: &mut Words,
     answer: &mut Text,
 ) -> Reply {
-    let port = u16::try_from(words.number_to(65535)).unwrap_or(0);
-    let Ok(method) = Method::from_bytes(alloc, words.word().as_bytes()) else {
-        return Reply::Unreadable;
-    };
-    let target = words.word();
-    let (pairs, text) = parts_of_rest(words.rest());
-    let mut headers: HeaderMap = HeaderMap::new(alloc);
-    for pair in pairs.split_whitespace() {
-        match add_header(alloc, &mut headers, pair) {
-            Reply::Done => {}
-            reply => return reply,
-        }
+    match read_call(alloc, settings, words) {
+        Ok(call) => tell_call(&call, answer),
+        Err(reply) => reply,
     }
-    let body = match body(alloc, text) {
-        Ok(body) => body,
-        Err(reply) => return reply,
-    };
-    if words.are_bad() {
-        return Reply::Unreadable;
-    }
-    read(
-        alloc, settings, port, &method, target, &headers, body, answer,
-    )
 }

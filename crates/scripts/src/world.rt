@@ -3,6 +3,7 @@ use crate::destinations::{tell_member, tell_record};
 use crate::disks::disk_step;
 use crate::environments::environment_step;
 use crate::events::broker_step;
+use crate::halls::hall_step;
 use crate::memory::{format_disk, memory_step};
 use crate::records::record_step;
 use crate::refusals;
@@ -16,6 +17,7 @@ use crate::words::Words;
 use checkpoint::OpenError;
 use env_phase::Env;
 use group_commit::{Broker, OpenFailure, Ticket};
+use hall_core::Hall;
 use retry_rules::Settings;
 use sector_disk::{CallKind, FaultOnceDisk, FuseDisk, MemDisk};
 use std::alloc::Global;
@@ -30,6 +32,7 @@ enum Stage {
     Nothing,
     Closed(CaseDisk),
     Open(Broker<CaseDisk>),
+    Asked(Hall<Broker<CaseDisk>>),
 }
 
 /// Where a case stands.
@@ -110,6 +113,20 @@ fn formatted(
     }
 }
 
+// Opens a disk and a hall over its broker: where it stands then, and what is answered.
+fn opened_hall(alloc: Global, disk: CaseDisk, answer: &mut Text) -> (Stage, Reply) {
+    match Broker::open(alloc, disk) {
+        Ok(broker) => match Hall::new(alloc, broker) {
+            Ok(hall) => (Stage::Asked(hall), Reply::Done),
+            Err(failure) => (
+                Stage::Closed(failure.broker.close()),
+                Reply::Refused("out of memory"),
+            ),
+        },
+        Err(OpenFailure { cause, disk }) => (Stage::Closed(disk), refusals::open(cause, answer)),
+    }
+}
+
 // Opens a disk: where it stands then, and why it is not open.
 fn opened(alloc: Global, disk: CaseDisk) -> (Stage, Option<OpenError>) {
     match Broker::open(alloc, disk) {
@@ -146,7 +163,22 @@ impl World {
                 self.tickets.clear();
                 Some(broker.close())
             }
+            Stage::Asked(hall) => {
+                self.durable = hall.durable().number();
+                self.issued = hall.issued();
+                Some(hall.close())
+            }
         }
+    }
+
+    // Opens the disk, and a hall over its broker.
+    fn open_hall(&mut self, alloc: Global, answer: &mut Text) -> Reply {
+        let Some(disk) = self.take_disk() else {
+            return Reply::Unreadable;
+        };
+        let (stage, reply) = opened_hall(alloc, disk, answer);
+        self.stage = stage;
+        reply
     }
 
     // Opens the disk.
@@ -268,6 +300,7 @@ impl World {
             Stage::Open(broker) => {
                 broker_step(alloc, broker, &mut self.tickets, word, words, answer)
             }
+            Stage::Asked(hall) => hall_step(alloc, hall, &self.settings, word, words, answer),
         }
     }
 }
@@ -280,6 +313,7 @@ impl Scene for World {
             "blank" => self.make_blank(alloc, words),
             "disk" => self.make_disk(alloc, words, answer),
             "open" => self.open(alloc, answer),
+            "hall" => self.open_hall(alloc, answer),
             "close" => self.close(),
             "stop" => self.stop(alloc, words, answer),
             "device" => self.set_device(alloc, words, answer),
