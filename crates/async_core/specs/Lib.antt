@@ -7,6 +7,7 @@ pub mod Limits
 pub mod State
 pub mod Histories
 pub mod Readers
+pub mod Ids
 pub mod Choice
 pub mod Equality
 pub mod Steps

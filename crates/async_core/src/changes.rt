@@ -153,7 +153,7 @@ fn new_answer(command: &Command) -> Result<Option<Answer>, AllocError>
 }
 
 /// Changes the row of the event that command number `number` names.
-fn update(
+pub(crate) fn update(
     row: &mut EventRow,
     settings: &Settings,
     number: u64,

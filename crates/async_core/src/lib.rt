@@ -10,6 +10,8 @@ mod choice;
 mod copies;
 mod equality;
 pub mod examples;
+mod held;
+mod ids;
 mod illegal;
 mod legality;
 mod next;
