@@ -3,6 +3,8 @@ pub mod Firsts
 pub mod NamedPlaces
 pub mod HeldRows
 pub mod HeldIds
+pub mod TurnSteps
+pub mod FirstTurns
 pub mod Choices
 pub mod Nexts
 pub mod LegalMoves

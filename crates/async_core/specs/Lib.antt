@@ -8,6 +8,7 @@ pub mod State
 pub mod Histories
 pub mod Readers
 pub mod Ids
+pub mod Turns
 pub mod Choice
 pub mod Equality
 pub mod Steps

@@ -84,7 +84,7 @@ pub fn move_by(
     }
 }
 
-fn lesser(a: u64, b: u128) -> u128
+pub(crate) fn lesser(a: u64, b: u128) -> u128
     ensures { result ≡ min a b }
 {
     let a = u128::from(a);
@@ -103,7 +103,7 @@ fn ripe_by(too_old: u128, standing: Standing) -> u128
     }
 }
 
-fn is_on(side: Side, outcome: Outcome) -> bool
+pub(crate) fn is_on(side: Side, outcome: Outcome) -> bool
     ensures { result ≡ meant.is_on side outcome }
 {
     match side {

@@ -19,6 +19,7 @@ mod readers;
 mod situation;
 mod standings;
 mod table;
+mod turns;
 
 pub use choice::{Move, Side};
 pub use illegal::{ApplyError, Illegal};
