@@ -26,7 +26,7 @@ tie_both Less b = refl
 tie_both Equal b = refl
 tie_both Greater b = refl
 
-is_name_at : (id other : List ℕ) (p q : ℕ) → is_eq (by_id (id, p) (other, q)) ≡ (bytes_eq id other && is_eq (nat_cmp p q))
+pub is_name_at : (id other : List ℕ) (p q : ℕ) → is_eq (by_id (id, p) (other, q)) ≡ (bytes_eq id other && is_eq (nat_cmp p q))
 is_name_at id other p q = tie_both (slice_cmp nat_cmp id other) (nat_cmp p q) ∙ ap (λ b. b && is_eq (nat_cmp p q)) (is_eq-slice_cmp id other)
 
 and_right_false : (b : Bool) → (b && false) ≡ false
@@ -43,7 +43,7 @@ cond_self false = refl
 
 module _ (m : BTreeMap ℕ EventRow) (s : BTreeSet (List ℕ × ℕ)) (n : ℕ) (held : IsHeld m s n) where
   -- nothing is at the next place
-  none_next : (o : Option EventRow) → tree.get nat_cmp m n ≡ o → tree.get nat_cmp m n ≡ None
+  pub none_next : (o : Option EventRow) → tree.get nat_cmp m n ≡ o → tree.get nat_cmp m n ≡ None
   none_next None is = is
   none_next (Some r) is = absurd (omega (arith, held.below n (rw is refl)))
 

@@ -5,6 +5,7 @@ pub mod HeldRows
 pub mod HeldIds
 pub mod TurnSteps
 pub mod FirstTurns
+pub mod KeptRows
 pub mod Choices
 pub mod Nexts
 pub mod LegalMoves

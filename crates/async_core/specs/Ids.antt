@@ -5,7 +5,7 @@ use Rattle.std.specs.Cmp.Lexicographic.{slice_cmp}
 use Rattle.std.specs.BTreeMap as tree
 use Rattle.std.specs.BTreeSet as sorted
 use Rattle.std.specs.BTreeMap.{BTreeMap, insert_entry, is_at}
-use Rattle.std.specs.Map.{remove_entry}
+use Rattle.std.specs.Map.{remove_entry, set_value}
 use Rattle.std.specs.BTreeSet.{BTreeSet}
 use Rattle.std.specs.declared.cmp.Ordering.{Ordering}
 use Rattle.invoke_records.specs.declared.row.EventRow.{EventRow}
@@ -44,3 +44,12 @@ PutsRow old place row new =
 abbrev pub TakesRow : BTreeMap ℕ EventRow → ℕ → BTreeMap ℕ EventRow → Type 0
 TakesRow old place new =
     (new.entries ≡ remove_entry (is_at (nat_cmp place)) old.entries) × tree.Updates nat_cmp old new place None × tree.IsOrdered nat_cmp new
+
+-- the row at a place is this one now
+abbrev pub SetsRow : BTreeMap ℕ EventRow → ℕ → EventRow → BTreeMap ℕ EventRow → Type 0
+SetsRow old place row new =
+    (new.entries ≡ set_value (is_at (nat_cmp place)) old.entries row) × tree.Updates nat_cmp old new place (Some row) × tree.IsOrdered nat_cmp new
+
+-- of the row at a place, if there is one, this holds
+abbrev pub ForRowAt : BTreeMap ℕ EventRow → ℕ → (EventRow → Type 0) → Type 0
+ForRowAt rows place P = (r : EventRow) → tree.get nat_cmp rows place ≡ Some r → P r

@@ -9,6 +9,7 @@ pub mod Histories
 pub mod Readers
 pub mod Ids
 pub mod Turns
+pub mod Kept
 pub mod Choice
 pub mod Equality
 pub mod Steps

@@ -1,5 +1,5 @@
 -- The turns of the rows: in which indexes an event stands, and by what each of them is ordered.
-use Rattle.std.specs.Prelude.{◌≡◌, ℕ, ◌+◌, ◌*◌, ◌<◌, ◌≤◌, ◌⊎◌, min, Bool, true, false, not, ◌&&◌, ◌||◌, ◌==◌, List, [], ◌∷◌, Option, Some, None, if◌then◌else◌}
+use Rattle.std.specs.Prelude.{◌≡◌, ℕ, ◌+◌, ◌*◌, ◌<◌, ◌≤◌, ◌⊎◌, min, Bool, true, false, not, ◌&&◌, ◌||◌, ◌==◌, List, [], ◌∷◌, Option, Some, None, if◌then◌else◌, nat_le, All, Contains, option_map}
 use Rattle.std.specs.List.{list_any}
 use Rattle.std.specs.Ordering.{nat_cmp, ordering_then}
 use Rattle.std.specs.declared.cmp.Ordering.{Ordering}
@@ -12,7 +12,7 @@ use Rattle.async_core.specs.declared.choice.Side.TheVariants as side
 use Rattle.async_core.specs.declared.turns.Facts.{Facts}
 use Rattle.async_core.specs.declared.turns.Index.{Index}
 use Rattle.async_core.specs.declared.turns.Index.TheVariants.{Ripe, Deadline, Running, Environment, Idle, Success, Failure}
-use Rattle.async_core.specs.Choice.{is_on}
+use Rattle.async_core.specs.Choice.{is_on, NotBefore}
 
 -- the rank of an index, two numbers by which it is ordered, and the place of a row
 abbrev pub Turn : Type 0
@@ -106,6 +106,33 @@ Switches age place old new turns changed = (at : ℕ → Option Facts) → AreTu
 -- where the event at a place had these facts, the turns stay those of the events
 abbrev pub StaysAt : ℕ → ℕ → Option Facts → BTreeSet Turn → BTreeSet Turn → Type 0
 StaysAt age place old turns changed = (at : ℕ → Option Facts) → AreTurns age at turns → at place ≡ old → AreTurns age at changed
+
+-- ## The first of some rows
+
+-- a turn whose first number is at least this one, and at most that one if one is given
+abbrev pub within : ℕ → Option ℕ → ℕ × ℕ → Bool
+within low None at = nat_le low at.0
+within low (Some last) at = nat_le low at.0 && nat_le at.0 last
+
+abbrev pub turn_within : ℕ → Option ℕ → Option (ℕ × ℕ) → Option (ℕ × ℕ)
+turn_within low last None = None
+turn_within low last (Some at) = if within low last at then Some at else None
+
+-- where a row stands in an index, within these bounds
+abbrev pub row_turn : ℕ → Index → ℕ → Option ℕ → EventRow → Option (ℕ × ℕ)
+row_turn age i low last r = turn_within low last (turn_in age (facts_of r) i)
+
+-- this row has the least rank
+pub record IsLeastBy (ranked : EventRow → Option (ℕ × ℕ)) (rows : List EventRow) (row : EventRow) : Type 0 where
+  pub is_there : Contains rows row
+  pub at : ℕ × ℕ
+  pub has : ranked row ≡ Some at
+  pub least : All (λ r. NotBefore at (ranked r)) rows
+
+-- the row of least rank, or none where no row has a rank
+abbrev pub IsFirstBy : (EventRow → Option (ℕ × ℕ)) → List EventRow → Option EventRow → Type 0
+IsFirstBy ranked rows None = All (λ r. ranked r ≡ None) rows
+IsFirstBy ranked rows (Some row) = IsLeastBy ranked rows row
 
 -- ## Steps of private functions
 

@@ -104,7 +104,7 @@ fn pushed_back_at(push_backs: u32, time: u64) -> Standing
 }
 
 /// Where an event stands after the command, where it had failed and was pushed back so often before.
-fn standing_after(
+pub(crate) fn standing_after(
     settings: &Settings,
     command: &Command,
     failures: u32,
