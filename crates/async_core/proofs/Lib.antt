@@ -1,4 +1,6 @@
-pub mod Places
+pub mod Choices
+pub mod Nexts
+pub mod LegalMoves
 pub mod Firsts
 pub mod NamedPlaces
 pub mod HeldRows
@@ -6,6 +8,3 @@ pub mod HeldIds
 pub mod TurnSteps
 pub mod FirstTurns
 pub mod KeptRows
-pub mod Choices
-pub mod Nexts
-pub mod LegalMoves

@@ -1,5 +1,5 @@
 -- The events that are held, as their rows in the order of acceptance, and the indexes in which they stand.
-use Rattle.std.specs.Prelude.{◌≡◌, ℕ, Bool, true, false, List, Option, Some, None, option_map}
+use Rattle.std.specs.Prelude.{◌≡◌, ℕ, Bool, true, false, List, Option, Some, None, option_map, is_some, All, ◌<◌}
 use Rattle.std.specs.Map.{values_of}
 use Rattle.std.specs.Ordering.{nat_cmp}
 use Rattle.std.specs.BTreeMap as tree
@@ -10,7 +10,8 @@ use Rattle.invoke_records.specs.declared.row.EventRow.{EventRow}
 use Rattle.async_core.specs.declared.turns.Facts.{Facts}
 use Rattle.async_core.specs.Rules.{running_at}
 use Rattle.async_core.specs.Ids.{by_id, is_named, IsHeld}
-use Rattle.async_core.specs.Turns.{Turn, AreTurns, Switches, StaysAt, facts_of}
+use Rattle.async_core.specs.Turns.{Turn, AreTurns, Switches, StaysAt, facts_of, idle_turn}
+use Rattle.async_core.specs.Choice.{too_old_at}
 
 -- the age from which events are too old, in seconds, and the rows
 pub record Kept : Type 0 where
@@ -38,3 +39,7 @@ Enters age place id facts ids named turns turned = sorted.Updates by_id ids name
 abbrev pub StaysOut : ℕ → ℕ → BTreeSet (List ℕ × ℕ) → BTreeSet (List ℕ × ℕ) → BTreeSet Turn → BTreeSet Turn → Type 0
 StaysOut age place ids named turns turned =
     (((id : List ℕ) → is_named ids id place ≡ false) → (id : List ℕ) (q : ℕ) → is_named named id q ≡ is_named ids id q) × StaysAt age place None turns turned
+
+-- no event that waits for an attempt is too old
+abbrev pub NoneExpired : ℕ → Kept → Type 0
+NoneExpired now kept = All (λ (r : EventRow). is_some (idle_turn (facts_of r) r.standing) ≡ true → now < too_old_at kept.age r) kept.rows

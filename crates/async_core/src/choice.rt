@@ -181,7 +181,7 @@ fn goes_before(a: (u128, u64), b: (u128, u64)) -> bool
 }
 
 /// The first of some rows, or the one that comes to them.
-fn better<'a>(order: Order, best: Option<&'a EventRow>, row: &'a EventRow) -> Option<&'a EventRow>
+pub(crate) fn better<'a>(order: Order, best: Option<&'a EventRow>, row: &'a EventRow) -> Option<&'a EventRow>
     ensures { meant.ChoosesAgain order (option_copied best.entry) row.now (option_copied result) }
 {
     let Some(at) = rank(order, row) else {
@@ -198,15 +198,4 @@ fn better<'a>(order: Order, best: Option<&'a EventRow>, row: &'a EventRow) -> Op
     } else {
         Some(first)
     }
-}
-
-/// The row of least rank, if a row has one.
-pub fn first_row<'a>(rows: &'a [EventRow], order: Order) -> Option<&'a EventRow>
-    ensures { meant.IsChosen order rows.now (option_copied result) }
-{
-    let mut best = None;
-    for row in rows {
-        best = better(order, best, row);
-    }
-    best
 }

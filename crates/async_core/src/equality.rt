@@ -1,6 +1,5 @@
 // Whether two tables are equal. It takes no memory.
 ghost use Rattle.std.specs.Prelude.{◌≡◌, IsTrue, ◌↔◌};
-ghost use Rattle.std.specs.Cmp.Lexicographic.{pointwise};
 ghost use Rattle.async_core.specs.Equality as meant;
 ghost use Rattle.async_core.specs.laws.Equality.{same_state-laws};
 
@@ -44,7 +43,7 @@ fn same_numbers(a: &EventRow, b: &EventRow) -> bool
         && a.push_backs == b.push_backs
 }
 
-fn same_row(a: &EventRow, b: &EventRow) -> bool
+pub(crate) fn same_row(a: &EventRow, b: &EventRow) -> bool
     ensures { result ≡ meant.same_row a.now b.now }
 {
     a.id == b.id
@@ -52,20 +51,6 @@ fn same_row(a: &EventRow, b: &EventRow) -> bool
         && same_standing(a.standing, b.standing)
         && a.payload.as_slice() == b.payload.as_slice()
         && same_answer(&a.answer, &b.answer)
-}
-
-fn same_rows(a: &[EventRow], b: &[EventRow]) -> bool
-    ensures { result ≡ pointwise meant.same_row a.now b.now }
-{
-    if a.len() != b.len() {
-        return false;
-    }
-    for place in 0..a.len() {
-        if !same_row(&a[place], &b[place]) {
-            return false;
-        }
-    }
-    true
 }
 
 fn same_rules(a: &Settings, b: &Settings) -> bool
@@ -96,7 +81,7 @@ impl Table {
     {
         self.number() == other.number()
             && self.last_moment() == other.last_moment()
-            && same_rows(&self.rows, &other.rows)
+            && self.held.has_same_rows(&other.held)
     }
 
     #[tactic(auto, unfolding(crate::specs::Equality::same_state))]

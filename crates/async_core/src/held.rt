@@ -1,7 +1,11 @@
 // The events that are held: their rows in the order of acceptance, found by id and by the indexes.
-ghost use Rattle.std.specs.Prelude.{◌≡◌, ◌+◌, ◌++◌, ◌∷◌, [], ◌<◌, ◌≤◌, ◌^◌, length, find, option_map, OnOk, OnErr, if◌then◌else◌};
+ghost use Rattle.std.specs.Prelude.{◌≡◌, ◌+◌, ◌++◌, ◌∷◌, [], ◌<◌, ◌≤◌, ◌^◌, length, find, option_map, OnOk, OnErr, IfOk, if◌then◌else◌};
 ghost use Rattle.std.specs.Option.{option_copied};
 ghost use Rattle.std.specs.BTreeMap as tree;
+ghost use Rattle.std.specs.Map.{values_of};
+ghost use Rattle.std.specs.Cmp.Lexicographic.{pointwise};
+ghost use Rattle.async_core.specs.Choice.{IsChosen};
+ghost use Rattle.async_core.specs.Equality as meant;
 ghost use Rattle.async_core.specs.Rules.{has_id, remove_row, running_at};
 ghost use Rattle.async_core.specs.Steps as step;
 ghost use Rattle.async_core.specs.Ids.{PutsRow, TakesRow, SetsRow, ForRowAt};
@@ -10,6 +14,9 @@ ghost use Rattle.async_core.specs.Turns as turned;
 ghost use Rattle.async_core.specs.Turns.{within, row_turn, IsFirstBy};
 
 use crate::changes::{standing_after, update};
+use crate::choice::{Order, better};
+use crate::copies::copy_row;
+use crate::equality::same_row;
 use crate::ids::first_place;
 use crate::standings::is_running;
 use crate::turns::{
@@ -115,6 +122,45 @@ fn recounted(running: usize, ran: bool, runs: bool) -> usize
     if runs { running + 1 } else { running - 1 }
 }
 
+fn first_of<'a>(rows: &'a BTreeMap<u64, EventRow>, order: Order) -> Option<&'a EventRow>
+    ensures { IsChosen order (values_of rows.now.entries) (option_copied result) }
+{
+    let mut best = None;
+    for row in rows.values() {
+        best = better(order, best, row);
+    }
+    best
+}
+
+fn copies_of(
+    rows: &BTreeMap<u64, EventRow>,
+    alloc: Global,
+) -> Result<Vec<EventRow>, AllocError>
+    ensures { IfOk result (λ copies. copies.items ≡ values_of rows.now.entries) }
+{
+    let mut copies = Vec::with_capacity(alloc, rows.len())?;
+    for row in rows.values() {
+        let copy = copy_row(row)?;
+        copies.push(copy)?;
+    }
+    Ok(copies)
+}
+
+fn have_same_rows(a: &BTreeMap<u64, EventRow>, b: &BTreeMap<u64, EventRow>) -> bool
+    ensures { result ≡ pointwise meant.same_row (values_of a.now.entries) (values_of b.now.entries) }
+{
+    let mut others = b.values();
+    for row in a.values() {
+        let Some(other) = others.next() else {
+            return false;
+        };
+        if !same_row(row, other) {
+            return false;
+        }
+    }
+    others.next().is_none()
+}
+
 fn is_within(low: u128, last: Option<u64>, at: (u128, u64)) -> bool
     ensures { result ≡ within low last at }
 {
@@ -137,6 +183,13 @@ impl Held {
             running: 0,
             next: 0,
         }
+    }
+
+    /// From which age on an event is too old, in seconds.
+    pub(crate) fn age(&self) -> u32
+        ensures { result ≡ self.now.age }
+    {
+        self.age
     }
 
     /// How many there are.
@@ -174,6 +227,27 @@ impl Held {
             return None;
         }
         self.rows.get(&first.2)
+    }
+
+    /// The row that goes first in this order. It looks at each row.
+    pub(crate) fn first_row(&self, order: Order) -> Option<&EventRow>
+        ensures { IsChosen order self.now.rows (option_copied result) }
+    {
+        first_of(&self.rows, order)
+    }
+
+    /// Equal rows in memory of their own.
+    pub(crate) fn copies(&self, alloc: Global) -> Result<Vec<EventRow>, AllocError>
+        ensures { IfOk result (λ copies. copies.items ≡ self.now.rows) }
+    {
+        copies_of(&self.rows, alloc)
+    }
+
+    /// Whether both have the same rows.
+    pub(crate) fn has_same_rows(&self, other: &Held) -> bool
+        ensures { result ≡ pointwise meant.same_row self.now.rows other.now.rows }
+    {
+        have_same_rows(&self.rows, &other.rows)
     }
 
     /// Adds a row behind the others. A refusal, for want of memory, changes nothing.
