@@ -8,3 +8,4 @@ pub mod HeldIds
 pub mod TurnSteps
 pub mod FirstTurns
 pub mod KeptRows
+pub mod Ranks

@@ -23,6 +23,7 @@ pub struct Table {
 }
 
 impl Model for Table {
+    ghost use Rattle.std.specs.Prelude.{◌≡◌};
     ghost use Rattle.async_core.specs.State.{State};
 
     ghost Value = { State };
