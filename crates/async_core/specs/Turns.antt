@@ -8,6 +8,7 @@ use Rattle.invoke_records.specs.declared.row.Outcome.TheVariants as outcome
 use Rattle.invoke_records.specs.declared.row.EventRow.{EventRow}
 use Rattle.invoke_records.specs.declared.row.Standing.{Standing}
 use Rattle.invoke_records.specs.declared.row.Standing.TheVariants as standing
+use Rattle.async_core.specs.declared.choice.Side.{Side}
 use Rattle.async_core.specs.declared.choice.Side.TheVariants as side
 use Rattle.async_core.specs.declared.turns.Facts.{Facts}
 use Rattle.async_core.specs.declared.turns.Index.{Index}
@@ -64,13 +65,9 @@ idle_turn f (standing.DueAgain due) = Some (f.accepted, 0)
 idle_turn f other = None
 
 -- where it has ended, on one side or the other: by the number of the command that ended it
-abbrev pub success_turn : Facts → Standing → Option (ℕ × ℕ)
-success_turn f (standing.Ended outcome at) = if is_on side.Success outcome then Some (f.last_number, 0) else None
-success_turn f other = None
-
-abbrev pub failure_turn : Facts → Standing → Option (ℕ × ℕ)
-failure_turn f (standing.Ended outcome at) = if is_on side.Failure outcome then Some (f.last_number, 0) else None
-failure_turn f other = None
+abbrev pub ended_turn : Side → Facts → Standing → Option (ℕ × ℕ)
+ended_turn side f (standing.Ended outcome at) = if is_on side outcome then Some (f.last_number, 0) else None
+ended_turn side f other = None
 
 abbrev pub turn_in : ℕ → Facts → Index → Option (ℕ × ℕ)
 turn_in age f Ripe = ripe_turn age f f.standing
@@ -78,8 +75,8 @@ turn_in age f Deadline = deadline_turn f f.standing
 turn_in age f Running = running_turn f f.standing
 turn_in age f Environment = environment_turn f f.standing
 turn_in age f Idle = idle_turn f f.standing
-turn_in age f Success = success_turn f f.standing
-turn_in age f Failure = failure_turn f f.standing
+turn_in age f Success = ended_turn side.Success f f.standing
+turn_in age f Failure = ended_turn side.Failure f f.standing
 
 -- ## A set of turns
 

@@ -181,7 +181,11 @@ fn goes_before(a: (u128, u64), b: (u128, u64)) -> bool
 }
 
 /// The first of some rows, or the one that comes to them.
-pub(crate) fn better<'a>(order: Order, best: Option<&'a EventRow>, row: &'a EventRow) -> Option<&'a EventRow>
+pub(crate) fn better<'a>(
+    order: Order,
+    best: Option<&'a EventRow>,
+    row: &'a EventRow,
+) -> Option<&'a EventRow>
     ensures { meant.ChoosesAgain order (option_copied best.entry) row.now (option_copied result) }
 {
     let Some(at) = rank(order, row) else {

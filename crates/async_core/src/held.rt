@@ -54,11 +54,7 @@ impl Model for Held {
     ghost invariant = { λ h. IsIndexed h.age h.rows h.ids h.turns h.running h.next };
 }
 
-fn put_row(
-    rows: &mut BTreeMap<u64, EventRow>,
-    place: u64,
-    row: EventRow,
-) -> Result<(), AllocError>
+fn put_row(rows: &mut BTreeMap<u64, EventRow>, place: u64, row: EventRow) -> Result<(), AllocError>
     ensures ok { OnOk result (PutsRow rows.old place row rows.new) }
     ensures err { OnErr result (tree.IsUnchanged rows.old rows.new) }
 {
@@ -132,10 +128,7 @@ fn first_of<'a>(rows: &'a BTreeMap<u64, EventRow>, order: Order) -> Option<&'a E
     best
 }
 
-fn copies_of(
-    rows: &BTreeMap<u64, EventRow>,
-    alloc: Global,
-) -> Result<Vec<EventRow>, AllocError>
+fn copies_of(rows: &BTreeMap<u64, EventRow>, alloc: Global) -> Result<Vec<EventRow>, AllocError>
     ensures { IfOk result (λ copies. copies.items ≡ values_of rows.now.entries) }
 {
     let mut copies = Vec::with_capacity(alloc, rows.len())?;

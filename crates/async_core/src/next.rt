@@ -70,12 +70,7 @@ fn first_moving(held: &Held, now: u64, has_ready: bool, is_full: bool) -> Option
     held.first_in(Index::Deadline, 0, Some(now))
 }
 
-fn next_move_in(
-    held: &Held,
-    settings: &Settings,
-    now: u64,
-    ready_env: Option<u16>,
-) -> Option<Move>
+fn next_move_in(held: &Held, settings: &Settings, now: u64, ready_env: Option<u16>) -> Option<Move>
     requires { held.now.age ≡ settings.now.age }
     ensures { IsNextAt settings.now held.now.rows now ready_env result }
 {

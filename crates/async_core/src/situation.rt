@@ -56,5 +56,6 @@ pub(crate) fn is_busy(environment: u16, held: &Held) -> bool
     ensures { result ≡ is_busy_at environment held.now.rows }
 {
     let last = Some(u64::from(environment));
-    held.first_in(Index::Environment, u128::from(environment), last).is_some()
+    held.first_in(Index::Environment, u128::from(environment), last)
+        .is_some()
 }

@@ -116,26 +116,12 @@ fn idle_turn(facts: Facts) -> Option<(u128, u64)>
     }
 }
 
-fn success_turn(facts: Facts) -> Option<(u128, u64)>
-    ensures { result ≡ meant.success_turn facts facts.standing }
+fn ended_turn(side: Side, facts: Facts) -> Option<(u128, u64)>
+    ensures { result ≡ meant.ended_turn side facts facts.standing }
 {
     match facts.standing {
         Standing::Ended { outcome, .. } => {
-            if is_on(Side::Success, outcome) {
-                return Some((u128::from(facts.last_number), 0));
-            }
-            None
-        }
-        _ => None,
-    }
-}
-
-fn failure_turn(facts: Facts) -> Option<(u128, u64)>
-    ensures { result ≡ meant.failure_turn facts facts.standing }
-{
-    match facts.standing {
-        Standing::Ended { outcome, .. } => {
-            if is_on(Side::Failure, outcome) {
+            if is_on(side, outcome) {
                 return Some((u128::from(facts.last_number), 0));
             }
             None
@@ -154,8 +140,8 @@ fn turn_in(age: u32, facts: Facts, index: Index) -> Option<(u128, u64)>
         Index::Running => running_turn(facts),
         Index::Environment => environment_turn(facts),
         Index::Idle => idle_turn(facts),
-        Index::Success => success_turn(facts),
-        Index::Failure => failure_turn(facts),
+        Index::Success => ended_turn(Side::Success, facts),
+        Index::Failure => ended_turn(Side::Failure, facts),
     }
 }
 
@@ -311,7 +297,11 @@ pub fn remove_turns(turns: &mut BTreeSet<Turn>, age: u32, place: u64, old: Facts
 }
 
 /// The first turn in an index from these two numbers on, and the place of its row.
-pub fn first_turn(turns: &BTreeSet<Turn>, index: Index, low: (u128, u64)) -> Option<(u128, u64, u64)>
+pub fn first_turn(
+    turns: &BTreeSet<Turn>,
+    index: Index,
+    low: (u128, u64),
+) -> Option<(u128, u64, u64)>
     ensures { meant.IsFirstTurn turns.now index low result }
 {
     let rank = rank(index);
