@@ -1,4 +1,11 @@
-pub mod Places
 pub mod Choices
 pub mod Nexts
 pub mod LegalMoves
+pub mod Firsts
+pub mod NamedPlaces
+pub mod HeldRows
+pub mod HeldIds
+pub mod TurnSteps
+pub mod FirstTurns
+pub mod KeptRows
+pub mod Ranks

@@ -7,7 +7,11 @@ pub mod Limits
 pub mod State
 pub mod Histories
 pub mod Readers
+pub mod Ids
+pub mod Turns
+pub mod Kept
 pub mod Choice
+pub mod Equality
 pub mod Steps
 pub mod Examples
 pub mod laws

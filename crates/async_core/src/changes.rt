@@ -1,20 +1,14 @@
 // What a command that is legal does to the rows.
-ghost use Rattle.std.specs.Prelude.{◌≡◌, ◌+◌, ◌++◌, ◌∷◌, [], ◌<◌, ◌≤◌, ◌^◌, position, OnOk, OnErr, IfOk};
+ghost use Rattle.std.specs.Prelude.{◌≡◌, ◌+◌, ◌<◌, ◌≤◌, ◌^◌, OnOk, OnErr, IfOk};
+ghost use Rattle.async_core.specs.Kept.{with_rows};
 ghost use Rattle.async_core.specs.Rules as meant;
 ghost use Rattle.async_core.specs.Standings as ruled;
 ghost use Rattle.async_core.specs.Steps as step;
 
+use crate::held::Held;
 use invoke_records::{Answer, Cause, Command, EventRow, Kind, Outcome, Standing};
 use retry_rules::{Settings, after_failure, after_pushback};
 use std::alloc::AllocError;
-
-fn push_row(rows: &mut Vec<EventRow>, row: EventRow) -> Result<(), AllocError>
-    ensures ok { OnOk result (rows.new.items ≡ rows.old.items ++ row ∷ []) }
-    ensures err { OnErr result (rows.new.items ≡ rows.old.items) }
-{
-    rows.push(row)?;
-    Ok(())
-}
 
 /// The event that command number `number` accepts.
 fn accepted_event(number: u64, command: &Command) -> Result<EventRow, AllocError>
@@ -33,15 +27,6 @@ fn accepted_event(number: u64, command: &Command) -> Result<EventRow, AllocError
         payload,
         answer: Answer::None,
     })
-}
-
-/// Adds the event that command number `number` accepts.
-fn accept(rows: &mut Vec<EventRow>, number: u64, command: &Command) -> Result<(), AllocError>
-    ensures ok { OnOk result (rows.new.items ≡ rows.old.items ++ meant.accepted_row number command.now ∷ []) }
-    ensures err { OnErr result (rows.new.items ≡ rows.old.items) }
-{
-    let row = accepted_event(number, command)?;
-    push_row(rows, row)
 }
 
 fn one_more(n: u32) -> u32
@@ -104,7 +89,7 @@ fn pushed_back_at(push_backs: u32, time: u64) -> Standing
 }
 
 /// Where an event stands after the command, where it had failed and was pushed back so often before.
-fn standing_after(
+pub(crate) fn standing_after(
     settings: &Settings,
     command: &Command,
     failures: u32,
@@ -153,7 +138,7 @@ fn new_answer(command: &Command) -> Result<Option<Answer>, AllocError>
 }
 
 /// Changes the row of the event that command number `number` names.
-fn update(
+pub(crate) fn update(
     row: &mut EventRow,
     settings: &Settings,
     number: u64,
@@ -174,58 +159,29 @@ fn update(
     }
 }
 
-/// The place of an event's row.
-fn place_of(rows: &[EventRow], id: &[u8; 16]) -> Option<usize>
-    ensures { result ≡ position (meant.has_id id.now) rows.now }
-{
-    rows.iter().position(|row| *id == row.id)
-}
-
-fn remove_event(rows: &mut Vec<EventRow>, id: &[u8; 16])
-    ensures { rows.new.items ≡ meant.remove_row id.now rows.old.items }
-{
-    if let Some(place) = place_of(rows, id) {
-        let _row = rows.remove(place);
-    }
-}
-
-fn change_event(
-    rows: &mut Vec<EventRow>,
-    settings: &Settings,
-    number: u64,
-    command: &Command,
-    answer: Option<Answer>,
-)
-    requires time { command.now.time < 2 ^ 63 }
-    requires answer { step.Brings command.now answer }
-    ensures { rows.new.items ≡ step.rows_changed settings.now number command.now rows.old.items }
-{
-    if let Some(place) = place_of(rows, &command.id) {
-        update(&mut rows[place], settings, number, command, answer);
-    }
-}
-
 /// Does what command number `number` does to the rows.
-pub fn change(
-    rows: &mut Vec<EventRow>,
+pub(crate) fn change(
+    held: &mut Held,
     settings: &Settings,
     number: u64,
     command: &Command,
 ) -> Result<(), AllocError>
     requires { command.now.time < 2 ^ 63 }
-    ensures ok { OnOk result (rows.new.items ≡ step.rows_with settings.now number command.now rows.old.items) }
-    ensures err { OnErr result (rows.new.items ≡ rows.old.items) }
+    ensures ok { OnOk result (held.new ≡ with_rows held.old (step.rows_with settings.now number command.now held.old.rows)) }
+    ensures err { OnErr result (held.new ≡ held.old) }
 {
     match command.kind {
-        Kind::Accept => accept(rows, number, command),
+        Kind::Accept => {
+            let row = accepted_event(number, command)?;
+            held.push(row)
+        }
         Kind::Collect => {
-            remove_event(rows, &command.id);
+            held.remove(&command.id);
             Ok(())
         }
         _ => {
             let answer = new_answer(command)?;
-            change_event(rows, settings, number, command, answer);
-            Ok(())
+            held.change(settings, number, command, answer)
         }
     }
 }

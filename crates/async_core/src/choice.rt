@@ -84,7 +84,7 @@ pub fn move_by(
     }
 }
 
-fn lesser(a: u64, b: u128) -> u128
+pub(crate) fn lesser(a: u64, b: u128) -> u128
     ensures { result ≡ min a b }
 {
     let a = u128::from(a);
@@ -103,7 +103,7 @@ fn ripe_by(too_old: u128, standing: Standing) -> u128
     }
 }
 
-fn is_on(side: Side, outcome: Outcome) -> bool
+pub(crate) fn is_on(side: Side, outcome: Outcome) -> bool
     ensures { result ≡ meant.is_on side outcome }
 {
     match side {
@@ -181,7 +181,11 @@ fn goes_before(a: (u128, u64), b: (u128, u64)) -> bool
 }
 
 /// The first of some rows, or the one that comes to them.
-fn better<'a>(order: Order, best: Option<&'a EventRow>, row: &'a EventRow) -> Option<&'a EventRow>
+pub(crate) fn better<'a>(
+    order: Order,
+    best: Option<&'a EventRow>,
+    row: &'a EventRow,
+) -> Option<&'a EventRow>
     ensures { meant.ChoosesAgain order (option_copied best.entry) row.now (option_copied result) }
 {
     let Some(at) = rank(order, row) else {
@@ -198,15 +202,4 @@ fn better<'a>(order: Order, best: Option<&'a EventRow>, row: &'a EventRow) -> Op
     } else {
         Some(first)
     }
-}
-
-/// The row of least rank, if a row has one.
-pub fn first_row<'a>(rows: &'a [EventRow], order: Order) -> Option<&'a EventRow>
-    ensures { meant.IsChosen order rows.now (option_copied result) }
-{
-    let mut best = None;
-    for row in rows {
-        best = better(order, best, row);
-    }
-    best
 }

@@ -2,7 +2,7 @@
 ghost use Rattle.std.specs.Prelude.{◌≡◌, IfOk};
 
 use invoke_records::{Answer, EventRow};
-use std::alloc::{AllocError, Global};
+use std::alloc::AllocError;
 
 fn copy_answer(answer: &Answer) -> Result<Answer, AllocError>
     ensures { IfOk result (λ copy. copy ≡ answer.now) }
@@ -20,7 +20,8 @@ fn copy_answer(answer: &Answer) -> Result<Answer, AllocError>
     }
 }
 
-fn copy_row(row: &EventRow) -> Result<EventRow, AllocError>
+/// An equal row in memory of its own.
+pub(crate) fn copy_row(row: &EventRow) -> Result<EventRow, AllocError>
     ensures { IfOk result (λ copy. copy ≡ row.now) }
 {
     let payload = row.payload.copy()?;
@@ -37,16 +38,4 @@ fn copy_row(row: &EventRow) -> Result<EventRow, AllocError>
         payload,
         answer,
     })
-}
-
-/// Equal rows in memory of their own.
-pub fn copy_rows(alloc: Global, rows: &[EventRow]) -> Result<Vec<EventRow>, AllocError>
-    ensures { IfOk result (λ copies. copies.items ≡ rows.now) }
-{
-    let mut copies = Vec::with_capacity(alloc, rows.len())?;
-    for row in rows {
-        let copy = copy_row(row)?;
-        copies.push(copy)?;
-    }
-    Ok(copies)
 }

@@ -8,7 +8,10 @@
 mod changes;
 mod choice;
 mod copies;
+mod equality;
 pub mod examples;
+mod held;
+mod ids;
 mod illegal;
 mod legality;
 mod next;
@@ -16,6 +19,7 @@ mod readers;
 mod situation;
 mod standings;
 mod table;
+mod turns;
 
 pub use choice::{Move, Side};
 pub use illegal::{ApplyError, Illegal};

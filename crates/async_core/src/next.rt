@@ -1,12 +1,16 @@
 // Which event goes next. No reader takes memory.
-ghost use Rattle.std.specs.Prelude.{◌≡◌};
+ghost use Rattle.std.specs.Prelude.{◌≡◌, false};
+ghost use Rattle.std.specs.Option.{option_copied};
+ghost use Rattle.async_core.specs.Kept.{NoneExpired};
 ghost use Rattle.invoke_records.specs.declared.row.EventRow.{EventRow};
-ghost use Rattle.async_core.specs.Choice.{IsChosenAs, IsNextAt, IsNextMove, IsLegalIfFree, IsFirstRunning, IsOldestEnded, environment_for, row_move};
+ghost use Rattle.async_core.specs.Choice.{IsChosen, IsChosenAs, IsNextAt, IsNextMove, IsLegalIfFree, IsFirstRunning, IsOldestEnded, environment_for, row_move};
 ghost use Rattle.async_core.specs.Histories.{ForEachHistory};
 
 use crate::Table;
-use crate::choice::{Move, Order, Side, first_row, move_by};
-use crate::situation::{count_running, too_old_from};
+use crate::choice::{Move, Order, Side, move_by};
+use crate::held::Held;
+use crate::situation::too_old_from;
+use crate::turns::Index;
 use invoke_records::{EventRow, Kind};
 use retry_rules::Settings;
 
@@ -42,36 +46,70 @@ fn move_of_row(
     }
 }
 
-fn next_move_in(
-    rows: &[EventRow],
-    settings: &Settings,
-    now: u64,
-    ready_env: Option<u16>,
-) -> Option<Move>
-    ensures { IsNextAt settings.now rows.now now ready_env result }
+/// Whether an event that waits for an attempt is too old.
+fn has_expired(held: &Held, now: u64) -> bool
+    ensures { result ≡ false → NoneExpired now held.now }
+{
+    match held.first_in(Index::Idle, 0, None) {
+        Some(row) => too_old_from(row.accepted, held.age()) <= u128::from(now),
+        None => false,
+    }
+}
+
+/// The row that makes the next move. It looks at each row only where an event has expired while no environment is
+/// ready and fewer run than may.
+fn first_moving(held: &Held, now: u64, has_ready: bool, is_full: bool) -> Option<&EventRow>
+    ensures { IsChosen (Order.Moving now has_ready is_full held.now.age) held.now.rows (option_copied result) }
+{
+    if is_full || has_ready {
+        return held.first_in(Index::Ripe, 0, Some(now));
+    }
+    if has_expired(held, now) {
+        return held.first_row(Order::Moving(now, has_ready, is_full, held.age()));
+    }
+    held.first_in(Index::Deadline, 0, Some(now))
+}
+
+fn next_move_in(held: &Held, settings: &Settings, now: u64, ready_env: Option<u16>) -> Option<Move>
+    requires { held.now.age ≡ settings.now.age }
+    ensures { IsNextAt settings.now held.now.rows now ready_env result }
 {
     let age = settings.age;
-    let is_full = settings.concurrency as usize <= count_running(rows);
-    let order = Order::Moving(now, ready_env.is_some(), is_full, age);
-    match first_row(rows, order) {
+    let is_full = settings.concurrency as usize <= held.running();
+    match first_moving(held, now, ready_env.is_some(), is_full) {
         Some(row) => move_of_row(row, age, is_full, now, ready_env),
         None => None,
     }
 }
 
-fn first_running(rows: &[EventRow], after: u64) -> Option<(u64, [u8; 16])>
-    ensures { IsChosenAs (Order.Running after) rows.now (λ (r : EventRow). (r.number, r.id)) result }
+fn running_after(held: &Held, after: u64) -> Option<&EventRow>
+    ensures { IsChosen (Order.Running after) held.now.rows (option_copied result) }
 {
-    match first_row(rows, Order::Running(after)) {
+    held.first_in(Index::Running, u128::from(after) + 1, None)
+}
+
+fn ended_first(held: &Held, side: Side) -> Option<&EventRow>
+    ensures { IsChosen (Order.Ended side) held.now.rows (option_copied result) }
+{
+    match side {
+        Side::Success => held.first_in(Index::Success, 0, None),
+        Side::Failure => held.first_in(Index::Failure, 0, None),
+    }
+}
+
+fn first_running(held: &Held, after: u64) -> Option<(u64, [u8; 16])>
+    ensures { IsChosenAs (Order.Running after) held.now.rows (λ (r : EventRow). (r.number, r.id)) result }
+{
+    match running_after(held, after) {
         Some(row) => Some((row.number, row.id)),
         None => None,
     }
 }
 
-fn first_ended(rows: &[EventRow], side: Side) -> Option<[u8; 16]>
-    ensures { IsChosenAs (Order.Ended side) rows.now (λ (r : EventRow). r.id) result }
+fn first_ended(held: &Held, side: Side) -> Option<[u8; 16]>
+    ensures { IsChosenAs (Order.Ended side) held.now.rows (λ (r : EventRow). r.id) result }
 {
-    match first_row(rows, Order::Ended(side)) {
+    match ended_first(held, side) {
         Some(row) => Some(row.id),
         None => None,
     }
@@ -84,7 +122,7 @@ impl Table {
         ensures by_row { IsChosenAs (Order.Running after) self.now.table.rows (λ (r : EventRow). (r.number, r.id)) result }
         ensures by_history { ForEachHistory self.now (λ s history. IsFirstRunning s history after result) }
     {
-        first_running(&self.rows, after)
+        first_running(&self.held, after)
     }
 
     /// The event that ended first of those held that ended on this side.
@@ -92,7 +130,7 @@ impl Table {
         ensures by_row { IsChosenAs (Order.Ended side) self.now.table.rows (λ (r : EventRow). r.id) result }
         ensures by_history { ForEachHistory self.now (λ s history. IsOldestEnded s history side result) }
     {
-        first_ended(&self.rows, side)
+        first_ended(&self.held, side)
     }
 
     /// What is to be done next at this moment, where this environment is ready or none is: the move of the event that
@@ -102,6 +140,6 @@ impl Table {
         ensures by_history { ForEachHistory self.now (λ s history. IsNextMove s history now ready_env result) }
         ensures legal { ForEachHistory self.now (λ s history. IsLegalIfFree s history now ready_env result) }
     {
-        next_move_in(&self.rows, &self.settings, now, ready_env)
+        next_move_in(&self.held, &self.settings, now, ready_env)
     }
 }

@@ -7,7 +7,7 @@ ghost use Rattle.async_core.specs.History.{standing_in};
 ghost use Rattle.async_core.specs.Histories.{ForEachLegalHistory};
 
 use crate::Table;
-use crate::situation::find_row;
+use crate::held::Held;
 use invoke_records::{Answer, EventRow, Outcome, Standing};
 
 /// An event that has ended, as its destination record tells it.
@@ -24,28 +24,28 @@ pub struct Ended<'a> {
     pub starts: u32,
 }
 
-fn accepted_in(rows: &[EventRow], id: &[u8; 16]) -> Option<u64>
-    ensures { result ≡ accepted_at (find (has_id id.now) rows.now) }
+fn accepted_in(held: &Held, id: &[u8; 16]) -> Option<u64>
+    ensures { result ≡ accepted_at (find (has_id id.now) held.now.rows) }
 {
-    match find_row(rows, id) {
+    match held.find(id) {
         Some(row) => Some(row.accepted),
         None => None,
     }
 }
 
-fn payload_in<'a>(rows: &'a [EventRow], id: &[u8; 16]) -> Option<&'a [u8]>
-    ensures { option_copied result ≡ payload_at (find (has_id id.now) rows.now) }
+fn payload_in<'a>(held: &'a Held, id: &[u8; 16]) -> Option<&'a [u8]>
+    ensures { option_copied result ≡ payload_at (find (has_id id.now) held.now.rows) }
 {
-    match find_row(rows, id) {
+    match held.find(id) {
         Some(row) => Some(row.payload.as_slice()),
         None => None,
     }
 }
 
-fn counts_in_rows(rows: &[EventRow], id: &[u8; 16]) -> Option<(u32, u32, u32)>
-    ensures { result ≡ counts_at (find (has_id id.now) rows.now) }
+fn counts_in_rows(held: &Held, id: &[u8; 16]) -> Option<(u32, u32, u32)>
+    ensures { result ≡ counts_at (find (has_id id.now) held.now.rows) }
 {
-    match find_row(rows, id) {
+    match held.find(id) {
         Some(row) => Some((row.starts, row.failures, row.push_backs)),
         None => None,
     }
@@ -67,10 +67,10 @@ fn ending_of(row: &EventRow) -> Option<Ended<'_>>
     }
 }
 
-fn ended_in<'a>(rows: &'a [EventRow], id: &[u8; 16]) -> Option<Ended<'a>>
-    ensures { option_map told result ≡ ending_at (find (has_id id.now) rows.now) }
+fn ended_in<'a>(held: &'a Held, id: &[u8; 16]) -> Option<Ended<'a>>
+    ensures { option_map told result ≡ ending_at (find (has_id id.now) held.now.rows) }
 {
-    match find_row(rows, id) {
+    match held.find(id) {
         Some(row) => ending_of(row),
         None => None,
     }
@@ -93,7 +93,7 @@ impl Table {
         ensures by_row { result ≡ accepted_at (row_at self.now.table id.now) }
         ensures by_history { ForEachLegalHistory self.now (λ s history. result ≡ accepted_after id.now history) }
     {
-        accepted_in(&self.rows, id)
+        accepted_in(&self.held, id)
     }
 
     /// The payload of an event.
@@ -101,7 +101,7 @@ impl Table {
         ensures by_row { option_copied result ≡ payload_at (row_at self.now.table id.now) }
         ensures by_history { ForEachLegalHistory self.now (λ s history. option_copied result ≡ payload_after id.now history) }
     {
-        payload_in(&self.rows, id)
+        payload_in(&self.held, id)
     }
 
     /// How often an event was started, has failed, and was pushed back since it last failed.
@@ -109,7 +109,7 @@ impl Table {
         ensures by_row { result ≡ counts_at (row_at self.now.table id.now) }
         ensures by_history { ForEachLegalHistory self.now (λ s history. result ≡ counts_after id.now history) }
     {
-        counts_in_rows(&self.rows, id)
+        counts_in_rows(&self.held, id)
     }
 
     /// What an event that has ended leaves, if it is held and has ended.
@@ -117,6 +117,6 @@ impl Table {
         ensures by_row { option_map told result ≡ ending_at (row_at self.now.table id.now) }
         ensures by_history { ForEachLegalHistory self.now (λ s history. option_map told result ≡ ending_after s id.now history) }
     {
-        ended_in(&self.rows, id)
+        ended_in(&self.held, id)
     }
 }

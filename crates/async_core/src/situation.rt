@@ -1,9 +1,11 @@
 // What a command meets in the table.
-ghost use Rattle.std.specs.Prelude.{◌≡◌, ◌+◌, ◌*◌, find, option_map};
-ghost use Rattle.async_core.specs.Rules.{has_id, standing_or_unknown, accepted_or_zero, running_at, is_busy_at};
+ghost use Rattle.std.specs.Prelude.{◌≡◌, ◌+◌, ◌*◌, find};
+ghost use Rattle.async_core.specs.Rules as meant;
+ghost use Rattle.async_core.specs.Rules.{has_id, standing_or_unknown, is_busy_at};
 
-use crate::standings::{is_running, runs_in};
-use invoke_records::{EventRow, Standing};
+use crate::held::Held;
+use crate::turns::Index;
+use invoke_records::Standing;
 
 /// What a command meets in the table.
 #[derive(Clone, Copy)]
@@ -22,28 +24,21 @@ pub struct Situation {
     pub too_old_from: u128,
 }
 
-/// The row of an event.
-pub fn find_row<'a>(rows: &'a [EventRow], id: &[u8; 16]) -> Option<&'a EventRow>
-    ensures { option_map (λ r. r.now) result ≡ find (has_id id.now) rows.now }
-{
-    rows.iter().find(|row| *id == row.id)
-}
-
 /// Where an event stands.
-pub fn standing_in_rows(rows: &[EventRow], id: &[u8; 16]) -> Standing
-    ensures { result ≡ standing_or_unknown (find (has_id id.now) rows.now) }
+pub(crate) fn standing_in(held: &Held, id: &[u8; 16]) -> Standing
+    ensures { result ≡ standing_or_unknown (find (has_id id.now) held.now.rows) }
 {
-    match find_row(rows, id) {
+    match held.find(id) {
         Some(row) => row.standing,
         None => Standing::Unknown,
     }
 }
 
 /// When an event was accepted, or 0.
-pub fn accepted_in_rows(rows: &[EventRow], id: &[u8; 16]) -> u64
-    ensures { result ≡ accepted_or_zero (find (has_id id.now) rows.now) }
+pub(crate) fn accepted_or_zero(held: &Held, id: &[u8; 16]) -> u64
+    ensures { result ≡ meant.accepted_or_zero (find (has_id id.now) held.now.rows) }
 {
-    match find_row(rows, id) {
+    match held.find(id) {
         Some(row) => row.accepted,
         None => 0,
     }
@@ -56,16 +51,11 @@ pub fn too_old_from(accepted: u64, age: u32) -> u128
     u128::from(accepted) + 1000 * u128::from(age)
 }
 
-/// How many attempts run.
-pub fn count_running(rows: &[EventRow]) -> usize
-    ensures { result ≡ running_at rows.now }
-{
-    rows.iter().filter(|row| is_running(row.standing)).count()
-}
-
 /// Whether an attempt runs in this environment.
-pub fn is_busy(environment: u16, rows: &[EventRow]) -> bool
-    ensures { result ≡ is_busy_at environment rows.now }
+pub(crate) fn is_busy(environment: u16, held: &Held) -> bool
+    ensures { result ≡ is_busy_at environment held.now.rows }
 {
-    rows.iter().any(|row| runs_in(environment, row.standing))
+    let last = Some(u64::from(environment));
+    held.first_in(Index::Environment, u128::from(environment), last)
+        .is_some()
 }

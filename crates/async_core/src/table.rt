@@ -3,11 +3,9 @@ ghost use Rattle.std.specs.Prelude.{◌≡◌, ◌<◌, ◌^◌, ◌+◌, None, 
 ghost use Rattle.std.specs.Result.{result_err};
 
 use crate::changes::change;
-use crate::copies::copy_rows;
+use crate::held::Held;
 use crate::legality::refuse;
-use crate::situation::{
-    Situation, accepted_in_rows, count_running, is_busy, standing_in_rows, too_old_from,
-};
+use crate::situation::{Situation, accepted_or_zero, is_busy, standing_in, too_old_from};
 use crate::{ApplyError, Illegal};
 use invoke_records::{Command, EventRow, Rows, Snapshot, Standing};
 use retry_rules::Settings;
@@ -21,19 +19,32 @@ pub struct Table {
     pub(crate) settings: Settings,
     number: u64,
     last_moment: u64,
-    /// In the order of their acceptance.
-    pub(crate) rows: Vec<EventRow>,
+    pub(crate) held: Held,
 }
 
 impl Model for Table {
+    ghost use Rattle.std.specs.Prelude.{◌≡◌};
     ghost use Rattle.async_core.specs.State.{State};
 
     ghost Value = { State };
 
     ghost view = { λ t. record {
       settings = t.settings;
-      table = record { number = t.number; last_moment = t.last_moment; rows = t.rows.items };
+      table = record { number = t.number; last_moment = t.last_moment; rows = t.held.rows };
     } };
+
+    ghost invariant = { λ t. t.held.age ≡ t.settings.age };
+}
+
+/// These rows with their indexes.
+fn held_of(alloc: Global, age: u32, rows: Vec<EventRow>) -> Result<Held, AllocError>
+    ensures { IfOk result (λ held. held ≡ record { age = age; rows = rows.items }) }
+{
+    let mut held = Held::new(alloc, age);
+    for row in rows {
+        held.push(row)?;
+    }
+    Ok(held)
 }
 
 impl Table {
@@ -47,12 +58,13 @@ impl Table {
     pub fn new(alloc: Global, settings: Settings) -> Table
         ensures { result ≡ empty_state settings }
     {
+        let held = Held::new(alloc, settings.age);
         Table {
             alloc,
             settings,
             number: 0,
             last_moment: 0,
-            rows: Vec::new(alloc),
+            held,
         }
     }
 
@@ -69,12 +81,13 @@ impl Table {
             last_moment,
             rows,
         } = snapshot;
+        let held = held_of(alloc, settings.age, rows.into_vec())?;
         Ok(Table {
             alloc,
             settings,
             number,
             last_moment,
-            rows: rows.into_vec(),
+            held,
         })
     }
 
@@ -82,7 +95,7 @@ impl Table {
     pub fn snapshot(&self) -> Result<Snapshot, AllocError>
         ensures { IfOk result (λ snapshot. snapshot ≡ self.now.table) }
     {
-        let rows = copy_rows(self.alloc, &self.rows)?;
+        let rows = self.held.copies(self.alloc)?;
         Ok(Snapshot {
             number: self.number,
             last_moment: self.last_moment,
@@ -117,7 +130,7 @@ impl Table {
         ensures by_row { result ≡ standing_at self.now.table id.now }
         ensures by_history { ForEachLegalHistory self.now (λ s history. result ≡ standing_in s history id.now) }
     {
-        standing_in_rows(&self.rows, id)
+        standing_in(&self.held, id)
     }
 
     /// What a command meets in the table.
@@ -125,13 +138,13 @@ impl Table {
     fn situation(&self, command: &Command) -> Situation
         ensures { result ≡ situation_at self.now.settings self.now.table command.now }
     {
-        let accepted = accepted_in_rows(&self.rows, &command.id);
+        let accepted = accepted_or_zero(&self.held, &command.id);
         Situation {
             last_moment: self.last_moment,
-            held: self.rows.len(),
-            running: count_running(&self.rows),
-            is_busy: is_busy(command.environment, &self.rows),
-            standing: standing_in_rows(&self.rows, &command.id),
+            held: self.held.len(),
+            running: self.held.running(),
+            is_busy: is_busy(command.environment, &self.held),
+            standing: standing_in(&self.held, &command.id),
             too_old_from: too_old_from(accepted, self.settings.age),
         }
     }
@@ -164,7 +177,7 @@ impl Table {
             return Err(ApplyError::Illegal(why));
         }
         let number = self.number + 1;
-        change(&mut self.rows, &self.settings, number, command)?;
+        change(&mut self.held, &self.settings, number, command)?;
         self.number = number;
         self.last_moment = command.time;
         Ok(())

@@ -1,6 +1,7 @@
 -- The new table is the old one after the command.
 use Rattle.std.proofs.Common.{ℕ, List, ◌≡◌, ◌+◌, ◌∙◌, refl, ap, arith}
 use Rattle.async_core.specs.State.{State}
+use Rattle.async_core.specs.Kept.{Kept}
 use Rattle.async_core.specs.Rules.{rows_after, table_after}
 use Rattle.async_core.specs.Standings.{rules_in}
 use Rattle.retry_rules.specs.declared.settings.Settings.{Settings}
@@ -24,7 +25,7 @@ pub returns-clause-applied : goal.returns-clause-applied
 returns-clause-applied c =
     rw (← c.self.view_is)
     (ap (λ (t : Snapshot). record { settings = c.self.inside.settings; table = t })
-    (table_after-is c.self.inside.settings c.self.inside.number c.self.inside.last_moment c.self.inside.rows.items c.change.new.rows.items c.args.command.now c.in_ok-change.ensures.ok))
+    (table_after-is c.self.inside.settings c.self.inside.number c.self.inside.last_moment c.self.inside.held.rows c.change.new.held.rows c.args.command.now (ap (λ (k : Kept). k.rows) c.in_ok-change.ensures.ok)))
 
 pub returns-clause-by_history : goal.returns-clause-by_history
 unfolding table_after

@@ -1,0 +1,287 @@
+-- The indexes stay those of the rows, and the first row of an index.
+use Rattle.std.proofs.Common.{◌≡◌, ℕ, ◌+◌, ◌≤◌, ◌<◌, zero, suc, List, [], ◌∷◌, ◌++◌, length, Bool, true, false, ◌&&◌, ◌==◌, cond, Option, Some, None, refl, sym, ap, ◌∙◌, subst, arith, ◌⊎◌, inl, inr, All, Contains, get_or, nat_le}
+use Rattle.std.specs.Prelude.{IsSome, option_map, IfSome, unwrap_or}
+use Rattle.std.specs.List.{count_by}
+use Rattle.std.specs.Map.{lookup, set_value, remove_entry, values_of, keys_of}
+use Rattle.std.specs.Str.{bytes_eq}
+use Rattle.std.proofs.lemmas.List.{length-map}
+use Rattle.std.specs.List.Sorted.{IsStrictlySortedBy}
+use Rattle.std.specs.BTreeMap as tree
+use Rattle.std.specs.BTreeSet as sorted
+use Rattle.std.specs.BTreeMap.{BTreeMap, is_at}
+use Rattle.std.specs.BTreeSet.{BTreeSet, contains}
+use Rattle.std.specs.Ordering.{nat_cmp, is_eq, eq_by_cmp}
+use Rattle.std.specs.Cmp.{nat_cmp_total, unsigned_tied}
+use Rattle.std.proofs.lemmas.Bool.{true≢false, and_parts, and_from, eqb-true, eq-eqb, leb-true, leb-false, le-leb}
+use Rattle.std.proofs.lemmas.Cmp.{eq_by_cmp_equiv}
+use Rattle.std.proofs.lemmas.List.Sums.{sum_by-append, count_by-le-length}
+use Rattle.std.proofs.lemmas.Map.Entries.{sum_by-set_value, sum_by-remove_entry}
+use Rattle.std.proofs.lemmas.Map.Keys.{IsDistinct-from_sorted}
+use Rattle.std.proofs.lemmas.Map.Views.{All-values_from_lookup}
+use Rattle.invoke_records.specs.declared.row.EventRow.{EventRow}
+use Rattle.async_core.specs.declared.turns.Facts.{Facts}
+use Rattle.async_core.specs.declared.turns.Index.{Index}
+use Rattle.async_core.specs.Choice.{NotBefore}
+use Rattle.async_core.specs.Standings.{is_running}
+use Rattle.async_core.specs.Rules.{running_at}
+use Rattle.async_core.specs.Ids.{by_id, is_named, has_name, IsHeld, PutsRow, TakesRow, IsFirstPlace}
+use Rattle.async_core.specs.Turns.{Turn, index_rank, by_turn, facts_of, turn_in, is_turn, has_turn, AreTurns, put_facts, Switches, StaysAt, IsAtMost, IsFirstTurn, within, turn_within, row_turn, IsLeastBy, IsFirstBy}
+use Rattle.async_core.specs.Kept.{facts_in, IsIndexed, Enters, StaysOut}
+use Rattle.async_core.proofs.HeldRows.{row_in}
+use Rattle.async_core.proofs.HeldIds.{none_next, held_more, held_undone, held_fewer, is_name_at, first_held}
+
+-- ## Ids
+
+second : (a b : Bool) → (a && b) ≡ true → b ≡ true
+second true b h = h
+second false b h = absurd (true≢false (sym h))
+
+forgets_by : (s s' s'' : BTreeSet (List ℕ × ℕ)) (own : List ℕ) (n : ℕ) → sorted.Updates by_id s s' (own, n) true → sorted.Updates by_id s' s'' (own, n) false → ((id : List ℕ) → is_named s id n ≡ false)
+    → (id : List ℕ) (q : ℕ) (b : Bool) → is_eq (by_id (own, n) (id, q)) ≡ b → is_named s'' id q ≡ is_named s id q
+forgets_by s s' s'' own n added removed absent id q true here =
+    let at_next : (n == q) ≡ true = sym (unsigned_tied n q) ∙ second _ (is_eq (nat_cmp n q)) (sym (is_name_at own id n q) ∙ here) in
+    rw (removed.0 (id, q), here) (sym (subst (λ p. is_named s id p ≡ false) (eqb-true n q at_next) (absent id)))
+forgets_by s s' s'' own n added removed absent id q false apart = rw (removed.0 (id, q), added.0 (id, q), apart) refl
+
+pub forgets : (s s' s'' : BTreeSet (List ℕ × ℕ)) (own : List ℕ) (n : ℕ) → sorted.Updates by_id s s' (own, n) true → sorted.Updates by_id s' s'' (own, n) false → ((id : List ℕ) → is_named s id n ≡ false) → (id : List ℕ) (q : ℕ) → is_named s'' id q ≡ is_named s id q
+forgets s s' s'' own n added removed absent id q = forgets_by s s' s'' own n added removed absent id q (is_eq (by_id (own, n) (id, q))) refl
+
+-- ## Facts
+
+alike : (age : ℕ) (at other : ℕ → Option Facts) (turns : BTreeSet Turn) → ((q : ℕ) → at q ≡ other q) → AreTurns age at turns → AreTurns age other turns
+alike age at other turns same are = λ i a b q. are i a b q ∙ ap (λ f. has_turn age f i a b) (same q)
+
+map_cond : (w o : Option EventRow) (b : Bool) → cond b (option_map facts_of w) (option_map facts_of o) ≡ option_map facts_of (cond b w o)
+map_cond w o true = refl
+map_cond w o false = refl
+
+facts_put : (m m' : BTreeMap ℕ EventRow) (p : ℕ) (w : Option EventRow) → tree.Updates nat_cmp m m' p w → (q : ℕ) → put_facts p (option_map facts_of w) (facts_in m) q ≡ facts_in m' q
+facts_put m m' p w update q =
+    map_cond w (tree.get nat_cmp m q) (p == q)
+    ∙ ap (λ b. option_map facts_of (cond b w (tree.get nat_cmp m q))) (sym (unsigned_tied p q))
+    ∙ ap (λ o. option_map facts_of o) (sym (update.0 q))
+
+put_here : (n : ℕ) (f : Option Facts) (at : ℕ → Option Facts) → put_facts n f at n ≡ f
+put_here n f at = rw (eq-eqb n n refl) refl
+
+put_back : (n : ℕ) (f : Option Facts) (at : ℕ → Option Facts) → at n ≡ None → (q : ℕ) (b : Bool) → (n == q) ≡ b → put_facts n None (put_facts n f at) q ≡ at q
+put_back n f at none q true here = rw here (sym (ap at (sym (eqb-true n q here)) ∙ none))
+put_back n f at none q false apart = rw apart refl
+
+pub is_there : (o : Option EventRow) (r : EventRow) → o ≡ Some r → IsSome o
+is_there o r is = rw is refl
+
+pub some_injective : {A : Type 0} {x y : A} → Some x ≡ Some y → x ≡ y
+some_injective h = cc
+
+abbrev pub runs : EventRow → ℕ
+runs r = cond (is_running r.standing) 1 0
+
+module _ (age : ℕ) (m : BTreeMap ℕ EventRow) (s : BTreeSet (List ℕ × ℕ)) (turns : BTreeSet Turn) (running n : ℕ) (indexed : IsIndexed age m s turns running n) where
+  absent : (id : List ℕ) → is_named s id n ≡ false
+  absent id = indexed.held.named id n ∙ ap (has_name id) (none_next m s n indexed.held (tree.get nat_cmp m n) refl)
+
+  no_facts : facts_in m n ≡ None
+  no_facts = ap (λ o. option_map facts_of o) (none_next m s n indexed.held (tree.get nat_cmp m n) refl)
+
+  -- ## An event that does not come in
+
+  pub stays_out : (s' : BTreeSet (List ℕ × ℕ)) (turns' : BTreeSet Turn) → StaysOut age n s s' turns turns' → IsIndexed age m s' turns' running n
+  stays_out s' turns' stays = record {
+    held = record { ordered = indexed.held.ordered; below = indexed.held.below; named = λ id q. stays.0 absent id q ∙ indexed.held.named id q };
+    turned = stays.1 (facts_in m) indexed.turned no_facts;
+    counted = indexed.counted;
+  }
+
+  pub goes_again : (m' : BTreeMap ℕ EventRow) (s' s'' : BTreeSet (List ℕ × ℕ)) (turns' turns'' : BTreeSet Turn) (id : List ℕ) (facts : Facts) → tree.IsUnchanged m m' → Enters age n id facts s s' turns turns' → sorted.Updates by_id s' s'' (id, n) false
+      → Switches age n (Some facts) None turns' turns'' → IsIndexed age m' s'' turns'' running n
+  goes_again m' s' s'' turns' turns'' id facts same enters removed switched =
+      let entered : AreTurns age (put_facts n (Some facts) (facts_in m)) turns' = enters.1 (facts_in m) indexed.turned no_facts in
+      let left : AreTurns age (put_facts n None (put_facts n (Some facts) (facts_in m))) turns'' = switched (put_facts n (Some facts) (facts_in m)) entered (put_here n (Some facts) (facts_in m)) in
+      record {
+        held = held_undone m s n indexed.held s' s'' m' id same enters.0 removed;
+        turned = alike age _ (facts_in m') turns'' (λ q. put_back n (Some facts) (facts_in m) no_facts q (n == q) refl ∙ ap (λ es. option_map facts_of (lookup (is_at (nat_cmp q)) es)) (sym same)) left;
+        counted = indexed.counted ∙ ap (λ es. running_at (values_of es)) (sym same);
+      }
+
+  -- ## An event that comes
+
+  pub comes_in : (m' : BTreeMap ℕ EventRow) (s' : BTreeSet (List ℕ × ℕ)) (turns' : BTreeSet Turn) (r : EventRow) (facts : Facts) (now next : ℕ) → facts ≡ facts_of r → next ≡ n + 1 → now + 0 ≡ running + runs r → PutsRow m n r m' → Enters age n r.id facts s s' turns turns'
+      → values_of m'.entries ≡ values_of m.entries ++ r ∷ [] → IsIndexed age m' s' turns' now next
+  comes_in m' s' turns' r facts now next of_row is count put enters rows = record {
+    held = held_more m s n indexed.held m' s' r next is put enters.0;
+    turned = alike age _ (facts_in m') turns' (facts_put m m' n (Some r) put.1) (subst (λ f. AreTurns age (put_facts n (Some f) (facts_in m)) turns') of_row (enters.1 (facts_in m) indexed.turned no_facts));
+    counted = no_more now ∙ count ∙ ap (λ k. k + runs r) indexed.counted ∙ sym (ap running_at rows ∙ sum_by-append (λ (x : EventRow). cond (is_running x.standing) 1 0) (values_of m.entries) (r ∷ []) ∙ one_more (running_at (values_of m.entries)) (runs r));
+  }
+    where
+      no_more : (a : ℕ) → a ≡ a + 0
+      no_more a = omega arith
+
+      one_more : (a b : ℕ) → a + (0 + b) ≡ a + b
+      one_more a b = omega arith
+
+  -- ## The first row of an index
+
+  rows_all : (P : EventRow → Type 0) → ((q : ℕ) (r : EventRow) → tree.get nat_cmp m q ≡ Some r → P r) → All P (values_of m.entries)
+  rows_all P each = All-values_from_lookup (eq_by_cmp_equiv nat_cmp_total) P m.entries (IsDistinct-from_sorted nat_cmp (keys_of m.entries) indexed.held.ordered) (λ q. found q (tree.get nat_cmp m q) refl)
+    where
+      found : (q : ℕ) (o : Option EventRow) → tree.get nat_cmp m q ≡ o → IfSome (tree.get nat_cmp m q) P
+      found q None is = rw is tt
+      found q (Some r) is = rw is (each q r is)
+
+  -- a row stands in the set where it stands in an index
+  stands : (i : Index) (q : ℕ) (r : EventRow) (at : ℕ × ℕ) → tree.get nat_cmp m q ≡ Some r → turn_in age (facts_of r) i ≡ Some at → contains by_turn turns (index_rank i, at.0, at.1, q) ≡ true
+  stands i q r at there turn =
+      indexed.turned i at.0 at.1 q
+      ∙ ap (λ o. has_turn age (option_map facts_of o) i at.0 at.1) there
+      ∙ ap (λ o. is_turn o at.0 at.1) turn
+      ∙ rw (eq-eqb at.0 at.0 refl, eq-eqb at.1 at.1 refl) refl
+
+  low_enough : (low a b : ℕ) → low ≤ a → IsAtMost (low, 0) (a, b)
+  low_enough low a b le = by_order (nat_le a low) refl
+    where
+      by_order : (x : Bool) → nat_le a low ≡ x → IsAtMost (low, 0) (a, b)
+      by_order true h = inr (omega (arith, leb-true a low h), omega arith)
+      by_order false h = inl (leb-false a low h)
+
+  from_low : (low : ℕ) (last : Option ℕ) (at : ℕ × ℕ) → within low last at ≡ true → low ≤ at.0
+  from_low low None at h = leb-true low at.0 h
+  from_low low (Some last) at h = leb-true low at.0 (and_parts _ _ h).0
+
+  up_to : (low last : ℕ) (at : ℕ × ℕ) → within low (Some last) at ≡ true → at.0 ≤ last
+  up_to low last at h = leb-true at.0 last (and_parts _ _ h).1
+
+  -- a rank of a row is its turn, within the bounds
+  no_rank : (low : ℕ) (last : Option ℕ) (o : Option (ℕ × ℕ)) → ((at : ℕ × ℕ) → o ≡ Some at → within low last at ≡ true → ⊥) → turn_within low last o ≡ None
+  no_rank low last None none = refl
+  no_rank low last (Some at) none = by_test (within low last at) refl (none at refl)
+    where
+      by_test : (b : Bool) → within low last at ≡ b → (within low last at ≡ true → ⊥) → cond (within low last at) (Some at) None ≡ None
+      by_test true h k = absurd (k h)
+      by_test false h k = rw h refl
+
+  pub no_row : (i : Index) (low : ℕ) (last : Option ℕ) → IsFirstTurn turns i (low, 0) None → IsFirstBy (row_turn age i low last) (values_of m.entries) None
+  no_row i low last none = rows_all (λ r. row_turn age i low last r ≡ None) (λ q r there. no_rank low last (turn_in age (facts_of r) i)
+      (λ at turn inside. true≢false (sym (stands i q r at there turn) ∙ none at.0 at.1 q (low_enough low at.0 at.1 (from_low low last at inside)))))
+
+  not_below : (a b : ℕ × ℕ) → IsAtMost a b → a.0 ≤ b.0
+  not_below a b (inl lt) = omega arith
+  not_below a b (inr same) = omega (arith, same.0)
+
+  -- what goes before one within the bounds is within them, from the lower one on
+  before_within : (low : ℕ) (last : Option ℕ) (first at : ℕ × ℕ) → low ≤ first.0 → first.0 ≤ at.0 → within low last at ≡ true → within low last first ≡ true
+  before_within low None first at from le h = le-leb low first.0 from
+  before_within low (Some last) first at from le h = and_from _ _ (le-leb low first.0 from) (le-leb first.0 last (omega (arith, up_to low last at h)))
+
+  pub no_row_outside : (i : Index) (low : ℕ) (last : Option ℕ) (first : ℕ × ℕ × ℕ) → IsFirstTurn turns i (low, 0) (Some first) → within low last (first.0, first.1) ≡ false → IsFirstBy (row_turn age i low last) (values_of m.entries) None
+  no_row_outside i low last first is outside = rows_all (λ r. row_turn age i low last r ≡ None) (λ q r there. no_rank low last (turn_in age (facts_of r) i)
+      (λ at turn inside.
+      let behind = is.2 at.0 at.1 q (low_enough low at.0 at.1 (from_low low last at inside)) (stands i q r at there turn) in
+      let first_inside = before_within low last (first.0, first.1) at (not_below (low, 0) (first.0, first.1) is.1) (not_below (first.0, first.1) at behind) inside in
+      true≢false (sym first_inside ∙ outside)))
+
+  contains_row : (es : List (ℕ × EventRow)) (q : ℕ) (r : EventRow) → row_in es q ≡ Some r → Contains (values_of es) r
+  contains_row [] q r there = absurd (cc)
+  contains_row (e ∷ es) q r there = by_test (is_eq (nat_cmp q e.0)) refl (contains_row es q r)
+    where
+      by_test : (b : Bool) → is_eq (nat_cmp q e.0) ≡ b → (row_in es q ≡ Some r → Contains (values_of es) r) → Contains (values_of (e ∷ es)) r
+      by_test true here rest = let same : Some e.1 ≡ Some r = ap (λ b. cond b (Some e.1) (row_in es q)) (sym here) ∙ there in (zero, omega arith, some_injective same)
+      by_test false apart rest =
+          let found = rest (ap (λ b. cond b (Some e.1) (row_in es q)) (sym apart) ∙ there) in
+          (suc found.0, omega (arith, found.1), found.2)
+
+  -- the facts that a turn belongs to
+  turned_row : (o : Option EventRow) (i : Index) (a b : ℕ) → has_turn age (option_map facts_of o) i a b ≡ true → (r : EventRow) × (o ≡ Some r) × (turn_in age (facts_of r) i ≡ Some (a, b))
+  turned_row None i a b h = absurd (true≢false (sym h))
+  turned_row (Some r) i a b h = (r, refl, is_at_turn (turn_in age (facts_of r) i) h)
+    where
+      is_at_turn : (o : Option (ℕ × ℕ)) → is_turn o a b ≡ true → o ≡ Some (a, b)
+      is_at_turn None h = absurd (true≢false (sym h))
+      is_at_turn (Some t) h = let parts = and_parts (t.0 == a) (t.1 == b) h in rw (← eqb-true t.0 a parts.0, ← eqb-true t.1 b parts.1) refl
+
+  least_of : (low : ℕ) (last : Option ℕ) (first : ℕ × ℕ) (o : Option (ℕ × ℕ)) → ((at : ℕ × ℕ) → o ≡ Some at → within low last at ≡ true → IsAtMost first at) → NotBefore first (turn_within low last o)
+  least_of low last first None each = tt
+  least_of low last first (Some at) each = by_test (within low last at) refl (each at refl)
+    where
+      by_test : (b : Bool) → within low last at ≡ b → (within low last at ≡ true → IsAtMost first at) → NotBefore first (cond (within low last at) (Some at) None)
+      by_test true h k = rw h (k h)
+      by_test false h k = rw h tt
+
+  pub first_row : (i : Index) (low : ℕ) (last : Option ℕ) (first : ℕ × ℕ × ℕ) → IsFirstTurn turns i (low, 0) (Some first) → within low last (first.0, first.1) ≡ true → (found : Option EventRow) → found ≡ tree.get nat_cmp m first.2 → IsFirstBy (row_turn age i low last) (values_of m.entries) found
+  first_row i low last first is inside found same =
+      let row = turned_row (tree.get nat_cmp m first.2) i first.0 first.1 (sym (indexed.turned i first.0 first.1 first.2) ∙ is.0) in
+      rw (same, row.1) (record {
+        is_there = contains_row m.entries first.2 row.0 row.1;
+        at = (first.0, first.1);
+        has = ap (turn_within low last) row.2 ∙ rw inside refl;
+        least = rows_all (λ r. NotBefore (first.0, first.1) (row_turn age i low last r)) (λ q r there. least_of low last (first.0, first.1) (turn_in age (facts_of r) i)
+            (λ at turn within_it. is.2 at.0 at.1 q (low_enough low at.0 at.1 (from_low low last at within_it)) (stands i q r at there turn)));
+      })
+
+  -- ## A change of an event
+
+  pub some_run : (p : ℕ) (r : EventRow) → tree.get nat_cmp m p ≡ Some r → runs r ≤ running
+  some_run p r there =
+      let fewer : count_by (λ (x : EventRow). is_running x.standing) (values_of (remove_entry (is_at (nat_cmp p)) m.entries)) + runs r ≡ running_at (values_of m.entries) =
+      subst (λ (o : Option EventRow). count_by (λ (x : EventRow). is_running x.standing) (values_of (remove_entry (is_at (nat_cmp p)) m.entries)) + unwrap_or (option_map runs o) 0 ≡ running_at (values_of m.entries)) there
+      (sum_by-remove_entry runs (is_at (nat_cmp p)) m.entries) in
+      rw indexed.counted (omega (arith, fewer))
+
+  pub few_run : running ≤ length m.entries
+  few_run = rw indexed.counted (omega (arith, count_by-le-length (λ (x : EventRow). is_running x.standing) (values_of m.entries), length-map m.entries (λ (e : ℕ × EventRow). e.1)))
+
+  -- the row of an event is another one now
+  pub changes : (m' : BTreeMap ℕ EventRow) (turns' : BTreeSet Turn) (p : ℕ) (r w : EventRow) (now : ℕ) → tree.get nat_cmp m p ≡ Some r → w.id ≡ r.id → m'.entries ≡ set_value (is_at (nat_cmp p)) m.entries w → tree.Updates nat_cmp m m' p (Some w)
+      → tree.IsOrdered nat_cmp m' → now + runs r ≡ running + runs w → (old new : Facts) → old ≡ facts_of r → new ≡ facts_of w → Switches age p (Some old) (Some new) turns turns' → IsIndexed age m' s turns' now n
+  changes m' turns' p r w now there same entries update ordered count old new of_old of_new switched = record {
+    held = record {
+      ordered = ordered;
+      below = λ q found. indexed.held.below q (was_there q (is_at (nat_cmp p) q) refl found);
+      named = λ id q. indexed.held.named id q ∙ names_stay id q (is_at (nat_cmp p) q) refl;
+    };
+    turned = alike age _ (facts_in m') turns' (facts_put m m' p (Some w) update) (subst (λ f. AreTurns age (put_facts p (Some f) (facts_in m)) turns') of_new (switched (facts_in m) indexed.turned (ap (λ o. option_map facts_of o) there ∙ ap (λ f. Some f) (sym of_old))));
+    counted =
+        let moved = sum_by-set_value runs (is_at (nat_cmp p)) m.entries r w there in
+        let same_list : running_at (values_of m'.entries) ≡ running_at (values_of (set_value (is_at (nat_cmp p)) m.entries w)) = ap (λ es. running_at (values_of es)) entries in
+        omega (arith, moved, same_list, count, indexed.counted);
+  }
+    where
+      place_same : (q : ℕ) → is_at (nat_cmp p) q ≡ true → p ≡ q
+      place_same q here = eqb-true p q (sym (unsigned_tied p q) ∙ here)
+
+      was_there : (q : ℕ) (b : Bool) → is_at (nat_cmp p) q ≡ b → IsSome (tree.get nat_cmp m' q) → IsSome (tree.get nat_cmp m q)
+      was_there q true here found = subst (λ x. IsSome (tree.get nat_cmp m x)) (place_same q here) (rw there refl)
+      was_there q false apart found = subst (λ o. IsSome o) (update.0 q ∙ ap (λ b. cond b (Some w) (tree.get nat_cmp m q)) apart) found
+
+      names_stay : (id : List ℕ) (q : ℕ) (b : Bool) → is_at (nat_cmp p) q ≡ b → has_name id (tree.get nat_cmp m q) ≡ has_name id (tree.get nat_cmp m' q)
+      names_stay id q true here =
+          ap (has_name id) (subst (λ x. tree.get nat_cmp m x ≡ Some r) (place_same q here) there) ∙ ap (bytes_eq id) (sym same)
+          ∙ ap (has_name id) (sym (update.0 q ∙ ap (λ b. cond b (Some w) (tree.get nat_cmp m q)) here))
+      names_stay id q false apart = ap (has_name id) (sym (update.0 q ∙ ap (λ b. cond b (Some w) (tree.get nat_cmp m q)) apart))
+
+  pub stays : (turns' : BTreeSet Turn) (p : ℕ) (r : EventRow) (old : Facts) → tree.get nat_cmp m p ≡ Some r → old ≡ facts_of r → StaysAt age p (Some old) turns turns' → IsIndexed age m s turns' running n
+  stays turns' p r old there of_old same = record {
+    held = indexed.held;
+    turned = same (facts_in m) indexed.turned (ap (λ o. option_map facts_of o) there ∙ ap (λ f. Some f) (sym of_old));
+    counted = indexed.counted;
+  }
+
+  -- ## An event that goes
+
+  pub goes : (m' : BTreeMap ℕ EventRow) (s' : BTreeSet (List ℕ × ℕ)) (turns' : BTreeSet Turn) (id : List ℕ) (p : ℕ) (r : EventRow) (now : ℕ) → IsFirstPlace s id (Some p) → tree.get nat_cmp m p ≡ Some r → TakesRow m p m' → sorted.Updates by_id s s' (id, p) false
+      → now + runs r ≡ running + 0 → (old : Facts) → old ≡ facts_of r → Switches age p (Some old) None turns turns' → IsIndexed age m' s' turns' now n
+  goes m' s' turns' id p r now first there taken removed count old of_old switched = record {
+    held = held_fewer m s n indexed.held id p first m' s' taken removed;
+    turned = alike age _ (facts_in m') turns' (facts_put m m' p None taken.1) (switched (facts_in m) indexed.turned (ap (λ o. option_map facts_of o) there ∙ ap (λ f. Some f) (sym of_old)));
+    counted =
+        let fewer : count_by (λ (x : EventRow). is_running x.standing) (values_of (remove_entry (is_at (nat_cmp p)) m.entries)) + runs r ≡ running_at (values_of m.entries) =
+        subst (λ (o : Option EventRow). count_by (λ (x : EventRow). is_running x.standing) (values_of (remove_entry (is_at (nat_cmp p)) m.entries)) + unwrap_or (option_map runs o) 0 ≡ running_at (values_of m.entries)) there
+        (sum_by-remove_entry runs (is_at (nat_cmp p)) m.entries) in
+        let same_list : running_at (values_of m'.entries) ≡ running_at (values_of (remove_entry (is_at (nat_cmp p)) m.entries)) = ap (λ es. running_at (values_of es)) taken.0 in
+        omega (arith, fewer, same_list, count, indexed.counted);
+  }
+
+-- ## Counts as the code makes them
+
+pub recount : (a b : ℕ) (ran runs_now x y : Bool) → ran ≡ x → runs_now ≡ y → a + cond ran 1 0 ≡ b + cond runs_now 1 0 → a + cond x 1 0 ≡ b + cond y 1 0
+recount a b ran runs_now x y p q h = rw (← p, ← q) h

@@ -1,0 +1,330 @@
+// The events that are held: their rows in the order of acceptance, found by id and by the indexes.
+ghost use Rattle.std.specs.Prelude.{◌≡◌, ◌+◌, ◌++◌, ◌∷◌, [], ◌<◌, ◌≤◌, ◌^◌, length, find, option_map, OnOk, OnErr, IfOk, if◌then◌else◌};
+ghost use Rattle.std.specs.Option.{option_copied};
+ghost use Rattle.std.specs.BTreeMap as tree;
+ghost use Rattle.std.specs.Map.{values_of};
+ghost use Rattle.std.specs.Cmp.Lexicographic.{pointwise};
+ghost use Rattle.async_core.specs.Choice.{IsChosen};
+ghost use Rattle.async_core.specs.Equality as meant;
+ghost use Rattle.async_core.specs.Rules.{has_id, remove_row, running_at};
+ghost use Rattle.async_core.specs.Steps as step;
+ghost use Rattle.async_core.specs.Ids.{PutsRow, TakesRow, SetsRow, ForRowAt};
+ghost use Rattle.async_core.specs.Kept.{with_rows, Enters, StaysOut};
+ghost use Rattle.async_core.specs.Turns as turned;
+ghost use Rattle.async_core.specs.Turns.{within, row_turn, IsFirstBy};
+
+use crate::changes::{standing_after, update};
+use crate::choice::{Order, better};
+use crate::copies::copy_row;
+use crate::equality::same_row;
+use crate::ids::first_place;
+use crate::standings::is_running;
+use crate::turns::{
+    Facts, Index, Turn, facts_of, first_turn, insert_turns, remove_turns, switch_turns,
+};
+use invoke_records::{Answer, Command, EventRow};
+use retry_rules::Settings;
+use std::alloc::{AllocError, Global};
+use std::collections::{BTreeMap, BTreeSet};
+use std::marker::Model;
+
+/// The rows of the events that are held. Each has a place, and places ascend in the order of acceptance.
+#[derive(Drop)]
+pub(crate) struct Held {
+    /// From which age on an event is too old, in seconds.
+    age: u32,
+    rows: BTreeMap<u64, EventRow>,
+    /// Each row's id with its place.
+    ids: BTreeSet<([u8; 16], u64)>,
+    turns: BTreeSet<Turn>,
+    /// How many run.
+    running: usize,
+    /// The place of the row that comes next.
+    next: u64,
+}
+
+impl Model for Held {
+    ghost use Rattle.std.specs.Map.{values_of};
+    ghost use Rattle.async_core.specs.Kept.{Kept, IsIndexed};
+
+    ghost Value = { Kept };
+
+    ghost view = { λ h. record { age = h.age; rows = values_of h.rows.entries } };
+
+    ghost invariant = { λ h. IsIndexed h.age h.rows h.ids h.turns h.running h.next };
+}
+
+fn put_row(rows: &mut BTreeMap<u64, EventRow>, place: u64, row: EventRow) -> Result<(), AllocError>
+    ensures ok { OnOk result (PutsRow rows.old place row rows.new) }
+    ensures err { OnErr result (tree.IsUnchanged rows.old rows.new) }
+{
+    rows.insert(place, row)?;
+    Ok(())
+}
+
+fn take_row(rows: &mut BTreeMap<u64, EventRow>, place: u64)
+    ensures { TakesRow rows.old place rows.new }
+{
+    let _row = rows.remove(&place);
+}
+
+/// Changes the row at a place.
+fn change_row(
+    rows: &mut BTreeMap<u64, EventRow>,
+    place: u64,
+    settings: &Settings,
+    number: u64,
+    command: &Command,
+    answer: Option<Answer>,
+)
+    requires time { command.now.time < 2 ^ 63 }
+    requires answer { step.Brings command.now answer }
+    ensures { ForRowAt rows.old place (λ r. SetsRow rows.old place (step.row_with settings.now number command.now r) rows.new) }
+{
+    if let Some(row) = rows.get_mut(&place) {
+        update(row, settings, number, command, answer);
+    }
+}
+
+/// Enters an id and its turns at a place. A refusal, for want of memory, leaves all as it was.
+fn enter(
+    ids: &mut BTreeSet<([u8; 16], u64)>,
+    turns: &mut BTreeSet<Turn>,
+    age: u32,
+    place: u64,
+    id: [u8; 16],
+    facts: Facts,
+) -> Result<(), AllocError>
+    ensures ok { OnOk result (Enters age place id facts ids.old ids.new turns.old turns.new) }
+    ensures err { OnErr result (StaysOut age place ids.old ids.new turns.old turns.new) }
+{
+    ids.insert((id, place))?;
+    if let Err(error) = insert_turns(turns, age, place, facts) {
+        let _ = ids.remove(&(id, place));
+        return Err(error);
+    }
+    Ok(())
+}
+
+/// How many run, where of these one ran or not, and runs or not now.
+fn recounted(running: usize, ran: bool, runs: bool) -> usize
+    requires some { (if ran then 1 else 0) ≤ running }
+    requires fits { running < 2 ^ 63 }
+    ensures { result + (if ran then 1 else 0) ≡ running + (if runs then 1 else 0) }
+{
+    if ran == runs {
+        return running;
+    }
+    if runs { running + 1 } else { running - 1 }
+}
+
+fn first_of<'a>(rows: &'a BTreeMap<u64, EventRow>, order: Order) -> Option<&'a EventRow>
+    ensures { IsChosen order (values_of rows.now.entries) (option_copied result) }
+{
+    let mut best = None;
+    for row in rows.values() {
+        best = better(order, best, row);
+    }
+    best
+}
+
+fn copies_of(rows: &BTreeMap<u64, EventRow>, alloc: Global) -> Result<Vec<EventRow>, AllocError>
+    ensures { IfOk result (λ copies. copies.items ≡ values_of rows.now.entries) }
+{
+    let mut copies = Vec::with_capacity(alloc, rows.len())?;
+    for row in rows.values() {
+        let copy = copy_row(row)?;
+        copies.push(copy)?;
+    }
+    Ok(copies)
+}
+
+fn have_same_rows(a: &BTreeMap<u64, EventRow>, b: &BTreeMap<u64, EventRow>) -> bool
+    ensures { result ≡ pointwise meant.same_row (values_of a.now.entries) (values_of b.now.entries) }
+{
+    let mut others = b.values();
+    for row in a.values() {
+        let Some(other) = others.next() else {
+            return false;
+        };
+        if !same_row(row, other) {
+            return false;
+        }
+    }
+    others.next().is_none()
+}
+
+fn is_within(low: u128, last: Option<u64>, at: (u128, u64)) -> bool
+    ensures { result ≡ within low last at }
+{
+    match last {
+        Some(last) => low <= at.0 && at.0 <= u128::from(last),
+        None => low <= at.0,
+    }
+}
+
+impl Held {
+    /// None. It takes no memory.
+    pub(crate) fn new(alloc: Global, age: u32) -> Held
+        ensures { result ≡ record { age = age; rows = [] } }
+    {
+        Held {
+            age,
+            rows: BTreeMap::new(alloc),
+            ids: BTreeSet::new(alloc),
+            turns: BTreeSet::new(alloc),
+            running: 0,
+            next: 0,
+        }
+    }
+
+    /// From which age on an event is too old, in seconds.
+    pub(crate) fn age(&self) -> u32
+        ensures { result ≡ self.now.age }
+    {
+        self.age
+    }
+
+    /// How many there are.
+    pub(crate) fn len(&self) -> usize
+        ensures { result ≡ length self.now.rows }
+    {
+        self.rows.len()
+    }
+
+    /// How many of them run.
+    pub(crate) fn running(&self) -> usize
+        ensures { result ≡ running_at self.now.rows }
+    {
+        self.running
+    }
+
+    /// The first row of this id.
+    pub(crate) fn find(&self, id: &[u8; 16]) -> Option<&EventRow>
+        ensures { option_map (λ r. r.now) result ≡ find (has_id id.now) self.now.rows }
+    {
+        match first_place(&self.ids, id) {
+            Some(place) => self.rows.get(&place),
+            None => None,
+        }
+    }
+
+    /// The first row in an index whose first number is at least this one, and at most that one if one is given.
+    pub(crate) fn first_in(&self, index: Index, low: u128, last: Option<u64>) -> Option<&EventRow>
+        ensures { IsFirstBy (row_turn self.now.age index low last) self.now.rows (option_copied result) }
+    {
+        let Some(first) = first_turn(&self.turns, index, (low, 0)) else {
+            return None;
+        };
+        if !is_within(low, last, (first.0, first.1)) {
+            return None;
+        }
+        self.rows.get(&first.2)
+    }
+
+    /// The row that goes first in this order. It looks at each row.
+    pub(crate) fn first_row(&self, order: Order) -> Option<&EventRow>
+        ensures { IsChosen order self.now.rows (option_copied result) }
+    {
+        first_of(&self.rows, order)
+    }
+
+    /// Equal rows in memory of their own.
+    pub(crate) fn copies(&self, alloc: Global) -> Result<Vec<EventRow>, AllocError>
+        ensures { IfOk result (λ copies. copies.items ≡ self.now.rows) }
+    {
+        copies_of(&self.rows, alloc)
+    }
+
+    /// Whether both have the same rows.
+    pub(crate) fn has_same_rows(&self, other: &Held) -> bool
+        ensures { result ≡ pointwise meant.same_row self.now.rows other.now.rows }
+    {
+        have_same_rows(&self.rows, &other.rows)
+    }
+
+    /// Adds a row behind the others. A refusal, for want of memory, changes nothing.
+    pub(crate) fn push(&mut self, row: EventRow) -> Result<(), AllocError>
+        ensures ok { OnOk result (self.new ≡ with_rows self.old (self.old.rows ++ row ∷ [])) }
+        ensures err { OnErr result (self.new ≡ self.old) }
+    {
+        let place = self.next;
+        let facts = facts_of(&row);
+        let _held = self.rows.len();
+        let running = recounted(self.running, false, is_running(row.standing));
+        let id = row.id;
+        let Some(next) = place.checked_add(1) else {
+            return Err(AllocError);
+        };
+        enter(&mut self.ids, &mut self.turns, self.age, place, id, facts)?;
+        if let Err(error) = put_row(&mut self.rows, place, row) {
+            remove_turns(&mut self.turns, self.age, place, facts);
+            let _ = self.ids.remove(&(id, place));
+            return Err(error);
+        }
+        self.running = running;
+        self.next = next;
+        Ok(())
+    }
+
+    /// Takes the first row of this id away. It takes no memory.
+    pub(crate) fn remove(&mut self, id: &[u8; 16])
+        ensures { self.new ≡ with_rows self.old (remove_row id.now self.old.rows) }
+    {
+        if let Some(place) = first_place(&self.ids, id) {
+            if let Some(row) = self.rows.get(&place) {
+                let _held = self.rows.len();
+                let facts = facts_of(row);
+                let running = recounted(self.running, is_running(facts.standing), false);
+                remove_turns(&mut self.turns, self.age, place, facts);
+                let id = *id;
+                let _ = self.ids.remove(&(id, place));
+                take_row(&mut self.rows, place);
+                self.running = running;
+            }
+        }
+    }
+
+    /// Changes the first row of the command's event. A refusal, for want of memory, changes nothing.
+    pub(crate) fn change(
+        &mut self,
+        settings: &Settings,
+        number: u64,
+        command: &Command,
+        answer: Option<Answer>,
+    ) -> Result<(), AllocError>
+        requires time { command.now.time < 2 ^ 63 }
+        requires answer { step.Brings command.now answer }
+        ensures ok { OnOk result (self.new ≡ with_rows self.old (step.rows_changed settings.now number command.now self.old.rows)) }
+        ensures err { OnErr result (self.new ≡ self.old) }
+    {
+        let Some(place) = first_place(&self.ids, &command.id) else {
+            return Ok(());
+        };
+        let Some(row) = self.rows.get(&place) else {
+            return Ok(());
+        };
+        let _held = self.rows.len();
+        let old = facts_of(row);
+        let new = changed_facts(row, settings, number, command);
+        let (ran, runs) = (is_running(old.standing), is_running(new.standing));
+        let running = recounted(self.running, ran, runs);
+        switch_turns(&mut self.turns, self.age, place, old, new)?;
+        self.running = running;
+        change_row(&mut self.rows, place, settings, number, command, answer);
+        Ok(())
+    }
+}
+
+/// The facts of a row after the command.
+fn changed_facts(row: &EventRow, settings: &Settings, number: u64, command: &Command) -> Facts
+    requires { command.now.time < 2 ^ 63 }
+    ensures { result ≡ turned.facts_of (step.row_with settings.now number command.now row.now) }
+{
+    Facts {
+        accepted: row.accepted,
+        number: row.number,
+        last_number: number,
+        standing: standing_after(settings, command, row.failures, row.push_backs),
+    }
+}
