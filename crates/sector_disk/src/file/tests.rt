@@ -1,6 +1,6 @@
 // Disks in files of the system's folder for files of the day.
 use super::{FileDisk, FileError};
-use crate::{Disk, Fault, SECTOR_SIZE};
+use crate::{Disk, SECTOR_SIZE};
 use std::test::Fail;
 use std::{env, fs, process};
 
@@ -11,42 +11,58 @@ fn path_of(rt: &HostRuntime, test: &str) -> Result<String, Fail> {
     Ok(format!(in rt.alloc(); "{}/sector_disk_{test}_{id}", folder.as_str())?)
 }
 
+// What a sector of the disk reads as, if each of its bytes is the same.
+fn byte_at(disk: &mut FileDisk, sector: u64) -> Option<u8> {
+    if sector >= disk.sectors() {
+        return None;
+    }
+    let mut bytes = [1; SECTOR_SIZE];
+    disk.read(sector, &mut bytes).ok()?;
+    let first = bytes[0];
+    if bytes == [first; SECTOR_SIZE] {
+        Some(first)
+    } else {
+        None
+    }
+}
+
+// Whether a sector of the disk was filled with this byte.
+fn is_filled(disk: &mut FileDisk, sector: u64, byte: u8) -> bool {
+    sector < disk.sectors() && disk.write(sector, &[byte; SECTOR_SIZE]).is_ok()
+}
+
+// Why a disk was not opened, if it was not.
+fn refusal(outcome: Result<FileDisk, FileError>) -> Option<FileError> {
+    outcome.err()
+}
+
 #[test]
 fn what_was_written_is_read_after_it_was_opened_again(rt: HostRuntime) -> Result<(), Fail> {
     let path = path_of(&rt, "kept")?;
     fs::write(&rt, path.as_str(), "something else")?;
     let mut disk = FileDisk::create(&rt, path.as_str(), 300)?;
     assert_eq!(rt; disk.sectors(), 300);
-    let written = [7; 2 * SECTOR_SIZE];
-    assert_eq!(rt; disk.write(298, &written), Ok(()));
-    assert_eq!(rt; disk.barrier(), Ok(()));
-    assert_eq!(rt; disk.faults(), 0);
+    assert!(rt; is_filled(&mut disk, 299, 7));
+    assert!(rt; disk.barrier().is_ok());
     drop(disk);
-
     assert_eq!(rt; fs::metadata(&rt, path.as_str())?.len(), 153600);
+
     let mut disk = FileDisk::open(&rt, path.as_str())?;
     assert_eq!(rt; disk.sectors(), 300);
-    let mut read = [1; 3 * SECTOR_SIZE];
-    assert_eq!(rt; disk.read(297, &mut read), Ok(()));
-    assert!(rt; read.starts_with(&[0; SECTOR_SIZE]));
-    assert!(rt; read.ends_with(&written));
-    assert_eq!(rt; disk.read(0, &mut read), Ok(()));
-    assert!(rt; read == [0; 3 * SECTOR_SIZE]);
+    for (sector, byte) in [(0, 0), (150, 0), (298, 0), (299, 7)] {
+        assert_eq!(rt; byte_at(&mut disk, sector), Some(byte), "at {sector}");
+    }
+    assert_eq!(rt; disk.faults(), 0);
     drop(disk);
     fs::remove_file(&rt, path.as_str())?;
     Ok(())
-}
-
-// Why a disk was not opened.
-fn refusal(outcome: Result<FileDisk, FileError>) -> Option<FileError> {
-    outcome.err()
 }
 
 #[test]
 fn a_disk_that_is_open_is_not_opened_again(rt: HostRuntime) -> Result<(), Fail> {
     let path = path_of(&rt, "locked")?;
     let mut disk = FileDisk::create(&rt, path.as_str(), 1)?;
-    assert_eq!(rt; disk.write(0, &[9; SECTOR_SIZE]), Ok(()));
+    assert!(rt; is_filled(&mut disk, 0, 9));
     let in_use = Some(FileError::InUse);
     assert_eq!(rt; refusal(FileDisk::open(&rt, path.as_str())), in_use);
     assert_eq!(rt;
@@ -57,11 +73,9 @@ fn a_disk_that_is_open_is_not_opened_again(rt: HostRuntime) -> Result<(), Fail> 
     drop(disk);
 
     let mut disk = FileDisk::open_read_only(&rt, path.as_str())?;
-    let mut read = [0; SECTOR_SIZE];
-    assert_eq!(rt; disk.read(0, &mut read), Ok(()));
-    assert!(rt; read == [9; SECTOR_SIZE]);
-    assert_eq!(rt; disk.barrier(), Ok(()));
-    assert_eq!(rt; disk.write(0, &read), Err(Fault));
+    assert_eq!(rt; byte_at(&mut disk, 0), Some(9));
+    assert!(rt; disk.barrier().is_ok());
+    assert!(rt; !is_filled(&mut disk, 0, 8));
     assert_eq!(rt; disk.faults(), 1);
     assert_eq!(rt; refusal(FileDisk::open(&rt, path.as_str())), in_use);
     assert_eq!(rt; FileDisk::open_read_only(&rt, path.as_str())?.sectors(), 1);
@@ -84,17 +98,16 @@ fn what_is_no_disk_is_refused_by_name(rt: HostRuntime) -> Result<(), Fail> {
         refusal(FileDisk::create(&rt, inside.as_str(), 1)),
         not_found
     );
+    let no_room = Some(FileError::NoRoom);
     assert_eq!(rt;
         refusal(FileDisk::create(&rt, path.as_str(), 1 << 54)),
-        Some(FileError::NoRoom)
+        no_room
     );
     assert!(rt; !fs::exists(&rt, path.as_str())?);
 
     fs::write(&rt, path.as_str(), [0; 513].as_slice())?;
-    assert_eq!(rt;
-        refusal(FileDisk::open(&rt, path.as_str())),
-        Some(FileError::NotWhole)
-    );
+    let not_whole = Some(FileError::NotWhole);
+    assert_eq!(rt; refusal(FileDisk::open(&rt, path.as_str())), not_whole);
     fs::remove_file(&rt, path.as_str())?;
 
     let folder = env::temp_dir(&rt)?;
