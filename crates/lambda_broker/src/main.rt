@@ -4,6 +4,7 @@
 //! `group_commit` alone.
 #![tactic(auto)]
 
+mod auditing;
 mod command_line;
 mod formatting;
 mod trial;

@@ -1,13 +1,17 @@
 // The words of the command line: which command they are, and what it is told.
+use crate::auditing::OldDisk;
 use crate::formatting::{Function, NewDisk, Numbers};
 use clap::builder::ValueParser;
+use clap::error::ErrorKind;
 use clap::{Arg, ArgAction, ArgMatches, Command, Error, value_parser};
 use std::alloc::{AllocError, Global};
+use uuid::Uuid;
 
 /// A command of the program.
 pub enum Task<'a> {
     Trial,
     Format(NewDisk<'a>),
+    Audit(OldDisk<'a>),
 }
 
 // An option with a value.
@@ -87,6 +91,14 @@ fn format_command<'a>(alloc: Global) -> Result<Command<'a>, AllocError> {
     with_limits(alloc, command)
 }
 
+fn audit_command<'a>(alloc: Global) -> Result<Command<'a>, AllocError> {
+    let event = option(alloc, "event", "Tell of the event with this id, too");
+    Command::new(alloc, "audit")
+        .about("Tell what a disk holds, and whether its two segments tell one story")
+        .arg(disk(alloc))?
+        .arg(event.value_name("ID"))
+}
+
 fn commands<'a>(alloc: Global) -> Result<Command<'a>, AllocError> {
     let trial = Command::new(alloc, "trial").about(
         "Accept, commit and recover one event on a disk in memory",
@@ -95,7 +107,8 @@ fn commands<'a>(alloc: Global) -> Result<Command<'a>, AllocError> {
         .about("A broker for asynchronous invocations of one function")
         .subcommand_required(true)
         .subcommand(trial)?
-        .subcommand(format_command(alloc)?)
+        .subcommand(format_command(alloc)?)?
+        .subcommand(audit_command(alloc)?)
 }
 
 fn function<'a>(matches: &ArgMatches<'a>) -> Option<Function<'a>> {
@@ -128,15 +141,38 @@ fn new_disk<'a>(matches: &ArgMatches<'a>) -> Option<NewDisk<'a>> {
     })
 }
 
+// The fault of an id that is none.
+fn bad_id(alloc: Global, id: &str) -> Result<Error, AllocError> {
+    let message = format!(in alloc; "invalid value '{id}' for '--event <ID>': no UUID")?;
+    audit_command(alloc)?.error(ErrorKind::ValueValidation, message.as_str())
+}
+
+fn old_disk<'a>(alloc: Global, matches: &ArgMatches<'a>) -> Result<Option<Task<'a>>, Error> {
+    let Some(path) = matches.get_str("disk") else {
+        return Ok(None);
+    };
+    let Some(id) = matches.get_str("event") else {
+        return Ok(Some(Task::Audit(OldDisk { path, event: None })));
+    };
+    match Uuid::parse_str(id) {
+        Ok(id) => {
+            let event = Some(id.into_bytes());
+            Ok(Some(Task::Audit(OldDisk { path, event })))
+        }
+        Err(_) => Err(bad_id(alloc, id)?),
+    }
+}
+
 /// The command that the words are, the first of which is the program's name.
 pub fn read_task<'a>(alloc: Global, words: &'a [String]) -> Result<Option<Task<'a>>, Error> {
     let matches = commands(alloc)?.try_get_matches_from(words)?;
     let Some((name, told)) = matches.subcommand() else {
         return Ok(None);
     };
-    Ok(match name {
-        "trial" => Some(Task::Trial),
-        "format" => new_disk(told).map(Task::Format),
-        _ => None,
-    })
+    match name {
+        "trial" => Ok(Some(Task::Trial)),
+        "format" => Ok(new_disk(told).map(Task::Format)),
+        "audit" => old_disk(alloc, told),
+        _ => Ok(None),
+    }
 }
