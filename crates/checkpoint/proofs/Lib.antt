@@ -6,6 +6,7 @@ pub mod Images
 pub mod Folds
 pub mod Lives
 pub mod Parts
+pub mod Sides
 pub mod Appends
 pub mod Spelled
 pub mod Formatted

@@ -1,5 +1,5 @@
 -- What segments that were read say of their image.
-use Rattle.std.proofs.Common.{◌≡◌, ℕ, Bool, false, List, Option, None, Some, Result, Ok, refl, sym, ◌∙◌, ap}
+use Rattle.std.proofs.Common.{◌≡◌, ℕ, Bool, false, List, map, Option, None, Some, Result, Ok, refl, sym, ◌∙◌, ap}
 use Rattle.sector_disk.specs.Disk.{DiskView, HasOneImage}
 use Rattle.invoke_records.specs.declared.command.Command.{Command}
 use Rattle.invoke_records.specs.declared.snapshot.Snapshot.{Snapshot}
@@ -11,7 +11,8 @@ use Rattle.checkpoint.specs.declared.segment.Segment.{Segment}
 use Rattle.checkpoint.specs.declared.opened.Opened.{Opened}
 use Rattle.checkpoint.specs.Image.{SegmentImage, DiskImage, with_older, segments_in, area_of, with_table, found_in, read_image, folded, recovered, state_of}
 use Rattle.checkpoint.specs.Live.{IsLive}
-use Rattle.checkpoint.specs.OpenSteps.{IsRead, Opens, IsOpened, AreBoth, IsOpenedAs, Refuses}
+use Rattle.checkpoint.specs.Opening.{Refuses}
+use Rattle.checkpoint.specs.OpenSteps.{IsRead, Opens, IsOpened, AreBoth, IsOpenedAs}
 use Rattle.checkpoint.proofs.Refusals.{refuses_along}
 use Rattle.checkpoint.proofs.Folds.{replays}
 use Rattle.checkpoint.proofs.Segments.{behind_snapshot}
@@ -59,6 +60,7 @@ module _ (sectors : ℕ) (content : List ℕ) (found : Found) (segment : Segment
     holds = rw opens.journal read.holds;
     other = opens.other;
     replays = opened_replays segment other_open opened snapshot commands opens;
+    parts = λ i. (sym opens.first i, (ap (map (λ c. c.1)) read.behind ∙ sym opens.others) i);
   }
 
 -- the live segment alone
@@ -73,6 +75,7 @@ opened_alone sectors live bytes opened snapshot commands is = record {
   other = sym is.other;
   holds = is.holds;
   replays = is.replays;
+  parts = is.parts;
 }
 
 -- and the older one beside it
@@ -87,6 +90,7 @@ opened_both sectors live older bytes opened snapshot commands are = record {
   other = sym are.first.other;
   holds = are.first.holds;
   replays = are.first.replays;
+  parts = are.first.parts;
 }
 
 -- what is wrong with the live segment is told first, and then what is wrong with the older one
@@ -109,6 +113,7 @@ opened_along read other bytes opened snapshot commands same is = record {
   other = is.other;
   holds = is.holds;
   replays = is.replays;
+  parts = is.parts;
 }
 
 -- a disk with one image, which was read so, is live

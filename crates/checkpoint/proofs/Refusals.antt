@@ -6,7 +6,8 @@ use Rattle.gate_journal.specs.declared.error.ReadError.{ReadError}
 use Rattle.gate_journal.specs.declared.error.ReadError.TheVariants as read_error
 use Rattle.checkpoint.specs.declared.error.OpenError.{OpenError}
 use Rattle.checkpoint.specs.declared.error.OpenError.TheVariants.{Fault, OutOfMemory, NotFormatted, Damaged}
-use Rattle.checkpoint.specs.OpenSteps.{OnlyReads, IsDamage, Refuses}
+use Rattle.checkpoint.specs.Opening.{OnlyReads, Refuses}
+use Rattle.checkpoint.specs.OpenSteps.{IsDamage}
 use Rattle.checkpoint.specs.Opening.{open_error_of}
 
 -- some reads and then others

@@ -20,10 +20,12 @@ use Rattle.checkpoint.specs.declared.opened.Opened.{Opened}
 use Rattle.checkpoint.specs.Image.{SegmentImage, DiskImage, half, sector_at, segment_sectors, least_sectors, header_text, segment_text, area_of, open_header, segment_at, read_image, recovered, state_of}
 use Rattle.checkpoint.specs.Live.{IsLive, RecoversTo, RecoversToEither, settings_of, may_stand, live_recovers}
 use Rattle.checkpoint.specs.Pieces.{DiffersWithin, StandsFrom, parts_text}
-use Rattle.checkpoint.specs.SwitchSteps.{other_base, HasGate, IsSwitching, IsSwitched}
+use Rattle.checkpoint.specs.Image.{other_base}
+use Rattle.checkpoint.specs.SwitchSteps.{HasGate, IsSwitching, IsSwitched}
 use Rattle.checkpoint.specs.Held.{AreSides}
 use Rattle.checkpoint.proofs.Images.{is_open_at, IsBeside, IsDiskImage, disk_image, image_is, header_is, header_is_not, header_there, shut_header}
 use Rattle.checkpoint.proofs.Parts.{parts, header_room, inner, behind, open_header_same, segment_same}
+use Rattle.checkpoint.proofs.Sides as sides
 use Rattle.checkpoint.proofs.Appends.{beside_same}
 use Rattle.checkpoint.proofs.Rewrites.{wider, leaves_one}
 use Rattle.checkpoint.proofs.Placed.{header, placed, header_found, segment_found, no_frames_yet}
@@ -172,26 +174,18 @@ module _ (disk : DiskView) (opened : Opened) (before : Snapshot) (live : IsLive 
   abbrev pub h : ℕ
   h = sectors / 2
 
-  half_is : half disk.content ≡ h
-  half_is = omega (arith, size)
-
   is : IsDiskImage h disk.content live.image
-  is = subst (λ (n : ℕ). IsDiskImage n disk.content live.image) half_is (disk_image disk.content live.image live.reads)
+  is = sides.is disk opened before live sectors size
 
   abbrev pub other : ℕ
   other = other_base h opened.base
-
-  base_is : is.base ≡ opened.base
-  base_is = ap (λ (x : SegmentImage). x.base) (parts is.base h is.header disk.content live.image.live is.live).is_live ∙ live.base
 
   generation_is : is.header.generation ≡ opened.generation
   generation_is = ap (λ (x : SegmentImage). x.generation) (parts is.base h is.header disk.content live.image.live is.live).is_live ∙ live.generation
 
   other_is : other ≡ is.other
-  other_is = elim is.sides [
-    | inl a ↦ cond-true _ _ _ (eq-eqb opened.base 0 (sym base_is ∙ a.0)) ∙ sym a.1
-    | inr b ↦ cond-false _ _ _ (ne_eqb opened.base 0 (λ zero. absurd (omega (arith, zero, base_is, b.0, fits)))) ∙ sym b.1
-  ]
+  unfolding is
+  other_is = sides.other_is disk opened before live sectors size fits
 
   abbrev pub text : List ℕ
   text = segment_text (opened.generation + 1) (settings_of opened) snapshot

@@ -1,5 +1,5 @@
 -- What an image of a disk recovers to, by its bytes.
-use Rattle.std.specs.Prelude.{◌≡◌, ℕ, ◌+◌, ◌*◌, ◌/◌, ◌^◌, ◌==◌, nat_le, nat_lt, nat_eq, Bool, ◌&&◌, List, [], ◌∷◌, ◌++◌, length, take, drop, replicate, codes, Option, Some, None, Result, Ok, Err, if◌then◌else◌, option_map}
+use Rattle.std.specs.Prelude.{◌≡◌, ℕ, ◌+◌, ◌*◌, ◌/◌, ◌^◌, ◌==◌, nat_le, nat_lt, nat_eq, Bool, ◌&&◌, List, [], ◌∷◌, ◌++◌, length, take, drop, replicate, codes, Option, Some, None, Result, Ok, Err, if◌then◌else◌, option_map, map}
 use Rattle.std.specs.Result.{IsOkAnd}
 use Rattle.std.specs.List.{list_all, starts_with}
 use Rattle.std.specs.Int.{w32, w64, to_be_bytes, from_be_bytes}
@@ -112,6 +112,10 @@ pub record SegmentImage : Type 0 where
   pub frames : Frames
   pub table : Snapshot
 
+-- the snapshot of a segment and the commands of its frames
+abbrev pub parts_of : SegmentImage → Snapshot × List Command
+parts_of segment = (segment.snapshot, map (λ c. c.1) segment.frames.commands)
+
 -- the journal's area in the segment that begins at this sector and has so many
 abbrev pub area_of : ℕ → ℕ → Header → Snapshot → Area
 area_of base sectors header snapshot = record {
@@ -159,6 +163,10 @@ pub record DiskImage : Type 0 where
 -- how many sectors a segment has: segment A begins the disk, and segment B begins behind it
 abbrev pub half : List ℕ → ℕ
 half image = length image / 512 / 2
+
+-- where the other segment begins, if each has so many sectors and this one begins there
+abbrev pub other_base : ℕ → ℕ → ℕ
+other_base half base = if base == 0 then half else 0
 
 -- the header in this sector of an image, of a segment of so many sectors
 abbrev pub header_in : ℕ → ℕ → List ℕ → Option Header

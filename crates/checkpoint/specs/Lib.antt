@@ -3,6 +3,7 @@ pub mod FormatSteps
 pub mod Held
 pub mod Image
 pub mod Live
+pub mod Older
 pub mod Opening
 pub mod OpenSteps
 pub mod Pieces

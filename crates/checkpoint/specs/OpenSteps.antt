@@ -1,13 +1,13 @@
 -- What the private steps of opening a disk give. No public contract cites it.
 use Rattle.std.specs.Prelude.{◌≡◌, ℕ, ◌+◌, ◌*◌, ◌^◌, ◌<◌, ◌≤◌, Bool, true, List, map, take, drop, Option, None, Some, is_some, Result, Ok, Err}
-use Rattle.sector_disk.specs.Disk.{DiskView, IsSameDisk, IsUntouched}
+use Rattle.sector_disk.specs.Disk.{DiskView}
 use Rattle.async_core.specs.Rules.{replay}
 use Rattle.invoke_records.specs.declared.command.Command.{Command}
 use Rattle.invoke_records.specs.declared.snapshot.Snapshot.{Snapshot}
 use Rattle.gate_journal.specs.Journal as journal
 use Rattle.retry_rules.specs.Settings.{bad_field}
 use Rattle.gate_journal.specs.Frames.{Frames, sectors_for}
-use Rattle.checkpoint.specs.Image.{SegmentImage, DiskImage, segments_in, segment_sectors, area_of, snapshot_in, found_in, folded}
+use Rattle.checkpoint.specs.Image.{SegmentImage, DiskImage, parts_of, segments_in, segment_sectors, area_of, snapshot_in, found_in, folded}
 use Rattle.checkpoint.specs.Live.{settings_of, IsLive}
 use Rattle.checkpoint.specs.declared.header.Header.{Header}
 use Rattle.checkpoint.specs.declared.choosing.Found.{Found}
@@ -15,11 +15,6 @@ use Rattle.checkpoint.specs.declared.segment.Segment.{Segment}
 use Rattle.checkpoint.specs.declared.opened.Opened.{Opened}
 use Rattle.checkpoint.specs.declared.error.OpenError.{OpenError}
 use Rattle.checkpoint.specs.declared.error.OpenError.TheVariants.{Fault, OutOfMemory, NotFormatted, Damaged}
-
--- reads alone: the disk is as it was
-pub record OnlyReads (old new : DiskView) : Type 0 where
-  pub same : IsSameDisk old new
-  pub untouched : old.honest → IsUntouched old new
 
 -- so many sectors of an image, from this one on
 abbrev pub sectors_at : ℕ → ℕ → List ℕ → List ℕ
@@ -30,26 +25,12 @@ abbrev pub IsLiveBehind : DiskView → Opened → Snapshot → List Command → 
 IsLiveBehind disk opened snapshot commands =
     (table : Snapshot) × (replay (settings_of opened) snapshot commands ≡ Some table) × IsLive disk opened table
 
--- the device or the memory failed: nothing is said of what the disk holds
-abbrev pub IsNoFinding : OpenError → Type 0
-IsNoFinding Fault = Unit {0}
-IsNoFinding OutOfMemory = Unit {0}
-IsNoFinding NotFormatted = ⊥
-IsNoFinding (Damaged sector) = ⊥
-
 -- the device or the memory failed, or this sector is damaged, since what should stand there is none
 abbrev pub IsDamage : {A : Type 0} → ℕ → Option A → OpenError → Type 0
 IsDamage sector found Fault = Unit {0}
 IsDamage sector found OutOfMemory = Unit {0}
 IsDamage sector found NotFormatted = ⊥
 IsDamage sector found (Damaged at) = (at ≡ sector) × (found ≡ None)
-
--- why the disk was refused is what reading it gives, unless the device or the memory failed
-abbrev pub Refuses : {A : Type 0} → OpenError → Result A OpenError → Type 0
-Refuses Fault read = Unit {0}
-Refuses OutOfMemory read = Unit {0}
-Refuses NotFormatted read = read ≡ Err NotFormatted
-Refuses (Damaged sector) read = read ≡ Err (Damaged sector)
 
 -- a header of good settings, which leaves room for its snapshot and a frame in a segment of so many sectors
 pub record IsSoundHeader (sectors : ℕ) (header : Header) : Type 0 where
@@ -95,6 +76,7 @@ pub record IsOpened (sectors : ℕ) (found : Found) (bytes : List ℕ) (other_op
   pub holds : journal.Holds image.area image.frames opened.journal bytes
   pub other : opened.other_open ≡ other_open
   pub replays : replay (settings_of opened) snapshot commands ≡ Some image.table
+  pub parts : parts_of image ≡ (snapshot, commands)
 
 -- the live segment was opened so, and the older one can be
 pub record AreBoth (sectors : ℕ) (live older : Found) (bytes : List ℕ) (opened : Opened) (snapshot : Snapshot) (commands : List Command) : Type 0 where
@@ -112,6 +94,7 @@ pub record IsOpenedAs (read : Result DiskImage OpenError) (bytes : List ℕ) (op
   pub other : is_some image.older ≡ opened.other_open
   pub holds : journal.Holds image.live.area image.live.frames opened.journal bytes
   pub replays : replay (settings_of opened) snapshot commands ≡ Some image.live.table
+  pub parts : parts_of image.live ≡ (snapshot, commands)
 
 -- the segments that were found open in this image were opened so
 abbrev pub AreOpened : ℕ → Found → Option Found → List ℕ → Opened → Snapshot → List Command → Type 0

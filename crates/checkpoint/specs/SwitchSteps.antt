@@ -7,10 +7,6 @@ use Rattle.gate_journal.specs.Frames.{is_open}
 use Rattle.checkpoint.specs.Image.{sector_at}
 use Rattle.checkpoint.specs.Pieces.{DiffersWithin, StandsFrom}
 
--- where the other segment begins, if each has so many sectors and this one begins there
-abbrev pub other_base : ℕ → ℕ → ℕ
-other_base half base = if base == 0 then half else 0
-
 -- the gate at this sector of the disk is open, or it is not
 abbrev pub HasGate : DiskView → ℕ → Bool → Type 0
 HasGate disk sector opened = is_open (sector_at sector disk.content) ≡ opened

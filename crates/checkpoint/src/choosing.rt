@@ -2,7 +2,7 @@
 ghost use Rattle.std.specs.Prelude.{◌≡◌, ◌+◌, ◌≤◌, ◌<◌, ◌^◌, None, Some, IfOk, IfErr, IfSome};
 ghost use Rattle.retry_rules.specs.Settings.{bad_field};
 ghost use Rattle.gate_journal.specs.Frames.{sectors_for};
-ghost use Rattle.checkpoint.specs.Image.{chosen};
+ghost use Rattle.checkpoint.specs.Image.{chosen, other_base};
 ghost use Rattle.checkpoint.specs.OpenSteps.{IsSoundHeader, IsSoundFound};
 
 use crate::OpenError;
@@ -14,6 +14,13 @@ pub(crate) struct Found {
     /// The sector where it begins.
     pub(crate) base: u64,
     pub(crate) header: Header,
+}
+
+// Where the other segment begins, if each has so many sectors and this one begins there.
+pub(crate) fn other_base(half: u64, base: u64) -> u64
+    ensures { result ≡ other_base half base }
+{
+    if base == 0 { half } else { 0 }
 }
 
 // Of the open segments A and B the live one, which has the greater generation, and the older one.

@@ -7,8 +7,9 @@ ghost use Rattle.async_core.specs.Rules.{replay};
 ghost use Rattle.checkpoint.specs.declared.error.OpenError.TheVariants as open_error;
 ghost use Rattle.checkpoint.specs.Image.{folded, found_in, segments_in, read_image, recovered};
 ghost use Rattle.checkpoint.specs.Live.{settings_of, number_of, HasRoom};
-ghost use Rattle.checkpoint.specs.Opening.{IsRecovered, TellsNotFormatted, TellsDamage};
-ghost use Rattle.checkpoint.specs.OpenSteps.{OnlyReads, IsSoundFound, Refuses, Opens, IsOpened, AreBoth, IsOpenedAs, AreOpened};
+ghost use Rattle.checkpoint.specs.Opening.{IsRecovered, AreLiveParts, TellsNotFormatted, TellsDamage};
+ghost use Rattle.checkpoint.specs.Opening.{OnlyReads, Refuses};
+ghost use Rattle.checkpoint.specs.OpenSteps.{IsSoundFound, Opens, IsOpened, AreBoth, IsOpenedAs, AreOpened};
 
 use crate::choosing::{Found, choose};
 use crate::legality::{judge, without_gates};
@@ -50,7 +51,7 @@ fn judged(
 }
 
 // A segment that was found open, whole: its snapshot, its frames, and whether their commands are legal.
-fn read_opened<D: Disk>(
+pub(crate) fn read_opened<D: Disk>(
     alloc: Global,
     disk: &mut D,
     found: Found,
@@ -186,6 +187,7 @@ pub fn open<D: Disk>(
     ensures legal { IfOk result (λ r. IsSome (replay (settings_of r.0) r.1 r.2.items)) }
 
     ensures live { (D.view disk.old).honest → IfOk result (λ r. IsRecovered (D.view disk.old) (D.view disk.new) r.0 r.1 r.2.items) }
+    ensures parts { (D.view disk.old).honest → IfOk result (λ r. AreLiveParts (D.view disk.old).content r.1 r.2.items) }
     ensures not_formatted { TellsNotFormatted (D.view disk.old) result }
     ensures damaged { TellsDamage (D.view disk.old) result }
 {

@@ -2,7 +2,8 @@
 ghost use Rattle.std.specs.Prelude.{◌≡◌, ◌+◌, ◌*◌, ◌≤◌, ◌<◌, ◌^◌, length, take, drop, None, Err, IfOk, IfErr, OnOk, IsErrOf};
 ghost use Rattle.std.specs.Int.{w32, w64, from_be_bytes};
 ghost use Rattle.sector_disk.specs.Disk.{IsOnDisk, HasRisen, HasCause};
-ghost use Rattle.checkpoint.specs.OpenSteps.{OnlyReads, IsNoFinding, sectors_at};
+ghost use Rattle.checkpoint.specs.Opening.{OnlyReads, IsNoFinding};
+ghost use Rattle.checkpoint.specs.OpenSteps.{sectors_at};
 ghost use Rattle.checkpoint.specs.Image.{sector_at, are_zeros};
 
 use crate::OpenError;

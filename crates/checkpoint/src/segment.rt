@@ -5,7 +5,8 @@ ghost use Rattle.retry_rules.specs.Settings.{bad_field};
 ghost use Rattle.gate_journal.specs.Frames.{sectors_for};
 ghost use Rattle.gate_journal.specs.Journal as journal;
 ghost use Rattle.checkpoint.specs.Image.{header_in, snapshot_in, open_header, found_in};
-ghost use Rattle.checkpoint.specs.OpenSteps.{OnlyReads, IsSoundHeader, IsSoundFound, IsDamage, Refuses, IsRead};
+ghost use Rattle.checkpoint.specs.Opening.{OnlyReads, Refuses};
+ghost use Rattle.checkpoint.specs.OpenSteps.{IsSoundHeader, IsSoundFound, IsDamage, IsRead};
 ghost use Rattle.checkpoint.specs.declared.error.OpenError.TheVariants as open_error;
 
 use crate::OpenError;

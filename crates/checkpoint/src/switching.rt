@@ -8,8 +8,10 @@ ghost use Rattle.gate_journal.specs.Frames.{is_open, sectors_for};
 ghost use Rattle.checkpoint.specs.Image.{sector_at};
 ghost use Rattle.checkpoint.specs.Pieces.{StandsFrom, parts_text};
 ghost use Rattle.checkpoint.specs.Live.{settings_of, generation_of, number_of, HasRoom, may_stand, Switches, LeavesBeforeOrSnapshot};
-ghost use Rattle.checkpoint.specs.SwitchSteps.{other_base, OnSettled, HasGate, IsBeingClosed, LeavesElsewhere, Rewrites, LeavesSwitching, IsSwitched};
+ghost use Rattle.checkpoint.specs.Image.{other_base};
+ghost use Rattle.checkpoint.specs.SwitchSteps.{OnSettled, HasGate, IsBeingClosed, LeavesElsewhere, Rewrites, LeavesSwitching, IsSwitched};
 
+use crate::choosing::other_base;
 use crate::pieces::Pieces;
 use crate::sizes::sectors_for;
 use crate::snapshot::may_stand;
@@ -19,13 +21,6 @@ use gate_journal::{Area, Journal};
 use invoke_records::Snapshot;
 use sector_disk::{Disk, Fault, SECTOR_SIZE};
 use std::alloc::Global;
-
-// Where the other segment begins, if each has so many sectors and this one begins there.
-fn other_base(half: u64, base: u64) -> u64
-    ensures { result ≡ other_base half base }
-{
-    if base == 0 { half } else { 0 }
-}
 
 // Writes a gate, and settles it.
 fn write_gate<D: Disk>(disk: &mut D, sector: u64, gate: &[u8; 512]) -> Result<(), Fault>

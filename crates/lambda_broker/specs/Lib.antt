@@ -1,1 +1,3 @@
+pub mod Auditing
+pub mod Formatting
 pub mod Trial

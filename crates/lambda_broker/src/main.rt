@@ -4,8 +4,11 @@
 //! `group_commit` alone.
 #![tactic(auto)]
 
+mod auditing;
 mod command_line;
+mod formatting;
 mod trial;
+mod words;
 
 use std::io::Write;
 use std::process::ExitCode;
@@ -17,7 +20,7 @@ fn main(rt: HostRuntime) -> io::Result<ExitCode> {
         words.push(word)?;
     }
     let mut out = io::writer(&rt);
-    let status = command_line::run(rt.alloc(), &words, &mut out)?;
+    let status = command_line::run(&rt, &words, &mut out)?;
     out.flush()?;
     Ok(ExitCode::from(status))
 }

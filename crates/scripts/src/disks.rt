@@ -1,4 +1,5 @@
 // Steps on a disk that no broker has open.
+use crate::audits::tell_audit;
 use crate::journals::{append, fits, frames};
 use crate::refusals;
 use crate::reply::Reply;
@@ -187,6 +188,7 @@ pub fn disk_step<D: Disk>(
         "barrier" => done_or_fault(disk.barrier().is_ok()),
         "faults" => Reply::Number(disk.faults()),
         "recover" => recover(alloc, disk, answer),
+        "audit" => tell_audit(alloc, disk, answer),
         "frames" => frames(alloc, disk, words, answer),
         "fits" => fits(alloc, disk, words),
         "append" => append(alloc, disk, words),

@@ -4,6 +4,7 @@
 //! proved, and what a case says is compared. `CONTRIBUTING.md` has the language of the cases.
 #![tactic(auto)]
 
+mod audits;
 mod bytes;
 mod case;
 mod destinations;

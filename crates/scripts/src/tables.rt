@@ -1,4 +1,5 @@
 // Steps that read the table of an open broker.
+use crate::audits::tell_explanation;
 use crate::orders::{kind_word, read_command, read_environment};
 use crate::records::spelling;
 use crate::refusals;
@@ -185,6 +186,7 @@ pub fn table_step(
         "running" => running(table, words, answer),
         "next" => next_move(table, words, answer),
         "judge" => judge(alloc, table, words),
+        "explain" => tell_explanation(alloc, table, words, answer),
         "number" => Reply::Number(table.number()),
         "moment" => Reply::Number(table.last_moment()),
         "snapshot" => spell_part(alloc, table, None, answer),

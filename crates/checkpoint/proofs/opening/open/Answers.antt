@@ -1,6 +1,6 @@
 use Rattle.std.proofs.Common.{sym, ◌∙◌, ap}
 use Rattle.std.proofs.lemmas.Result.{IfOk-weaker}
-use Rattle.checkpoint.specs.Image.{recovered}
+use Rattle.checkpoint.specs.Image.{read_image, recovered}
 use Rattle.checkpoint.specs.Live.{live_recovers}
 use Rattle.checkpoint.proofs.Lives.{is_live}
 use Rattle.checkpoint.proofs.opening.open.Goals as goal
@@ -25,3 +25,11 @@ returns-clause-live g c honest =
       live,
     ))
     (c.read_live.ensures.exact honest_mid)
+
+pub returns-clause-parts : goal.returns-clause-parts
+returns-clause-parts g c honest =
+    let mid_honest = c.barrier.ensures.same.honest.1 honest in
+    let same = (c.in_ok-barrier.ensures.honest honest).content in
+    IfOk-weaker c.read_live.result _ _
+    (λ r was. record { image = was.image; reads = ap read_image (sym same) ∙ was.reads; parts = was.parts })
+    (c.read_live.ensures.exact mid_honest)

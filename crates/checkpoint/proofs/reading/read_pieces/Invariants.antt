@@ -1,6 +1,6 @@
 use Rattle.std.proofs.Common.{◌≡◌, ◌-◌, ◌*◌, ◌%◌, ◌≤◌, Ok, length, take, drop}
 use Rattle.sector_disk.specs.Disk.{HasCause}
-use Rattle.checkpoint.specs.OpenSteps.{OnlyReads}
+use Rattle.checkpoint.specs.Opening.{OnlyReads}
 use Rattle.checkpoint.proofs.reading.read_pieces.Given as goal
 
 abbrev pub invariant-loop-done : goal.invariant-loop-done

@@ -1,0 +1,4 @@
+pub mod Comparison
+pub mod Counts
+pub mod Explanation
+pub mod Report

@@ -1,0 +1,40 @@
+-- What a report tells of an image: what its live segment holds, and what the older one folds to.
+use Rattle.std.specs.Prelude.{◌≡◌, ℕ, List, length, count_by, option_map, Ok}
+use Rattle.async_core.specs.State.{State}
+use Rattle.async_core.specs.Standings.{is_running}
+use Rattle.checkpoint.specs.Image.{DiskImage, parts_of, read_image}
+use Rattle.audit_report.specs.Counts.{is_waiting, is_success, is_failure, stands}
+use Rattle.audit_report.specs.Comparison.{TellsOlder}
+use Rattle.audit_report.specs.declared.report.Report.{Report}
+
+-- the settings of an image and the table of its live snapshot
+abbrev pub live_snapshot : DiskImage → State
+live_snapshot image = record { settings = image.live.settings; table = image.live.snapshot }
+
+-- the settings of an image and the table that it recovers to
+abbrev pub live_table : DiskImage → State
+live_table image = record { settings = image.live.settings; table = image.live.table }
+
+-- what is told of an image: its generation, how many commands it recovers to, how its events stand, and the older segment
+pub record Tells (image : DiskImage) (report : Report) : Type 0 where
+  pub generation : report.generation ≡ image.live.generation
+  pub number : report.number ≡ image.live.table.number
+  pub held : report.held ≡ length image.live.table.rows
+  pub waiting : report.waiting ≡ count_by (stands is_waiting) image.live.table.rows
+  pub running : report.running ≡ count_by (stands is_running) image.live.table.rows
+  pub success : report.success ≡ count_by (stands is_success) image.live.table.rows
+  pub failure : report.failure ≡ count_by (stands is_failure) image.live.table.rows
+  pub older : TellsOlder (live_snapshot image) (option_map parts_of image.older) report.older
+
+-- the bytes are read as an image, of which this is told, and this is its table
+pub record IsAudit (bytes : List ℕ) (table : State) (report : Report) : Type 0 where
+  pub image : DiskImage
+  pub reads : read_image bytes ≡ Ok image
+  pub table_is : table ≡ live_table image
+  pub tells : Tells image report
+
+-- the bytes are read as an image, of which this is told
+pub record IsReportOn (bytes : List ℕ) (report : Report) : Type 0 where
+  pub image : DiskImage
+  pub reads : read_image bytes ≡ Ok image
+  pub tells : Tells image report

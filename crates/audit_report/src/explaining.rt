@@ -1,0 +1,106 @@
+// One event in one line.
+ghost use Rattle.std.specs.Prelude.{◌≡◌, ◌++◌, IfOk, OnOk, string_bytes};
+ghost use Rattle.invoke_records.specs.Spelling.{moment_in};
+ghost use Rattle.async_core.specs.Rules.{row_at, standing_at};
+ghost use Rattle.async_core.specs.Readers.{accepted_at, accepted_after, counts_at, counts_after};
+ghost use Rattle.async_core.specs.History.{standing_in};
+ghost use Rattle.async_core.specs.Histories.{ForEachLegalHistory};
+ghost use Rattle.audit_report.specs.Explanation.{id_text, standing_text, event_text, counts_text, life_text, explanation};
+
+use async_core::Table;
+use invoke_records::{Outcome, Standing};
+use std::alloc::{AllocError, Global};
+use uuid::Uuid;
+
+// The text of an id: with its hyphens, in lower case.
+#[tactic(auto, unfolding(crate::specs::Explanation::id_text))]
+fn id_text(alloc: Global, id: &[u8; 16]) -> Result<String, AllocError>
+    ensures { IfOk result (λ text. string_bytes text ≡ id_text id.now) }
+{
+    let mut buffer = Uuid::encode_buffer();
+    let id = Uuid::from_bytes(*id);
+    String::from_str(alloc, id.hyphenated().encode_lower(&mut buffer))
+}
+
+fn standing_text(standing: Standing) -> &'static str
+    ensures { result.now ≡ standing_text standing }
+{
+    match standing {
+        Standing::Unknown => "unknown",
+        Standing::Waiting { .. } => "waiting",
+        Standing::DueAgain { .. } => "due again",
+        Standing::Running { .. } => "running",
+        Standing::Ended { outcome, .. } => match outcome {
+            Outcome::Success => "ended Success",
+            Outcome::RetriesExhausted => "ended RetriesExhausted",
+            Outcome::EventAgeExceeded => "ended EventAgeExceeded",
+        },
+    }
+}
+
+// When it is due, times out, or ended.
+fn moment_of(standing: Standing) -> u64
+    ensures { result ≡ moment_in standing }
+{
+    match standing {
+        Standing::Unknown => 0,
+        Standing::Waiting { due } => due,
+        Standing::DueAgain { due } => due,
+        Standing::Running { deadline, .. } => deadline,
+        Standing::Ended { at, .. } => at,
+    }
+}
+
+fn put_event(out: &mut String, standing: Standing, accepted: u64) -> Result<(), AllocError>
+    ensures { OnOk result (string_bytes out.new ≡ string_bytes out.old ++ event_text standing accepted) }
+{
+    let text = standing_text(standing);
+    let moment = moment_of(standing);
+    write!(out, " {text} accepted {accepted} moment {moment}")
+}
+
+fn put_counts(out: &mut String, counts: (u32, u32, u32)) -> Result<(), AllocError>
+    ensures { OnOk result (string_bytes out.new ≡ string_bytes out.old ++ counts_text counts) }
+{
+    let (starts, failures, push_backs) = counts;
+    write!(
+        out,
+        " starts {starts} failures {failures} pushbacks {push_backs}"
+    )
+}
+
+// Puts what is known of an event behind its id.
+fn put_life(
+    out: &mut String,
+    standing: Standing,
+    accepted: Option<u64>,
+    counts: Option<(u32, u32, u32)>,
+) -> Result<(), AllocError>
+    ensures { OnOk result (string_bytes out.new ≡ string_bytes out.old ++ life_text standing accepted counts) }
+{
+    match (accepted, counts) {
+        (Some(accepted), Some(counts)) => {
+            put_event(out, standing, accepted)?;
+            put_counts(out, counts)
+        }
+        _ => out.push_str(" unknown"),
+    }
+}
+
+/// Where an event stands and what its life counts, in one line without an end: `ID STANDING accepted MS moment MS starts N
+/// failures N pushbacks N`, or `ID unknown` where it is not held. The moment is when it is due, times out, or ended.
+pub fn explain(alloc: Global, table: &Table, id: &[u8; 16]) -> Result<String, AllocError>
+    ensures by_row { IfOk result (λ text. string_bytes text ≡ explanation id.now (standing_at table.now.table id.now)
+        (accepted_at (row_at table.now.table id.now)) (counts_at (row_at table.now.table id.now))) }
+    ensures by_history { ForEachLegalHistory table.now (λ s history. IfOk result (λ text. string_bytes text
+        ≡ explanation id.now (standing_in s history id.now) (accepted_after id.now history) (counts_after id.now history))) }
+{
+    let mut text = id_text(alloc, id)?;
+    put_life(
+        &mut text,
+        table.standing(id),
+        table.accepted(id),
+        table.counts(id),
+    )?;
+    Ok(text)
+}

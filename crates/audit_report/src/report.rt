@@ -1,0 +1,64 @@
+// What an audit tells, and its lines.
+use std::fmt;
+
+/// What the older segment tells beside the live one, once its commands are applied to its snapshot.
+#[derive(Clone, Copy, Debug, PartialEq, Eq)]
+pub enum Older {
+    /// One segment is open.
+    None,
+    /// It ends at the live snapshot.
+    Agrees,
+    /// The live snapshot is so many commands further, 1 to 256, which it carried and no frame holds.
+    Ahead(u64),
+    /// It ends elsewhere: the two segments do not tell one story.
+    Differs,
+}
+
+/// What a disk holds.
+#[derive(Clone, Copy, Debug, PartialEq, Eq)]
+pub struct Report {
+    /// The generation of the live segment.
+    pub generation: u64,
+    /// How many commands it recovers to.
+    pub number: u64,
+    /// How many events are held.
+    pub held: usize,
+    /// How many of them wait, for a first attempt or another.
+    pub waiting: usize,
+    /// How many are attempted.
+    pub running: usize,
+    /// How many ended with success.
+    pub success: usize,
+    /// How many ended without.
+    pub failure: usize,
+    pub older: Older,
+}
+
+impl fmt::Display for Older {
+    fn fmt<W: fmt::Write>(&self, f: &mut fmt::Formatter<W>) -> fmt::Result {
+        match self {
+            Older::None => write!(f, "older none"),
+            Older::Agrees => write!(f, "older agrees"),
+            Older::Ahead(more) => write!(f, "older ahead {more}"),
+            Older::Differs => write!(f, "older differs"),
+        }
+    }
+}
+
+impl fmt::Display for Report {
+    /// Three lines, of which the last has no end.
+    fn fmt<W: fmt::Write>(&self, f: &mut fmt::Formatter<W>) -> fmt::Result {
+        let generation = self.generation;
+        let number = self.number;
+        writeln!(f, "generation {generation} number {number}")?;
+        let held = self.held;
+        let waiting = self.waiting;
+        let running = self.running;
+        write!(f, "held {held} waiting {waiting} running {running}")?;
+        let success = self.success;
+        let failure = self.failure;
+        writeln!(f, " success {success} failure {failure}")?;
+        let older = self.older;
+        write!(f, "{older}")
+    }
+}
