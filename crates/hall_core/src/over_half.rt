@@ -2,8 +2,8 @@
 use crate::error::HallError;
 use crate::hall::Hall;
 use group_commit::{
-    Batch, Broker, DiskHalf, Durable, Failed, IssueHalf, JoinError, LendError, SettleError, SplitError,
-    WriteError, Written,
+    Batch, Broker, DiskHalf, Durable, Failed, IssueHalf, JoinError, LendError, SettleError,
+    SplitError, WriteError, Written,
 };
 use sector_disk::Disk;
 

@@ -31,6 +31,8 @@ impl<I: Issuer> Hall<I> {
     pub fn pending(&self) -> u64
         ensures { result ≡ pending_in (I.view self.now.issuer) }
     {
-        self.issuer.issued().saturating_sub(self.issuer.durable().number())
+        self.issuer
+            .issued()
+            .saturating_sub(self.issuer.durable().number())
     }
 }

@@ -12,6 +12,8 @@ mod kept;
 mod mark;
 mod marks;
 mod office;
+#[cfg(test)]
+mod tests;
 
 pub use desk::{Desk, desks};
 pub use error::{FinishError, FinishFailure, OfficeFailure};
