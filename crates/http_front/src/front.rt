@@ -7,7 +7,7 @@ use front_board::Board;
 use group_commit::Ticket;
 use hall_core::HallError;
 use long_poll::{Bell, Port};
-use receipts::{Desk, Office};
+use receipts::Office;
 use retry_rules::Settings;
 use std::alloc::{AllocError, Global};
 use std::random::RandomSource;
@@ -16,7 +16,8 @@ use std::sync::{Arc, Wait};
 use std::time::Clock;
 use tokio_util::sync::CancellationToken;
 
-/// What the threads of a front share.
+/// What the threads of a front share: the office, the board and the bell, what the committer sleeps on, and whether the
+/// front ends.
 #[derive(Drop)]
 pub struct Front<L: Ledger> {
     pub(crate) alloc: Global,
@@ -26,22 +27,23 @@ pub struct Front<L: Ledger> {
     pub(crate) wake: Wake,
     pub(crate) ending: CancellationToken,
     pub(crate) settings: Settings,
+    /// How many bytes of a body are read.
     pub(crate) most: usize,
 }
 
 impl<L: Ledger> Front<L> {
-    /// A front over an office and a board, which no thread serves yet.
+    /// A front over an office with these settings, and a board, which no thread serves yet.
     pub fn new(
         alloc: Global,
-        office: Office<L>,
-        board: Board,
+        office: Arc<Office<L>>,
+        board: Arc<Board>,
         settings: Settings,
     ) -> Result<Front<L>, AllocError> {
         let most = most_read(&settings);
         Ok(Front {
             alloc,
-            office: Arc::new(alloc, office)?,
-            board: Arc::new(alloc, board)?,
+            office,
+            board,
             bell: Arc::new(alloc, Bell::new(alloc))?,
             wake: Wake::new(),
             ending: CancellationToken::new(alloc)?,
@@ -50,54 +52,52 @@ impl<L: Ledger> Front<L> {
         })
     }
 
-    /// Makes the moves that are due, one after another.
-    pub(crate) fn tick_until_none<R: Wait>(&self, rt: &R, desk: &mut Desk<L>, now: u64) {
-        for _ in rt.forever() {
-            match self.office.tick(rt, desk, now) {
-                Ok(Some(_)) => {}
-                Ok(None) | Err(_) => break,
-            }
-        }
-    }
-
-    // A call comes, and then the moves that are due are made.
+    // A call comes to a port, and then the moves that are due are made.
     fn arrive_at<R: Wait + Clock + RandomSource>(
         &self,
         rt: &R,
-        desk: &mut Desk<L>,
+        port: &Port<L>,
         call: Call,
     ) -> Result<(Ticket, u64), HallError> {
-        let Ok(now) = now(rt) else {
+        let (Ok(now), Ok(words)) = (now(rt), words(rt)) else {
             return Err(HallError::OutOfMemory);
         };
-        let Ok(words) = words(rt) else {
-            return Err(HallError::OutOfMemory);
-        };
-        let arrived = self.office.arrive(rt, desk, call, now, words)?;
-        self.tick_until_none(rt, desk, now);
+        let arrived = port.arrive(rt, call, now, words)?;
+        for _ in rt.forever() {
+            if !matches!(port.tick(rt, now), Ok(Some(_))) {
+                break;
+            }
+        }
         Ok(arrived)
     }
 
-    /// A call comes at a port: its ticket and its slot. The committer is called, and waiting replies are asked for.
+    /// A call comes to a port: its ticket and its slot. All that wait for a reply look again, and the committer is called.
     pub(crate) fn arrive<R: Wait + Clock + RandomSource>(
         &self,
         rt: &R,
         port: &Port<L>,
         call: Call,
     ) -> Result<(Ticket, u64), HallError> {
-        let arrived = self.arrive_at(rt, &mut *port.desk().lock(rt), call);
+        let arrived = self.arrive_at(rt, port, call);
         self.bell.ring(rt);
         self.wake.call(rt);
         arrived
     }
 
-    /// Whether all is done: the broker was stopped or is broken, every open slot was answered or forgotten, and nothing
-    /// more can become durable.
-    pub(crate) fn is_over<R: Wait>(&self, rt: &R) -> bool {
-        if self.office.is_broken(rt) {
-            return self.office.open_slots(rt) == 0;
+    /// How many commands wait to be written: none once the hall broke.
+    pub(crate) fn pending<R: Wait>(&self, rt: &R) -> usize {
+        if self.bell.has_broken() {
+            0
+        } else {
+            self.office.pending(rt)
         }
-        self.office.is_stopping(rt) && self.office.pending(rt) == 0
+    }
+
+    /// Whether all is done: the broker was stopped and nothing is pending, or its disk failed, and every open slot was
+    /// answered or forgotten.
+    pub(crate) fn is_over<R: Wait>(&self, rt: &R) -> bool {
+        (self.bell.has_broken() || self.office.is_stopping(rt))
+            && self.pending(rt) == 0
             && self.office.open_slots(rt) == 0
     }
 }

@@ -1,4 +1,5 @@
 // What the loops of the committer and of the ticker do next.
+ghost use Rattle.std.specs.Prelude.{◌≡◌};
 
 /// What a loop does next.
 #[derive(Clone, Copy, Debug, PartialEq, Eq)]
@@ -15,4 +16,18 @@ pub enum Turn {
 pub trait Gate {
     /// What the loop does next, with so many commands issued and not durable.
     fn turn(&self, pending: usize) -> Turn;
+}
+
+/// Commits whatever is pending.
+#[derive(Clone, Copy, Debug)]
+pub struct WhenPending;
+
+impl Gate for WhenPending {
+    fn turn(&self, pending: usize) -> Turn {
+        if pending > 0 {
+            Turn::Commit
+        } else {
+            Turn::Skip
+        }
+    }
 }

@@ -6,9 +6,11 @@
 #![tactic(auto)]
 
 mod committing;
+mod error;
 mod front;
 mod gate;
 mod moment;
+mod opening;
 mod port;
 mod reading;
 mod replying;
@@ -19,7 +21,9 @@ mod ticking;
 mod wake;
 
 pub use committing::Committer;
+pub use error::ServeError;
 pub use front::Front;
-pub use gate::{Gate, Turn};
-pub use serving::serve;
+pub use gate::{Gate, Turn, WhenPending};
+pub use moment::now;
+pub use serving::{Ending, serve};
 pub use ticking::tick_all;

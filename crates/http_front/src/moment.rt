@@ -11,7 +11,7 @@ use std::time::{Clock, SystemTime};
 const LAST_MOMENT: u64 = 253402300799999;
 
 /// The moment now, in milliseconds since 1970. A clock outside the years 1970 to 9999 shows the nearer end.
-pub(crate) fn now<C: Clock>(rt: &C) -> io::Result<u64>
+pub fn now<C: Clock>(rt: &C) -> io::Result<u64>
     ensures { IfOk result (λ now. now ≤ 253402300799999) }
 {
     let since = SystemTime::now(rt)?.duration_since(SystemTime::UNIX_EPOCH);

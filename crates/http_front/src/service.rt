@@ -56,18 +56,13 @@ impl<L: Ledger> Place<L> {
             Err(RequestError::Refused(why)) => return Err(why),
             Err(RequestError::OutOfMemory) => return Err(Refusal::Unavailable),
         };
-        let Ok((ticket, slot)) = front.arrive(&rt, &self.port, call) else {
+        let Ok(port) = Arc::try_clone(&self.port) else {
             return Err(Refusal::Unavailable);
         };
-        let (Ok(office), Ok(board), Ok(bell), Ok(port)) = (
-            Arc::try_clone(&front.office),
-            Arc::try_clone(&front.board),
-            Arc::try_clone(&front.bell),
-            Arc::try_clone(&self.port),
-        ) else {
+        let Ok((ticket, slot)) = front.arrive(&rt, &port, call) else {
             return Err(Refusal::Unavailable);
         };
-        Ok(Waiting::new(rt, office, board, bell, port, ticket, slot))
+        Ok(Waiting::new(rt, port, ticket, slot))
     }
 }
 

@@ -11,8 +11,20 @@ use std::time::{Clock, Duration};
 /// How long the ticker sleeps between its turns, in milliseconds.
 const PAUSE: u64 = 100;
 
-/// Makes the moves that are due, about every 100 milliseconds, as long as the gate says `Commit`; at `Skip` it only
-/// sleeps. It gives its desk back at `End`.
+// Makes the moves that are due. Where the clock cannot be read none are.
+fn tick<R: Wait + Clock, L: Ledger>(rt: &R, front: &Front<L>, desk: &mut Desk<L>) {
+    let Ok(now) = now(rt) else {
+        return;
+    };
+    for _ in rt.forever() {
+        if !matches!(front.office.tick(rt, desk, now), Ok(Some(_))) {
+            break;
+        }
+    }
+}
+
+/// Makes the moves that are due, about every 100 milliseconds, where the gate says `Commit`, and calls the committer; at
+/// `Skip` it only sleeps. At `End` it gives its desk back.
 pub fn tick_all<R: Wait + Clock, L: Ledger, G: Gate>(
     rt: &R,
     front: &Front<L>,
@@ -21,12 +33,9 @@ pub fn tick_all<R: Wait + Clock, L: Ledger, G: Gate>(
 ) -> Desk<L> {
     let mut desk = desk;
     for _ in rt.forever() {
-        match gate.turn(front.office.pending(rt)) {
+        match gate.turn(front.pending(rt)) {
             Turn::Commit => {
-                if let Ok(now) = now(rt) {
-                    front.tick_until_none(rt, &mut desk, now);
-                }
-                front.bell.ring(rt);
+                tick(rt, front, &mut desk);
                 front.wake.call(rt);
             }
             Turn::Skip => {}
