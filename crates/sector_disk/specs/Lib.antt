@@ -1,5 +1,6 @@
 pub mod Disk
 pub mod FaultOnce
+pub mod File
 pub mod Fuse
 pub mod Memory
 pub mod Moments

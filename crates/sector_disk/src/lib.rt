@@ -7,10 +7,12 @@
 
 mod disk;
 mod fault_once;
+mod file;
 mod fuse;
 mod memory;
 
 pub use disk::{Disk, Fault, SECTOR_SIZE};
 pub use fault_once::{CallKind, FaultOnceDisk};
+pub use file::{FileDisk, FileError};
 pub use fuse::FuseDisk;
 pub use memory::MemDisk;
