@@ -1,13 +1,16 @@
 // The words of the command line, and what is printed for them.
-ghost use Rattle.std.specs.Prelude.{◌≡◌, ◌≤◌, IfOk};
+ghost use Rattle.std.specs.Prelude.{◌≡◌, ◌≤◌, IfOk, if◌then◌else◌};
 ghost use Rattle.lambda_broker.specs.Trial.{status_of};
 
+use crate::formatting::{NewDisk, make_disk};
 use crate::trial::{Trial, TrialError, run_trial};
-use clap::{Command, Error};
+use crate::words::{Task, read_task};
 use invoke_records::Standing;
-use std::alloc::{AllocError, Global};
+use std::fmt::Display;
+use std::fs::File;
 use std::io;
 use std::io::Write;
+use std::rt::Files;
 use uuid::Uuid;
 
 /// The command did what it was asked to.
@@ -19,36 +22,18 @@ const USAGE: u8 = 2;
 /// The device failed.
 const DEVICE: u8 = 3;
 
-// A command of the program.
-enum Task {
-    Trial,
-}
-
-fn commands<'a>(alloc: Global) -> Result<Command<'a>, AllocError> {
-    let trial = Command::new(alloc, "trial").about(
-        "Accept, commit and recover one event on a disk in memory",
-    );
-    Command::new(alloc, "lambda_broker")
-        .about("A broker for asynchronous invocations of one function")
-        .subcommand_required(true)
-        .subcommand(trial)
-}
-
-fn read_task(alloc: Global, words: &[String]) -> Result<Option<Task>, Error> {
-    let matches = commands(alloc)?.try_get_matches_from(words)?;
-    match matches.subcommand() {
-        Some(("trial", _)) => Ok(Some(Task::Trial)),
-        _ => Ok(None),
-    }
-}
-
 /// Does what the words say, the first of which is the program's name, prints it to `out`, and answers the status: 0 done,
 /// 1 damaged or refused, 2 usage, 3 device.
-pub fn run<W: Write>(alloc: Global, words: &[String], out: &mut W) -> io::Result<u8>
+pub fn run<R: Files<File = File> + AllocGlobal, W: Write>(
+    rt: &R,
+    words: &[String],
+    out: &mut W,
+) -> io::Result<u8>
     ensures { IfOk result (λ status. status ≤ 3) }
 {
-    match read_task(alloc, words) {
-        Ok(Some(Task::Trial)) => print_trial(run_trial(alloc), out),
+    match read_task(rt.alloc(), words) {
+        Ok(Some(Task::Trial)) => print_trial(run_trial(rt.alloc()), out),
+        Ok(Some(Task::Format(new))) => print_format(rt, &new, out),
         Ok(None) => Ok(USAGE),
         Err(fault) => {
             write!(out, "{fault}")?;
@@ -73,15 +58,42 @@ fn print_trial<W: Write>(outcome: Result<Trial, TrialError>, out: &mut W) -> io:
             print_standing(done.standing, out)?;
             Ok(DONE)
         }
-        Err(fault) if fault.is_device_fault() => {
-            writeln!(out, "{fault}")?;
-            Ok(DEVICE)
-        }
-        Err(fault) => {
-            writeln!(out, "refused: {fault}")?;
-            Ok(REFUSED)
-        }
+        Err(fault) => print_fault(&fault, fault.is_device_fault(), out),
     }
+}
+
+// Formats a disk, and prints its size.
+fn print_format<R: Files<File = File> + AllocGlobal, W: Write>(
+    rt: &R,
+    new: &NewDisk<'_>,
+    out: &mut W,
+) -> io::Result<u8>
+    ensures { IfOk result (λ status. status ≤ 3) }
+{
+    match make_disk(rt, new) {
+        Ok(()) => {
+            let sectors = new.sectors;
+            writeln!(out, "formatted {sectors} sectors")?;
+            Ok(DONE)
+        }
+        Err(fault) => print_fault(&fault, fault.is_device_fault(), out),
+    }
+}
+
+// Prints why a command was not carried out.
+fn print_fault<E: Display, W: Write>(
+    fault: &E,
+    is_device_fault: bool,
+    out: &mut W,
+) -> io::Result<u8>
+    ensures { IfOk result (λ status. status ≡ (if is_device_fault then 3 else 1)) }
+{
+    if is_device_fault {
+        writeln!(out, "{fault}")?;
+        return Ok(DEVICE);
+    }
+    writeln!(out, "refused: {fault}")?;
+    Ok(REFUSED)
 }
 
 // Where the event stood after its disk was opened again.
@@ -101,19 +113,20 @@ mod tests {
     use std::test::Fail;
 
     // What is printed for these words behind the program's name, and the status.
-    fn printed(alloc: Global, words: &[&str]) -> Result<(u8, String), Fail> {
+    fn printed(rt: &HostRuntime, words: &[&str]) -> Result<(u8, String), Fail> {
+        let alloc = rt.alloc();
         let mut all = Vec::new(alloc);
         for word in words {
             all.push(String::from_str(alloc, word)?)?;
         }
         let mut out: Vec<u8> = Vec::new(alloc);
-        let status = run(alloc, all.as_slice(), &mut out)?;
+        let status = run(rt, all.as_slice(), &mut out)?;
         Ok((status, String::from_utf8_lossy(alloc, out.as_slice())?))
     }
 
     #[test]
     fn the_trial_prints_three_lines(rt: HostRuntime) -> Result<(), Fail> {
-        let (status, text) = printed(rt.alloc(), &["lambda_broker", "trial"])?;
+        let (status, text) = printed(&rt, &["lambda_broker", "trial"])?;
         assert_eq!(rt; status, 0);
         assert_eq!(rt;
             text.as_str(),
@@ -124,10 +137,10 @@ mod tests {
 
     #[test]
     fn no_words_and_unknown_ones_are_a_usage_fault(rt: HostRuntime) -> Result<(), Fail> {
-        let (status, text) = printed(rt.alloc(), &["lambda_broker"])?;
+        let (status, text) = printed(&rt, &["lambda_broker"])?;
         assert_eq!(rt; status, 2);
         assert!(rt; !text.is_empty());
-        let (status, text) = printed(rt.alloc(), &["lambda_broker", "juggle"])?;
+        let (status, text) = printed(&rt, &["lambda_broker", "juggle"])?;
         assert_eq!(rt; status, 2);
         assert!(rt; !text.is_empty());
         Ok(())

@@ -5,7 +5,9 @@
 #![tactic(auto)]
 
 mod command_line;
+mod formatting;
 mod trial;
+mod words;
 
 use std::io::Write;
 use std::process::ExitCode;
@@ -17,7 +19,7 @@ fn main(rt: HostRuntime) -> io::Result<ExitCode> {
         words.push(word)?;
     }
     let mut out = io::writer(&rt);
-    let status = command_line::run(rt.alloc(), &words, &mut out)?;
+    let status = command_line::run(&rt, &words, &mut out)?;
     out.flush()?;
     Ok(ExitCode::from(status))
 }

@@ -1,0 +1,142 @@
+// The words of the command line: which command they are, and what it is told.
+use crate::formatting::{Function, NewDisk, Numbers};
+use clap::builder::ValueParser;
+use clap::{Arg, ArgAction, ArgMatches, Command, Error, value_parser};
+use std::alloc::{AllocError, Global};
+
+/// A command of the program.
+pub enum Task<'a> {
+    Trial,
+    Format(NewDisk<'a>),
+}
+
+// An option with a value.
+fn option<'a>(alloc: Global, name: &'a str, help: &'a str) -> Arg<'a> {
+    Arg::new(alloc, name)
+        .long(name)
+        .action(ArgAction::Set)
+        .help(help)
+}
+
+// An option that is a number and may be left out.
+fn number<'a>(
+    alloc: Global,
+    name: &'a str,
+    help: &'a str,
+    default: &'a str,
+    parser: ValueParser<'a>,
+) -> Arg<'a> {
+    option(alloc, name, help)
+        .default_value(default)
+        .value_parser(parser)
+}
+
+// The file or the device that a command is about.
+fn disk<'a>(alloc: Global) -> Arg<'a> {
+    Arg::new(alloc, "disk")
+        .value_name("DISK")
+        .help("A file or a block device")
+        .required(true)
+}
+
+// The function that a disk is formatted for.
+fn with_function<'a>(alloc: Global, command: Command<'a>) -> Result<Command<'a>, AllocError> {
+    let name = option(alloc, "name", "Name of the function");
+    let handler = option(alloc, "handler", "Handler of the function");
+    let arn = option(alloc, "arn", "ARN of the function");
+    command
+        .arg(name.required(true))?
+        .arg(handler.required(true))?
+        .arg(arn.required(true))
+}
+
+// How its events are tried.
+fn with_rules<'a>(alloc: Global, command: Command<'a>) -> Result<Command<'a>, AllocError> {
+    let retries = "Retries after a function error, 0 to 2";
+    let age = "Greatest age of an event in seconds, 60 to 21600";
+    let timeout = "Timeout of an attempt in seconds, 1 to 900";
+    let concurrency = "Attempts that may run at once, 1 to 64";
+    command
+        .arg(number(alloc, "retries", retries, "2", value_parser!(u8)))?
+        .arg(number(alloc, "age", age, "21600", value_parser!(u32)))?
+        .arg(number(alloc, "timeout", timeout, "3", value_parser!(u16)))?
+        .arg(number(alloc, "concurrency", concurrency, "10", value_parser!(u8)))
+}
+
+// How much the broker holds.
+fn with_limits<'a>(alloc: Global, command: Command<'a>) -> Result<Command<'a>, AllocError> {
+    let environments = "Environments, 1 to 16";
+    let events = "Events that may be held at once, 1 to 1024";
+    let payload = "Greatest payload in bytes, 2 to 262144";
+    let response = "Greatest response in bytes, 2 to 262144";
+    command
+        .arg(number(alloc, "environments", environments, "1", value_parser!(u8)))?
+        .arg(number(alloc, "events", events, "64", value_parser!(u16)))?
+        .arg(number(alloc, "payload", payload, "262144", value_parser!(u32)))?
+        .arg(number(alloc, "response", response, "262144", value_parser!(u32)))
+}
+
+fn format_command<'a>(alloc: Global) -> Result<Command<'a>, AllocError> {
+    let sectors = option(alloc, "sectors", "Size of the disk in sectors of 512 bytes");
+    let command = Command::new(alloc, "format")
+        .about("Make a disk of zeros and format it for a function; what it held is lost")
+        .arg(disk(alloc))?
+        .arg(sectors.value_parser(value_parser!(u64)).required(true))?;
+    let command = with_function(alloc, command)?;
+    let command = with_rules(alloc, command)?;
+    with_limits(alloc, command)
+}
+
+fn commands<'a>(alloc: Global) -> Result<Command<'a>, AllocError> {
+    let trial = Command::new(alloc, "trial").about(
+        "Accept, commit and recover one event on a disk in memory",
+    );
+    Command::new(alloc, "lambda_broker")
+        .about("A broker for asynchronous invocations of one function")
+        .subcommand_required(true)
+        .subcommand(trial)?
+        .subcommand(format_command(alloc)?)
+}
+
+fn function<'a>(matches: &ArgMatches<'a>) -> Option<Function<'a>> {
+    Some(Function {
+        name: matches.get_str("name")?,
+        handler: matches.get_str("handler")?,
+        arn: matches.get_str("arn")?,
+    })
+}
+
+fn numbers(matches: &ArgMatches<'_>) -> Option<Numbers> {
+    Some(Numbers {
+        retries: matches.get_one("retries")?,
+        age: matches.get_one("age")?,
+        timeout: matches.get_one("timeout")?,
+        concurrency: matches.get_one("concurrency")?,
+        environments: matches.get_one("environments")?,
+        events: matches.get_one("events")?,
+        payload: matches.get_one("payload")?,
+        response: matches.get_one("response")?,
+    })
+}
+
+fn new_disk<'a>(matches: &ArgMatches<'a>) -> Option<NewDisk<'a>> {
+    Some(NewDisk {
+        path: matches.get_str("disk")?,
+        sectors: matches.get_one("sectors")?,
+        function: function(matches)?,
+        numbers: numbers(matches)?,
+    })
+}
+
+/// The command that the words are, the first of which is the program's name.
+pub fn read_task<'a>(alloc: Global, words: &'a [String]) -> Result<Option<Task<'a>>, Error> {
+    let matches = commands(alloc)?.try_get_matches_from(words)?;
+    let Some((name, told)) = matches.subcommand() else {
+        return Ok(None);
+    };
+    Ok(match name {
+        "trial" => Some(Task::Trial),
+        "format" => new_disk(told).map(Task::Format),
+        _ => None,
+    })
+}
