@@ -3,14 +3,21 @@ ghost use Rattle.std.specs.Prelude.{◌≡◌, ◌≤◌, IfOk, if◌then◌else
 ghost use Rattle.lambda_broker.specs.Trial.{status_of};
 
 use crate::formatting::{NewDisk, make_disk};
+use crate::serving::{Address, serve_disk};
 use crate::trial::{Trial, TrialError, run_trial};
 use crate::words::{Task, read_task};
 use invoke_records::Standing;
+use std::alloc::AllocGlobal;
 use std::fmt::Display;
 use std::fs::File;
 use std::io;
 use std::io::Write;
+use std::net::{Net, TcpListener, TcpStream};
+use std::random::RandomSource;
 use std::rt::Files;
+use std::sync::Wait;
+use std::thread::Threads;
+use std::time::Clock;
 use uuid::Uuid;
 
 /// The command did what it was asked to.
@@ -24,16 +31,26 @@ const DEVICE: u8 = 3;
 
 /// Does what the words say, the first of which is the program's name, prints it to `out`, and answers the status: 0 done,
 /// 1 damaged or refused, 2 usage, 3 device.
-pub fn run<R: Files<File = File> + AllocGlobal, W: Write>(
-    rt: &R,
-    words: &[String],
-    out: &mut W,
-) -> io::Result<u8>
+pub fn run<R, W>(rt: R, words: &[String], out: &mut W) -> io::Result<u8>
+where
+    R: Files<File = File>
+        + Threads
+        + Wait
+        + Clock
+        + Net<Listener = TcpListener, Stream = TcpStream>
+        + RandomSource
+        + AllocGlobal
+        + Copy
+        + Drop
+        + Send
+        + 'static,
+    W: Write,
     ensures { IfOk result (λ status. status ≤ 3) }
 {
     match read_task(rt.alloc(), words) {
         Ok(Some(Task::Trial)) => print_trial(run_trial(rt.alloc()), out),
-        Ok(Some(Task::Format(new))) => print_format(rt, &new, out),
+        Ok(Some(Task::Format(new))) => print_format(&rt, &new, out),
+        Ok(Some(Task::Serve(at))) => print_serve(rt, &at, out),
         Ok(None) => Ok(USAGE),
         Err(fault) => {
             write!(out, "{fault}")?;
@@ -80,6 +97,29 @@ fn print_format<R: Files<File = File> + AllocGlobal, W: Write>(
     }
 }
 
+// Serves a disk. Its line is printed once it is served.
+fn print_serve<R, W>(rt: R, at: &Address<'_>, out: &mut W) -> io::Result<u8>
+where
+    R: Files<File = File>
+        + Threads
+        + Wait
+        + Clock
+        + Net<Listener = TcpListener, Stream = TcpStream>
+        + RandomSource
+        + AllocGlobal
+        + Copy
+        + Drop
+        + Send
+        + 'static,
+    W: Write,
+    ensures { IfOk result (λ status. status ≤ 3) }
+{
+    match serve_disk(rt, at, out) {
+        Ok(()) => Ok(DONE),
+        Err(fault) => print_fault(&fault, fault.is_device_fault(), out),
+    }
+}
+
 // Prints why a command was not carried out.
 fn print_fault<E: Display, W: Write>(
     fault: &E,
@@ -113,7 +153,7 @@ mod tests {
     use std::test::Fail;
 
     // What is printed for these words behind the program's name, and the status.
-    fn printed(rt: &HostRuntime, words: &[&str]) -> Result<(u8, String), Fail> {
+    fn printed(rt: HostRuntime, words: &[&str]) -> Result<(u8, String), Fail> {
         let alloc = rt.alloc();
         let mut all = Vec::new(alloc);
         for word in words {
@@ -126,7 +166,7 @@ mod tests {
 
     #[test]
     fn the_trial_prints_three_lines(rt: HostRuntime) -> Result<(), Fail> {
-        let (status, text) = printed(&rt, &["lambda_broker", "trial"])?;
+        let (status, text) = printed(rt, &["lambda_broker", "trial"])?;
         assert_eq!(rt; status, 0);
         assert_eq!(rt;
             text.as_str(),
@@ -137,10 +177,10 @@ mod tests {
 
     #[test]
     fn no_words_and_unknown_ones_are_a_usage_fault(rt: HostRuntime) -> Result<(), Fail> {
-        let (status, text) = printed(&rt, &["lambda_broker"])?;
+        let (status, text) = printed(rt, &["lambda_broker"])?;
         assert_eq!(rt; status, 2);
         assert!(rt; !text.is_empty());
-        let (status, text) = printed(&rt, &["lambda_broker", "juggle"])?;
+        let (status, text) = printed(rt, &["lambda_broker", "juggle"])?;
         assert_eq!(rt; status, 2);
         assert!(rt; !text.is_empty());
         Ok(())

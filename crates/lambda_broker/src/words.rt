@@ -1,5 +1,6 @@
 // The words of the command line: which command they are, and what it is told.
 use crate::formatting::{Function, NewDisk, Numbers};
+use crate::serving::Address;
 use clap::builder::ValueParser;
 use clap::{Arg, ArgAction, ArgMatches, Command, Error, value_parser};
 use std::alloc::{AllocError, Global};
@@ -8,6 +9,7 @@ use std::alloc::{AllocError, Global};
 pub enum Task<'a> {
     Trial,
     Format(NewDisk<'a>),
+    Serve(Address<'a>),
 }
 
 // An option with a value.
@@ -87,6 +89,15 @@ fn format_command<'a>(alloc: Global) -> Result<Command<'a>, AllocError> {
     with_limits(alloc, command)
 }
 
+fn serve_command<'a>(alloc: Global) -> Result<Command<'a>, AllocError> {
+    let help = "Port of the callers, 1024 to 65519; environment n has the port n behind it";
+    let port = option(alloc, "port", help);
+    Command::new(alloc, "serve")
+        .about("Serve a disk until POST /broker/stop")
+        .arg(disk(alloc))?
+        .arg(port.value_parser(value_parser!(u16).range(1024..65520)).required(true))
+}
+
 fn commands<'a>(alloc: Global) -> Result<Command<'a>, AllocError> {
     let trial = Command::new(alloc, "trial").about(
         "Accept, commit and recover one event on a disk in memory",
@@ -95,7 +106,8 @@ fn commands<'a>(alloc: Global) -> Result<Command<'a>, AllocError> {
         .about("A broker for asynchronous invocations of one function")
         .subcommand_required(true)
         .subcommand(trial)?
-        .subcommand(format_command(alloc)?)
+        .subcommand(format_command(alloc)?)?
+        .subcommand(serve_command(alloc)?)
 }
 
 fn function<'a>(matches: &ArgMatches<'a>) -> Option<Function<'a>> {
@@ -128,6 +140,13 @@ fn new_disk<'a>(matches: &ArgMatches<'a>) -> Option<NewDisk<'a>> {
     })
 }
 
+fn address<'a>(matches: &ArgMatches<'a>) -> Option<Address<'a>> {
+    Some(Address {
+        path: matches.get_str("disk")?,
+        port: matches.get_one("port")?,
+    })
+}
+
 /// The command that the words are, the first of which is the program's name.
 pub fn read_task<'a>(alloc: Global, words: &'a [String]) -> Result<Option<Task<'a>>, Error> {
     let matches = commands(alloc)?.try_get_matches_from(words)?;
@@ -137,6 +156,7 @@ pub fn read_task<'a>(alloc: Global, words: &'a [String]) -> Result<Option<Task<'
     Ok(match name {
         "trial" => Some(Task::Trial),
         "format" => new_disk(told).map(Task::Format),
+        "serve" => address(told).map(Task::Serve),
         _ => None,
     })
 }
