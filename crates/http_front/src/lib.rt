@@ -17,6 +17,8 @@ mod replying;
 mod served;
 mod service;
 mod serving;
+#[cfg(test)]
+mod tests;
 mod ticking;
 mod wake;
 
