@@ -24,12 +24,7 @@ pub struct Committer<L: Ledger, D: Disk> {
 
 impl<L: Ledger, D: Disk> Committer<L, D> {
     /// A committer with a seat of this board.
-    pub fn new(
-        desk: Desk<L>,
-        half: DiskHalf<D>,
-        board: Arc<Board>,
-        seat: Seat,
-    ) -> Committer<L, D>
+    pub fn new(desk: Desk<L>, half: DiskHalf<D>, board: Arc<Board>, seat: Seat) -> Committer<L, D>
         requires sits { SitsAt board.value seat }
     {
         Committer {

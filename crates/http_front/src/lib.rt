@@ -5,6 +5,7 @@
 //! that are due. The crate above uses `serve`; the loops of committer and ticker are calls of their own.
 #![tactic(auto)]
 
+mod admission;
 mod committing;
 mod error;
 mod front;

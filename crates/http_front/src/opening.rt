@@ -85,9 +85,7 @@ pub(crate) fn open<L: Ledger, D: Disk + Drop>(
     let settings = hall.table().settings().copy()?;
     let durable = hall.durable();
     match Office::<L>::new(alloc, hall, blank) {
-        Ok((office, desks, half)) => {
-            Ok(furnish(alloc, settings, durable, office, desks, half)?)
-        }
+        Ok((office, desks, half)) => { Ok(furnish(alloc, settings, durable, office, desks, half)?) }
         Err(failure) => Err(ServeError::Office(failure.cause)),
     }
 }

@@ -1,8 +1,8 @@
 // One port, served on a thread of its own.
+use crate::admission::admit;
 use crate::served::Served;
 use crate::service::{Place, Requests};
 use futures::StreamExt;
-use futures::future::ready;
 use hyper::server::conn::http1::Builder;
 use hyper::server::graceful::until;
 use std::alloc::AllocGlobal;
@@ -13,26 +13,14 @@ use std::random::RandomSource;
 use std::sync::ledger::Ledger;
 use std::sync::{Arc, Wait};
 use std::time::{Clock, Duration};
-use tokio::net::{TcpListener, TcpStream};
+use tokio::net::TcpListener;
 use tokio::runtime::LocalRuntime;
-use tokio_util::sync::WaitForCancellationFuture;
 
 /// How long the connections of a front that ends are waited for, in seconds.
 const LAST_REPLIES: u64 = 5;
 
-// A connection with what serves it and what ends it.
-fn with_place<L: Ledger>(
-    accepted: io::Result<TcpStream>,
-    place: &Arc<Place<L>>,
-) -> Option<(TcpStream, Arc<Place<L>>, WaitForCancellationFuture)> {
-    let socket = accepted.ok()?;
-    let theirs = Arc::try_clone(place).ok()?;
-    let ending = place.front.ending.cancelled().ok()?;
-    Some((socket, theirs, ending))
-}
-
-/// Serves a port on this thread until the front ends. A connection goes on from request to request; at the end the
-/// request that it is in is answered.
+/// Serves a port on this thread until the front ends. A connection goes on from request to request. At the end the request
+/// that it is in is still answered, where that takes no longer than five seconds.
 pub(crate) fn serve_port<R, L>(
     rt: R,
     place: Arc<Place<L>>,
@@ -51,22 +39,22 @@ where
     let mut runtime = LocalRuntime::new(&rt)?;
     runtime.set_shutdown_timeout(Some(Duration::from_secs(LAST_REPLIES)));
     let listener = TcpListener::from_std(listener, runtime.handle().reactor())?;
+    let timers = runtime.handle().time().clone()?;
     let alloc = rt.alloc();
     let http = Builder::new(alloc, RandomState::new(&rt)?);
     let ending = place.front.ending.cancelled()?;
-    let most = place.front.most;
     let connections = listener
         .incoming()
         .take_until(ending)
-        .filter_map(move |accepted| ready(with_place(accepted, &place)))
-        .map(move |(socket, place, ending)| {
+        .filter_map(move |accepted| admit(&rt, &timers, accepted, &place))
+        .map(move |admitted| {
             let requests = Requests {
                 rt,
                 alloc,
-                most,
-                place,
+                place: admitted.place,
             };
-            Served::new(until(http.serve_connection(socket, requests), ending))
+            let connection = http.serve_connection(admitted.socket, requests);
+            Served::new(until(connection, admitted.ending))
         });
     runtime.run_all(&rt, connections)
 }

@@ -33,8 +33,7 @@ fn with_headers(builder: Builder, reply: &Reply) -> Builder {
     builder
 }
 
-fn response_of(alloc: Global, reply: Reply) -> Option<Answered>
-{
+fn response_of(alloc: Global, reply: Reply) -> Option<Answered> {
     let builder = Response::builder(alloc).status(reply.status);
     let builder = with_headers(builder, &reply);
     let Reply { body, .. } = reply;

@@ -154,11 +154,11 @@ impl<R: Wait + Clock + RandomSource + Drop + Copy, L: Ledger, I: Drop> Future fo
 pub(crate) struct Requests<R: Wait + Drop + Copy, L: Ledger> {
     pub(crate) rt: R,
     pub(crate) alloc: Global,
-    pub(crate) most: usize,
     pub(crate) place: Arc<Place<L>>,
 }
 
-impl<R: Wait + Clock + RandomSource + Drop + Copy, L: Ledger, I: Drop> Service<Request<Incoming<I>>> for Requests<R, L> {
+impl<R: Wait + Clock + RandomSource + Drop + Copy, L: Ledger, I: Drop> Service<Request<Incoming<I>>>
+    for Requests<R, L> {
     type Response = Answered;
 
     type Error = Infallible;
@@ -172,7 +172,7 @@ impl<R: Wait + Clock + RandomSource + Drop + Copy, L: Ledger, I: Drop> Service<R
             alloc: self.alloc,
             place: Arc::try_clone(&self.place).ok(),
             head,
-            stage: Stage::Reads(Reading::new(self.alloc, body, self.most)),
+            stage: Stage::Reads(Reading::new(self.alloc, body, self.place.front.most)),
         }
     }
 }

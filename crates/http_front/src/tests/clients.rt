@@ -1,11 +1,10 @@
 // Clients over loopback, each a plain socket.
 use crate::tests::held::Hold;
 use std::alloc::Global;
-use std::io;
 use std::io::{Read, Write};
 use std::net::{Ipv4Addr, Net, SocketAddr, TcpListener, TcpStream};
-use std::thread;
 use std::time::Duration;
+use std::{io, thread};
 
 /// How long a client waits for an answer, in seconds.
 const PATIENCE: u64 = 20;
@@ -47,13 +46,16 @@ where
     receive(alloc, send(rt, to, request)?)
 }
 
-const INVOKE: &str = "POST /2015-03-31/functions/my-function/invocations HTTP/1.1\r\nhost: h\r\nconnection: close\r\nx-amz-invocation-type: Event\r\ncontent-length: 2\r\n\r\n{}";
+const INVOKE: &str =
+    "POST /2015-03-31/functions/my-function/invocations HTTP/1.1\r\nhost: h\r\nconnection: close\r\nx-amz-invocation-type: Event\r\ncontent-length: 2\r\n\r\n{}";
 
-const OLDEST: &str = "GET /broker/destinations/success HTTP/1.1\r\nhost: h\r\nconnection: close\r\n\r\n";
+const OLDEST: &str =
+    "GET /broker/destinations/success HTTP/1.1\r\nhost: h\r\nconnection: close\r\n\r\n";
 
 const NOWHERE: &str = "GET /x HTTP/1.1\r\nhost: h\r\nconnection: close\r\n\r\n";
 
-const STOP: &str = "POST /broker/stop HTTP/1.1\r\nhost: h\r\nconnection: close\r\ncontent-length: 0\r\n\r\n";
+const STOP: &str =
+    "POST /broker/stop HTTP/1.1\r\nhost: h\r\nconnection: close\r\ncontent-length: 0\r\n\r\n";
 
 /// Invokes.
 pub fn invoke<N>(rt: &N, alloc: Global, to: SocketAddr) -> io::Result<String>

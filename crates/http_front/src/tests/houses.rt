@@ -122,12 +122,7 @@ fn arrive<L: Ledger, R: Wait>(
 }
 
 // The status of a slot's reply; 0 after a million looks.
-fn status_of<L: Ledger, R: Wait>(
-    rt: &R,
-    front: &Front<L>,
-    desk: &mut Desk<L>,
-    slot: u64,
-) -> u16 {
+fn status_of<L: Ledger, R: Wait>(rt: &R, front: &Front<L>, desk: &mut Desk<L>, slot: u64) -> u16 {
     for _ in 0..MOST_TURNS {
         if let Some(released) = front.office.take(rt, desk, slot) {
             return released.reply.status;
