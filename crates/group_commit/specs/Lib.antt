@@ -6,6 +6,7 @@ pub mod Drill
 pub mod DrillBroker
 pub mod Issuer
 pub mod IssuerBroker
+pub mod IssuerHalf
 pub mod Resume
 pub mod Steps
 pub mod laws

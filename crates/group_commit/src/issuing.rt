@@ -28,43 +28,32 @@ fn refusal(table: &Table, command: &Command, otherwise: IssueError) -> IssueErro
     }
 }
 
-impl<D: Disk> Broker<D> {
-    // `issue`, by the table alone.
-    fn take(&mut self, command: Command) -> Result<Ticket, IssueError>
-        ensures broken { IsTrue (is_broken self.old) → result ≡ Err issue_error.Broken }
-        ensures worn_out { is_broken self.old ≡ false → 2 ^ 62 ≤ issued_of self.old → result ≡ Err issue_error.WornOut }
-        ensures illegal { OnUsable self.old ((why : Illegal) → Fails self.old command why → result ≡ Err (issue_error.Illegal why)) }
-        ensures backlog { OnUsable self.old (IsLegalNow self.old command → IsFull self.old → result ≡ Err issue_error.Backlog) }
-        ensures accepted { OnUsable self.old (IsLegalNow self.old command → HasPlace self.old
-            → IsOkUnless result issue_error.OutOfMemory) }
-
-        ensures reason { IfErr result (IsReason self.old command) }
-        ensures no_call { disk_of self.new ≡ disk_of self.old }
-        ensures ok { IfOk result (λ ticket. Issues self.old self.new command ticket) }
-        ensures err { OnErr result (IsSameBroker self.old self.new) }
-    {
-        if self.broken {
-            return Err(IssueError::Broken);
-        }
-        if self.table.number() >= MOST_COMMANDS {
-            return Err(IssueError::WornOut);
-        }
-        if self.pending.len() >= MOST_PENDING {
-            return Err(refusal(&self.table, &command, IssueError::Backlog));
-        }
-        if self.pending.reserve(1).is_err() {
-            return Err(refusal(&self.table, &command, IssueError::OutOfMemory));
-        }
-        match self.table.apply(&command) {
-            Ok(()) => {
-                self.pending.push_reserved(command);
-                Ok(Ticket::new(self.table.number()))
-            }
-            Err(ApplyError::Illegal(why)) => Err(IssueError::Illegal(why)),
-            Err(ApplyError::OutOfMemory) => Err(IssueError::OutOfMemory),
-        }
+// Applies a command to a table, and keeps it behind those that are pending.
+pub(crate) fn take(
+    table: &mut Table,
+    pending: &mut Vec<Command>,
+    command: Command,
+) -> Result<(), IssueError> {
+    if table.number() >= MOST_COMMANDS {
+        return Err(IssueError::WornOut);
     }
+    if pending.len() >= MOST_PENDING {
+        return Err(refusal(table, &command, IssueError::Backlog));
+    }
+    if pending.reserve(1).is_err() {
+        return Err(refusal(table, &command, IssueError::OutOfMemory));
+    }
+    match table.apply(&command) {
+        Ok(()) => {
+            pending.push_reserved(command);
+            Ok(())
+        }
+        Err(ApplyError::Illegal(why)) => Err(IssueError::Illegal(why)),
+        Err(ApplyError::OutOfMemory) => Err(IssueError::OutOfMemory),
+    }
+}
 
+impl<D: Disk> Broker<D> {
     /// Applies a command that is legal now, and keeps it pending: it is not durable before it is committed.
     ///
     /// It is refused, and then changes nothing: `Broken`, `WornOut` (2^62 commands were issued), `Illegal` with the first
@@ -90,6 +79,12 @@ impl<D: Disk> Broker<D> {
         // A stop at any moment of the call leaves a legal stop of the history.
         ensures any_moment { LeavesLegalStops D.view self.old (disk_of self.new) }
     {
-        self.take(command)
+        if self.broken {
+            return Err(IssueError::Broken);
+        }
+        match take(&mut self.table, &mut self.pending, command) {
+            Ok(()) => Ok(Ticket::new(self.table.number())),
+            Err(why) => Err(why),
+        }
     }
 }

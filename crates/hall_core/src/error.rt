@@ -28,6 +28,19 @@ pub enum HallError {
     /// The device failed in this call; the disk has to be opened again.
     #[error("device fault")]
     Fault,
+    /// A batch is out, and has to be settled first.
+    #[error("a batch is out")]
+    Lent,
+    /// The halves do not go together: a batch or its outcome is not that of the other half, or their tables differ.
+    #[error("the halves differ")]
+    OtherHalf,
+    /// Fewer commands were issued than this desk was told before. Only an office answers this.
+    #[error("told {told}, found {found}")]
+    Mismatch { told: u64, found: u64 },
+    /// A request to an environment that is not there, with an answer above the settings' limit, or at a moment past the end
+    /// of the year 9999. Only an office answers this: it judges under its lock what else is a condition of the call.
+    #[error("the request does not fit the settings")]
+    Unfit,
 }
 
 impl From<AllocError> for HallError {

@@ -7,6 +7,7 @@
 mod auditing;
 mod command_line;
 mod formatting;
+mod serving;
 mod trial;
 mod words;
 
@@ -20,7 +21,7 @@ fn main(rt: HostRuntime) -> io::Result<ExitCode> {
         words.push(word)?;
     }
     let mut out = io::writer(&rt);
-    let status = command_line::run(&rt, &words, &mut out)?;
+    let status = command_line::run(rt, &words, &mut out)?;
     out.flush()?;
     Ok(ExitCode::from(status))
 }

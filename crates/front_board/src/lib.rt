@@ -1,0 +1,13 @@
+//! The board: one number that only rises, by which threads tell each other how many commands are durable.
+//!
+//! A thread raises it or looks at it from a seat of its own, each in one atomic step that takes no memory and no lock.
+//! The crates above use that a ticket becomes a receipt exactly where the number that was found is at least its own, and
+//! that this number was given to the board.
+#![tactic(auto)]
+
+mod board;
+mod numbers;
+mod rule;
+
+pub use board::{Board, Seat};
+pub use numbers::{AnyNumber, Numbers};

@@ -1,0 +1,17 @@
+//! Long polls: the future of one reply, which waits until the reply may be told.
+//!
+//! It registers at a bell, which is rung after each commit and each request, looks at the board for its ticket without a
+//! lock, and asks the office only once its ticket is durable or the bell says that the hall broke. The crates above use
+//! that it gives the reply of its own slot, and that a poll which is pending has registered.
+#![tactic(auto)]
+
+mod bell;
+mod port;
+#[cfg(test)]
+mod tests;
+mod waiters;
+mod waiting;
+
+pub use bell::{Bell, Registered};
+pub use port::Port;
+pub use waiting::Waiting;

@@ -1,0 +1,115 @@
+// What the futures of one port share.
+ghost use Rattle.std.specs.Prelude.{◌≡◌, IfOk, IfErr};
+ghost use Rattle.front_board.specs.Board.{SitsAt};
+
+use crate::bell::Bell;
+use api_core::Call;
+use front_board::{AnyNumber, Board, Seat};
+use group_commit::{Receipt, Ticket};
+use hall_core::{HallError, Released};
+use receipts::{Desk, Office};
+use std::sync::ledger::Ledger;
+use std::sync::{Arc, Mutex, Wait};
+
+// A seat, beside the board that it is one of.
+#[derive(Drop)]
+struct Place {
+    board: Arc<Board<AnyNumber>>,
+    seat: Seat,
+    ghost sits: { SitsAt board.value seat },
+}
+
+impl Place {
+    // A receipt exactly where the board shows at least the ticket's number.
+    fn check(&mut self, ticket: Ticket) -> Result<Receipt, Ticket>
+        ensures receipt { IfOk result (λ receipt. receipt ≡ ticket) }
+        ensures kept { IfErr result (λ kept. kept ≡ ticket) }
+    {
+        let Place { board, seat } = self;
+        board.check(seat, ticket)
+    }
+}
+
+/// One port of the front: a desk of the office and a seat of the board, each behind a lock, for all futures of the port.
+#[derive(Drop)]
+pub struct Port<L: Ledger> {
+    office: Arc<Office<L>>,
+    bell: Arc<Bell>,
+    desk: Mutex<Desk<L>>,
+    place: Mutex<Place>,
+}
+
+impl<L: Ledger> Port<L> {
+    /// A port with a desk of this office and a seat of this board.
+    pub fn new(
+        office: Arc<Office<L>>,
+        bell: Arc<Bell>,
+        board: Arc<Board<AnyNumber>>,
+        desk: Desk<L>,
+        seat: Seat,
+    ) -> Port<L>
+        requires sits { SitsAt board.value seat }
+    {
+        let place = Place { board, seat };
+        Port {
+            office,
+            bell,
+            desk: Mutex::new(desk),
+            place: Mutex::new(place),
+        }
+    }
+
+    /// The office.
+    pub fn office(&self) -> &Office<L> {
+        &self.office
+    }
+
+    /// The bell.
+    pub fn bell(&self) -> &Bell {
+        &self.bell
+    }
+
+    /// The desk, when the port is closed.
+    pub fn into_desk(self) -> Desk<L> {
+        let Port { desk, .. } = self;
+        desk.into_inner()
+    }
+
+    /// A request comes, as `Office::arrive` says, from the port's desk.
+    pub fn arrive<R: Wait>(
+        &self,
+        rt: &R,
+        call: Call,
+        now: u64,
+        words: [u64; 2],
+    ) -> Result<(Ticket, u64), HallError> {
+        let mut desk = self.desk.lock(rt);
+        self.office.arrive(rt, &mut desk, call, now, words)
+    }
+
+    /// Makes one move that is due, as `Office::tick` says, from the port's desk.
+    pub fn tick<R: Wait>(&self, rt: &R, now: u64) -> Result<Option<u64>, HallError> {
+        let mut desk = self.desk.lock(rt);
+        self.office.tick(rt, &mut desk, now)
+    }
+
+    /// The reply of a slot, as `Office::take` gives it.
+    pub(crate) fn take<R: Wait>(&self, rt: &R, slot: u64) -> Option<Released> {
+        let mut desk = self.desk.lock(rt);
+        self.office.take(rt, &mut desk, slot)
+    }
+
+    /// The reply of a slot is not wanted any more, as `Office::forget` says.
+    pub(crate) fn forget<R: Wait>(&self, rt: &R, slot: u64) {
+        let mut desk = self.desk.lock(rt);
+        self.office.forget(rt, &mut desk, slot);
+    }
+
+    /// A receipt where the board shows at least the ticket's number, else the ticket again.
+    pub(crate) fn check<R: Wait>(&self, rt: &R, ticket: Ticket) -> Result<Receipt, Ticket>
+        ensures receipt { IfOk result (λ receipt. receipt ≡ ticket) }
+        ensures kept { IfErr result (λ kept. kept ≡ ticket) }
+    {
+        self.place.lock(rt).check(ticket)
+    }
+}

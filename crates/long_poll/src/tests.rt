@@ -1,0 +1,1 @@
+// Long polls over an office on a disk in memory.

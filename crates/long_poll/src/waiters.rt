@@ -1,0 +1,84 @@
+// The tasks that wait at a bell, behind its lock.
+ghost use Rattle.std.specs.Prelude.{◌≡◌};
+ghost use Rattle.futures.specs.Task.{Hears, IsArmed, Keeps};
+
+use futures::task::{Context, Source, Waker};
+use std::alloc::{AllocError, Global};
+use std::mem;
+
+/// The place of one key, with the waker of the task that waits there since the last ring.
+#[derive(Drop)]
+struct Entry {
+    key: u64,
+    waker: Option<Waker>,
+}
+
+/// A place for each key, and room for their wakers.
+#[derive(Drop)]
+pub(crate) struct Waiters {
+    alloc: Global,
+    entries: Vec<Entry>,
+    /// Empty, with room for as many wakers as there are places, unless a ring has it.
+    room: Vec<Waker>,
+}
+
+impl Waiters {
+    pub(crate) fn new(alloc: Global) -> Waiters {
+        Waiters {
+            alloc,
+            entries: Vec::new(alloc),
+            room: Vec::new(alloc),
+        }
+    }
+
+    /// Makes a place for a key, so that neither registering there nor ringing needs memory.
+    pub(crate) fn enter(&mut self, key: u64) -> Result<(), AllocError> {
+        self.room.reserve(self.entries.len().saturating_add(1))?;
+        self.entries.push(Entry { key, waker: None })?;
+        Ok(())
+    }
+
+    /// Takes a key's place away, and hands out what waits there.
+    pub(crate) fn leave(&mut self, key: u64) -> Option<Waker> {
+        let at = self.entries.iter().position(|entry| entry.key == key)?;
+        let Entry { key: _, waker } = self.entries.swap_remove(at);
+        waker
+    }
+
+    /// Leaves the task's waker at the key's place. Where there is none and no memory for one, the task is polled again.
+    pub(crate) fn register(&mut self, source: &Source, key: u64, cx: &mut Context<'_>)
+        ensures armed { IsArmed cx.new }
+        ensures heard { Hears cx.new source.now.id }
+        ensures kept { Keeps cx.old cx.new }
+    {
+        if let Some(entry) = self.entries.iter_mut().find(|entry| entry.key == key) {
+            cx.register::<()>(source, &mut entry.waker);
+            return;
+        }
+        let mut waker = None;
+        cx.register::<()>(source, &mut waker);
+        if self.entries.push(Entry { key, waker }).is_err() {
+            cx.yield_now::<()>();
+        }
+    }
+
+    /// Takes all wakers out of their places. One for which there is no room wakes its task here.
+    pub(crate) fn take_wakers(&mut self) -> Vec<Waker> {
+        let mut wakers = mem::replace(&mut self.room, Vec::new(self.alloc));
+        for entry in self.entries.iter_mut() {
+            if let Some(waker) = entry.waker.take() {
+                if let Err(refused) = wakers.push(waker) {
+                    drop(refused);
+                }
+            }
+        }
+        wakers
+    }
+
+    /// Takes the room back that a ring had, where it is not less than what is here.
+    pub(crate) fn give_back(&mut self, room: Vec<Waker>) {
+        if self.room.capacity() < room.capacity() {
+            self.room = room;
+        }
+    }
+}

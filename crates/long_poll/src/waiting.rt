@@ -1,0 +1,117 @@
+// The future of one reply.
+ghost use Rattle.std.specs.Prelude.{◌≡◌};
+ghost use Rattle.futures.specs.Task.{IsArmed, Keeps};
+
+use crate::bell::Registered;
+use crate::port::Port;
+use futures::Future;
+use futures::task::{Context, Poll};
+use group_commit::{Receipt, Ticket};
+use hall_core::Released;
+use std::mem;
+use std::sync::ledger::Ledger;
+use std::sync::{Arc, Wait};
+
+// How far a reply is.
+#[derive(Drop)]
+enum Stage {
+    // What was issued when the request came is not durable yet, as far as the port knows.
+    Issued(Ticket),
+    // It is durable. The reply may show more, or be computed later.
+    Durable(Receipt),
+    // It was told.
+    Told,
+}
+
+// Why the office may be asked for a reply.
+#[derive(Drop)]
+enum Cause {
+    Durable(Receipt),
+    HallBroke,
+}
+
+/// Waits for the reply of one slot, and gives it once it may be told. Where it is dropped before, the slot is forgotten.
+pub struct Waiting<R: Wait, L: Ledger> {
+    rt: R,
+    port: Arc<Port<L>>,
+    slot: u64,
+    stage: Stage,
+}
+
+impl<R: Wait, L: Ledger> Waiting<R, L> {
+    /// Waits for the reply of this slot of the port's office, which came with this ticket. It makes itself a place at the
+    /// bell; where there is no memory for one now, each poll tries again.
+    pub fn new(rt: R, port: Arc<Port<L>>, ticket: Ticket, slot: u64) -> Waiting<R, L> {
+        let entered = port.bell().enter(&rt, slot);
+        drop(entered);
+        Waiting {
+            rt,
+            port,
+            slot,
+            stage: Stage::Issued(ticket),
+        }
+    }
+
+    // Looks at the board for the ticket, if there is still one: why the office may be asked, if it may.
+    fn cause(&mut self) -> Option<Cause> {
+        match mem::replace(&mut self.stage, Stage::Told) {
+            Stage::Issued(ticket) => match self.port.check(&self.rt, ticket) {
+                Ok(receipt) => {
+                    self.stage = Stage::Durable(receipt);
+                    Some(Cause::Durable(receipt))
+                }
+                Err(ticket) => {
+                    self.stage = Stage::Issued(ticket);
+                    self.port.bell().has_broken().then_some(Cause::HallBroke)
+                }
+            },
+            Stage::Durable(receipt) => {
+                self.stage = Stage::Durable(receipt);
+                Some(Cause::Durable(receipt))
+            }
+            Stage::Told => None,
+        }
+    }
+
+    // Asks the office, of which there has to be a cause.
+    fn ask(&mut self, _cause: Cause) -> Option<Released> {
+        let released = self.port.take(&self.rt, self.slot)?;
+        self.stage = Stage::Told;
+        Some(released)
+    }
+
+    // The last look of a poll, which has registered.
+    fn look(&mut self, _registered: Registered) -> Option<Released> {
+        let cause = self.cause()?;
+        self.ask(cause)
+    }
+}
+
+impl<R: Wait + Drop, L: Ledger> Future for Waiting<R, L> {
+    type Output = Released;
+
+    ghost needs = { λ w s. s ≡ w.port.value.bell.value.source.id };
+
+    fn poll(&mut self, cx: &mut Context<'_>) -> Poll<Released> {
+        let registered = self.port.bell().register(&self.rt, self.slot, cx);
+        match self.look(registered) {
+            Some(released) => Poll::Ready(released),
+            None => Poll::Pending,
+        }
+    }
+}
+
+impl<R: Wait + Drop, L: Ledger> Drop for Waiting<R, L> {
+    fn drop(self) {
+        let Waiting {
+            rt,
+            port,
+            slot,
+            stage,
+        } = self;
+        port.bell().leave(&rt, slot);
+        if !matches!(stage, Stage::Told) {
+            port.forget(&rt, slot);
+        }
+    }
+}

@@ -1,0 +1,37 @@
+// The desks of an office, one for each thread that asks it.
+use crate::mark::Mark;
+use retry_rules::Settings;
+use std::sync::ledger::{Ledger, Share};
+
+/// How many desks an office has: for each environment's port one, and three for the callers' port, the committer and the
+/// ticker; at least eight.
+pub fn desks(settings: &Settings) -> u64 {
+    let wanted = u64::from(settings.environments) + 3;
+    if wanted < 8 { 8 } else { wanted }
+}
+
+/// A place from which one thread asks the office at a time. It keeps the marks of the commands that its calls issued, and
+/// the greatest number that it was told.
+#[derive(Drop)]
+pub struct Desk<L: Ledger> {
+    /// From 0 on.
+    pub(crate) number: u64,
+    /// The greatest number that it was told.
+    pub(crate) told: u64,
+    /// Its marks, in order.
+    pub(crate) own: Vec<Mark>,
+    /// How many they are counts in the ledger.
+    pub(crate) share: Share<L>,
+}
+
+impl<L: Ledger> Desk<L> {
+    /// Its number among the desks of its office, from 0 on.
+    pub fn number(&self) -> u64 {
+        self.number
+    }
+
+    /// The greatest number that it was told.
+    pub fn told(&self) -> u64 {
+        self.told
+    }
+}

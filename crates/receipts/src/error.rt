@@ -1,0 +1,37 @@
+// Why an office is not opened or not closed.
+use crate::desk::Desk;
+use crate::office::Office;
+use group_commit::{Broker, DiskHalf, JoinError, SplitError};
+use hall_core::Hall;
+use sector_disk::Disk;
+use std::sync::ledger::{Blank, Ledger};
+use thiserror::Error;
+
+/// A hall over which no office was made, and why. It is handed back with the blank ledger.
+#[derive(Drop)]
+pub struct OfficeFailure<D: Disk> {
+    pub cause: SplitError,
+    pub hall: Hall<Broker<D>>,
+    pub blank: Blank,
+}
+
+/// Why an office was not closed.
+#[derive(Clone, Copy, Debug, PartialEq, Eq, Error)]
+pub enum FinishError {
+    /// The desks do not have each desk number once, or the marks of a desk are not those that the office has of it.
+    #[error("the desks are not those of the office")]
+    Mismatch,
+    /// The hall was not joined with the disk half.
+    #[error("{0}")]
+    NotJoined(JoinError),
+}
+
+/// An office that was not closed, and why. All is handed back.
+#[derive(Drop)]
+pub struct FinishFailure<D: Disk, L: Ledger> {
+    pub cause: FinishError,
+    pub office: Office<L>,
+    pub desks: Vec<Desk<L>>,
+    /// The half over the disk, with what it took.
+    pub disk: DiskHalf<D>,
+}
