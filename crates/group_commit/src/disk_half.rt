@@ -1,4 +1,14 @@
 // The half of a broker that writes: a broker of its own over the disk.
+ghost use Rattle.std.specs.Prelude.{◌≡◌, ◌≤◌, ◌++◌, false, true, OnOk, IfErr};
+ghost use Rattle.sector_disk.specs.Disk.{IsSameDisk};
+ghost use Rattle.group_commit.specs.Broker.{disk_of, settings_of, issued_of, durable_of, is_broken, Stands, IsSameBroker};
+ghost use Rattle.group_commit.specs.Promises.{ForEachHistory, LeavesLegalStops};
+ghost use Rattle.group_commit.specs.Refusals.{FaultsHaveRisen};
+ghost use Rattle.group_commit.specs.Batch.{first_of, last_of, first_in, last_in, cause_of};
+ghost use Rattle.group_commit.specs.Splitting.{broker_of};
+ghost use Rattle.group_commit.specs.declared.error.WriteError.TheVariants as write_error;
+ghost use Rattle.group_commit.specs.Writing.{taken_from, IsApart, IsRefusedAs, IsNotWritten, Writes, StaysInFront, LeavesStopsWith};
+
 use crate::batch::{Batch, Failed, Written};
 use crate::{Broker, CommitError, Durable, IssueError, WriteError};
 use invoke_records::Command;
@@ -56,7 +66,32 @@ impl<D: Disk> DiskHalf<D> {
     /// It is refused, and what it took before stays pending in it: `Broken`, `Mismatch` (a gap between its list and the
     /// batch, a batch that ends below that list's end, or a command that is not legal), `WornOut`, `Backlog`, `BadKind` (as
     /// `Broker::commit` has it), `OutOfMemory`, and `Fault`, after which it is broken.
-    pub fn write(&mut self, batch: Batch) -> Result<Written, Failed> {
+    pub fn write(&mut self, batch: Batch) -> Result<Written, Failed>
+        ensures same { IsSameDisk (D.view (disk_of (broker_of self.old))) (D.view (disk_of (broker_of self.new))) }
+        ensures later { D.fault_count (disk_of (broker_of self.old)) ≤ D.fault_count (disk_of (broker_of self.new)) }
+        ensures fault { IsRefusedAs result write_error.Fault → FaultsHaveRisen D.fault_count (broker_of self.old) (broker_of self.new) }
+        ensures first { first_in result ≡ first_of batch }
+        ensures last { last_in result ≡ last_of batch }
+
+        // At Ok the whole batch is durable. A refusal keeps what was taken, in order.
+        ensures ok { OnOk result (Writes batch (broker_of self.new)) }
+        ensures broken { is_broken (broker_of self.old) ≡ true → IsRefusedAs result write_error.Broken }
+        ensures apart { is_broken (broker_of self.old) ≡ false → IsApart (broker_of self.old) batch → IsRefusedAs result write_error.Mismatch }
+        ensures untouched { IsApart (broker_of self.old) batch → IsSameBroker (broker_of self.old) (broker_of self.new) }
+        ensures err { IfErr result (λ failed. IsNotWritten (broker_of self.old) batch (broker_of self.new) (cause_of failed)) }
+        ensures settings { settings_of (broker_of self.new) ≡ settings_of (broker_of self.old) }
+        ensures longer { issued_of (broker_of self.old) ≤ issued_of (broker_of self.new) }
+
+        // The half stands for its list with what it took, also after a fault; the table of a history is never bad. Where its
+        // list is the front of a list that ends with the batch, it stays so.
+        ensures stands { ForEachHistory D.view (broker_of self.old) (λ history.
+            Stands D.view (broker_of self.new) (history ++ taken_from (broker_of self.old) (broker_of self.new) batch)) }
+        ensures sound { ForEachHistory D.view (broker_of self.old) (λ history. IsRefusedAs result write_error.BadKind → ⊥) }
+        ensures front { StaysInFront D.view (broker_of self.old) (broker_of self.new) batch }
+
+        // A stop at any moment of the call leaves a legal stop of that list.
+        ensures any_moment { LeavesStopsWith D.view (broker_of self.old) (broker_of self.new) batch }
+    {
         let (first, last) = (batch.first, batch.last);
         match self.commit_batch(batch) {
             Ok(_) => Ok(Written::new(first, last)),
@@ -65,17 +100,24 @@ impl<D: Disk> DiskHalf<D> {
     }
 
     /// How many commands it has.
-    pub fn issued(&self) -> u64 {
+    pub fn issued(&self) -> u64
+        ensures { result ≡ issued_of (broker_of self.now) }
+    {
         self.broker.issued()
     }
 
     /// How many of them are durable.
-    pub fn durable(&self) -> Durable {
+    pub fn durable(&self) -> Durable
+        ensures { result ≡ durable_of (broker_of self.now) }
+    {
         self.broker.durable()
     }
 
     /// The disk, also of a broken half. What is pending in it is given up.
-    pub fn close(self) -> D {
+    pub fn close(self) -> D
+        ensures disk { result ≡ disk_of (broker_of self) }
+        ensures any_moment { LeavesLegalStops D.view (broker_of self) result }
+    {
         let DiskHalf { broker } = self;
         broker.close()
     }
