@@ -5,3 +5,4 @@ pub mod Reopening
 pub mod Results
 pub mod Rested
 pub mod Resumed
+pub mod Memory

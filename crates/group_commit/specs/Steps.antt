@@ -1,5 +1,5 @@
 -- Names only steps of private functions: a reader of the public contracts need not believe it.
-use Rattle.std.specs.Prelude.{◌≡◌, ◌⊎◌, ◌≤◌, ◌^◌, List, length, None, Some, Option}
+use Rattle.std.specs.Prelude.{◌≡◌, ◌⊎◌, ◌≤◌, ◌^◌, All, List, length, None, Some, Option}
 use Rattle.sector_disk.specs.Disk.{DiskView}
 use Rattle.sector_disk.specs.Moments.{LeavesOnly}
 use Rattle.sector_disk.specs.declared.disk.Disk.{Ghosts}
@@ -8,6 +8,7 @@ use Rattle.async_core.specs.declared.illegal.Illegal.{Illegal}
 use Rattle.async_core.specs.Rules.{replay}
 use Rattle.async_core.specs.State.{State, refusal_by}
 use Rattle.invoke_records.specs.declared.command.Command.{Command}
+use Rattle.invoke_records.specs.Spelling.{command_fault}
 use Rattle.checkpoint.specs.declared.opened.Opened.{Opened}
 use Rattle.checkpoint.specs.Live.{RecoversTo, RecoversToEither, IsLive}
 use Rattle.checkpoint.specs.Live.{settings_of as live_settings}
@@ -43,3 +44,7 @@ IsTakeReason table pending command issue_error.WornOut = 2 ^ 62 ≤ table.table.
 IsTakeReason table pending command (issue_error.Illegal why) = refusal_by table command ≡ Some why
 IsTakeReason table pending command issue_error.Backlog = (refusal_by table command ≡ None) × (length pending ≡ 256)
 IsTakeReason table pending command issue_error.OutOfMemory = refusal_by table command ≡ None
+
+-- each of these commands has a spelling
+abbrev pub AreSpelled : List Command → Type 0
+AreSpelled commands = All (λ c. command_fault c ≡ None) commands

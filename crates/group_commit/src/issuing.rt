@@ -8,7 +8,8 @@ ghost use Rattle.group_commit.specs.declared.error.IssueError.TheVariants as iss
 ghost use Rattle.group_commit.specs.Broker.{disk_of, settings_of, issued_of, is_broken, Stands, IsSameBroker, Issues, IsReason};
 ghost use Rattle.group_commit.specs.Promises.{ForEachHistory, LeavesLegalStops, Accepts};
 ghost use Rattle.group_commit.specs.Refusals.{OnUsable, IsLegalNow, Fails, IsFull, HasPlace, TellsIllegal};
-ghost use Rattle.group_commit.specs.Steps.{IsErrorFor, IsTakeReason};
+ghost use Rattle.group_commit.specs.History.{AreGood};
+ghost use Rattle.group_commit.specs.Steps.{IsErrorFor, IsTakeReason, AreSpelled};
 
 use crate::broker::{MOST_COMMANDS, MOST_PENDING};
 use crate::{Broker, IssueError, Ticket};
@@ -44,12 +45,15 @@ pub(crate) fn take(
     ensures accepted { table.old.table.number < 2 ^ 62 → refusal_by table.old command ≡ None → length pending.old.items < 256
         → IsOkUnless result issue_error.OutOfMemory }
     ensures reason { IfErr result (IsTakeReason table.old pending.old.items command) }
+    ensures settings { table.new.settings ≡ table.old.settings }
+    ensures counted { table.new.table.number + length pending.old.items ≡ table.old.table.number + length pending.new.items }
+    ensures bounded { table.old.table.number ≤ 2 ^ 62 → table.new.table.number ≤ 2 ^ 62 }
+    ensures few { length pending.new.items ≤ 256 }
+    ensures spelled { AreGood table.old.settings → AreSpelled pending.old.items → AreSpelled pending.new.items }
     ensures legal { OnOk result (refusal_by table.old command ≡ None) }
     ensures applied { OnOk result (table.new ≡ state_after table.old command) }
     ensures number { OnOk result (table.new.table.number ≡ table.old.table.number + 1) }
-    ensures below { OnOk result (table.old.table.number < 2 ^ 62) }
     ensures kept { OnOk result (pending.new.items ≡ pending.old.items ++ command ∷ []) }
-    ensures place { OnOk result (length pending.old.items < 256) }
     ensures err { OnErr result (table.new ≡ table.old) }
     ensures err_kept { OnErr result (pending.new.items ≡ pending.old.items) }
 {
