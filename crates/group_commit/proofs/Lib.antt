@@ -6,3 +6,4 @@ pub mod Results
 pub mod Rested
 pub mod Resumed
 pub mod Memory
+pub mod Taken

@@ -11,6 +11,7 @@ pub mod Batch
 pub mod Lending
 pub mod Splitting
 pub mod Writing
+pub mod Taking
 pub mod Resume
 pub mod Steps
 pub mod laws

@@ -10,6 +10,7 @@ ghost use Rattle.group_commit.specs.Refusals.{TellsIllegal};
 use crate::batch::{Batch, Failed, Written};
 use crate::copying::copy_commands;
 use crate::issuing::take;
+use crate::taking::forget_first;
 use crate::{Durable, IssueError, Issuer, LendError, SettleError, Ticket, WriteError};
 use async_core::Table;
 use invoke_records::Command;
@@ -32,14 +33,6 @@ pub struct IssueHalf {
     ghost few: { length pending.items ≤ 256 },
     ghost within: { (last : ℕ) → lent ≡ Some last → (durable < last) × (last ≤ table.table.number) },
     ghost sound: { IsSome lent → broken ≡ false },
-}
-
-// Takes the first commands away.
-fn forget_first(commands: &mut Vec<Command>, count: usize)
-    requires { count ≤ length commands.old.items }
-    ensures { commands.new.items ≡ drop count commands.old.items }
-{
-    commands.drain(..count);
 }
 
 impl IssueHalf {

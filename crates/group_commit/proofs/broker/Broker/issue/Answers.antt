@@ -15,8 +15,7 @@ returns-in-Ok-clause-stands g c history stands =
     let command = c.args.command in
     let issued = c.in-Ok.ensures in
     let state : State = c.take.new.table in
-    let settings : state.settings ≡ settings_of old = ap (λ (t : State). t.settings) issued.applied in
-    (
+    let settings : state.settings ≡ settings_of old = ap (λ (t : State). t.settings) issued.applied in (
       sym (refusal_is _ _ _ _ _ _ _ history stands command) ∙ issued.legal,
       omega (arith, c.number.ensures, c.new.ensures, issued.number, ap (λ (t : Snapshot). t.number) stands.table_is, number-table_of (settings_of old) history),
       stands_along g.D.Disk.view (disk_of old) (disk_of old) (opened_of old) (opened_of old) (settings_of old) state.settings _ state.table _ c.take.new.pending.items

@@ -14,8 +14,7 @@ returns-in-Ok-clause-stands c history stands =
     let command = c.args.command in
     let issued = c.in-Ok.ensures in
     let state : State = c.take.new.table in
-    let settings : state.settings ≡ old.table.settings = ap (λ (t : State). t.settings) issued.applied in
-    (
+    let settings : state.settings ≡ old.table.settings = ap (λ (t : State). t.settings) issued.applied in (
       sym (refusal_in_memory _ _ _ _ history old.good stands command) ∙ issued.legal,
       omega (arith, c.number.ensures, c.new.ensures, issued.number, ap (λ (t : Snapshot). t.number) stands.table_is, number-table_of old.table.settings history),
       memory_along old.table.settings state.settings _ state.table _ c.take.new.pending.items old.durable old.durable (history ++ command ∷ []) settings
