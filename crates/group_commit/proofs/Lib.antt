@@ -7,3 +7,4 @@ pub mod Rested
 pub mod Resumed
 pub mod Memory
 pub mod Taken
+pub mod Writes
