@@ -8,3 +8,4 @@ pub mod Resumed
 pub mod Memory
 pub mod Taken
 pub mod Writes
+pub mod Joined

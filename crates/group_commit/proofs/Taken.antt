@@ -1,5 +1,5 @@
 -- What a broker stands for that takes commands, one after another.
-use Rattle.std.proofs.Common.{◌≡◌, ℕ, suc, ◌+◌, ◌-◌, ◌<◌, ◌≤◌, None, Some, Option, List, [], ◌∷◌, ◌++◌, length, take, get_or, refl, sym, ap, subst, ◌∙◌, arith, append_assoc, length-append}
+use Rattle.std.proofs.Common.{◌≡◌, ℕ, zero, suc, ◌+◌, ◌-◌, ◌<◌, ◌≤◌, None, Some, Option, List, [], ◌∷◌, ◌++◌, length, take, get_or, refl, sym, ap, subst, ◌∙◌, arith, append_assoc, length-append}
 use Rattle.std.specs.Prelude.{slice_get, IfSome, IsSome}
 use Rattle.std.proofs.Math.Seq.{take-append_seam, take-append-add, get_or-append_seam}
 use Rattle.std.proofs.lemmas.List.{append-nil}
@@ -33,6 +33,22 @@ replay_more s before after (x ∷ commands) c is legal =
     let first = legal_first (refusal_at s before x) (replay s (table_after s before x) commands) after is in
     ap (λ (r : Option Illegal). where_legal r (replay s (table_after s before x) (commands ++ c ∷ []))) first.0
     ∙ replay_more s (table_after s before x) after commands c first.1 legal
+
+-- a command that is refused on the way stops them
+stopped : {A : Type 0} (refusal : Option Illegal) (rest : Option A) → IsSome refusal → where_legal refusal rest ≡ None
+stopped None rest is = absurd cc
+stopped (Some why) rest is = refl
+
+pub replay_stops : (s : Settings) (before after : Snapshot) (commands : List Command) (k : ℕ) → k < length commands → replay s before (take k commands) ≡ Some after
+    → IfSome (slice_get commands k) (λ c. IsSome (refusal_at s after c)) → replay s before commands ≡ None
+replay_stops s before after [] k lt is stop = absurd (omega (arith, lt))
+replay_stops s before after (c ∷ commands) zero lt is stop =
+    let same : before ≡ after = cc in
+    stopped (refusal_at s before c) (replay s (table_after s before c) commands) (subst (λ (t : Snapshot). IsSome (refusal_at s t c)) (sym same) stop)
+replay_stops s before after (c ∷ commands) (suc k) lt is stop =
+    let first = legal_first (refusal_at s before c) (replay s (table_after s before c) (take k commands)) after is in
+    ap (λ (r : Option Illegal). where_legal r (replay s (table_after s before c) commands)) first.0
+    ∙ replay_stops s (table_after s before c) after commands k (omega (arith, lt)) first.1 stop
 
 -- ## The next command
 

@@ -56,13 +56,13 @@ module _ {D : Type 0} {g : Ghosts D} (view : D → DiskView) (old new : Broker D
       let k = issued_of new - n in
       ⊎_elim
       (λ (gap : n + 1 < first_of batch).
-        let none : k ≡ 0 = omega (arith, apart (inl gap)) in
-        subst (λ (m : ℕ). IsFrontOf (history ++ take m (missing_in old batch)) whole) (sym none)
-        (subst (λ (l : List Command). IsFrontOf l whole) (sym (append-nil history)) front))
+      let none : k ≡ 0 = omega (arith, apart (inl gap)) in
+      subst (λ (m : ℕ). IsFrontOf (history ++ take m (missing_in old batch)) whole) (sym none)
+      (subst (λ (l : List Command). IsFrontOf l whole) (sym (append-nil history)) front))
       (λ (joined : first_of batch ≤ n + 1).
-        let missing = missing_of whole ends joined in
-        subst (λ (l : List Command). IsFrontOf (history ++ take k l) whole) (sym missing)
-        (front_more history whole n k (sym (number history stands)) (subst (λ (l : List Command). k ≤ length l) missing most) front))
+      let missing = missing_of whole ends joined in
+      subst (λ (l : List Command). IsFrontOf (history ++ take k l) whole) (sym missing)
+      (front_more history whole n k (sym (number history stands)) (subst (λ (l : List Command). k ≤ length l) missing most) front))
       (cases_lt (n + 1) (first_of batch))
 
   -- before the disk is called
@@ -143,10 +143,10 @@ module _ {D : Type 0} {g : Ghosts D} (view : D → DiskView) (old mid new : Brok
         }
     not_written commit_error.OutOfMemory broken worn bad breaks kept =
         let same = same_of commit_error.OutOfMemory kept (λ wrong. cc) in
-        record { reason = kept_whole same; broken = kept_whole same; durable = same.durable ∙ takes.durable; }
+        record { reason = kept_whole same; broken = kept_whole same; durable = same.durable ∙ takes.durable }
     not_written commit_error.Fault broken worn bad breaks kept =
         let broke = breaks refl in
-        record { reason = (ap (λ (t : Snapshot). t.number) broke.table ∙ taken.all, broke.broken); broken = broke.broken; durable = broke.durable ∙ takes.durable; }
+        record { reason = (ap (λ (t : Snapshot). t.number) broke.table ∙ taken.all, broke.broken); broken = broke.broken; durable = broke.durable ∙ takes.durable }
 
 -- what the write calls bad, the commit called so
 pub bad_of : (why : CommitError) → commit_cause why ≡ write_error.BadKind → why ≡ commit_error.BadKind

@@ -1,14 +1,26 @@
 // Joining the two halves of a broker.
-ghost use Rattle.std.specs.Prelude.{◌≡◌, ◌-◌, false, OnOk, IfOk, IfErr};
+ghost use Rattle.std.specs.Prelude.{◌≡◌, ◌-◌, drop, false, OnOk, IfOk, IfErr};
 ghost use Rattle.group_commit.specs.Broker.{issued_of, is_broken, Stands};
 ghost use Rattle.group_commit.specs.Promises.{ForEachHistory};
+ghost use Rattle.group_commit.specs.IssuerHalf.{half_view};
 ghost use Rattle.group_commit.specs.Splitting.{broker_of, ahead_of, Takes, Joins, IsNotJoined, StandsWithAhead, ForEachSharedHistory};
 ghost use Rattle.group_commit.specs.Taking.{HasJoined, IsJoinStop};
 
 use crate::copying::copy_commands;
 use crate::taking::{TakeError, take_all};
 use crate::{Broker, DiskHalf, IssueHalf, JoinError, JoinFailure};
+use invoke_records::Command;
 use sector_disk::Disk;
+use std::alloc::AllocError;
+
+// What is pending behind so many commands.
+fn copy_ahead(issue: &IssueHalf, issued: u64) -> Result<Vec<Command>, AllocError>
+    ensures { IfOk result (λ commands. commands.items ≡ drop (issued - (half_view issue.now).durable) (half_view issue.now).pending) }
+{
+    let known = issued.saturating_sub(issue.durable) as usize;
+    let ahead = &issue.pending[known.min(issue.pending.len())..];
+    copy_commands(issue.alloc, ahead)
+}
 
 // Hands to the broker what is pending in the issue half and it does not have, and compares the tables.
 fn hand_over<D: Disk>(issue: &IssueHalf, broker: &mut Broker<D>) -> Result<(), JoinError>
@@ -18,9 +30,7 @@ fn hand_over<D: Disk>(issue: &IssueHalf, broker: &mut Broker<D>) -> Result<(), J
     ensures err { IfErr result (IsJoinStop issue.now broker.old broker.new) }
     ensures stands { ForEachHistory D.view broker.old (λ history. StandsWithAhead D.view issue.now broker.old history broker.new) }
 {
-    let known = broker.issued().saturating_sub(issue.durable) as usize;
-    let ahead = &issue.pending[known.min(issue.pending.len())..];
-    let Ok(commands) = copy_commands(issue.alloc, ahead) else {
+    let Ok(commands) = copy_ahead(issue, broker.issued()) else {
         return Err(JoinError::OutOfMemory);
     };
     match take_all(broker, commands) {
