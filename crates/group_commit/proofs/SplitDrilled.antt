@@ -1,9 +1,8 @@
 -- The steps of a script of two halves, one after another.
-use Rattle.std.proofs.Common.{◌≡◌, ◌⊎◌, inl, inr, ℕ, ◌+◌, ◌-◌, ◌<◌, ◌≤◌, List, [], ◌∷◌, ◌++◌, length, take, drop, get_or, Option, None, refl, sym, ap, subst, ◌∙◌, arith, length-append, length-drop}
+use Rattle.std.proofs.Common.{◌≡◌, ℕ, ◌+◌, ◌<◌, ◌≤◌, List, [], ◌∷◌, ◌++◌, length, take, drop, get_or, Option, refl, sym, ap, subst, ◌∙◌, arith, length-append}
 use Rattle.std.specs.Prelude.{IfSome, IfErr, OnOk, Result, Ok, Err}
 use Rattle.std.proofs.lemmas.List.{length-take, take-take, take-append-le, take_all}
 use Rattle.std.proofs.lemmas.Option.{slice_get_read}
-use Rattle.sector_disk.specs.Disk.{DiskView}
 use Rattle.sector_disk.specs.declared.disk.Disk.{Ghosts}
 use Rattle.sector_disk.specs.declared.memory.MemDisk.{MemDisk}
 use Rattle.sector_disk.specs.Memory.{memory_view}
@@ -26,11 +25,10 @@ use Rattle.group_commit.specs.declared.error.SettleError.TheVariants as settle_e
 use Rattle.group_commit.specs.declared.split_script.SplitStep.{SplitStep}
 use Rattle.group_commit.specs.declared.split_script.SplitStep.TheVariants as step
 use Rattle.group_commit.specs.declared.split_script.SplitAnswer.{SplitAnswer}
-use Rattle.group_commit.specs.declared.split_script.SplitAnswer.TheVariants as answer
 use Rattle.group_commit.specs.declared.split_drilling.Halves.{Halves}
 use Rattle.group_commit.specs.declared.split_drilling.Held.{Held}
 use Rattle.group_commit.specs.declared.split_drilling.Held.TheVariants as held
-use Rattle.group_commit.specs.Broker.{settings_of, table_in, issued_of, durable_of, Stands}
+use Rattle.group_commit.specs.Broker.{settings_of, issued_of, durable_of, Stands}
 use Rattle.group_commit.specs.DrillBroker.{IsStarted}
 use Rattle.group_commit.specs.Issuer.{issued_in, IsSameIssuer, IsReason}
 use Rattle.group_commit.specs.laws.Issuer.{refusal_is}

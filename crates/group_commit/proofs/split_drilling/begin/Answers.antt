@@ -1,5 +1,4 @@
 use Rattle.std.proofs.Common.{◌≡◌, take, refl, sym, ap, subst, ◌∙◌}
-use Rattle.sector_disk.specs.declared.memory.MemDisk.{MemDisk}
 use Rattle.group_commit.specs.Broker.{settings_of, durable_of}
 use Rattle.group_commit.specs.DrillBroker.{IsStarted}
 use Rattle.group_commit.specs.IssuerHalf.{half_view}

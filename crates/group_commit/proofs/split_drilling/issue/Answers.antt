@@ -1,4 +1,4 @@
-use Rattle.std.proofs.Common.{◌≡◌, ◌++◌, ◌∷◌, [], refl, sym, ap, subst, ◌∙◌}
+use Rattle.std.proofs.Common.{◌≡◌, ◌++◌, ◌∷◌, [], refl, sym, subst, ◌∙◌}
 use Rattle.invoke_records.specs.declared.command.Command.{Command}
 use Rattle.async_core.specs.History.{refusal_of}
 use Rattle.group_commit.specs.IssuerHalf.{half_view}

@@ -1,4 +1,4 @@
-use Rattle.std.proofs.Common.{◌≡◌, ℕ, take, refl, sym, ap, subst, ◌∙◌, arith}
+use Rattle.std.proofs.Common.{◌≡◌, ℕ, take, sym, ap, subst, ◌∙◌, arith}
 use Rattle.group_commit.specs.declared.split_script.SplitStep.{SplitStep}
 use Rattle.group_commit.specs.declared.split_script.SplitAnswer.TheVariants as answer
 use Rattle.group_commit.specs.IssuerHalf.{half_view}

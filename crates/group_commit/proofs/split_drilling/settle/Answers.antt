@@ -1,4 +1,4 @@
-use Rattle.std.proofs.Common.{◌≡◌, ℕ, refl, sym, subst, ◌∙◌}
+use Rattle.std.proofs.Common.{ℕ, refl, sym, subst, ◌∙◌}
 use Rattle.group_commit.specs.declared.split_drilling.Held.TheVariants as held
 use Rattle.group_commit.specs.SplitSteps.{IsHeld, Keeps}
 use Rattle.group_commit.proofs.SplitDrilled.{settled, not_settled}
