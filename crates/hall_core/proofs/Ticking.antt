@@ -148,12 +148,12 @@ forgotten_in old new past slot stands laws issuer environments stops keep =
 
 -- ## What a take gives
 
-abbrev pub as_released : Text × ℕ → Released
-as_released told = record { reply = told.0; receipt = told.1 }
+abbrev pub as_released : ℕ → Text × ℕ → Released
+as_released slot told = record { reply = told.0; receipt = told.1; slot = slot }
 
-same_release : (s : Settings) (o : Option Reply) → option_map as_released (option_map (told_in s) o) ≡ option_map (released_to s) o
-same_release s None = refl
-same_release s (Some reply) = refl
+same_release : (s : Settings) (slot : ℕ) (o : Option Reply) → option_map (as_released slot) (option_map (told_in s) o) ≡ option_map (released_to s slot) o
+same_release s slot None = refl
+same_release s slot (Some reply) = refl
 
 released_is : (broken : Bool) (durable : ℕ) (past : Past) (slot : ℕ) → released_in broken durable past.slots slot ≡ released broken durable past slot
 unfolding released
@@ -161,7 +161,7 @@ released_is broken durable past slot = refl
 
 pub gives : (s : Settings) (past : Past) (slot : ℕ) (b c : Bool) (r d : ℕ) (result : Option (Text × ℕ))
     → result ≡ option_map (told_in s) (released_in b r past.slots slot) → b ≡ c → r ≡ d
-    → option_map as_released result ≡ option_map (released_to s) (released c d past slot)
+    → option_map (as_released slot) result ≡ option_map (released_to s slot) (released c d past slot)
 gives s past slot b c r d result is broken durable =
-    ap (option_map as_released) is ∙ same_release s (released_in b r past.slots slot)
-    ∙ ap (option_map (released_to s)) (released_is b r past slot ∙ ap (λ x. released x r past slot) broken ∙ ap (λ n. released c n past slot) durable)
+    ap (option_map (as_released slot)) is ∙ same_release s slot (released_in b r past.slots slot)
+    ∙ ap (option_map (released_to s slot)) (released_is b r past slot ∙ ap (λ x. released x r past slot) broken ∙ ap (λ n. released c n past slot) durable)

@@ -49,7 +49,7 @@ pub struct Hall<I: Issuer> {
 }
 
 impl<I: Issuer> Hall<I> {
-    ghost use Rattle.std.specs.Prelude.{◌&&◌, ◌||◌, ◌^◌, nat_le, length, false, IfOk, IfErr, IfNone, OnOk, OnErr, OnSome};
+    ghost use Rattle.std.specs.Prelude.{◌&&◌, ◌||◌, ◌^◌, nat_le, length, false, IfOk, IfErr, IfSome, IfNone, OnOk, OnErr, OnSome};
     ghost use Rattle.hall_core.specs.declared.error.HallError.TheVariants as HallError;
     ghost use Rattle.hall_core.specs.OpenSlots.{has_open, unavailable_in};
     ghost use Rattle.hall_core.specs.Changes.{IsWithin, Leads};
@@ -60,7 +60,7 @@ impl<I: Issuer> Hall<I> {
     ghost use Rattle.group_commit.specs.Issuer.{issued_in, state_in};
     ghost use Rattle.hall_core.specs.Past.{tick, take_slot, forget_slot};
     ghost use Rattle.hall_core.specs.Hall.{view_of, settings_in, pending_in, refusal_of_arrival, refusal_of_moving, IsSameHall, request, Does, Refuses};
-    ghost use Rattle.hall_core.specs.Hall.{Gives, IsDone, IsAsDurable};
+    ghost use Rattle.hall_core.specs.Hall.{Gives, slot_told, IsDone, IsAsDurable, IssuesAtMostOne};
 
     // Whether no number is left for a command.
     fn is_worn_out(&self, has_command: bool) -> bool
@@ -166,6 +166,7 @@ impl<I: Issuer> Hall<I> {
         requires environment { IsToOneOf self.old.environments call }
         requires fit { IsFit (settings_in (view_of I.view self.old)) (request slot call now words) }
         ensures ok { IfOk result (Does (view_of I.view self.old) (view_of I.view self.new) (request slot call now words)) }
+        ensures issues { IfOk result (IssuesAtMostOne (I.view self.old.issuer) (I.view self.new.issuer)) }
         ensures kept { OnOk result (IsAsDurable (view_of I.view self.old) (view_of I.view self.new)) }
         ensures no_call { I.is_untouched self.old.issuer self.new.issuer }
         ensures refused { IfErr result (Refuses (view_of I.view self.old) (request slot call now words)) }
@@ -245,6 +246,7 @@ impl<I: Issuer> Hall<I> {
     pub fn tick(&mut self, now: u64) -> Result<Option<Issued>, HallError>
         requires { IsFit (settings_in (view_of I.view self.old)) (tick now) }
         ensures ok { IfOk result (Does (view_of I.view self.old) (view_of I.view self.new) (tick now)) }
+        ensures issues { IfOk result (IssuesAtMostOne (I.view self.old.issuer) (I.view self.new.issuer)) }
         ensures kept { OnOk result (IsAsDurable (view_of I.view self.old) (view_of I.view self.new)) }
         ensures no_call { I.is_untouched self.old.issuer self.new.issuer }
         ensures refused { IfErr result (Refuses (view_of I.view self.old) (tick now)) }
@@ -269,18 +271,19 @@ impl<I: Issuer> Hall<I> {
         }
     }
 
-    /// The reply of a slot, where all that it shows is durable, with the receipt of that; the slot is then closed. In a
-    /// broken hall a slot whose reply is not durable, or that has none, is told that the broker is not available, with
-    /// the receipt of all that is durable. None where the slot is not open or its reply is not wanted, and as long as it
-    /// waits. It takes no memory.
+    /// The reply of a slot, where all that it shows is durable, with the receipt of that and the slot; the slot is then
+    /// closed. In a broken hall a slot whose reply is not durable, or that has none, is told that the broker is not
+    /// available, with the receipt of all that is durable. None where the slot is not open or its reply is not wanted,
+    /// and as long as it waits. It takes no memory.
     pub fn take(&mut self, slot: u64) -> Option<Released>
         ensures gives { Gives (view_of I.view self.old) slot result }
+        ensures slot { IfSome result (λ released. slot_told released ≡ slot) }
         ensures some { OnSome result (IsDone (view_of I.view self.old) (view_of I.view self.new) (take_slot slot)) }
         ensures none { IfNone result (IsSameHall (view_of I.view self.old) (view_of I.view self.new)) }
         ensures issuer { self.new.issuer ≡ self.old.issuer }
     {
         match self.slots.take(slot, self.broken, self.receipt) {
-            Some((reply, receipt)) => Some(Released { reply, receipt }),
+            Some((reply, receipt)) => Some(Released::new(slot, reply, receipt)),
             None => None,
         }
     }
