@@ -3,8 +3,9 @@ use Rattle.std.specs.Prelude.{◌≡◌, ℕ, ◌+◌, ◌<◌, ◌^◌, ◌++�
 use Rattle.retry_rules.specs.declared.settings.Settings.{Settings}
 use Rattle.invoke_records.specs.declared.command.Command.{Command}
 use Rattle.invoke_records.specs.declared.snapshot.Snapshot.{Snapshot}
+use Rattle.async_core.specs.declared.illegal.Illegal.{Illegal}
 use Rattle.async_core.specs.Rules.{table_after}
-use Rattle.group_commit.specs.Issuer.{IssuerView, issued_in, IsLegalNow}
+use Rattle.group_commit.specs.Issuer.{IssuerView, issued_in, IsLegalNow, Fails}
 use Rattle.group_commit.specs.declared.error.IssueError.{IssueError}
 use Rattle.group_commit.specs.declared.error.IssueError.TheVariants as issue_error
 use Rattle.hall_core.specs.declared.error.HallError.{HallError}
@@ -42,10 +43,16 @@ abbrev pub HasPlaceFor : IssuerView → Option Command → Type 0
 HasPlaceFor issuer None = Unit {0}
 HasPlaceFor issuer (Some c) = (issuer.broken ≡ false) × (issued_in issuer < 2 ^ 62) × (length issuer.pending < 256)
 
--- why the hall refuses, by why the issuer does. A command that a call has is legal
+-- why a command is not issued for which there is a place: for want of memory, or where it is not legal
+abbrev pub IsUnissued : IssuerView → Option Command → HallError → Type 0
+IsUnissued issuer command error.OutOfMemory = Unit {0}
+IsUnissued issuer (Some c) error.BadKind = (why : Illegal) × Fails issuer c why
+IsUnissued issuer command other = ⊥
+
+-- why the hall refuses, by why the issuer does. After a history, a command that a call has is legal
 abbrev pub error_of : IssueError → HallError
 error_of issue_error.Broken = error.Broken
 error_of issue_error.WornOut = error.WornOut
 error_of issue_error.Backlog = error.Backlog
-error_of (issue_error.Illegal why) = error.OutOfMemory
+error_of (issue_error.Illegal why) = error.BadKind
 error_of issue_error.OutOfMemory = error.OutOfMemory

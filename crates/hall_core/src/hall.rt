@@ -53,7 +53,7 @@ impl<I: Issuer> Hall<I> {
     ghost use Rattle.hall_core.specs.declared.error.HallError.TheVariants as HallError;
     ghost use Rattle.hall_core.specs.OpenSlots.{has_open, unavailable_in};
     ghost use Rattle.hall_core.specs.Changes.{IsWithin, Leads};
-    ghost use Rattle.hall_core.specs.Issuing.{Continues, IsAnswered, HasPlaceFor};
+    ghost use Rattle.hall_core.specs.Issuing.{Continues, IsAnswered, HasPlaceFor, IsUnissued};
     ghost use Rattle.hall_core.specs.Doing.{KeepRequest, KeepTick};
     ghost use Rattle.hall_core.specs.Agreement.{IsFit};
     ghost use Rattle.hall_core.specs.Plans.{IsToOneOf};
@@ -117,7 +117,7 @@ impl<I: Issuer> Hall<I> {
         ensures stops { OnOk result (self.new.stops ≡ (self.old.stops || stops)) }
         ensures no_call { I.is_untouched self.old.issuer self.new.issuer }
         ensures err { OnErr result (IsSameHall (view_of I.view self.old) (view_of I.view self.new)) }
-        ensures memory { HasPlaceFor (I.view self.old.issuer) prepared.command → IfErr result (λ why. why ≡ HallError.OutOfMemory) }
+        ensures refused { HasPlaceFor (I.view self.old.issuer) prepared.command → IfErr result (IsUnissued (I.view self.old.issuer) prepared.command) }
     {
         let Prepared {
             command,
@@ -154,7 +154,8 @@ impl<I: Issuer> Hall<I> {
     ///
     /// What an environment or the table refuses is an answer. The hall refuses by `Broken`, `Stopping`, `WornOut` (where
     /// it has a command), `Backlog` (1024 slots are open, or 256 commands are pending and it has one), or `OutOfMemory`,
-    /// in this order, and then nothing has changed. Moments are milliseconds since 1970.
+    /// in this order, and then nothing has changed; over a table that no history leaves also by `BadKind`. Moments are
+    /// milliseconds since 1970.
     pub fn arrive(
         &mut self,
         slot: u64,
@@ -188,8 +189,9 @@ impl<I: Issuer> Hall<I> {
         let Ok(unavailable) = self.unavailable() else {
             return Err(HallError::OutOfMemory);
         };
-        let Ok(prepared) = prepare(self.alloc, self.issuer.table(), &self.environments, plan) else {
-            return Err(HallError::OutOfMemory);
+        let prepared = match prepare(self.alloc, self.issuer.table(), &self.environments, plan) {
+            Ok(prepared) => prepared,
+            Err(why) => return Err(why),
         };
         match self.do_for(slot, stops, unavailable, prepared) {
             Ok(issued) => Ok(issued),
@@ -223,7 +225,7 @@ impl<I: Issuer> Hall<I> {
         ensures stops { OnOk result (self.new.stops ≡ self.old.stops) }
         ensures no_call { I.is_untouched self.old.issuer self.new.issuer }
         ensures err { OnErr result (IsSameHall (view_of I.view self.old) (view_of I.view self.new)) }
-        ensures memory { HasPlaceFor (I.view self.old.issuer) prepared.command → IfErr result (λ why. why ≡ HallError.OutOfMemory) }
+        ensures refused { HasPlaceFor (I.view self.old.issuer) prepared.command → IfErr result (IsUnissued (I.view self.old.issuer) prepared.command) }
     {
         let Prepared {
             command,
@@ -242,7 +244,8 @@ impl<I: Issuer> Hall<I> {
     /// hall stops.
     ///
     /// It is refused by `Broken`, `WornOut` or `Backlog` (256 commands are pending) where there is a command to issue,
-    /// or `OutOfMemory`, in this order, and then nothing has changed. A moment is at most the end of the year 9999.
+    /// or `OutOfMemory`, in this order, and then nothing has changed; over a table that no history leaves also by `BadKind`.
+    /// A moment is at most the end of the year 9999.
     pub fn tick(&mut self, now: u64) -> Result<Option<Issued>, HallError>
         requires { IsFit (settings_in (view_of I.view self.old)) (tick now) }
         ensures ok { IfOk result (Does (view_of I.view self.old) (view_of I.view self.new) (tick now)) }
@@ -262,8 +265,9 @@ impl<I: Issuer> Hall<I> {
         if let Some(why) = self.refusal_of_moving(plan.command.is_some()) {
             return Err(why);
         }
-        let Ok(prepared) = prepare(self.alloc, self.issuer.table(), &self.environments, plan) else {
-            return Err(HallError::OutOfMemory);
+        let prepared = match prepare(self.alloc, self.issuer.table(), &self.environments, plan) {
+            Ok(prepared) => prepared,
+            Err(why) => return Err(why),
         };
         match self.do_moving(prepared) {
             Ok(issued) => Ok(issued),
