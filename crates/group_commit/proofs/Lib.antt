@@ -5,3 +5,5 @@ pub mod Reopening
 pub mod Results
 pub mod Rested
 pub mod Resumed
+pub mod Memory
+pub mod Taken

@@ -8,24 +8,12 @@ ghost use Rattle.group_commit.specs.declared.script.Step.TheVariants as step;
 ghost use Rattle.group_commit.specs.Drill.{answer_to, MayBeCutOff, IsDrillFailure};
 ghost use Rattle.group_commit.specs.DrillBroker.{Leads, IsStarted, IsDrillOf};
 
+use crate::copying::copy_command;
 use crate::{Broker, Drill, DrillFailure, IssueError, OpenFailure, Step, StepAnswer, Ticket};
 use checkpoint::OpenError;
 use invoke_records::{Command, GREATEST_MOMENT};
 use sector_disk::MemDisk;
-use std::alloc::{AllocError, AllocFailed, Global};
-
-// A command in memory of its own.
-fn copied(command: &Command) -> Result<Command, AllocError>
-    ensures { IfOk result (λ copy. copy ≡ command.now) }
-{
-    Ok(Command {
-        kind: command.kind,
-        id: command.id,
-        environment: command.environment,
-        time: command.time,
-        bytes: command.bytes.copy()?,
-    })
-}
+use std::alloc::{AllocError, Global};
 
 // The broker, or why its disk was not opened.
 fn opened(
@@ -66,7 +54,7 @@ fn stop(
 fn issue(broker: &mut Broker<MemDisk>, command: &Command) -> Result<StepAnswer, AllocError>
     ensures step { IfOk result (λ answer. Leads broker.old (step.Issue command.now) answer broker.new) }
 {
-    let command = copied(command)?;
+    let command = copy_command(command)?;
     Ok(match broker.issue(command) {
         Ok(ticket) => StepAnswer::Number(ticket.number()),
         Err(why) => StepAnswer::IssueRefused(why),

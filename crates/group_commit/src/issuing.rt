@@ -1,13 +1,15 @@
 // Issuing commands: they are applied to the table and pending until they are committed.
-ghost use Rattle.std.specs.Prelude.{◌≡◌, ◌<◌, ◌≤◌, ◌^◌, false, None, Some, Err, IsTrue, IsOkUnless, OnErr, IfOk, IfErr};
+ghost use Rattle.std.specs.Prelude.{◌≡◌, ◌+◌, ◌<◌, ◌≤◌, ◌^◌, ◌++◌, ◌∷◌, [], false, None, Some, Err, length, IsTrue, IsOkUnless, OnOk, OnErr, IfOk, IfErr};
 ghost use Rattle.invoke_records.specs.declared.command.Command.{Command};
 ghost use Rattle.async_core.specs.declared.illegal.Illegal.{Illegal};
 ghost use Rattle.async_core.specs.Rules.{refusal_at};
+ghost use Rattle.async_core.specs.State.{refusal_by, state_after};
 ghost use Rattle.group_commit.specs.declared.error.IssueError.TheVariants as issue_error;
 ghost use Rattle.group_commit.specs.Broker.{disk_of, settings_of, issued_of, is_broken, Stands, IsSameBroker, Issues, IsReason};
 ghost use Rattle.group_commit.specs.Promises.{ForEachHistory, LeavesLegalStops, Accepts};
 ghost use Rattle.group_commit.specs.Refusals.{OnUsable, IsLegalNow, Fails, IsFull, HasPlace, TellsIllegal};
-ghost use Rattle.group_commit.specs.Steps.{IsErrorFor};
+ghost use Rattle.group_commit.specs.History.{AreGood};
+ghost use Rattle.group_commit.specs.Steps.{IsErrorFor, IsTakeReason, AreSpelled};
 
 use crate::broker::{MOST_COMMANDS, MOST_PENDING};
 use crate::{Broker, IssueError, Ticket};
@@ -28,43 +30,53 @@ fn refusal(table: &Table, command: &Command, otherwise: IssueError) -> IssueErro
     }
 }
 
-impl<D: Disk> Broker<D> {
-    // `issue`, by the table alone.
-    fn take(&mut self, command: Command) -> Result<Ticket, IssueError>
-        ensures broken { IsTrue (is_broken self.old) → result ≡ Err issue_error.Broken }
-        ensures worn_out { is_broken self.old ≡ false → 2 ^ 62 ≤ issued_of self.old → result ≡ Err issue_error.WornOut }
-        ensures illegal { OnUsable self.old ((why : Illegal) → Fails self.old command why → result ≡ Err (issue_error.Illegal why)) }
-        ensures backlog { OnUsable self.old (IsLegalNow self.old command → IsFull self.old → result ≡ Err issue_error.Backlog) }
-        ensures accepted { OnUsable self.old (IsLegalNow self.old command → HasPlace self.old
-            → IsOkUnless result issue_error.OutOfMemory) }
-
-        ensures reason { IfErr result (IsReason self.old command) }
-        ensures no_call { disk_of self.new ≡ disk_of self.old }
-        ensures ok { IfOk result (λ ticket. Issues self.old self.new command ticket) }
-        ensures err { OnErr result (IsSameBroker self.old self.new) }
-    {
-        if self.broken {
-            return Err(IssueError::Broken);
-        }
-        if self.table.number() >= MOST_COMMANDS {
-            return Err(IssueError::WornOut);
-        }
-        if self.pending.len() >= MOST_PENDING {
-            return Err(refusal(&self.table, &command, IssueError::Backlog));
-        }
-        if self.pending.reserve(1).is_err() {
-            return Err(refusal(&self.table, &command, IssueError::OutOfMemory));
-        }
-        match self.table.apply(&command) {
-            Ok(()) => {
-                self.pending.push_reserved(command);
-                Ok(Ticket::new(self.table.number()))
-            }
-            Err(ApplyError::Illegal(why)) => Err(IssueError::Illegal(why)),
-            Err(ApplyError::OutOfMemory) => Err(IssueError::OutOfMemory),
-        }
+// Applies a command to a table, and keeps it behind those that are pending.
+pub(crate) fn take(
+    table: &mut Table,
+    pending: &mut Vec<Command>,
+    command: Command,
+) -> Result<(), IssueError>
+    requires few { length pending.old.items ≤ 256 }
+    ensures worn_out { 2 ^ 62 ≤ table.old.table.number → result ≡ Err issue_error.WornOut }
+    ensures illegal { table.old.table.number < 2 ^ 62 → (why : Illegal) → refusal_by table.old command ≡ Some why
+        → result ≡ Err (issue_error.Illegal why) }
+    ensures backlog { table.old.table.number < 2 ^ 62 → refusal_by table.old command ≡ None → length pending.old.items ≡ 256
+        → result ≡ Err issue_error.Backlog }
+    ensures accepted { table.old.table.number < 2 ^ 62 → refusal_by table.old command ≡ None → length pending.old.items < 256
+        → IsOkUnless result issue_error.OutOfMemory }
+    ensures reason { IfErr result (IsTakeReason table.old pending.old.items command) }
+    ensures settings { table.new.settings ≡ table.old.settings }
+    ensures counted { table.new.table.number + length pending.old.items ≡ table.old.table.number + length pending.new.items }
+    ensures bounded { table.old.table.number ≤ 2 ^ 62 → table.new.table.number ≤ 2 ^ 62 }
+    ensures few { length pending.new.items ≤ 256 }
+    ensures spelled { AreGood table.old.settings → AreSpelled pending.old.items → AreSpelled pending.new.items }
+    ensures legal { OnOk result (refusal_by table.old command ≡ None) }
+    ensures applied { OnOk result (table.new ≡ state_after table.old command) }
+    ensures number { OnOk result (table.new.table.number ≡ table.old.table.number + 1) }
+    ensures kept { OnOk result (pending.new.items ≡ pending.old.items ++ command ∷ []) }
+    ensures err { OnErr result (table.new ≡ table.old) }
+    ensures err_kept { OnErr result (pending.new.items ≡ pending.old.items) }
+{
+    if table.number() >= MOST_COMMANDS {
+        return Err(IssueError::WornOut);
     }
+    if pending.len() >= MOST_PENDING {
+        return Err(refusal(table, &command, IssueError::Backlog));
+    }
+    if pending.reserve(1).is_err() {
+        return Err(refusal(table, &command, IssueError::OutOfMemory));
+    }
+    match table.apply(&command) {
+        Ok(()) => {
+            pending.push_reserved(command);
+            Ok(())
+        }
+        Err(ApplyError::Illegal(why)) => Err(IssueError::Illegal(why)),
+        Err(ApplyError::OutOfMemory) => Err(IssueError::OutOfMemory),
+    }
+}
 
+impl<D: Disk> Broker<D> {
     /// Applies a command that is legal now, and keeps it pending: it is not durable before it is committed.
     ///
     /// It is refused, and then changes nothing: `Broken`, `WornOut` (2^62 commands were issued), `Illegal` with the first
@@ -90,6 +102,12 @@ impl<D: Disk> Broker<D> {
         // A stop at any moment of the call leaves a legal stop of the history.
         ensures any_moment { LeavesLegalStops D.view self.old (disk_of self.new) }
     {
-        self.take(command)
+        if self.broken {
+            return Err(IssueError::Broken);
+        }
+        match take(&mut self.table, &mut self.pending, command) {
+            Ok(()) => Ok(Ticket::new(self.table.number())),
+            Err(why) => Err(why),
+        }
     }
 }

@@ -5,21 +5,34 @@
 //! after a prefix of that history with at least the durable commands.
 #![tactic(auto)]
 
+mod batch;
 mod broker;
 mod committing;
+mod copying;
+mod disk_half;
 mod drilling;
 mod error;
+mod issue_half;
 mod issuer;
 mod issuing;
+mod joining;
 mod recovery;
 mod resuming;
 mod script;
+mod splitting;
+mod taking;
 mod token;
 
+pub use batch::{Batch, Failed, Written};
 pub use broker::Broker;
 pub use checkpoint::{FormatError, OpenError, format};
+pub use disk_half::DiskHalf;
 pub use drilling::drill;
-pub use error::{CommitError, IssueError, OpenFailure};
+pub use error::{
+    CommitError, IssueError, JoinError, JoinFailure, LendError, OpenFailure, SettleError,
+    SplitError, SplitFailure, WriteError,
+};
+pub use issue_half::IssueHalf;
 pub use issuer::Issuer;
 pub use script::{Drill, DrillFailure, Step, StepAnswer};
 pub use token::{Durable, Receipt, Ticket};
