@@ -106,4 +106,11 @@ impl Durable {
     {
         self.number
     }
+
+    /// A receipt of the last of them.
+    pub fn receipt(&self) -> Receipt
+        ensures { result ≡ self.now }
+    {
+        Receipt::new(self.number)
+    }
 }

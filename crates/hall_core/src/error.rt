@@ -29,6 +29,19 @@ pub enum HallError {
     /// The device failed in this call; the disk has to be opened again.
     #[error("device fault")]
     Fault,
+    /// A batch is out, and has to be settled first.
+    #[error("a batch is out")]
+    Lent,
+    /// What is settled is not what became of the batch that is out, or the half over the disk does not go on with it.
+    #[error("the batch is not one of this half")]
+    OtherHalf,
+    /// Fewer commands were issued than a desk was told before. Only an office answers this.
+    #[error("told {told}, found {found}")]
+    Mismatch { told: u64, found: u64 },
+    /// A request to an environment that is not there, with an answer above the settings' limit, or at a moment past the end
+    /// of the year 9999. Only an office answers this: it judges under its lock what else is a condition of the call.
+    #[error("the request does not fit the settings")]
+    Unfit,
 }
 
 impl From<AllocError> for HallError {

@@ -1,0 +1,227 @@
+// A hall over an issue half: it lends what is pending, and settles what became of it, while a disk half writes.
+ghost use Rattle.std.specs.Prelude.{◌≡◌, [], false, take, IfOk, IfErr, OnErr};
+ghost use Rattle.group_commit.specs.Broker.{pending_of, is_broken, issued_of, Stands};
+ghost use Rattle.group_commit.specs.IssuerBroker.{issuer_of};
+ghost use Rattle.group_commit.specs.IssuerHalf.{half_view, has_same_lent};
+ghost use Rattle.group_commit.specs.Lending.{Lends, CanLend, SettlesBy};
+ghost use Rattle.group_commit.specs.Splitting.{broker_of, Splits, IsSplitReason, Joins, IsNotJoined};
+ghost use Rattle.hall_core.specs.Hall.{view_of, StandsFor, ForEachPast, IsSameHall};
+ghost use Rattle.hall_core.specs.Halves.{HasSameParts, IsNotLent, IsNotDurable};
+ghost use Rattle.hall_core.specs.Halves as meant;
+
+use crate::error::HallError;
+use crate::hall::Hall;
+use group_commit::{
+    Batch, Broker, DiskHalf, Durable, Failed, IssueHalf, JoinError, LendError, SettleError,
+    SplitError, WriteError, Written,
+};
+use sector_disk::Disk;
+
+/// A hall whose broker was not split, and why. It is handed back.
+#[derive(Drop)]
+pub struct HallSplitFailure<H> {
+    pub cause: SplitError,
+    pub hall: H,
+}
+
+/// A hall and a disk half that were not joined, and why. Both are handed back.
+#[derive(Drop)]
+pub struct HallJoinFailure<D: Disk> {
+    pub cause: JoinError,
+    pub hall: Hall<IssueHalf>,
+    /// The half over the disk, with what it took.
+    pub disk: DiskHalf<D>,
+}
+
+fn lend_error_of(why: LendError) -> HallError
+    ensures { result ≡ meant.lend_error_of why }
+{
+    match why {
+        LendError::Broken => HallError::Broken,
+        LendError::Lent => HallError::Lent,
+        LendError::OutOfMemory => HallError::OutOfMemory,
+    }
+}
+
+fn write_error_of(why: WriteError) -> HallError
+    ensures { result ≡ meant.write_error_of why }
+{
+    match why {
+        WriteError::Broken => HallError::Broken,
+        WriteError::Mismatch => HallError::OtherHalf,
+        WriteError::WornOut => HallError::WornOut,
+        WriteError::Backlog => HallError::Backlog,
+        WriteError::BadKind => HallError::BadKind,
+        WriteError::OutOfMemory => HallError::OutOfMemory,
+        WriteError::Fault => HallError::Fault,
+    }
+}
+
+fn settle_error_of(why: SettleError) -> HallError
+    ensures { result ≡ meant.settle_error_of why }
+{
+    match why {
+        SettleError::Mismatch => HallError::OtherHalf,
+        SettleError::NotWritten(why) => write_error_of(why),
+    }
+}
+
+// Whether the issuer is broken after this.
+fn breaks(why: SettleError) -> bool
+    ensures { result ≡ meant.breaks why }
+{
+    match why {
+        SettleError::NotWritten(WriteError::Broken | WriteError::Fault) => true,
+        _ => false,
+    }
+}
+
+impl<D: Disk> Hall<Broker<D>> {
+    /// Splits the broker, where nothing is pending: the hall goes on over the half that issues, and the half over the disk
+    /// writes what is lent. It is refused, and handed back: `Broken`, `OutOfMemory`.
+    pub fn split(self) -> Result<(Hall<IssueHalf>, DiskHalf<D>), HallSplitFailure<Hall<Broker<D>>>>
+        requires { pending_of self.issuer ≡ [] }
+        ensures ok { IfOk result (λ halves. Splits self.issuer halves.0.issuer halves.1) }
+        ensures parts { IfOk result (λ halves. HasSameParts (view_of (issuer_of D.view) self) (view_of half_view halves.0)) }
+        ensures stands { ForEachPast (view_of (issuer_of D.view) self) (λ past.
+            IfOk result (λ halves. StandsFor (view_of half_view halves.0) past)) }
+        ensures same { IfErr result (λ failure. failure.hall ≡ self) }
+        ensures reason { IfErr result (λ failure. IsSplitReason self.issuer failure.cause) }
+    {
+        let Hall {
+            alloc,
+            issuer,
+            environments,
+            slots,
+            stops,
+            broken,
+            receipt,
+        } = self;
+        match issuer.split() {
+            Ok((issuer, disk)) => {
+                let hall = Hall {
+                    alloc,
+                    issuer,
+                    environments,
+                    slots,
+                    stops,
+                    broken,
+                    receipt,
+                };
+                Ok((hall, disk))
+            }
+            Err(failure) => {
+                let cause = failure.cause;
+                let hall = Hall {
+                    alloc,
+                    issuer: failure.broker,
+                    environments,
+                    slots,
+                    stops,
+                    broken,
+                    receipt,
+                };
+                Err(HallSplitFailure { cause, hall })
+            }
+        }
+    }
+}
+
+impl Hall<IssueHalf> {
+    /// A copy of all commands that are pending, to be written by the disk half, or None where nothing is. It is then out
+    /// until what became of it is settled.
+    ///
+    /// It is refused, and then changes nothing: `Broken`, `Lent` (a batch is out), `OutOfMemory`, in this order.
+    pub fn lend(&mut self) -> Result<Option<Batch>, HallError>
+        ensures same { IsSameHall (view_of half_view self.old) (view_of half_view self.new) }
+        ensures could { IfOk result (λ batch. CanLend self.old.issuer) }
+        ensures ok { IfOk result (Lends self.old.issuer self.new.issuer) }
+        ensures reason { IfErr result (IsNotLent self.old.issuer) }
+        ensures kept { OnErr result (has_same_lent self.old.issuer self.new.issuer) }
+    {
+        match self.issuer.lend() {
+            Ok(batch) => Ok(batch),
+            Err(why) => Err(lend_error_of(why)),
+        }
+    }
+
+    /// Takes what became of the batch that is out: how many commands are durable. Replies that show no more can then be
+    /// told. It takes no memory.
+    ///
+    /// It is refused by `OtherHalf`, where no batch is out or it is another one, and then nothing changes. Else it answers
+    /// why the batch was not written, `OtherHalf` where the half over the disk does not go on with it: after `Fault` or
+    /// `Broken` the hall is broken, else what was lent is pending again.
+    pub fn settle(&mut self, outcome: Result<Written, Failed>) -> Result<Durable, HallError>
+        ensures stands { ForEachPast (view_of half_view self.old) (λ past. StandsFor (view_of half_view self.new) past) }
+        ensures parts { HasSameParts (view_of half_view self.old) (view_of half_view self.new) }
+        ensures ok { IfOk result (SettlesBy self.old.issuer self.new.issuer outcome) }
+        ensures err { IfErr result (IsNotDurable self.old.issuer self.new.issuer outcome) }
+    {
+        match self.issuer.settle(outcome) {
+            Ok(durable) => {
+                self.receipt = durable.receipt();
+                Ok(durable)
+            }
+            Err(why) => {
+                if breaks(why) {
+                    self.broken = true;
+                }
+                Err(settle_error_of(why))
+            }
+        }
+    }
+
+    /// Joins the halves of the broker again: what is pending is issued to the disk half, and the tables are compared.
+    ///
+    /// It is refused, and hands both back: `Lent` (a batch is out), `Backlog`, `OutOfMemory`, `Mismatch` (the tables
+    /// differ). A broken half gives a broken hall, and nothing is compared then.
+    pub fn join<D: Disk>(self, disk: DiskHalf<D>) -> Result<Hall<Broker<D>>, HallJoinFailure<D>>
+        ensures ok { IfOk result (λ hall. Joins self.issuer (broker_of disk) hall.issuer) }
+        ensures parts { IfOk result (λ hall. HasSameParts (view_of half_view self) (view_of (issuer_of D.view) hall)) }
+        ensures stands { ForEachPast (view_of half_view self) (λ past.
+            Stands D.view (broker_of disk) (take (issued_of (broker_of disk)) past.history)
+            → IfOk result (λ hall. is_broken hall.issuer ≡ false → StandsFor (view_of (issuer_of D.view) hall) past)) }
+        ensures same { IfErr result (λ failure. failure.hall ≡ self) }
+        ensures err { IfErr result (λ failure.
+            IsNotJoined self.issuer failure.hall.issuer (broker_of disk) (broker_of failure.disk) failure.cause) }
+    {
+        let Hall {
+            alloc,
+            issuer,
+            environments,
+            slots,
+            stops,
+            broken,
+            receipt,
+        } = self;
+        match Broker::join(issuer, disk) {
+            Ok(issuer) => {
+                let broken = issuer.is_broken();
+                let receipt = issuer.durable().receipt();
+                Ok(Hall {
+                    alloc,
+                    issuer,
+                    environments,
+                    slots,
+                    stops,
+                    broken,
+                    receipt,
+                })
+            }
+            Err(failure) => {
+                let cause = failure.cause;
+                let hall = Hall {
+                    alloc,
+                    issuer: failure.issue,
+                    environments,
+                    slots,
+                    stops,
+                    broken,
+                    receipt,
+                };
+                let disk = failure.disk;
+                Err(HallJoinFailure { cause, hall, disk })
+            }
+        }
+    }
+}
