@@ -7,3 +7,5 @@ pub mod Rested
 pub mod Resumed
 pub mod Memory
 pub mod Taken
+pub mod Writes
+pub mod Joined

@@ -1,7 +1,8 @@
 -- What a broker stands for that takes commands, one after another.
-use Rattle.std.proofs.Common.{◌≡◌, ℕ, suc, ◌+◌, ◌-◌, ◌<◌, ◌≤◌, None, Some, Option, List, [], ◌∷◌, ◌++◌, length, take, get_or, refl, sym, ap, subst, ◌∙◌, arith, append_assoc, length-append}
+use Rattle.std.proofs.Common.{◌≡◌, ℕ, zero, suc, ◌+◌, ◌-◌, ◌<◌, ◌≤◌, None, Some, Option, List, [], ◌∷◌, ◌++◌, length, take, get_or, refl, sym, ap, subst, ◌∙◌, arith, append_assoc, length-append}
 use Rattle.std.specs.Prelude.{slice_get, IfSome, IsSome}
 use Rattle.std.proofs.Math.Seq.{take-append_seam, take-append-add, get_or-append_seam}
+use Rattle.std.proofs.lemmas.List.{append-nil}
 use Rattle.std.proofs.lemmas.Option.{slice_get-get_or}
 use Rattle.sector_disk.specs.Disk.{DiskView}
 use Rattle.sector_disk.specs.declared.disk.Disk.{Ghosts}
@@ -32,6 +33,22 @@ replay_more s before after (x ∷ commands) c is legal =
     let first = legal_first (refusal_at s before x) (replay s (table_after s before x) commands) after is in
     ap (λ (r : Option Illegal). where_legal r (replay s (table_after s before x) (commands ++ c ∷ []))) first.0
     ∙ replay_more s (table_after s before x) after commands c first.1 legal
+
+-- a command that is refused on the way stops them
+stopped : {A : Type 0} (refusal : Option Illegal) (rest : Option A) → IsSome refusal → where_legal refusal rest ≡ None
+stopped None rest is = absurd cc
+stopped (Some why) rest is = refl
+
+pub replay_stops : (s : Settings) (before after : Snapshot) (commands : List Command) (k : ℕ) → k < length commands → replay s before (take k commands) ≡ Some after
+    → IfSome (slice_get commands k) (λ c. IsSome (refusal_at s after c)) → replay s before commands ≡ None
+replay_stops s before after [] k lt is stop = absurd (omega (arith, lt))
+replay_stops s before after (c ∷ commands) zero lt is stop =
+    let same : before ≡ after = cc in
+    stopped (refusal_at s before c) (replay s (table_after s before c) commands) (subst (λ (t : Snapshot). IsSome (refusal_at s t c)) (sym same) stop)
+replay_stops s before after (c ∷ commands) (suc k) lt is stop =
+    let first = legal_first (refusal_at s before c) (replay s (table_after s before c) (take k commands)) after is in
+    ap (λ (r : Option Illegal). where_legal r (replay s (table_after s before c) commands)) first.0
+    ∙ replay_stops s (table_after s before c) after commands k (omega (arith, lt)) first.1 stop
 
 -- ## The next command
 
@@ -106,8 +123,31 @@ module _ {D : Type 0} {g : Ghosts D} (view : D → DiskView) (old mid new : Brok
   illegal_next command why next takes same refused =
       let count : issued_of new - issued_of old ≡ k = omega (arith, takes.issued, ap (λ (t : Snapshot). t.number) same.table) in
       let there : slice_get commands (issued_of new - issued_of old) ≡ Some command = ap (slice_get commands) count ∙ next.there in
-      let is : refusal_at (settings_of new) (table_in new) command ≡ Some why = (λ i. refusal_at (same.settings i) (same.table i) command) ∙ refused in
-      (
+      let is : refusal_at (settings_of new) (table_in new) command ≡ Some why = (λ i. refusal_at (same.settings i) (same.table i) command) ∙ refused in (
         omega (arith, count, next.within),
         subst (λ (o : Option Command). IfSome o (λ c. IsSome (refusal_at (settings_of new) (table_in new) c))) (sym there) (subst (λ (o : Option Illegal). IsSome o) (sym is) refl),
       )
+
+-- ## None taken
+
+pub takes_none : {D : Type 0} {g : Ghosts D} (broker : Broker D g) (commands : List Command) → Takes broker broker commands (issued_of broker - issued_of broker)
+takes_none broker commands =
+    let zero_is : issued_of broker - issued_of broker ≡ 0 = omega arith in
+    subst (λ (n : ℕ). Takes broker broker commands n) (sym zero_is)
+    (record {
+      most = omega arith;
+      disk = refl;
+      opened = refl;
+      settings = refl;
+      table = refl;
+      issued = omega arith;
+      pending = sym (append-nil (pending_of broker));
+      durable = refl;
+      broken = refl;
+    })
+
+pub stands_none : {D : Type 0} {g : Ghosts D} (view : D → DiskView) (broker : Broker D g) (commands history : List Command) → Stands view broker history
+    → Stands view broker (history ++ take (issued_of broker - issued_of broker) commands)
+stands_none view broker commands history stands =
+    let zero_is : issued_of broker - issued_of broker ≡ 0 = omega arith in
+    subst (λ (n : ℕ). Stands view broker (history ++ take n commands)) (sym zero_is) (subst (λ (l : List Command). Stands view broker l) (sym (append-nil history)) stands)

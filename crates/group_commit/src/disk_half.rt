@@ -1,5 +1,5 @@
 // The half of a broker that writes: a broker of its own over the disk.
-ghost use Rattle.std.specs.Prelude.{◌≡◌, ◌≤◌, ◌++◌, false, true, OnOk, IfErr};
+ghost use Rattle.std.specs.Prelude.{◌≡◌, ◌≤◌, ◌++◌, false, true, Err, OnOk, IfErr};
 ghost use Rattle.sector_disk.specs.Disk.{IsSameDisk};
 ghost use Rattle.group_commit.specs.Broker.{disk_of, settings_of, issued_of, durable_of, is_broken, Stands, IsSameBroker};
 ghost use Rattle.group_commit.specs.Promises.{ForEachHistory, LeavesLegalStops};
@@ -7,11 +7,12 @@ ghost use Rattle.group_commit.specs.Refusals.{FaultsHaveRisen};
 ghost use Rattle.group_commit.specs.Batch.{first_of, last_of, first_in, last_in, cause_of};
 ghost use Rattle.group_commit.specs.Splitting.{broker_of};
 ghost use Rattle.group_commit.specs.declared.error.WriteError.TheVariants as write_error;
+ghost use Rattle.group_commit.specs.Taking.{TakesMissing, HasTaken, IsTakeReason, commit_cause};
 ghost use Rattle.group_commit.specs.Writing.{taken_from, IsApart, IsRefusedAs, IsNotWritten, Writes, StaysInFront, LeavesStopsWith};
 
 use crate::batch::{Batch, Failed, Written};
-use crate::{Broker, CommitError, Durable, IssueError, WriteError};
-use invoke_records::Command;
+use crate::taking::{TakeError, forget_first, take_all};
+use crate::{Broker, CommitError, Durable, WriteError};
 use sector_disk::Disk;
 
 /// The half of a broker that has the disk.
@@ -20,43 +21,50 @@ pub struct DiskHalf<D: Disk> {
     pub(crate) broker: Broker<D>,
 }
 
-impl<D: Disk> DiskHalf<D> {
-    // Issues the commands that come behind its own list.
-    pub(crate) fn take_all(
-        &mut self,
-        commands: Vec<Command>,
-        known: usize,
-    ) -> Result<(), IssueError> {
-        for command in commands.into_iter().skip(known) {
-            self.broker.issue(command)?;
-        }
-        Ok(())
+// Why a batch was not written that was taken and not committed.
+fn cause_of(why: CommitError) -> WriteError
+    ensures { result ≡ commit_cause why }
+{
+    match why {
+        CommitError::Broken => WriteError::Broken,
+        CommitError::WornOut => WriteError::WornOut,
+        CommitError::BadKind => WriteError::BadKind,
+        CommitError::OutOfMemory => WriteError::OutOfMemory,
+        CommitError::Fault => WriteError::Fault,
     }
+}
 
-    fn commit_batch(&mut self, batch: Batch) -> Result<Durable, WriteError> {
-        let issued = self.broker.issued();
+impl<D: Disk> DiskHalf<D> {
+    // Issues the commands of a batch that it does not have.
+    fn take_batch(&mut self, batch: Batch) -> Result<(), WriteError>
+        ensures takes { TakesMissing (broker_of self.old) batch (broker_of self.new) }
+        ensures broken { is_broken (broker_of self.old) ≡ true → result ≡ Err write_error.Broken }
+        ensures apart { is_broken (broker_of self.old) ≡ false → IsApart (broker_of self.old) batch → result ≡ Err write_error.Mismatch }
+        ensures untouched { IsApart (broker_of self.old) batch → IsSameBroker (broker_of self.old) (broker_of self.new) }
+        ensures ok { OnOk result (HasTaken (broker_of self.old) batch (broker_of self.new)) }
+        ensures err { IfErr result (IsTakeReason (broker_of self.old) batch (broker_of self.new)) }
+        ensures stands { ForEachHistory D.view (broker_of self.old) (λ history.
+            Stands D.view (broker_of self.new) (history ++ taken_from (broker_of self.old) (broker_of self.new) batch)) }
+    {
         if self.broker.broken {
             return Err(WriteError::Broken);
         }
-        if batch.first > issued + 1 || batch.last < issued {
+        let issued = self.broker.issued();
+        let Batch {
+            first,
+            last,
+            commands,
+        } = batch;
+        if issued + 1 < first || last < issued {
             return Err(WriteError::Mismatch);
         }
-        let known = (issued + 1 - batch.first) as usize;
-        match self.take_all(batch.commands, known) {
-            Ok(()) => {}
-            Err(IssueError::Broken) => return Err(WriteError::Broken),
-            Err(IssueError::WornOut) => return Err(WriteError::WornOut),
-            Err(IssueError::Illegal(_)) => return Err(WriteError::Mismatch),
-            Err(IssueError::Backlog) => return Err(WriteError::Backlog),
-            Err(IssueError::OutOfMemory) => return Err(WriteError::OutOfMemory),
-        }
-        match self.broker.commit() {
-            Ok(durable) => Ok(durable),
-            Err(CommitError::Broken) => Err(WriteError::Broken),
-            Err(CommitError::WornOut) => Err(WriteError::WornOut),
-            Err(CommitError::BadKind) => Err(WriteError::BadKind),
-            Err(CommitError::OutOfMemory) => Err(WriteError::OutOfMemory),
-            Err(CommitError::Fault) => Err(WriteError::Fault),
+        let mut missing = commands;
+        forget_first(&mut missing, (issued + 1 - first) as usize);
+        match take_all(&mut self.broker, missing) {
+            Ok(()) => Ok(()),
+            Err(TakeError::Illegal) => Err(WriteError::Mismatch),
+            Err(TakeError::Backlog) => Err(WriteError::Backlog),
+            Err(TakeError::OutOfMemory) => Err(WriteError::OutOfMemory),
         }
     }
 
@@ -93,9 +101,12 @@ impl<D: Disk> DiskHalf<D> {
         ensures any_moment { LeavesStopsWith D.view (broker_of self.old) (broker_of self.new) batch }
     {
         let (first, last) = (batch.first, batch.last);
-        match self.commit_batch(batch) {
+        if let Err(cause) = self.take_batch(batch) {
+            return Err(Failed::new(first, last, cause));
+        }
+        match self.broker.commit() {
             Ok(_) => Ok(Written::new(first, last)),
-            Err(cause) => Err(Failed::new(first, last, cause)),
+            Err(why) => Err(Failed::new(first, last, cause_of(why))),
         }
     }
 
