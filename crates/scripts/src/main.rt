@@ -22,6 +22,7 @@ mod reply;
 mod requests;
 mod running;
 mod settings;
+mod splits;
 mod tables;
 mod text;
 mod words;
