@@ -8,8 +8,8 @@ mod Kept
 pub mod Settled
 mod Holders
 mod FirstUnheld
+mod Halves
 mod Ends
-mod Numbers
 mod Arriving
 mod Ticking
 mod Opened

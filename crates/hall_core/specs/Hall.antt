@@ -1,5 +1,5 @@
 -- A hall as contracts see it, and what its calls have done.
-use Rattle.std.specs.Prelude.{◌≡◌, ℕ, ◌-◌, ◌^◌, Bool, ◌&&◌, List, [], ◌∷◌, length, Option, None, Some, ◌⊎◌, nat_le, slice_index, option_map}
+use Rattle.std.specs.Prelude.{◌≡◌, ℕ, ◌-◌, ◌^◌, Bool, false, ◌&&◌, List, [], ◌∷◌, length, Option, None, Some, ◌⊎◌, nat_le, slice_index, option_map}
 use Rattle.retry_rules.specs.declared.settings.Settings.{Settings}
 use Rattle.env_phase.specs.State.{EnvState}
 use Rattle.api_core.specs.declared.call.Call.{Call}
@@ -11,14 +11,17 @@ use Rattle.hall_core.specs.declared.hall.Hall.{Hall}
 use Rattle.hall_core.specs.declared.error.HallError.{HallError}
 use Rattle.hall_core.specs.declared.error.HallError.TheVariants as error
 use Rattle.hall_core.specs.declared.issuing.Issued.{Issued}
+use Rattle.invoke_records.specs.declared.command.Command.{Command}
+use Rattle.hall_core.specs.Issuing.{Continues, IsAnswered}
 use Rattle.hall_core.specs.Past.{HallCall, arrive, Past, SlotEvent, is_stopping}
 use Rattle.hall_core.specs.Run.{past_after, issued_by}
 use Rattle.hall_core.specs.declared.released.Released.{Released}
 use Rattle.api_core.specs.Replies.{reply_of_told}
 use Rattle.hall_core.specs.Slots.{Reply, released}
 use Rattle.hall_core.specs.Refusals.{first_failed, why_refused}
-use Rattle.hall_core.specs.Plans.{Meets}
-use Rattle.hall_core.specs.OpenSlots.{Entries, KeepFor}
+use Rattle.hall_core.specs.Agreement.{IsFit}
+use Rattle.hall_core.specs.Plans.{Meets, IsToOneOf}
+use Rattle.hall_core.specs.OpenSlots.{Entries, KeepFor, has_open}
 
 -- the parts of a hall at a moment
 pub record HallView : Type 1 where
@@ -51,12 +54,24 @@ ForEachPast hall holds = (past : Past) → StandsFor hall past → holds past
 abbrev pub request : ℕ → Call → ℕ → List ℕ → HallCall
 request slot call now words = arrive slot call now (slice_index words 0, slice_index words 1)
 
+-- the slot is not open, the environment is there, and the conditions of the call are met
+pub record CanBeAsked (hall : HallView) (slot : ℕ) (call : Call) (now : ℕ) (words : List ℕ) : Type 0 where
+  pub free : has_open hall.slots slot ≡ false
+  pub environment : IsToOneOf hall.environments call
+  pub fit : IsFit (settings_in hall) (request slot call now words)
+
 -- ## What a call makes of it
 
 -- whatever was done before, the call answers its command, and is done
 abbrev pub Does : HallView → HallView → HallCall → Option Issued → Type 0
 Does old new call issued =
     ForEachPast old (λ past. (issued ≡ issued_by (settings_in old) past call) × StandsFor new (past_after (settings_in old) past call))
+
+-- whether a history is known or not, it issued one command or none, and what it tells of that is so
+pub record IssuesAtMostOne (old new : IssuerView) (issued : Option Issued) : Type 0 where
+  pub command : Option Command
+  pub continues : Continues old new command
+  pub answered : IsAnswered old command issued
 
 -- nothing has become durable in between, and the device did not fail
 abbrev pub IsAsDurable : HallView → HallView → Type 0
@@ -107,15 +122,19 @@ refusal_of_moving hall has_command =
 
 -- ## Replies
 
--- a reply that is told, with its receipt
-abbrev pub released_to : Settings → Reply → Released
-released_to s told = record { reply = reply_of_told s told.0; receipt = told.1 }
+-- a reply that is told to this slot, with its receipt
+abbrev pub released_to : Settings → ℕ → Reply → Released
+released_to s slot told = record { reply = reply_of_told s told.0; receipt = told.1; slot = slot }
+
+-- the slot that it is told to
+abbrev pub slot_told : Released → ℕ
+slot_told released = released.slot
 
 -- whatever was done, the slot is told this
 abbrev pub Gives : HallView → ℕ → Option Released → Type 0
 Gives hall slot given =
     ForEachPast hall (λ past.
-    given ≡ option_map (released_to (settings_in hall)) (released hall.issuer.broken hall.issuer.durable past slot))
+    given ≡ option_map (released_to (settings_in hall) slot) (released hall.issuer.broken hall.issuer.durable past slot))
 
 -- whatever was done before, the call is done
 abbrev pub IsDone : HallView → HallView → HallCall → Type 0

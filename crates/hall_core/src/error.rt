@@ -20,8 +20,9 @@ pub enum HallError {
     /// 1024 slots are open, or 256 commands are pending and the call has one.
     #[error("too many requests are pending")]
     Backlog,
-    /// A commit needs a switch, and the table, which was read from a disk, is that of no history.
-    #[error("the table has no spelling")]
+    /// The table, which was read from a disk, is that of no history: it refuses what a call does, or a commit needs a
+    /// switch and it has no spelling.
+    #[error("the table is that of no history")]
     BadKind,
     #[error("out of memory")]
     OutOfMemory,
@@ -31,10 +32,10 @@ pub enum HallError {
     /// A batch is out, and has to be settled first.
     #[error("a batch is out")]
     Lent,
-    /// The halves do not go together: a batch or its outcome is not that of the other half, or their tables differ.
-    #[error("the halves differ")]
+    /// What is settled is not what became of the batch that is out, or the half over the disk does not go on with it.
+    #[error("the batch is not one of this half")]
     OtherHalf,
-    /// Fewer commands were issued than this desk was told before. Only an office answers this.
+    /// Fewer commands were issued than a desk was told before. Only an office answers this.
     #[error("told {told}, found {found}")]
     Mismatch { told: u64, found: u64 },
     /// A request to an environment that is not there, with an answer above the settings' limit, or at a moment past the end

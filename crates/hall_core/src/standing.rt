@@ -1,9 +1,11 @@
 // What a hall says of itself to those that end it.
-ghost use Rattle.std.specs.Prelude.{◌≡◌, length};
+ghost use Rattle.std.specs.Prelude.{◌≡◌, ◌↔◌, [], IsTrue, length};
+ghost use Rattle.group_commit.specs.Broker.{pending_of};
 ghost use Rattle.hall_core.specs.Hall.{view_of, pending_in};
 
 use crate::hall::Hall;
-use group_commit::Issuer;
+use group_commit::{Broker, Issuer};
+use sector_disk::Disk;
 
 impl<I: Issuer> Hall<I> {
     /// How many slots are open.
@@ -34,5 +36,14 @@ impl<I: Issuer> Hall<I> {
         self.issuer
             .issued()
             .saturating_sub(self.issuer.durable().number())
+    }
+}
+
+impl<D: Disk> Hall<Broker<D>> {
+    /// Whether all that was issued is durable, so that the hall can be split.
+    pub fn is_all_durable(&self) -> bool
+        ensures { IsTrue result ↔ (pending_of self.now.issuer ≡ []) }
+    {
+        self.pending() == 0
     }
 }

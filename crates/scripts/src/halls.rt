@@ -5,14 +5,15 @@ use crate::reply::Reply;
 use crate::requests::read_call;
 use crate::text::Text;
 use crate::words::{Words, number_of_id};
-use group_commit::Broker;
+use group_commit::{Broker, Issuer};
 use hall_core::{Hall, HallError, Issued};
 use invoke_records::GREATEST_MOMENT;
 use retry_rules::Settings;
 use sector_disk::Disk;
 use std::alloc::Global;
 
-fn refusal(why: HallError) -> &'static str {
+/// Why a hall refuses a call.
+pub fn refusal(why: HallError) -> &'static str {
     match why {
         HallError::Broken => "broken",
         HallError::Stopping => "stopping",
@@ -21,6 +22,10 @@ fn refusal(why: HallError) -> &'static str {
         HallError::BadKind => "bad kind",
         HallError::OutOfMemory => "out of memory",
         HallError::Fault => "fault",
+        HallError::Lent => "lent",
+        HallError::OtherHalf => "other half",
+        HallError::Mismatch { .. } => "mismatch",
+        HallError::Unfit => "unfit",
     }
 }
 
@@ -40,9 +45,9 @@ fn tell_issued(issued: Result<Option<Issued>, HallError>, answer: &mut Text) -> 
 }
 
 // `SLOT at MOMENT [draw N] REQUEST`: what is issued. What is refused before it comes to the hall is told at once.
-fn ask<D: Disk>(
+fn ask<I: Issuer>(
     alloc: Global,
-    hall: &mut Hall<Broker<D>>,
+    hall: &mut Hall<I>,
     settings: &Settings,
     words: &mut Words,
     answer: &mut Text,
@@ -67,7 +72,7 @@ fn ask<D: Disk>(
 }
 
 // `at MOMENT`
-fn tick<D: Disk>(hall: &mut Hall<Broker<D>>, words: &mut Words, answer: &mut Text) -> Reply {
+fn tick<I: Issuer>(hall: &mut Hall<I>, words: &mut Words, answer: &mut Text) -> Reply {
     words.expect("at");
     let now = words.number();
     if words.are_bad() || now > GREATEST_MOMENT {
@@ -77,7 +82,7 @@ fn tick<D: Disk>(hall: &mut Hall<Broker<D>>, words: &mut Words, answer: &mut Tex
 }
 
 // `SLOT`: the reply and the number of its receipt, or `none`.
-fn take<D: Disk>(hall: &mut Hall<Broker<D>>, words: &mut Words, answer: &mut Text) -> Reply {
+fn take<I: Issuer>(hall: &mut Hall<I>, words: &mut Words, answer: &mut Text) -> Reply {
     let slot = words.number();
     if words.are_bad() {
         return Reply::Unreadable;
@@ -90,7 +95,7 @@ fn take<D: Disk>(hall: &mut Hall<Broker<D>>, words: &mut Words, answer: &mut Tex
     tell_reply(Ok(released.reply), answer)
 }
 
-fn forget<D: Disk>(hall: &mut Hall<Broker<D>>, words: &mut Words) -> Reply {
+fn forget<I: Issuer>(hall: &mut Hall<I>, words: &mut Words) -> Reply {
     let slot = words.number();
     if words.are_bad() {
         return Reply::Unreadable;
@@ -107,9 +112,9 @@ fn commit<D: Disk>(hall: &mut Hall<Broker<D>>) -> Reply {
 }
 
 /// What an open hall answers to a step.
-pub fn hall_step<D: Disk>(
+pub fn hall_step<I: Issuer>(
     alloc: Global,
-    hall: &mut Hall<Broker<D>>,
+    hall: &mut Hall<I>,
     settings: &Settings,
     word: &str,
     words: &mut Words,
@@ -120,10 +125,25 @@ pub fn hall_step<D: Disk>(
         "tick" => tick(hall, words, answer),
         "take" => take(hall, words, answer),
         "forget" => forget(hall, words),
-        "commit" => commit(hall),
         "issued" => Reply::Number(hall.issued()),
         "durable" => Reply::Number(hall.durable().number()),
         "is-open" => Reply::yes_or_no(hall.is_open(words.number())),
         _ => crate::tables::table_step(alloc, hall.table(), word, words, answer),
+    }
+}
+
+/// What a hall over a broker answers to a step.
+pub fn whole_hall_step<D: Disk>(
+    alloc: Global,
+    hall: &mut Hall<Broker<D>>,
+    settings: &Settings,
+    word: &str,
+    words: &mut Words,
+    answer: &mut Text,
+) -> Reply {
+    if word == "commit" {
+        commit(hall)
+    } else {
+        hall_step(alloc, hall, settings, word, words, answer)
     }
 }

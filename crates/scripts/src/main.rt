@@ -23,6 +23,7 @@ mod reply;
 mod requests;
 mod running;
 mod settings;
+mod splits;
 mod tables;
 mod text;
 mod words;

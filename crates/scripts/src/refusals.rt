@@ -4,7 +4,7 @@ use crate::text::Text;
 use async_core::Illegal;
 use checkpoint::{FormatError, OpenError};
 use gate_journal::AppendError;
-use group_commit::{CommitError, IssueError};
+use group_commit::{CommitError, IssueError, WriteError};
 use invoke_records::RecordError;
 
 pub fn illegal(why: Illegal) -> &'static str {
@@ -43,6 +43,18 @@ pub fn commit(why: CommitError) -> &'static str {
         CommitError::BadKind => "bad kind",
         CommitError::OutOfMemory => "out of memory",
         CommitError::Fault => "fault",
+    }
+}
+
+pub fn write(why: WriteError) -> &'static str {
+    match why {
+        WriteError::Broken => "broken",
+        WriteError::Mismatch => "mismatch",
+        WriteError::WornOut => "worn out",
+        WriteError::Backlog => "backlog",
+        WriteError::BadKind => "bad kind",
+        WriteError::OutOfMemory => "out of memory",
+        WriteError::Fault => "fault",
     }
 }
 

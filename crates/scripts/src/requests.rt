@@ -6,7 +6,7 @@ use crate::words::{Words, number_of_id};
 use api_core::{Call, Refusal, RequestError, read_request};
 use async_core::Side;
 use http::Method;
-use http::header::{HeaderMap, HeaderName, HeaderValue};
+use http::header::{HeaderMap, HeaderName, HeaderNameError, HeaderValue, HeaderValueError};
 use retry_rules::Settings;
 use std::alloc::Global;
 
@@ -148,15 +148,19 @@ fn add_header(alloc: Global, headers: &mut HeaderMap, pair: &str) -> Reply {
     let Ok(value) = value.replace(alloc, "~", " ") else {
         return Reply::NoMemory;
     };
-    match (
-        HeaderName::from_bytes(alloc, name.as_bytes()),
-        HeaderValue::from_bytes(alloc, value.as_bytes()),
-    ) {
-        (Ok(name), Ok(value)) => match headers.append(name, value) {
-            Ok(_) => Reply::Done,
-            Err(_) => Reply::NoMemory,
-        },
-        _ => Reply::Unreadable,
+    let name = match HeaderName::from_bytes(alloc, name.as_bytes()) {
+        Ok(name) => name,
+        Err(HeaderNameError::Invalid) => return Reply::Unreadable,
+        Err(HeaderNameError::OutOfMemory) => return Reply::NoMemory,
+    };
+    let value = match HeaderValue::from_bytes(alloc, value.as_bytes()) {
+        Ok(value) => value,
+        Err(HeaderValueError::Invalid) => return Reply::Unreadable,
+        Err(HeaderValueError::OutOfMemory) => return Reply::NoMemory,
+    };
+    match headers.append(name, value) {
+        Ok(_) => Reply::Done,
+        Err(_) => Reply::NoMemory,
     }
 }
 

@@ -3,7 +3,7 @@ use crate::destinations::{tell_member, tell_record};
 use crate::disks::disk_step;
 use crate::environments::environment_step;
 use crate::events::broker_step;
-use crate::halls::hall_step;
+use crate::halls::whole_hall_step;
 use crate::memory::{format_disk, memory_step};
 use crate::records::record_step;
 use crate::refusals;
@@ -12,12 +12,13 @@ use crate::reply::Reply;
 use crate::requests::request_step;
 use crate::running::Scene;
 use crate::settings::{set, usual_settings};
+use crate::splits::{Between, SplitHall, split_step};
 use crate::text::Text;
 use crate::words::Words;
 use checkpoint::OpenError;
 use env_phase::Env;
-use group_commit::{Broker, OpenFailure, Ticket};
-use hall_core::Hall;
+use group_commit::{Broker, JoinError, OpenFailure, SplitError, Ticket};
+use hall_core::{Hall, HallJoinFailure, HallSplitFailure};
 use retry_rules::Settings;
 use sector_disk::{CallKind, FaultOnceDisk, FuseDisk, MemDisk};
 use std::alloc::Global;
@@ -33,6 +34,7 @@ enum Stage {
     Closed(CaseDisk),
     Open(Broker<CaseDisk>),
     Asked(Hall<Broker<CaseDisk>>),
+    Split(SplitHall<CaseDisk>),
 }
 
 /// Where a case stands.
@@ -135,6 +137,57 @@ fn opened(alloc: Global, disk: CaseDisk) -> (Stage, Option<OpenError>) {
     }
 }
 
+// Splits a hall: where it stands then, and what is answered.
+fn split_hall(hall: Hall<Broker<CaseDisk>>) -> (Stage, Reply) {
+    if !hall.is_all_durable() {
+        return (Stage::Asked(hall), Reply::Unreadable);
+    }
+    match hall.split() {
+        Ok((hall, disk)) => {
+            let between = Between::Nothing;
+            let split = SplitHall {
+                hall,
+                disk,
+                between,
+            };
+            (Stage::Split(split), Reply::Done)
+        }
+        Err(HallSplitFailure { cause, hall }) => {
+            let why = match cause {
+                SplitError::Broken => "broken",
+                SplitError::OutOfMemory => "out of memory",
+            };
+            (Stage::Asked(hall), Reply::Refused(why))
+        }
+    }
+}
+
+// Joins a hall that was split: where it stands then, and what is answered.
+fn joined_hall(split: SplitHall<CaseDisk>) -> (Stage, Reply) {
+    let SplitHall {
+        hall,
+        disk,
+        between,
+    } = split;
+    match hall.join(disk) {
+        Ok(hall) => (Stage::Asked(hall), Reply::Done),
+        Err(HallJoinFailure { cause, hall, disk }) => {
+            let why = match cause {
+                JoinError::Lent => "lent",
+                JoinError::Backlog => "backlog",
+                JoinError::OutOfMemory => "out of memory",
+                JoinError::Mismatch => "mismatch",
+            };
+            let split = SplitHall {
+                hall,
+                disk,
+                between,
+            };
+            (Stage::Split(split), Reply::Refused(why))
+        }
+    }
+}
+
 impl World {
     /// With the usual settings and no disk: None where memory is refused.
     pub fn new(alloc: Global) -> Option<World> {
@@ -168,6 +221,12 @@ impl World {
                 self.issued = hall.issued();
                 Some(hall.close())
             }
+            Stage::Split(split) => {
+                self.durable = split.hall.durable().number();
+                self.issued = split.hall.issued();
+                let SplitHall { disk, .. } = split;
+                Some(disk.close())
+            }
         }
     }
 
@@ -177,6 +236,17 @@ impl World {
             return Reply::Unreadable;
         };
         let (stage, reply) = opened_hall(alloc, disk, answer);
+        self.stage = stage;
+        reply
+    }
+
+    // Splits the hall that is open, or joins the one that was split.
+    fn turn_hall(&mut self) -> Reply {
+        let (stage, reply) = match mem::replace(&mut self.stage, Stage::Nothing) {
+            Stage::Asked(hall) => split_hall(hall),
+            Stage::Split(split) => joined_hall(split),
+            other => (other, Reply::Unreadable),
+        };
         self.stage = stage;
         reply
     }
@@ -300,7 +370,10 @@ impl World {
             Stage::Open(broker) => {
                 broker_step(alloc, broker, &mut self.tickets, word, words, answer)
             }
-            Stage::Asked(hall) => hall_step(alloc, hall, &self.settings, word, words, answer),
+            Stage::Asked(hall) => {
+                whole_hall_step(alloc, hall, &self.settings, word, words, answer)
+            }
+            Stage::Split(split) => split_step(alloc, split, &self.settings, word, words, answer),
         }
     }
 }
@@ -314,6 +387,7 @@ impl Scene for World {
             "disk" => self.make_disk(alloc, words, answer),
             "open" => self.open(alloc, answer),
             "hall" => self.open_hall(alloc, answer),
+            "split" | "join" => self.turn_hall(),
             "close" => self.close(),
             "stop" => self.stop(alloc, words, answer),
             "device" => self.set_device(alloc, words, answer),
