@@ -9,9 +9,9 @@ use sector_disk::Disk;
 
 /// A hall whose broker was not split, and why. It is handed back.
 #[derive(Drop)]
-pub struct HallSplitFailure<D: Disk> {
+pub struct HallSplitFailure<H> {
     pub cause: SplitError,
-    pub hall: Hall<Broker<D>>,
+    pub hall: H,
 }
 
 /// A hall and a disk half that were not joined, and why. Both are handed back.
@@ -61,7 +61,9 @@ fn breaks(why: SettleError) -> bool {
 impl<D: Disk> Hall<Broker<D>> {
     /// Splits the broker, where nothing is pending: the hall goes on over the half that issues, and the half over the disk
     /// writes what is lent. It is refused, and handed back: `Broken`, `OutOfMemory`.
-    pub fn split(self) -> Result<(Hall<IssueHalf>, DiskHalf<D>), HallSplitFailure<D>> {
+    pub fn split(
+        self,
+    ) -> Result<(Hall<IssueHalf>, DiskHalf<D>), HallSplitFailure<Hall<Broker<D>>>> {
         let Hall {
             alloc,
             issuer,

@@ -1,0 +1,4 @@
+pub mod Marks
+pub mod Following
+pub mod Answers
+pub mod Finishing

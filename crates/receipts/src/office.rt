@@ -62,7 +62,7 @@ impl<L: Ledger> Office<L> {
         alloc: Global,
         hall: Hall<Broker<D>>,
         blank: Blank,
-    ) -> Result<(Office<L>, Vec<Desk<L>>, DiskHalf<D>), OfficeFailure<D>> {
+    ) -> Result<(Office<L>, Vec<Desk<L>>, DiskHalf<D>), OfficeFailure<Hall<Broker<D>>>> {
         let count = desks(hall.table().settings());
         let Ok((opening, room)) = prepare(alloc, &hall, count) else {
             let cause = SplitError::OutOfMemory;
