@@ -1,4 +1,5 @@
 pub mod Marks
 pub mod Following
 pub mod Answers
-pub mod Finishing
+pub mod Desks
+pub mod Kept

@@ -26,3 +26,7 @@ numbers_of marks = map (λ (mark : Mark). mark.number) marks
 -- the marks are numbered without a gap, behind so many commands
 abbrev pub AreNumbered : ℕ → List Mark → Type 0
 AreNumbered before marks = numbers_of marks ≡ range_with_len (before + 1) (length marks)
+
+-- the same, behind however many commands
+abbrev pub AreNumberedFromSome : List Mark → Type 0
+AreNumberedFromSome marks = (before : ℕ) × AreNumbered before marks

@@ -1,5 +1,6 @@
 // The desks of an office, one for each thread that asks it.
-ghost use Rattle.std.specs.Prelude.{◌≡◌, ◌+◌, ◌<◌, max, vec_len};
+ghost use Rattle.std.specs.Prelude.{◌≡◌, ◌<◌, vec_len};
+ghost use Rattle.receipts.specs.Desks.{desk_count};
 
 use crate::mark::Mark;
 use retry_rules::Settings;
@@ -8,7 +9,7 @@ use std::sync::ledger::{Ledger, Share};
 /// How many desks an office has: for each environment's port one, and three for the callers' port, the committer and the
 /// ticker; at least eight.
 pub fn desks(settings: &Settings) -> u64
-    ensures { result ≡ max 8 (settings.now.environments + 3) }
+    ensures { result ≡ desk_count settings.now }
 {
     let wanted = u64::from(settings.environments) + 3;
     if wanted < 8 { 8 } else { wanted }
@@ -44,5 +45,12 @@ impl<L: Ledger> Desk<L> {
         ensures { result ≡ self.now.told }
     {
         self.told
+    }
+
+    /// The marks of the commands that its calls issued, in order.
+    pub fn marks(&self) -> &[Mark]
+        ensures { result.now ≡ self.now.own.items }
+    {
+        &self.own
     }
 }
