@@ -234,6 +234,10 @@ called_but_for_memory old past call effect error.Stopping stands is made uncalle
 called_but_for_memory old past call effect error.WornOut stands is made uncalled = absurd uncalled
 called_but_for_memory old past call effect error.Backlog stands is made uncalled = absurd uncalled
 called_but_for_memory old past call effect error.Fault stands is made uncalled = absurd uncalled
+called_but_for_memory old past call effect error.OtherHalf stands is made uncalled = absurd uncalled
+called_but_for_memory old past call effect (error.Mismatch told found) stands is made uncalled = absurd uncalled
+called_but_for_memory old past call effect error.Unfit stands is made uncalled = absurd uncalled
+called_but_for_memory old past call effect error.Lent stands is made uncalled = absurd uncalled
 
 not_illegal : (old : HallView) (past : Past) (call : HallCall) (c : Command) (why : Illegal) → StandsFor old past → IsUnrefused (settings_in old) past call
     → Some c ≡ command_of (settings_in old) past call → Fails old.issuer c why → ⊥
@@ -256,6 +260,10 @@ issued_but_for_memory old past call command error.Stopping stands made is wantin
 issued_but_for_memory old past call command error.WornOut stands made is wanting = absurd wanting
 issued_but_for_memory old past call command error.Backlog stands made is wanting = absurd wanting
 issued_but_for_memory old past call command error.Fault stands made is wanting = absurd wanting
+issued_but_for_memory old past call command error.Lent stands made is wanting = absurd wanting
+issued_but_for_memory old past call command error.OtherHalf stands made is wanting = absurd wanting
+issued_but_for_memory old past call command (error.Mismatch told found) stands made is wanting = absurd wanting
+issued_but_for_memory old past call command error.Unfit stands made is wanting = absurd wanting
 
 pub arrived : (old new : HallView) (past : Past) (slot : ℕ) (call : Call) (now : ℕ) (words : List ℕ) (effect : Effect) (p : Prepared) (stops : Bool) (unavailable : Reply) (issued : Option Issued)
     → IsIssuer old.issuer → IsIssuer new.issuer → StandsFor old past → IsFit (settings_in old) (request slot call now words)
