@@ -1,0 +1,3 @@
+pub mod Followed
+pub mod AllThere
+pub mod Settled
