@@ -1,5 +1,4 @@
 // The bell: tasks register there, and a ring wakes them.
-ghost use Rattle.std.specs.Prelude.{◌≡◌};
 ghost use Rattle.futures.specs.Task.{Hears, IsArmed, Keeps};
 
 use crate::waiters::Waiters;
@@ -24,6 +23,8 @@ pub struct Registered {
 }
 
 impl Bell {
+    ghost use Rattle.long_poll.specs.Waiting.{source_of};
+
     pub fn new(alloc: Global) -> Bell {
         Bell {
             source: Source::new(),
@@ -47,7 +48,7 @@ impl Bell {
     /// one, the task is polled again at once.
     pub fn register<R: Wait>(&self, rt: &R, key: u64, cx: &mut Context<'_>) -> Registered
         ensures armed { IsArmed cx.new }
-        ensures heard { Hears cx.new self.now.source.id }
+        ensures heard { Hears cx.new (source_of self.now) }
         ensures kept { Keeps cx.old cx.new }
     {
         self.waiters.lock(rt).register(&self.source, key, cx);

@@ -1,6 +1,6 @@
 // The future of one reply.
-ghost use Rattle.std.specs.Prelude.{◌≡◌};
-ghost use Rattle.futures.specs.Task.{IsArmed, Keeps};
+ghost use Rattle.std.specs.Prelude.{◌≡◌, Some, None, IfSome, IfNone, OnSome};
+ghost use Rattle.hall_core.specs.Hall.{slot_told};
 
 use crate::bell::Registered;
 use crate::port::Port;
@@ -39,9 +39,15 @@ pub struct Waiting<R: Wait, L: Ledger> {
 }
 
 impl<R: Wait, L: Ledger> Waiting<R, L> {
+    ghost use Rattle.long_poll.specs.Waiting.{number_at};
+
     /// Waits for the reply of this slot of the port's office, which came with this ticket. It makes itself a place at the
     /// bell; where there is no memory for one now, each poll tries again.
-    pub fn new(rt: R, port: Arc<Port<L>>, ticket: Ticket, slot: u64) -> Waiting<R, L> {
+    pub fn new(rt: R, port: Arc<Port<L>>, ticket: Ticket, slot: u64) -> Waiting<R, L>
+        ensures slot { result.slot ≡ slot }
+        ensures number { number_at result.stage ≡ Some ticket }
+        ensures port { result.port ≡ port }
+    {
         let entered = port.bell().enter(&rt, slot);
         drop(entered);
         Waiting {
@@ -53,7 +59,10 @@ impl<R: Wait, L: Ledger> Waiting<R, L> {
     }
 
     // Looks at the board for the ticket, if there is still one: why the office may be asked, if it may.
-    fn cause(&mut self) -> Option<Cause> {
+    fn cause(&mut self) -> Option<Cause>
+        ensures same { (self.new.slot ≡ self.old.slot) × (self.new.port ≡ self.old.port) }
+        ensures number { number_at self.new.stage ≡ number_at self.old.stage }
+    {
         match mem::replace(&mut self.stage, Stage::Told) {
             Stage::Issued(ticket) => match self.port.check(&self.rt, ticket) {
                 Ok(receipt) => {
@@ -74,14 +83,24 @@ impl<R: Wait, L: Ledger> Waiting<R, L> {
     }
 
     // Asks the office, of which there has to be a cause.
-    fn ask(&mut self, _cause: Cause) -> Option<Released> {
+    fn ask(&mut self, _cause: Cause) -> Option<Released>
+        ensures same { (self.new.slot ≡ self.old.slot) × (self.new.port ≡ self.old.port) }
+        ensures slot { IfSome result (λ released. slot_told released ≡ self.old.slot) }
+        ensures told { OnSome result (number_at self.new.stage ≡ None) }
+        ensures waits { IfNone result (number_at self.new.stage ≡ number_at self.old.stage) }
+    {
         let released = self.port.take(&self.rt, self.slot)?;
         self.stage = Stage::Told;
         Some(released)
     }
 
     // The last look of a poll, which has registered.
-    fn look(&mut self, _registered: Registered) -> Option<Released> {
+    fn look(&mut self, _registered: Registered) -> Option<Released>
+        ensures same { (self.new.slot ≡ self.old.slot) × (self.new.port ≡ self.old.port) }
+        ensures slot { IfSome result (λ released. slot_told released ≡ self.old.slot) }
+        ensures told { OnSome result (number_at self.new.stage ≡ None) }
+        ensures waits { IfNone result (number_at self.new.stage ≡ number_at self.old.stage) }
+    {
         let cause = self.cause()?;
         self.ask(cause)
     }
@@ -90,7 +109,11 @@ impl<R: Wait, L: Ledger> Waiting<R, L> {
 impl<R: Wait + Drop, L: Ledger> Future for Waiting<R, L> {
     type Output = Released;
 
-    ghost needs = { λ w s. s ≡ w.port.value.bell.value.source.id };
+    ghost use Rattle.long_poll.specs.Waiting.{source_of};
+
+    ghost needs = { λ waiting source. source ≡ source_of waiting.port.value.bell.value };
+
+    ghost gives = { λ waiting released. slot_told released ≡ waiting.slot };
 
     fn poll(&mut self, cx: &mut Context<'_>) -> Poll<Released> {
         let registered = self.port.bell().register(&self.rt, self.slot, cx);
