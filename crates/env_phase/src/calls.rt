@@ -1,5 +1,5 @@
 // The calls that change an environment.
-ghost use Rattle.std.specs.Prelude.{◌≡◌, ◌∷◌, filter_map, IfOk, IfErr, OnOk, OnErr, IsTrue};
+ghost use Rattle.std.specs.Prelude.{◌≡◌, ◌∷◌, filter_map, IfOk, IfErr, OnOk, OnErr, IsTrue, ℕ};
 ghost use Rattle.env_phase.specs.Calls.{moment_by, IsMoment};
 ghost use Rattle.env_phase.specs.Polls as poll;
 ghost use Rattle.env_phase.specs.Steps as step;
@@ -68,6 +68,7 @@ fn change_extensions(extensions: &mut Vec<Waiter>, call: EnvCall) -> Result<(), 
 impl Env {
     ghost use Rattle.env_phase.specs.declared.call.EnvCall.TheVariants.{RuntimeNext, Register, ExtensionNext, Give, Answer};
     ghost use Rattle.env_phase.specs.declared.call.EnvCall.TheVariants.{InitError, ExtensionError, Timeout, Shutdown};
+    ghost use Rattle.env_phase.specs.declared.refusal.EnvError.TheVariants.{OutOfMemory};
     ghost use Rattle.env_phase.specs.State.{Accepts, Refuses};
     ghost use Rattle.env_phase.specs.Steps.{is_ready_in};
 
@@ -105,6 +106,7 @@ impl Env {
         requires { IsMoment (moment_by call) }
         ensures ok { IfOk result (λ answers. Accepts self.old call self.new answers.items) }
         ensures refused { IfErr result (λ why. Refuses self.old call why) }
+        ensures shutdown { (now : ℕ) → call ≡ Shutdown now → IfErr result (λ why. why ≡ OutOfMemory) }
         ensures err { OnErr result (self.new ≡ self.old) }
     {
         if let Some(why) = self.refusal(call) {
@@ -242,6 +244,7 @@ impl Env {
         requires { IsMoment now }
         ensures ok { IfOk result (λ answers. Accepts self.old (Shutdown now) self.new answers.items) }
         ensures refused { IfErr result (λ why. Refuses self.old (Shutdown now) why) }
+        ensures memory { IfErr result (λ why. why ≡ OutOfMemory) }
         ensures err { OnErr result (self.new ≡ self.old) }
     {
         self.call(EnvCall::Shutdown { now })

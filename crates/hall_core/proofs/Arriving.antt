@@ -12,7 +12,7 @@ use Rattle.env_phase.specs.declared.call.EnvCall.{EnvCall}
 use Rattle.env_phase.specs.declared.answer.PollAnswer.{PollAnswer}
 use Rattle.api_core.specs.declared.call.Call.{Call}
 use Rattle.api_core.specs.Replies.{Told, reply_of_told}
-use Rattle.group_commit.specs.Issuer.{IsIssuer, issued_in, state_in}
+use Rattle.group_commit.specs.Issuer.{IsIssuer, issued_in, state_in, Fails}
 use Rattle.hall_core.specs.declared.error.HallError.TheVariants as error
 use Rattle.hall_core.specs.Past.{HallCall, arrive, Past, asked, replied, calls_in, calls_of, call_stops, asks_stop, is_stopping}
 use Rattle.hall_core.specs.Effects.{Effect, scene, effect_of_request, effect_of, command_of}
@@ -20,15 +20,20 @@ use Rattle.hall_core.specs.Run.{option_list, reply_to_poll, replies_to_polls, ow
 use Rattle.hall_core.specs.Slots.{open_slots, open_among}
 use Rattle.hall_core.specs.Refusals.{first_failed, why_refused}
 use Rattle.hall_core.specs.Agreement.{IsFit, IsUnrefused, IsKept}
-use Rattle.hall_core.specs.laws.Sound.{step}
+use Rattle.hall_core.specs.declared.error.HallError.{HallError}
+use Rattle.async_core.specs.declared.illegal.Illegal.{Illegal}
+use Rattle.async_core.specs.Rules.{refusal_at}
+use Rattle.async_core.specs.History.{table_of, refusal_of}
+use Rattle.async_core.specs.laws.Tables.{refusal-of_table}
+use Rattle.hall_core.specs.laws.Sound.{step, command_is_legal, call_is_accepted}
 use Rattle.hall_core.specs.laws.Statuses.{open_slots_are}
 use Rattle.hall_core.specs.Environments.{HoldFor}
 use Rattle.hall_core.specs.Plans.{PlansRequest, drawn_by}
 use Rattle.hall_core.specs.OpenSlots.{KeepFor, unavailable_in}
 use Rattle.hall_core.specs.Answering.{polls_told}
-use Rattle.hall_core.specs.Changes.{Leads, answered_to}
+use Rattle.hall_core.specs.Changes.{Leads, answered_to, IsUncalled}
 use Rattle.hall_core.specs.Settling.{replies_told, replied_at, own_at}
-use Rattle.hall_core.specs.Issuing.{HasPlaceFor, Continues, IsAnswered, told_of}
+use Rattle.hall_core.specs.Issuing.{HasPlaceFor, Continues, IsAnswered, IsUnissued, told_of}
 use Rattle.hall_core.specs.Hall.{HallView, StandsFor, settings_in, pending_in, refusal_of_arrival, request}
 use Rattle.std.specs.Prelude.{slice_index}
 use Rattle.api_core.specs.declared.reply.Reply.{Reply}
@@ -181,7 +186,7 @@ stands_after old new past call effect stands is unrefused laws same history coun
 
 -- ## A request
 
-effect_is : (s : Settings) (past : Past) (slot : ℕ) (call : Call) (now : ℕ) (words : List ℕ)
+pub effect_is : (s : Settings) (past : Past) (slot : ℕ) (call : Call) (now : ℕ) (words : List ℕ)
     → effect_of_request (scene s past now) slot (drawn_by words) call ≡ effect_of s past (request slot call now words)
 unfolding effect_of drawn_by
 effect_is s past slot call now words = refl
@@ -198,6 +203,60 @@ refused_by old past slot call now words effect laws stands plans =
     let is : effect ≡ effect_of (settings_in old) past (request slot call now words) = plans past stands.environments ∙ effect_is (settings_in old) past slot call now words in
     refusal_is old past slot call now (slice_index words 0, slice_index words 1) laws stands ∙ ap (λ e. refusal_of_arrival old (is_some e.command)) (sym is)
 
+-- a request that passes is not refused
+pub planned_unrefused : (old : HallView) (past : Past) (slot : ℕ) (call : Call) (now : ℕ) (words : List ℕ) (effect : Effect)
+    → IsIssuer old.issuer → StandsFor old past → IsFit (settings_in old) (request slot call now words)
+    → refusal_of_arrival old (is_some effect.command) ≡ None
+    → effect ≡ effect_of (settings_in old) past (request slot call now words)
+    → IsUnrefused (settings_in old) past (request slot call now words)
+planned_unrefused old past slot call now words effect before stands fit passes is = record {
+  fit = fit;
+  broken = old.issuer.broken;
+  durable = old.issuer.durable;
+  unrefused = refusal_is old past slot call now (slice_index words 0, slice_index words 1) before stands
+      ∙ ap (λ (e : Effect). refusal_of_arrival old (is_some e.command)) (sym is) ∙ passes;
+}
+
+-- ## What is never refused
+
+-- after a past, an environment accepts what a call makes of it: it is not called for want of memory alone
+pub called_but_for_memory : (old : HallView) (past : Past) (call : HallCall) (effect : Effect) (why : HallError) → StandsFor old past
+    → effect ≡ effect_of (settings_in old) past call → IsUnrefused (settings_in old) past call → IsUncalled old.environments effect.made why
+    → why ≡ error.OutOfMemory
+unfolding calls_of
+called_but_for_memory old past call effect error.OutOfMemory stands is made uncalled = refl
+called_but_for_memory old past call effect error.BadKind stands is made uncalled =
+    let one = uncalled past.made stands.environments.hold in
+    let accepted = call_is_accepted (settings_in old) past call one.environment one.call stands.environments.kept made (sym (ap (λ (e : Effect). e.made) is) ∙ one.only) in
+    absurd (none-some one.why (sym accepted ∙ one.refused))
+called_but_for_memory old past call effect error.Broken stands is made uncalled = absurd uncalled
+called_but_for_memory old past call effect error.Stopping stands is made uncalled = absurd uncalled
+called_but_for_memory old past call effect error.WornOut stands is made uncalled = absurd uncalled
+called_but_for_memory old past call effect error.Backlog stands is made uncalled = absurd uncalled
+called_but_for_memory old past call effect error.Fault stands is made uncalled = absurd uncalled
+
+not_illegal : (old : HallView) (past : Past) (call : HallCall) (c : Command) (why : Illegal) → StandsFor old past → IsUnrefused (settings_in old) past call
+    → Some c ≡ command_of (settings_in old) past call → Fails old.issuer c why → ⊥
+not_illegal old past call c why stands made is fails =
+    let kept = stands.environments.kept in
+    let s = settings_in old in
+    let legal : refusal_of s past.history c ≡ None = command_is_legal s past call c kept made (sym is) in
+    let by_row : refusal_at s (table_of s past.history) c ≡ Some why = subst (λ t. refusal_at s t c ≡ Some why) stands.environments.table_is fails in
+    none-some why (sym legal ∙ sym (refusal-of_table s past.history c stands.environments.good kept.all.legal) ∙ by_row)
+
+-- after a past, the command of a call is legal: it is not issued for want of memory alone
+pub issued_but_for_memory : (old : HallView) (past : Past) (call : HallCall) (command : Option Command) (why : HallError) → StandsFor old past
+    → IsUnrefused (settings_in old) past call → command ≡ command_of (settings_in old) past call → IsUnissued old.issuer command why
+    → why ≡ error.OutOfMemory
+issued_but_for_memory old past call command error.OutOfMemory stands made is unissued = refl
+issued_but_for_memory old past call None error.BadKind stands made is unissued = absurd unissued
+issued_but_for_memory old past call (Some c) error.BadKind stands made is unissued = absurd (not_illegal old past call c unissued.0 stands made is unissued.1)
+issued_but_for_memory old past call command error.Broken stands made is unissued = absurd unissued
+issued_but_for_memory old past call command error.Stopping stands made is unissued = absurd unissued
+issued_but_for_memory old past call command error.WornOut stands made is unissued = absurd unissued
+issued_but_for_memory old past call command error.Backlog stands made is unissued = absurd unissued
+issued_but_for_memory old past call command error.Fault stands made is unissued = absurd unissued
+
 pub arrived : (old new : HallView) (past : Past) (slot : ℕ) (call : Call) (now : ℕ) (words : List ℕ) (effect : Effect) (p : Prepared) (stops : Bool) (unavailable : Reply) (issued : Option Issued)
     → IsIssuer old.issuer → IsIssuer new.issuer → StandsFor old past → IsFit (settings_in old) (request slot call now words)
     → refusal_of_arrival old (is_some effect.command) ≡ None
@@ -213,13 +272,7 @@ arrived old new past slot call now words effect p stops unavailable issued befor
     let req = request slot call now words in
     let is : effect ≡ effect_of s past req = plans past stands.environments ∙ effect_is s past slot call now words in
     let same_command : effect.command ≡ command_of s past req = ap (λ e. e.command) is in
-    let unrefused : IsUnrefused s past req = record {
-      fit = fit;
-      broken = old.issuer.broken;
-      durable = old.issuer.durable;
-      unrefused = refusal_is old past slot call now (slice_index words 0, slice_index words 1) before stands
-          ∙ ap (λ c. refusal_of_arrival old (is_some c)) (sym same_command) ∙ passes;
-    } in
+    let unrefused = planned_unrefused old past slot call now words effect before stands fit passes is in
     let history : new.issuer.stands (past.history ++ option_list effect.command) =
     subst (λ c. new.issuer.stands (past.history ++ option_list c)) prepared.command (continues.stands past.history stands.history) in
     let point : issued_in new.issuer ≡ length (past.history ++ option_list effect.command) = (after.each (past.history ++ option_list effect.command) history).issued_is in

@@ -9,7 +9,6 @@ pub mod Settled
 mod Holders
 mod FirstUnheld
 mod Ends
-mod Numbers
 mod Arriving
 mod Ticking
 mod Opened

@@ -53,7 +53,7 @@ moving_finds_place hall (Some c) laws h =
 
 -- ## A tick
 
-tick_effect_is : (s : Settings) (past : Past) (now : ℕ) → effect_of_tick (scene s past now) ≡ effect_of s past (tick now)
+pub tick_effect_is : (s : Settings) (past : Past) (now : ℕ) → effect_of_tick (scene s past now) ≡ effect_of s past (tick now)
 unfolding effect_of
 tick_effect_is s past now = refl
 
@@ -68,6 +68,17 @@ tick_events : (past : Past) (now : ℕ) (effect : Effect) (point : ℕ)
     → past.slots ++ slot_events past (tick now) effect point ≡ past.slots ++ replied_at point (told_to_polls past (answered_to past.made effect.made))
 tick_events past now effect point = ap (λ l. past.slots ++ l) (append-nil _ ∙ made_told past point effect.made)
 
+-- a tick that passes is not refused
+pub tick_unrefused : (old : HallView) (past : Past) (now : ℕ) (effect : Effect) → IsIssuer old.issuer → StandsFor old past
+    → IsFit (settings_in old) (tick now) → refusal_of_moving old (is_some effect.command) ≡ None
+    → effect ≡ effect_of (settings_in old) past (tick now) → IsUnrefused (settings_in old) past (tick now)
+tick_unrefused old past now effect before stands fit passes is = record {
+  fit = fit;
+  broken = old.issuer.broken;
+  durable = old.issuer.durable;
+  unrefused = tick_refusal_is old past now before stands ∙ ap (λ (e : Effect). refusal_of_moving old (is_some e.command)) (sym is) ∙ passes;
+}
+
 pub ticked : (old new : HallView) (past : Past) (now : ℕ) (effect : Effect) (p : Prepared) (issued : Option Issued)
     → IsIssuer old.issuer → IsIssuer new.issuer → StandsFor old past → IsFit (settings_in old) (tick now)
     → refusal_of_moving old (is_some effect.command) ≡ None
@@ -81,12 +92,7 @@ ticked old new past now effect p issued before after stands fit passes plans pre
     let s = settings_in old in
     let is : effect ≡ effect_of s past (tick now) = plans past stands.environments stands.stopping ∙ tick_effect_is s past now in
     let same_command : effect.command ≡ command_of s past (tick now) = ap (λ e. e.command) is in
-    let unrefused : IsUnrefused s past (tick now) = record {
-      fit = fit;
-      broken = old.issuer.broken;
-      durable = old.issuer.durable;
-      unrefused = tick_refusal_is old past now before stands ∙ ap (λ c. refusal_of_moving old (is_some c)) (sym same_command) ∙ passes;
-    } in
+    let unrefused = tick_unrefused old past now effect before stands fit passes is in
     let history : new.issuer.stands (past.history ++ option_list effect.command) =
     subst (λ c. new.issuer.stands (past.history ++ option_list c)) prepared.command (continues.stands past.history stands.history) in
     let point : issued_in new.issuer ≡ length (past.history ++ option_list effect.command) = (after.each (past.history ++ option_list effect.command) history).issued_is in
@@ -148,12 +154,12 @@ forgotten_in old new past slot stands laws issuer environments stops keep =
 
 -- ## What a take gives
 
-abbrev pub as_released : Text × ℕ → Released
-as_released told = record { reply = told.0; receipt = told.1 }
+abbrev pub as_released : ℕ → Text × ℕ → Released
+as_released slot told = record { reply = told.0; receipt = told.1; slot = slot }
 
-same_release : (s : Settings) (o : Option Reply) → option_map as_released (option_map (told_in s) o) ≡ option_map (released_to s) o
-same_release s None = refl
-same_release s (Some reply) = refl
+same_release : (s : Settings) (slot : ℕ) (o : Option Reply) → option_map (as_released slot) (option_map (told_in s) o) ≡ option_map (released_to s slot) o
+same_release s slot None = refl
+same_release s slot (Some reply) = refl
 
 released_is : (broken : Bool) (durable : ℕ) (past : Past) (slot : ℕ) → released_in broken durable past.slots slot ≡ released broken durable past slot
 unfolding released
@@ -161,7 +167,7 @@ released_is broken durable past slot = refl
 
 pub gives : (s : Settings) (past : Past) (slot : ℕ) (b c : Bool) (r d : ℕ) (result : Option (Text × ℕ))
     → result ≡ option_map (told_in s) (released_in b r past.slots slot) → b ≡ c → r ≡ d
-    → option_map as_released result ≡ option_map (released_to s) (released c d past slot)
+    → option_map (as_released slot) result ≡ option_map (released_to s slot) (released c d past slot)
 gives s past slot b c r d result is broken durable =
-    ap (option_map as_released) is ∙ same_release s (released_in b r past.slots slot)
-    ∙ ap (option_map (released_to s)) (released_is b r past slot ∙ ap (λ x. released x r past slot) broken ∙ ap (λ n. released c n past slot) durable)
+    ap (option_map (as_released slot)) is ∙ same_release s slot (released_in b r past.slots slot)
+    ∙ ap (option_map (released_to s slot)) (released_is b r past slot ∙ ap (λ x. released x r past slot) broken ∙ ap (λ n. released c n past slot) durable)

@@ -1,14 +1,14 @@
 -- What becomes of environments by a change, and what polls are answered by it.
-use Rattle.std.specs.Prelude.{◌≡◌, ℕ, List, [], ◌∷◌, ◌++◌, length, flat_map}
+use Rattle.std.specs.Prelude.{◌≡◌, ℕ, List, [], ◌∷◌, ◌++◌, length, flat_map, Some}
 use Rattle.env_phase.specs.declared.answer.PollAnswer.{PollAnswer}
 use Rattle.env_phase.specs.declared.call.EnvCall.{EnvCall}
-use Rattle.env_phase.specs.Polls.{answered_by}
+use Rattle.env_phase.specs.declared.refusal.Refusal.{Refusal}
+use Rattle.env_phase.specs.Polls.{answered_by, refusal_of}
 use Rattle.env_phase.specs.State.{EnvState}
 use Rattle.hall_core.specs.declared.changes.Changes.{Changes}
 use Rattle.hall_core.specs.declared.changes.Changes.TheVariants as changes
-use Rattle.env_phase.specs.Calls.{moment_by, IsMoment}
-use Rattle.hall_core.specs.declared.plan.Made.{Made}
-use Rattle.hall_core.specs.declared.plan.Made.TheVariants as made
+use Rattle.hall_core.specs.declared.error.HallError.{HallError}
+use Rattle.hall_core.specs.declared.error.HallError.TheVariants as error
 use Rattle.hall_core.specs.Past.{calls_in}
 use Rattle.hall_core.specs.Environments.{IsNumberIn, ForEachMade, HoldFor, StandsForMore}
 
@@ -34,12 +34,22 @@ LeadsTo envs (changes.All ended) more = ForEachMade envs (λ before. HoldFor end
 abbrev pub answered_to : List (ℕ × EnvCall) → List (ℕ × EnvCall) → List (ℕ × PollAnswer)
 answered_to before more = flat_map (λ (m : ℕ × EnvCall). answered_by (calls_in m.0 before) m.1) more
 
--- the environments are there, and the moment is one
-abbrev pub AreCallable : List EnvState → Made → Type 0
-AreCallable envs made.Nothing = Unit {0}
-AreCallable envs (made.One environment call) = IsNumberIn envs environment × IsMoment (moment_by call)
-AreCallable envs (made.ShutdownAll count now) = (count ≡ length envs) × IsMoment now
-
 -- by the change the environments hold for whichever calls it leads to
 abbrev pub Leads : List EnvState → Changes → List EnvState → Type 0
 Leads old change new = (more : List (ℕ × EnvCall)) → LeadsTo old change more → ForEachMade old (λ before. HoldFor new (before ++ more))
+
+-- ## What is not called
+
+-- this environment refuses the call after these, and that is the only one
+pub record IsOneRefused (before more : List (ℕ × EnvCall)) : Type 0 where
+  pub environment : ℕ
+  pub call : EnvCall
+  pub why : Refusal
+  pub only : more ≡ (environment, call) ∷ []
+  pub refused : refusal_of (calls_in environment before) call ≡ Some why
+
+-- why these calls are not made: for want of memory, or where the environment refuses the one that it is
+abbrev pub IsUncalled : List EnvState → List (ℕ × EnvCall) → HallError → Type 0
+IsUncalled envs more error.OutOfMemory = Unit {0}
+IsUncalled envs more error.BadKind = ForEachMade envs (λ before. IsOneRefused before more)
+IsUncalled envs more other = ⊥

@@ -11,6 +11,8 @@ use Rattle.hall_core.specs.declared.hall.Hall.{Hall}
 use Rattle.hall_core.specs.declared.error.HallError.{HallError}
 use Rattle.hall_core.specs.declared.error.HallError.TheVariants as error
 use Rattle.hall_core.specs.declared.issuing.Issued.{Issued}
+use Rattle.invoke_records.specs.declared.command.Command.{Command}
+use Rattle.hall_core.specs.Issuing.{Continues, IsAnswered}
 use Rattle.hall_core.specs.Past.{HallCall, arrive, Past, SlotEvent, is_stopping}
 use Rattle.hall_core.specs.Run.{past_after, issued_by}
 use Rattle.hall_core.specs.declared.released.Released.{Released}
@@ -57,6 +59,12 @@ request slot call now words = arrive slot call now (slice_index words 0, slice_i
 abbrev pub Does : HallView → HallView → HallCall → Option Issued → Type 0
 Does old new call issued =
     ForEachPast old (λ past. (issued ≡ issued_by (settings_in old) past call) × StandsFor new (past_after (settings_in old) past call))
+
+-- whether a history is known or not, it issued one command or none, and what it tells of that is so
+pub record IssuesAtMostOne (old new : IssuerView) (issued : Option Issued) : Type 0 where
+  pub command : Option Command
+  pub continues : Continues old new command
+  pub answered : IsAnswered old command issued
 
 -- nothing has become durable in between, and the device did not fail
 abbrev pub IsAsDurable : HallView → HallView → Type 0
@@ -107,15 +115,19 @@ refusal_of_moving hall has_command =
 
 -- ## Replies
 
--- a reply that is told, with its receipt
-abbrev pub released_to : Settings → Reply → Released
-released_to s told = record { reply = reply_of_told s told.0; receipt = told.1 }
+-- a reply that is told to this slot, with its receipt
+abbrev pub released_to : Settings → ℕ → Reply → Released
+released_to s slot told = record { reply = reply_of_told s told.0; receipt = told.1; slot = slot }
+
+-- the slot that it is told to
+abbrev pub slot_told : Released → ℕ
+slot_told released = released.slot
 
 -- whatever was done, the slot is told this
 abbrev pub Gives : HallView → ℕ → Option Released → Type 0
 Gives hall slot given =
     ForEachPast hall (λ past.
-    given ≡ option_map (released_to (settings_in hall)) (released hall.issuer.broken hall.issuer.durable past slot))
+    given ≡ option_map (released_to (settings_in hall) slot) (released hall.issuer.broken hall.issuer.durable past slot))
 
 -- whatever was done before, the call is done
 abbrev pub IsDone : HallView → HallView → HallCall → Type 0

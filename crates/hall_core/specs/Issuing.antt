@@ -1,7 +1,11 @@
 -- What becomes of an issuer by the command of a call.
-use Rattle.std.specs.Prelude.{◌≡◌, ℕ, ◌+◌, ◌<◌, ◌^◌, ◌++◌, false, List, length, Option, Some, None, option_map}
+use Rattle.std.specs.Prelude.{◌≡◌, ℕ, ◌+◌, ◌<◌, ◌^◌, ◌++◌, false, List, length, Option, Some, None, IfSome, option_map}
+use Rattle.retry_rules.specs.declared.settings.Settings.{Settings}
 use Rattle.invoke_records.specs.declared.command.Command.{Command}
-use Rattle.group_commit.specs.Issuer.{IssuerView, issued_in}
+use Rattle.invoke_records.specs.declared.snapshot.Snapshot.{Snapshot}
+use Rattle.async_core.specs.declared.illegal.Illegal.{Illegal}
+use Rattle.async_core.specs.Rules.{table_after}
+use Rattle.group_commit.specs.Issuer.{IssuerView, issued_in, IsLegalNow, Fails}
 use Rattle.group_commit.specs.declared.error.IssueError.{IssueError}
 use Rattle.group_commit.specs.declared.error.IssueError.TheVariants as issue_error
 use Rattle.hall_core.specs.declared.error.HallError.{HallError}
@@ -17,9 +21,19 @@ told_of before c = record { number = before + 1; kind = c.kind; id = c.id; time 
 abbrev pub IsAnswered : IssuerView → Option Command → Option Issued → Type 0
 IsAnswered issuer command told = told ≡ option_map (told_of (issued_in issuer)) command
 
--- it stands for each history with the command, if there is one, and nothing else has changed
+-- the table after a command, if there is one
+abbrev pub table_by : Settings → Snapshot → Option Command → Snapshot
+table_by s table None = table
+table_by s table (Some c) = table_after s table c
+
+-- the command is legal, if there is one: the table is that after it, it is pending, it stands for each history with it,
+-- and nothing else has changed
 pub record Continues (old new : IssuerView) (command : Option Command) : Type 0 where
+  pub legal : IfSome command (λ c. IsLegalNow old c)
   pub settings : new.settings ≡ old.settings
+  pub table : new.table ≡ table_by old.settings old.table command
+  pub issued : issued_in new ≡ issued_in old + length (option_list command)
+  pub pending : new.pending ≡ old.pending ++ option_list command
   pub durable : new.durable ≡ old.durable
   pub broken : new.broken ≡ old.broken
   pub stands : (history : List Command) → old.stands history → new.stands (history ++ option_list command)
@@ -29,10 +43,16 @@ abbrev pub HasPlaceFor : IssuerView → Option Command → Type 0
 HasPlaceFor issuer None = Unit {0}
 HasPlaceFor issuer (Some c) = (issuer.broken ≡ false) × (issued_in issuer < 2 ^ 62) × (length issuer.pending < 256)
 
--- why the hall refuses, by why the issuer does. A command that a call has is legal
+-- why a command is not issued for which there is a place: for want of memory, or where it is not legal
+abbrev pub IsUnissued : IssuerView → Option Command → HallError → Type 0
+IsUnissued issuer command error.OutOfMemory = Unit {0}
+IsUnissued issuer (Some c) error.BadKind = (why : Illegal) × Fails issuer c why
+IsUnissued issuer command other = ⊥
+
+-- why the hall refuses, by why the issuer does. After a history, a command that a call has is legal
 abbrev pub error_of : IssueError → HallError
 error_of issue_error.Broken = error.Broken
 error_of issue_error.WornOut = error.WornOut
 error_of issue_error.Backlog = error.Backlog
-error_of (issue_error.Illegal why) = error.OutOfMemory
+error_of (issue_error.Illegal why) = error.BadKind
 error_of issue_error.OutOfMemory = error.OutOfMemory

@@ -1,6 +1,6 @@
 -- What a call is planned from, and what its plan says.
 use Rattle.std.specs.Prelude.{◌≡◌, ℕ, Bool, List, [], ◌∷◌, length, map, Option, Some, None, IfSome, slice_index}
-use Rattle.std.specs.List.{range_with_len, AllByRecursion}
+use Rattle.std.specs.List.{range_with_len}
 use Rattle.retry_rules.specs.Settings.{bad_field}
 use Rattle.async_core.specs.History.{table_of}
 use Rattle.async_core.specs.State.{State}
@@ -28,20 +28,17 @@ calls_made made.Nothing = []
 calls_made (made.One environment call) = (environment, call) ∷ []
 calls_made (made.ShutdownAll count now) = map (λ number. (number, Shutdown now)) (range_with_len 1 count)
 
--- each is made of one of these environments
-abbrev pub AreIn : List EnvState → List (ℕ × EnvCall) → Type 0
-AreIn environments calls = AllByRecursion (λ (c : ℕ × EnvCall). IsNumberIn environments c.0) calls
+-- the environments are there, and the moment is one
+abbrev pub AreCallable : List EnvState → Made → Type 0
+AreCallable envs made.Nothing = Unit {0}
+AreCallable envs (made.One environment call) = IsNumberIn envs environment × IsMoment (moment_by call)
+AreCallable envs (made.ShutdownAll count now) = (count ≡ length envs) × IsMoment now
 
 -- it is one of these, if it is any
 abbrev pub AnyIn : List EnvState → Option ℕ → Type 0
 AnyIn environments number = IfSome number (λ n. IsNumberIn environments n)
 
 -- ## Moments, which a record holds and which have a text
-
-abbrev pub moment_made : Made → ℕ
-moment_made made.Nothing = 0
-moment_made (made.One environment call) = moment_by call
-moment_made (made.ShutdownAll count now) = now
 
 -- the moment of a record that is told
 abbrev pub moment_told : Answer → ℕ
@@ -51,11 +48,6 @@ moment_told other = 0
 abbrev pub moment_replied : Option Answer → ℕ
 moment_replied None = 0
 moment_replied (Some answered) = moment_told answered
-
--- what is called and what is told is at such moments
-pub record AreAtMoments (called : Made) (reply : Option Answer) : Type 0 where
-  pub called_at : IsMoment (moment_made called)
-  pub told_at : IsMoment (moment_replied reply)
 
 -- so that the answer is told
 pub is_tellable : (a : Answer) → IsMoment (moment_told a) → IsTellable a
@@ -81,6 +73,11 @@ abbrev pub ForEachPast : State → List EnvState → (Past → Type 0) → Type 
 ForEachPast table environments holds = (past : Past) → Meets table environments past → holds past
 
 -- ## What its plan says
+
+-- what a call does, and which environments it calls for that
+pub record PlanView : Type 0 where
+  pub effect : Effect
+  pub called : Made
 
 -- the id that is drawn by two words
 unfoldable pub drawn_by : List ℕ → List ℕ

@@ -5,7 +5,7 @@ ghost use Rattle.async_core.specs.Readers.{told, ending_after};
 ghost use Rattle.env_phase.specs.Calls.{IsMoment};
 ghost use Rattle.hall_core.specs.Effects.{command_for, accepts, collects, tells_oldest, stops};
 ghost use Rattle.hall_core.specs.Planner.{ForEachScene};
-ghost use Rattle.hall_core.specs.Plans.{AreIn};
+ghost use Rattle.hall_core.specs.Plans.{AreCallable};
 ghost use Rattle.hall_core.specs.Steps.{why_not_accepted, why_not_collected};
 
 use crate::plan::{Made, Plan};
@@ -35,8 +35,8 @@ fn why_not_collected(why: Illegal) -> Refusal
 impl<'a> Planner<'a> {
     /// An invocation: an event is accepted under the id that was drawn. The payload is moved into the command.
     pub(crate) fn accept(&self, drawn: [u8; 16], payload: Bytes) -> Plan<'a>
-        ensures effect { ForEachScene self.now (λ x. result ≡ accepts x (command_for Accept drawn x.now payload)) }
-        ensures within { AreIn self.now.environments.now result.made }
+        ensures effect { ForEachScene self.now (λ x. result.effect ≡ accepts x (command_for Accept drawn x.now payload)) }
+        ensures within { AreCallable self.now.environments.now result.called }
     {
         let command = self.command(Kind::Accept, drawn, payload);
         match self.table.judge(&command) {
@@ -46,8 +46,8 @@ impl<'a> Planner<'a> {
     }
 
     fn collect_event(&self, id: [u8; 16]) -> Plan<'a>
-        ensures effect { ForEachScene self.now (λ x. result ≡ collects x (Some id)) }
-        ensures within { AreIn self.now.environments.now result.made }
+        ensures effect { ForEachScene self.now (λ x. result.effect ≡ collects x (Some id)) }
+        ensures within { AreCallable self.now.environments.now result.called }
     {
         let command = self.bare(Kind::Collect, id);
         match self.table.judge(&command) {
@@ -58,8 +58,8 @@ impl<'a> Planner<'a> {
 
     /// An event that has ended is collected.
     pub(crate) fn collect(&self, id: Option<[u8; 16]>) -> Plan<'a>
-        ensures effect { ForEachScene self.now (λ x. result ≡ collects x id) }
-        ensures within { AreIn self.now.environments.now result.made }
+        ensures effect { ForEachScene self.now (λ x. result.effect ≡ collects x id) }
+        ensures within { AreCallable self.now.environments.now result.called }
     {
         match id {
             Some(id) => self.collect_event(id),
@@ -84,8 +84,8 @@ impl<'a> Planner<'a> {
 
     /// The record of the event that ended first on this side.
     pub(crate) fn oldest(&self, side: Side) -> Plan<'a>
-        ensures effect { ForEachScene self.now (λ x. result ≡ tells_oldest x side) }
-        ensures within { AreIn self.now.environments.now result.made }
+        ensures effect { ForEachScene self.now (λ x. result.effect ≡ tells_oldest x side) }
+        ensures within { AreCallable self.now.environments.now result.called }
     {
         let Some(id) = self.table.oldest_ended(side) else {
             return Plan::says(Answer::NoRecord);
@@ -98,8 +98,8 @@ impl<'a> Planner<'a> {
 
     /// Each environment is shut down.
     pub(crate) fn stop(&self) -> Plan<'a>
-        ensures effect { ForEachScene self.now (λ x. result ≡ stops x) }
-        ensures within { AreIn self.now.environments.now result.made }
+        ensures effect { ForEachScene self.now (λ x. result.effect ≡ stops x) }
+        ensures within { AreCallable self.now.environments.now result.called }
     {
         Plan {
             command: None,

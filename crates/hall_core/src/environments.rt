@@ -50,7 +50,8 @@ fn shut_down_copy(env: &Env, now: u64) -> Result<(Env, Answered), AllocError>
     let mut copy = env.copy()?;
     match copy.shutdown(now) {
         Ok(answers) => Ok((copy, answers)),
-        Err(_) => Err(AllocError),
+        Err(EnvError::OutOfMemory) => Err(AllocError),
+        Err(EnvError::Refused(_)) => unreachable!(),
     }
 }
 

@@ -20,8 +20,9 @@ pub enum HallError {
     /// 1024 slots are open, or 256 commands are pending and the call has one.
     #[error("too many requests are pending")]
     Backlog,
-    /// A commit needs a switch, and the table, which was read from a disk, is that of no history.
-    #[error("the table has no spelling")]
+    /// The table, which was read from a disk, is that of no history: it refuses what a call does, or a commit needs a
+    /// switch and it has no spelling.
+    #[error("the table is that of no history")]
     BadKind,
     #[error("out of memory")]
     OutOfMemory,

@@ -49,18 +49,18 @@ pub struct Hall<I: Issuer> {
 }
 
 impl<I: Issuer> Hall<I> {
-    ghost use Rattle.std.specs.Prelude.{◌&&◌, ◌||◌, ◌^◌, nat_le, length, false, IfOk, IfErr, IfNone, OnOk, OnErr, OnSome};
+    ghost use Rattle.std.specs.Prelude.{◌&&◌, ◌||◌, ◌^◌, nat_le, length, false, IfOk, IfErr, IfSome, IfNone, OnOk, OnErr, OnSome};
     ghost use Rattle.hall_core.specs.declared.error.HallError.TheVariants as HallError;
     ghost use Rattle.hall_core.specs.OpenSlots.{has_open, unavailable_in};
     ghost use Rattle.hall_core.specs.Changes.{IsWithin, Leads};
-    ghost use Rattle.hall_core.specs.Issuing.{Continues, IsAnswered, HasPlaceFor};
+    ghost use Rattle.hall_core.specs.Issuing.{Continues, IsAnswered, HasPlaceFor, IsUnissued};
     ghost use Rattle.hall_core.specs.Doing.{KeepRequest, KeepTick};
     ghost use Rattle.hall_core.specs.Agreement.{IsFit};
     ghost use Rattle.hall_core.specs.Plans.{IsToOneOf};
     ghost use Rattle.group_commit.specs.Issuer.{issued_in, state_in};
     ghost use Rattle.hall_core.specs.Past.{tick, take_slot, forget_slot};
     ghost use Rattle.hall_core.specs.Hall.{view_of, settings_in, pending_in, refusal_of_arrival, refusal_of_moving, IsSameHall, request, Does, Refuses};
-    ghost use Rattle.hall_core.specs.Hall.{Gives, IsDone, IsAsDurable};
+    ghost use Rattle.hall_core.specs.Hall.{Gives, slot_told, IsDone, IsAsDurable, IssuesAtMostOne};
 
     // Whether no number is left for a command.
     fn is_worn_out(&self, has_command: bool) -> bool
@@ -117,7 +117,7 @@ impl<I: Issuer> Hall<I> {
         ensures stops { OnOk result (self.new.stops ≡ (self.old.stops || stops)) }
         ensures no_call { I.is_untouched self.old.issuer self.new.issuer }
         ensures err { OnErr result (IsSameHall (view_of I.view self.old) (view_of I.view self.new)) }
-        ensures memory { HasPlaceFor (I.view self.old.issuer) prepared.command → IfErr result (λ why. why ≡ HallError.OutOfMemory) }
+        ensures refused { HasPlaceFor (I.view self.old.issuer) prepared.command → IfErr result (IsUnissued (I.view self.old.issuer) prepared.command) }
     {
         let Prepared {
             command,
@@ -154,7 +154,8 @@ impl<I: Issuer> Hall<I> {
     ///
     /// What an environment or the table refuses is an answer. The hall refuses by `Broken`, `Stopping`, `WornOut` (where
     /// it has a command), `Backlog` (1024 slots are open, or 256 commands are pending and it has one), or `OutOfMemory`,
-    /// in this order, and then nothing has changed. Moments are milliseconds since 1970.
+    /// in this order, and then nothing has changed; over a table that no history leaves also by `BadKind`. Moments are
+    /// milliseconds since 1970.
     pub fn arrive(
         &mut self,
         slot: u64,
@@ -166,6 +167,7 @@ impl<I: Issuer> Hall<I> {
         requires environment { IsToOneOf self.old.environments call }
         requires fit { IsFit (settings_in (view_of I.view self.old)) (request slot call now words) }
         ensures ok { IfOk result (Does (view_of I.view self.old) (view_of I.view self.new) (request slot call now words)) }
+        ensures issues { IfOk result (IssuesAtMostOne (I.view self.old.issuer) (I.view self.new.issuer)) }
         ensures kept { OnOk result (IsAsDurable (view_of I.view self.old) (view_of I.view self.new)) }
         ensures no_call { I.is_untouched self.old.issuer self.new.issuer }
         ensures refused { IfErr result (Refuses (view_of I.view self.old) (request slot call now words)) }
@@ -187,8 +189,9 @@ impl<I: Issuer> Hall<I> {
         let Ok(unavailable) = self.unavailable() else {
             return Err(HallError::OutOfMemory);
         };
-        let Ok(prepared) = prepare(self.alloc, self.issuer.table(), &self.environments, plan) else {
-            return Err(HallError::OutOfMemory);
+        let prepared = match prepare(self.alloc, self.issuer.table(), &self.environments, plan) {
+            Ok(prepared) => prepared,
+            Err(why) => return Err(why),
         };
         match self.do_for(slot, stops, unavailable, prepared) {
             Ok(issued) => Ok(issued),
@@ -222,7 +225,7 @@ impl<I: Issuer> Hall<I> {
         ensures stops { OnOk result (self.new.stops ≡ self.old.stops) }
         ensures no_call { I.is_untouched self.old.issuer self.new.issuer }
         ensures err { OnErr result (IsSameHall (view_of I.view self.old) (view_of I.view self.new)) }
-        ensures memory { HasPlaceFor (I.view self.old.issuer) prepared.command → IfErr result (λ why. why ≡ HallError.OutOfMemory) }
+        ensures refused { HasPlaceFor (I.view self.old.issuer) prepared.command → IfErr result (IsUnissued (I.view self.old.issuer) prepared.command) }
     {
         let Prepared {
             command,
@@ -241,10 +244,12 @@ impl<I: Issuer> Hall<I> {
     /// hall stops.
     ///
     /// It is refused by `Broken`, `WornOut` or `Backlog` (256 commands are pending) where there is a command to issue,
-    /// or `OutOfMemory`, in this order, and then nothing has changed. A moment is at most the end of the year 9999.
+    /// or `OutOfMemory`, in this order, and then nothing has changed; over a table that no history leaves also by `BadKind`.
+    /// A moment is at most the end of the year 9999.
     pub fn tick(&mut self, now: u64) -> Result<Option<Issued>, HallError>
         requires { IsFit (settings_in (view_of I.view self.old)) (tick now) }
         ensures ok { IfOk result (Does (view_of I.view self.old) (view_of I.view self.new) (tick now)) }
+        ensures issues { IfOk result (IssuesAtMostOne (I.view self.old.issuer) (I.view self.new.issuer)) }
         ensures kept { OnOk result (IsAsDurable (view_of I.view self.old) (view_of I.view self.new)) }
         ensures no_call { I.is_untouched self.old.issuer self.new.issuer }
         ensures refused { IfErr result (Refuses (view_of I.view self.old) (tick now)) }
@@ -260,8 +265,9 @@ impl<I: Issuer> Hall<I> {
         if let Some(why) = self.refusal_of_moving(plan.command.is_some()) {
             return Err(why);
         }
-        let Ok(prepared) = prepare(self.alloc, self.issuer.table(), &self.environments, plan) else {
-            return Err(HallError::OutOfMemory);
+        let prepared = match prepare(self.alloc, self.issuer.table(), &self.environments, plan) {
+            Ok(prepared) => prepared,
+            Err(why) => return Err(why),
         };
         match self.do_moving(prepared) {
             Ok(issued) => Ok(issued),
@@ -269,18 +275,19 @@ impl<I: Issuer> Hall<I> {
         }
     }
 
-    /// The reply of a slot, where all that it shows is durable, with the receipt of that; the slot is then closed. In a
-    /// broken hall a slot whose reply is not durable, or that has none, is told that the broker is not available, with
-    /// the receipt of all that is durable. None where the slot is not open or its reply is not wanted, and as long as it
-    /// waits. It takes no memory.
+    /// The reply of a slot, where all that it shows is durable, with the receipt of that and the slot; the slot is then
+    /// closed. In a broken hall a slot whose reply is not durable, or that has none, is told that the broker is not
+    /// available, with the receipt of all that is durable. None where the slot is not open or its reply is not wanted,
+    /// and as long as it waits. It takes no memory.
     pub fn take(&mut self, slot: u64) -> Option<Released>
         ensures gives { Gives (view_of I.view self.old) slot result }
+        ensures slot { IfSome result (λ released. slot_told released ≡ slot) }
         ensures some { OnSome result (IsDone (view_of I.view self.old) (view_of I.view self.new) (take_slot slot)) }
         ensures none { IfNone result (IsSameHall (view_of I.view self.old) (view_of I.view self.new)) }
         ensures issuer { self.new.issuer ≡ self.old.issuer }
     {
         match self.slots.take(slot, self.broken, self.receipt) {
-            Some((reply, receipt)) => Some(Released { reply, receipt }),
+            Some((reply, receipt)) => Some(Released::new(slot, reply, receipt)),
             None => None,
         }
     }

@@ -2,8 +2,7 @@
 ghost use Rattle.std.specs.Prelude.{◌≡◌, ◌++◌, false, option_map, IfOk, IfErr, OnOk, OnErr, is_some, is_none};
 ghost use Rattle.group_commit.specs.Issuer.{ForEachHistory, IsSameIssuer};
 ghost use Rattle.hall_core.specs.Run.{option_list};
-ghost use Rattle.hall_core.specs.Issuing.{IsAnswered, Continues, HasPlaceFor, error_of};
-ghost use Rattle.hall_core.specs.declared.error.HallError.TheVariants as HallError;
+ghost use Rattle.hall_core.specs.Issuing.{IsAnswered, Continues, HasPlaceFor, IsUnissued, error_of};
 
 use crate::error::HallError;
 use group_commit::{IssueError, Issuer};
@@ -25,7 +24,8 @@ fn error_of(why: IssueError) -> HallError
         IssueError::Broken => HallError::Broken,
         IssueError::WornOut => HallError::WornOut,
         IssueError::Backlog => HallError::Backlog,
-        IssueError::Illegal(_) | IssueError::OutOfMemory => HallError::OutOfMemory,
+        IssueError::Illegal(_) => HallError::BadKind,
+        IssueError::OutOfMemory => HallError::OutOfMemory,
     }
 }
 
@@ -38,7 +38,7 @@ pub(crate) fn issue<I: Issuer>(
     ensures goes_on { OnOk result (Continues (I.view issuer.old) (I.view issuer.new) command) }
     ensures no_call { I.is_untouched issuer.old issuer.new }
     ensures err { OnErr result (IsSameIssuer (I.view issuer.old) (I.view issuer.new)) }
-    ensures memory { HasPlaceFor (I.view issuer.old) command → IfErr result (λ why. why ≡ HallError.OutOfMemory) }
+    ensures refused { HasPlaceFor (I.view issuer.old) command → IfErr result (IsUnissued (I.view issuer.old) command) }
 {
     let Some(command) = command else {
         return Ok(None);

@@ -1,9 +1,11 @@
 // What a call does, as values: decided before anything changes.
-ghost use Rattle.std.specs.Prelude.{◌≡◌, Some, [], option_map};
+ghost use Rattle.std.specs.Prelude.{◌≡◌, Some, [], List, option_map};
 ghost use Rattle.api_core.specs.Replies.{told_by};
 ghost use Rattle.hall_core.specs.Effects as effect;
 ghost use Rattle.env_phase.specs.Calls.{moment_by, IsMoment};
-ghost use Rattle.hall_core.specs.Plans.{calls_made, moment_made, moment_told};
+ghost use Rattle.env_phase.specs.State.{EnvState};
+ghost use Rattle.hall_core.specs.declared.plan.Made.TheVariants.{Nothing};
+ghost use Rattle.hall_core.specs.Plans.{AnyIn, AreCallable, calls_made, moment_told};
 
 use api_core::{Answer, Refusal};
 use env_phase::EnvCall;
@@ -32,25 +34,28 @@ pub(crate) struct Plan<'a> {
 impl<'a> Model for Plan<'a> {
     ghost use Rattle.std.specs.Prelude.{option_map};
     ghost use Rattle.api_core.specs.Replies.{told_by};
-    ghost use Rattle.hall_core.specs.Effects.{Effect};
-    ghost use Rattle.hall_core.specs.Plans.{calls_made, AreAtMoments};
+    ghost use Rattle.env_phase.specs.Calls.{IsMoment};
+    ghost use Rattle.hall_core.specs.Plans.{PlanView, calls_made, moment_replied};
 
-    ghost Value = { Effect };
+    ghost Value = { PlanView };
 
     ghost view = { λ plan. record {
-      command = plan.command;
-      made = calls_made plan.made;
-      reply = option_map told_by plan.reply;
+      effect = record {
+        command = plan.command;
+        made = calls_made plan.made;
+        reply = option_map told_by plan.reply;
+      };
+      called = plan.made;
     } };
 
-    ghost invariant = { λ plan. AreAtMoments plan.made plan.reply };
+    ghost invariant = { λ plan. IsMoment (moment_replied plan.reply) };
 }
 
 /// A call of this environment, if it is one.
 pub(crate) fn told_to(environment: Option<u16>, call: EnvCall) -> Made
     requires { IsMoment (moment_by call) }
     ensures calls { calls_made result ≡ effect.told_to environment call }
-    ensures moment { IsMoment (moment_made result) }
+    ensures within { (envs : List EnvState) → AnyIn envs environment → AreCallable envs result }
 {
     match environment {
         Some(environment) => Made::One { environment, call },
@@ -60,7 +65,7 @@ pub(crate) fn told_to(environment: Option<u16>, call: EnvCall) -> Made
 
 impl<'a> Plan<'a> {
     pub(crate) fn nothing() -> Plan<'a>
-        ensures { result ≡ effect.nothing }
+        ensures { result ≡ record { effect = effect.nothing; called = Nothing } }
     {
         Plan {
             command: None,
@@ -72,7 +77,7 @@ impl<'a> Plan<'a> {
     /// An answer alone.
     pub(crate) fn says(answer: Answer<'a>) -> Plan<'a>
         requires { IsMoment (moment_told answer) }
-        ensures { result ≡ effect.says (told_by answer.entry) }
+        ensures { result ≡ record { effect = effect.says (told_by answer.entry); called = Nothing } }
     {
         Plan {
             command: None,
@@ -83,7 +88,7 @@ impl<'a> Plan<'a> {
 
     /// A refusal alone.
     pub(crate) fn refuses(why: Refusal) -> Plan<'a>
-        ensures { result ≡ effect.refuses why }
+        ensures { result ≡ record { effect = effect.refuses why; called = Nothing } }
     {
         Plan::says(Answer::Refusal(why))
     }
@@ -91,7 +96,8 @@ impl<'a> Plan<'a> {
     /// A command and an answer.
     pub(crate) fn issues(command: Command, answer: Answer<'a>) -> Plan<'a>
         requires { IsMoment (moment_told answer) }
-        ensures { result ≡ record { command = Some command; made = []; reply = Some (told_by answer.entry) } }
+        ensures effect { result.effect ≡ record { command = Some command; made = []; reply = Some (told_by answer.entry) } }
+        ensures called { result.called ≡ Nothing }
     {
         Plan {
             command: Some(command),
@@ -102,8 +108,7 @@ impl<'a> Plan<'a> {
 
     /// A command without a reply, and calls of environments.
     pub(crate) fn does(command: Command, made: Made) -> Plan<'a>
-        requires { IsMoment (moment_made made) }
-        ensures { result ≡ effect.does command (calls_made made) }
+        ensures { result ≡ record { effect = effect.does command (calls_made made); called = made } }
     {
         Plan {
             command: Some(command),

@@ -3,7 +3,7 @@ ghost use Rattle.std.specs.Prelude.{◌≡◌};
 ghost use Rattle.env_phase.specs.Calls.{IsMoment};
 ghost use Rattle.hall_core.specs.Effects.{effect_of_request};
 ghost use Rattle.hall_core.specs.Planner.{ForEachScene};
-ghost use Rattle.hall_core.specs.Plans.{AreIn, PlansRequest, IsToOneOf};
+ghost use Rattle.hall_core.specs.Plans.{AreCallable, PlansRequest, IsToOneOf};
 
 use crate::environments::Environments;
 use crate::ids::drawn_id;
@@ -18,8 +18,8 @@ impl<'a> Planner<'a> {
     // What a request does, where this id was drawn for it.
     fn request_of(&self, slot: u64, drawn: [u8; 16], call: Call) -> Plan<'a>
         requires { IsToOneOf self.now.environments.now call }
-        ensures effect { ForEachScene self.now (λ x. result ≡ effect_of_request x slot drawn call) }
-        ensures within { AreIn self.now.environments.now result.made }
+        ensures effect { ForEachScene self.now (λ x. result.effect ≡ effect_of_request x slot drawn call) }
+        ensures within { AreCallable self.now.environments.now result.called }
     {
         match call {
             Call::Invoke { payload } => self.accept(drawn, payload),
@@ -76,8 +76,8 @@ pub(crate) fn plan_request<'a>(
 ) -> Plan<'a>
     requires moment { IsMoment now }
     requires environment { IsToOneOf environments.now call }
-    ensures effect { PlansRequest table.now environments.now slot call now words result }
-    ensures within { AreIn environments.now result.made }
+    ensures effect { PlansRequest table.now environments.now slot call now words result.effect }
+    ensures within { AreCallable environments.now result.called }
 {
     Planner::new(alloc, table, environments, now).request_of(slot, drawn_id(words), call)
 }

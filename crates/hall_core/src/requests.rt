@@ -9,7 +9,7 @@ ghost use Rattle.env_phase.specs.Polls.{refusal_of};
 ghost use Rattle.hall_core.specs.Effects.{refusal_by, requests, is_late, responds, answers_event, exit_of, exits};
 ghost use Rattle.hall_core.specs.Environments.{IsNumberIn};
 ghost use Rattle.hall_core.specs.Planner.{ForEachScene};
-ghost use Rattle.hall_core.specs.Plans.{AreIn, moment_replied};
+ghost use Rattle.hall_core.specs.Plans.{AreCallable, moment_replied};
 ghost use Rattle.hall_core.specs.Steps.{parks, reports, registers, times_out};
 
 use crate::plan::{Made, Plan};
@@ -68,8 +68,8 @@ impl<'a> Planner<'a> {
         requires number { IsNumberIn self.now.environments.now environment }
         requires called_at { IsMoment (moment_by call) }
         requires told_at { IsMoment (moment_replied reply) }
-        ensures effect { ForEachScene self.now (λ x. result ≡ requests x environment call command (option_map told_by reply.entry)) }
-        ensures within { AreIn self.now.environments.now result.made }
+        ensures effect { ForEachScene self.now (λ x. result.effect ≡ requests x environment call command (option_map told_by reply.entry)) }
+        ensures within { AreCallable self.now.environments.now result.called }
     {
         match self.judge(environment, call) {
             None => Plan {
@@ -84,8 +84,8 @@ impl<'a> Planner<'a> {
     // The attempt is over before its answer came: the environment is reset.
     fn time_out(&self, environment: u16, id: [u8; 16]) -> Plan<'a>
         requires { IsNumberIn self.now.environments.now environment }
-        ensures effect { ForEachScene self.now (λ x. result ≡ times_out x environment id) }
-        ensures within { AreIn self.now.environments.now result.made }
+        ensures effect { ForEachScene self.now (λ x. result.effect ≡ times_out x environment id) }
+        ensures within { AreCallable self.now.environments.now result.called }
     {
         Plan {
             command: Some(self.bare(Kind::Fail(Cause::Timeout), id)),
@@ -100,8 +100,8 @@ impl<'a> Planner<'a> {
     // An answer in time ends the attempt, a late one is its timeout.
     fn answer_event(&self, environment: u16, kind: Kind, id: [u8; 16], bytes: Bytes) -> Plan<'a>
         requires { IsNumberIn self.now.environments.now environment }
-        ensures effect { ForEachScene self.now (λ x. result ≡ answers_event x environment kind id bytes) }
-        ensures within { AreIn self.now.environments.now result.made }
+        ensures effect { ForEachScene self.now (λ x. result.effect ≡ answers_event x environment kind id bytes) }
+        ensures within { AreCallable self.now.environments.now result.called }
     {
         if self.is_late(&id) {
             return self.time_out(environment, id);
@@ -125,8 +125,8 @@ impl<'a> Planner<'a> {
         bytes: Bytes,
     ) -> Plan<'a>
         requires { IsNumberIn self.now.environments.now environment }
-        ensures effect { ForEachScene self.now (λ x. result ≡ responds x environment kind id bytes) }
-        ensures within { AreIn self.now.environments.now result.made }
+        ensures effect { ForEachScene self.now (λ x. result.effect ≡ responds x environment kind id bytes) }
+        ensures within { AreCallable self.now.environments.now result.called }
     {
         match id {
             Some(id) if self.runs(environment, &id) => {
@@ -152,8 +152,8 @@ impl<'a> Planner<'a> {
     fn park(&self, environment: u16, call: EnvCall) -> Plan<'a>
         requires number { IsNumberIn self.now.environments.now environment }
         requires called_at { IsMoment (moment_by call) }
-        ensures effect { ForEachScene self.now (λ x. result ≡ parks x environment call) }
-        ensures within { AreIn self.now.environments.now result.made }
+        ensures effect { ForEachScene self.now (λ x. result.effect ≡ parks x environment call) }
+        ensures within { AreCallable self.now.environments.now result.called }
     {
         self.request(environment, call, None, None)
     }
@@ -161,8 +161,8 @@ impl<'a> Planner<'a> {
     /// The runtime asks for the next event.
     pub(crate) fn runtime_next(&self, environment: u16, slot: u64) -> Plan<'a>
         requires { IsNumberIn self.now.environments.now environment }
-        ensures effect { ForEachScene self.now (λ x. result ≡ parks x environment (RuntimeNext slot)) }
-        ensures within { AreIn self.now.environments.now result.made }
+        ensures effect { ForEachScene self.now (λ x. result.effect ≡ parks x environment (RuntimeNext slot)) }
+        ensures within { AreCallable self.now.environments.now result.called }
     {
         self.park(environment, EnvCall::RuntimeNext { slot })
     }
@@ -175,8 +175,8 @@ impl<'a> Planner<'a> {
         slot: u64,
     ) -> Plan<'a>
         requires { IsNumberIn self.now.environments.now environment }
-        ensures effect { ForEachScene self.now (λ x. result ≡ parks x environment (ExtensionNext identifier slot)) }
-        ensures within { AreIn self.now.environments.now result.made }
+        ensures effect { ForEachScene self.now (λ x. result.effect ≡ parks x environment (ExtensionNext identifier slot)) }
+        ensures within { AreCallable self.now.environments.now result.called }
     {
         self.park(environment, EnvCall::ExtensionNext { identifier, slot })
     }
@@ -184,8 +184,8 @@ impl<'a> Planner<'a> {
     /// The runtime could not start.
     pub(crate) fn init_error(&self, environment: u16) -> Plan<'a>
         requires { IsNumberIn self.now.environments.now environment }
-        ensures effect { ForEachScene self.now (λ x. result ≡ reports x environment (InitError x.now)) }
-        ensures within { AreIn self.now.environments.now result.made }
+        ensures effect { ForEachScene self.now (λ x. result.effect ≡ reports x environment (InitError x.now)) }
+        ensures within { AreCallable self.now.environments.now result.called }
     {
         let call = EnvCall::InitError { now: self.moment };
         self.request(environment, call, None, Some(Answer::Taken))
@@ -200,8 +200,8 @@ impl<'a> Planner<'a> {
         shutdown: bool,
     ) -> Plan<'a>
         requires { IsNumberIn self.now.environments.now environment }
-        ensures effect { ForEachScene self.now (λ x. result ≡ registers x environment drawn invoke shutdown) }
-        ensures within { AreIn self.now.environments.now result.made }
+        ensures effect { ForEachScene self.now (λ x. result.effect ≡ registers x environment drawn invoke shutdown) }
+        ensures within { AreCallable self.now.environments.now result.called }
     {
         let call = EnvCall::Register {
             identifier: drawn,
@@ -214,8 +214,8 @@ impl<'a> Planner<'a> {
     /// An extension could not start.
     pub(crate) fn extension_init_error(&self, environment: u16, identifier: [u8; 16]) -> Plan<'a>
         requires { IsNumberIn self.now.environments.now environment }
-        ensures effect { ForEachScene self.now (λ x. result ≡ reports x environment (ExtensionError identifier true x.now)) }
-        ensures within { AreIn self.now.environments.now result.made }
+        ensures effect { ForEachScene self.now (λ x. result.effect ≡ reports x environment (ExtensionError identifier true x.now)) }
+        ensures within { AreCallable self.now.environments.now result.called }
     {
         let call = EnvCall::ExtensionError {
             identifier,
@@ -228,8 +228,8 @@ impl<'a> Planner<'a> {
     /// An extension exits: the event that runs fails.
     pub(crate) fn exit(&self, environment: u16, identifier: [u8; 16]) -> Plan<'a>
         requires { IsNumberIn self.now.environments.now environment }
-        ensures effect { ForEachScene self.now (λ x. result ≡ exits x environment identifier) }
-        ensures within { AreIn self.now.environments.now result.made }
+        ensures effect { ForEachScene self.now (λ x. result.effect ≡ exits x environment identifier) }
+        ensures within { AreCallable self.now.environments.now result.called }
     {
         let command = match self.running(environment) {
             Some(id) => Some(self.exit_command(id)),

@@ -6,7 +6,7 @@ ghost use Rattle.invoke_records.specs.declared.command.Kind.TheVariants.{Start, 
 ghost use Rattle.hall_core.specs.Past.{ready_in};
 ghost use Rattle.hall_core.specs.Effects.{moves_event};
 ghost use Rattle.hall_core.specs.Planner.{ForEachScene};
-ghost use Rattle.hall_core.specs.Plans.{AnyIn, AreIn, PlansTick};
+ghost use Rattle.hall_core.specs.Plans.{AnyIn, AreCallable, PlansTick};
 ghost use Rattle.hall_core.specs.Steps.{moves_next, goes_on};
 
 use crate::environments::Environments;
@@ -37,8 +37,8 @@ impl<'a> Planner<'a> {
     // An attempt starts: the event is given to the environment that is ready.
     fn start(&self, ready: Option<u16>, id: [u8; 16]) -> Plan<'a>
         requires { AnyIn self.now.environments.now ready }
-        ensures effect { ForEachScene self.now (λ x. result ≡ moves_event x ready id Start) }
-        ensures within { AreIn self.now.environments.now result.made }
+        ensures effect { ForEachScene self.now (λ x. result.effect ≡ moves_event x ready id Start) }
+        ensures within { AreCallable self.now.environments.now result.called }
     {
         let command = Command {
             kind: Kind::Start,
@@ -56,8 +56,8 @@ impl<'a> Planner<'a> {
 
     // An attempt's time is over: the environment that holds the event is reset.
     fn fail(&self, ready: Option<u16>, id: [u8; 16], cause: Cause) -> Plan<'a>
-        ensures effect { ForEachScene self.now (λ x. result ≡ moves_event x ready id (Fail cause)) }
-        ensures within { AreIn self.now.environments.now result.made }
+        ensures effect { ForEachScene self.now (λ x. result.effect ≡ moves_event x ready id (Fail cause)) }
+        ensures within { AreCallable self.now.environments.now result.called }
     {
         let timeout = EnvCall::Timeout { now: self.moment };
         Plan::does(
@@ -68,8 +68,8 @@ impl<'a> Planner<'a> {
 
     fn move_event(&self, ready: Option<u16>, id: [u8; 16], kind: Kind) -> Plan<'a>
         requires { AnyIn self.now.environments.now ready }
-        ensures effect { ForEachScene self.now (λ x. result ≡ moves_event x ready id kind) }
-        ensures within { AreIn self.now.environments.now result.made }
+        ensures effect { ForEachScene self.now (λ x. result.effect ≡ moves_event x ready id kind) }
+        ensures within { AreCallable self.now.environments.now result.called }
     {
         match kind {
             Kind::Start => self.start(ready, id),
@@ -86,8 +86,8 @@ impl<'a> Planner<'a> {
     // The event that moves next, where this environment is ready.
     fn next_move(&self, ready: Option<u16>) -> Plan<'a>
         requires { AnyIn self.now.environments.now ready }
-        ensures effect { ForEachScene self.now (λ x. result ≡ moves_next x ready) }
-        ensures within { AreIn self.now.environments.now result.made }
+        ensures effect { ForEachScene self.now (λ x. result.effect ≡ moves_next x ready) }
+        ensures within { AreCallable self.now.environments.now result.called }
     {
         match self.table.next_move(self.moment, ready) {
             Some(next) => self.move_event(ready, next.id, next.kind),
@@ -97,8 +97,8 @@ impl<'a> Planner<'a> {
 
     // An Interrupt, else the next move.
     fn tick(&self) -> Plan<'a>
-        ensures effect { ForEachScene self.now (λ x. result ≡ goes_on x) }
-        ensures within { AreIn self.now.environments.now result.made }
+        ensures effect { ForEachScene self.now (λ x. result.effect ≡ goes_on x) }
+        ensures within { AreCallable self.now.environments.now result.called }
     {
         match self.first_unheld() {
             Some(id) => Plan::does(self.bare(Kind::Interrupt, id), Made::Nothing),
@@ -117,8 +117,8 @@ pub(crate) fn plan_tick<'a>(
     now: u64,
 ) -> Plan<'a>
     requires { IsMoment now }
-    ensures effect { PlansTick table.now environments.now is_stopping now result }
-    ensures within { AreIn environments.now result.made }
+    ensures effect { PlansTick table.now environments.now is_stopping now result.effect }
+    ensures within { AreCallable environments.now result.called }
 {
     if is_stopping {
         return Plan::nothing();

@@ -1,17 +1,18 @@
-use Rattle.std.proofs.Common.{rules, ◌≡◌, refl, subst, ◌∙◌, inl, inr, None, Some}
+use Rattle.std.proofs.Common.{rules, ◌≡◌, refl, ap, subst, ◌∙◌, inl, inr, None, Some}
 use Rattle.std.specs.Prelude.{is_some}
 use Rattle.hall_core.specs.Plans.{PlansRequest}
 use Rattle.hall_core.specs.Prepared.{IsPreparedFor}
 use Rattle.hall_core.specs.Issuing.{HasPlaceFor}
-use Rattle.hall_core.specs.Hall.{view_of, refusal_of_arrival}
-use Rattle.hall_core.proofs.Arriving.{arrived, refused_by, finds_place}
+use Rattle.hall_core.specs.Effects.{Effect}
+use Rattle.hall_core.specs.Hall.{view_of, settings_in, request, refusal_of_arrival}
+use Rattle.hall_core.proofs.Arriving.{arrived, refused_by, finds_place, effect_is, planned_unrefused, called_but_for_memory, issued_but_for_memory}
 use Rattle.hall_core.proofs.hall.Hall.arrive.Goals as goal
 
 pub returns-in-Some-clause-refused : goal.returns-in-Some-clause-refused
 returns-in-Some-clause-refused g c = λ past stands.
     let old = view_of g.I.Issuer.view c.args.self.now in
     let laws = g.met.I.Issuer.laws c.args.self.now.issuer in
-    let effect = c.plan_request-plan.result in
+    let effect = c.plan_request-plan.result.effect in
     let plans = subst (λ t. PlansRequest t c.args.self.now.environments c.args.slot c.args.call c.args.now c.args.words effect) c.table.ensures c.plan_request-plan.ensures.effect in
     let why : refusal_of_arrival old (is_some effect.command) ≡ Some c.in-Some.why = search rules in
     inl (refused_by old past c.args.slot c.args.call c.args.now c.args.words effect laws stands plans ∙ why)
@@ -20,16 +21,7 @@ pub returns-in_default-unavailable-clause-refused : goal.returns-in_default-unav
 returns-in_default-unavailable-clause-refused g c = λ past stands.
     let old = view_of g.I.Issuer.view c.args.self.now in
     let laws = g.met.I.Issuer.laws c.args.self.now.issuer in
-    let effect = c.plan_request-plan.result in
-    let plans = subst (λ t. PlansRequest t c.args.self.now.environments c.args.slot c.args.call c.args.now c.args.words effect) c.table.ensures c.plan_request-plan.ensures.effect in
-    let none : refusal_of_arrival old (is_some effect.command) ≡ None = search rules in
-    inr (refused_by old past c.args.slot c.args.call c.args.now c.args.words effect laws stands plans ∙ none, refl)
-
-pub returns-in_default-prepare-clause-refused : goal.returns-in_default-prepare-clause-refused
-returns-in_default-prepare-clause-refused g c = λ past stands.
-    let old = view_of g.I.Issuer.view c.args.self.now in
-    let laws = g.met.I.Issuer.laws c.args.self.now.issuer in
-    let effect = c.plan_request-plan.result in
+    let effect = c.plan_request-plan.result.effect in
     let plans = subst (λ t. PlansRequest t c.args.self.now.environments c.args.slot c.args.call c.args.now c.args.words effect) c.table.ensures c.plan_request-plan.ensures.effect in
     let none : refusal_of_arrival old (is_some effect.command) ≡ None = search rules in
     inr (refused_by old past c.args.slot c.args.call c.args.now c.args.words effect laws stands plans ∙ none, refl)
@@ -38,9 +30,9 @@ pub returns-in-Ok-do_for-clause-ok : goal.returns-in-Ok-do_for-clause-ok
 returns-in-Ok-do_for-clause-ok g c = λ past stands.
     let old = view_of g.I.Issuer.view c.args.self.now in
     let new = view_of g.I.Issuer.view c.do_for.new.self in
-    let effect = c.plan_request-plan.result in
+    let effect = c.plan_request-plan.result.effect in
     let plans = subst (λ t. PlansRequest t c.args.self.now.environments c.args.slot c.args.call c.args.now c.args.words effect) c.table.ensures c.plan_request-plan.ensures.effect in
-    let prepared = subst (λ t. IsPreparedFor t c.args.self.now.environments effect c.in-Ok-prepare.prepared) c.table-2.ensures c.in-Ok-prepare.ensures in
+    let prepared = subst (λ t. IsPreparedFor t c.args.self.now.environments effect c.in-Ok-prepare.prepared) c.table-2.ensures c.in-Ok-prepare.ensures.ok in
     let none : refusal_of_arrival old (is_some effect.command) ≡ None = search rules in
     arrived old new past c.args.slot c.args.call c.args.now c.args.words effect c.in-Ok-prepare.prepared c.is_stop-stops.result c.in-Ok.unavailable c.in-Ok-do_for.issued
     (g.met.I.Issuer.laws c.args.self.now.issuer) (g.met.I.Issuer.laws c.do_for.new.self.issuer) stands c.requires.fit none plans prepared
@@ -51,9 +43,31 @@ pub returns-in-Err-clause-refused : goal.returns-in-Err-clause-refused
 returns-in-Err-clause-refused g c = λ past stands.
     let old = view_of g.I.Issuer.view c.args.self.now in
     let laws = g.met.I.Issuer.laws c.args.self.now.issuer in
-    let effect = c.plan_request-plan.result in
+    let effect = c.plan_request-plan.result.effect in
     let plans = subst (λ t. PlansRequest t c.args.self.now.environments c.args.slot c.args.call c.args.now c.args.words effect) c.table.ensures c.plan_request-plan.ensures.effect in
-    let prepared = subst (λ t. IsPreparedFor t c.args.self.now.environments effect c.in-Ok-prepare.prepared) c.table-2.ensures c.in-Ok-prepare.ensures in
+    let none : refusal_of_arrival old (is_some effect.command) ≡ None = search rules in
+    let is = plans past stands.environments ∙ effect_is (settings_in old) past c.args.slot c.args.call c.args.now c.args.words in
+    let made = planned_unrefused old past c.args.slot c.args.call c.args.now c.args.words effect laws stands c.requires.fit none is in (
+    inr (
+      refused_by old past c.args.slot c.args.call c.args.now c.args.words effect laws stands plans ∙ none,
+      called_but_for_memory old past (request c.args.slot c.args.call c.args.now c.args.words) effect c.in-Err.why stands is made c.in-Err.ensures.refused,
+    )
+    )
+
+pub returns-in-Err-do_for-clause-refused : goal.returns-in-Err-do_for-clause-refused
+returns-in-Err-do_for-clause-refused g c = λ past stands.
+    let old = view_of g.I.Issuer.view c.args.self.now in
+    let laws = g.met.I.Issuer.laws c.args.self.now.issuer in
+    let effect = c.plan_request-plan.result.effect in
+    let plans = subst (λ t. PlansRequest t c.args.self.now.environments c.args.slot c.args.call c.args.now c.args.words effect) c.table.ensures c.plan_request-plan.ensures.effect in
+    let prepared = subst (λ t. IsPreparedFor t c.args.self.now.environments effect c.in-Ok-prepare.prepared) c.table-2.ensures c.in-Ok-prepare.ensures.ok in
     let none : refusal_of_arrival old (is_some effect.command) ≡ None = search rules in
     let place : HasPlaceFor (g.I.Issuer.view c.args.self.now.issuer) c.in-Ok-prepare.prepared.command = rw prepared.command (finds_place old effect.command laws none) in
-    inr (refused_by old past c.args.slot c.args.call c.args.now c.args.words effect laws stands plans ∙ none, c.in-Err.ensures.memory place)
+    let is = plans past stands.environments ∙ effect_is (settings_in old) past c.args.slot c.args.call c.args.now c.args.words in
+    let made = planned_unrefused old past c.args.slot c.args.call c.args.now c.args.words effect laws stands c.requires.fit none is in (
+    inr (
+      refused_by old past c.args.slot c.args.call c.args.now c.args.words effect laws stands plans ∙ none,
+      issued_but_for_memory old past (request c.args.slot c.args.call c.args.now c.args.words) c.in-Ok-prepare.prepared.command c.in-Err-do_for.why stands made
+          (prepared.command ∙ ap (λ (e : Effect). e.command) is) (c.in-Err-do_for.ensures.refused place),
+    )
+    )

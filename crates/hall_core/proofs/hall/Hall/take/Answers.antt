@@ -1,5 +1,5 @@
 use Rattle.std.proofs.Common.{rules, ◌≡◌, refl, sym, ap, ◌∙◌}
-use Rattle.std.specs.Prelude.{option_map}
+use Rattle.std.specs.Prelude.{Some, option_map}
 use Rattle.hall_core.specs.Hall.{view_of}
 use Rattle.hall_core.proofs.Ticking.{taken_from, gives, as_released}
 use Rattle.hall_core.proofs.hall.Hall.take.Goals as goal
@@ -8,13 +8,13 @@ pub returns-in-Some-clause-gives : goal.returns-in-Some-clause-gives
 returns-in-Some-clause-gives g c = λ past stands.
     let broken : c.args.self.now.broken ≡ (g.I.Issuer.view c.args.self.now.issuer).broken = search rules in
     let durable : c.args.self.now.receipt ≡ (g.I.Issuer.view c.args.self.now.issuer).durable = search rules in
-    ap (option_map as_released) (sym c.in-Some.is) ∙ gives _ past c.args.slot _ _ _ _ c.take.result (c.take.ensures.gives _ past.slots stands.slots) broken durable
+    ap Some c.new.ensures ∙ ap (option_map (as_released c.args.slot)) (sym c.in-Some.is) ∙ gives _ past c.args.slot _ _ _ _ c.take.result (c.take.ensures.gives _ past.slots stands.slots) broken durable
 
 pub returns-in-None-clause-gives : goal.returns-in-None-clause-gives
 returns-in-None-clause-gives g c = λ past stands.
     let broken : c.args.self.now.broken ≡ (g.I.Issuer.view c.args.self.now.issuer).broken = search rules in
     let durable : c.args.self.now.receipt ≡ (g.I.Issuer.view c.args.self.now.issuer).durable = search rules in
-    ap (option_map as_released) (sym c.in-None.is) ∙ gives _ past c.args.slot _ _ _ _ c.take.result (c.take.ensures.gives _ past.slots stands.slots) broken durable
+    ap (option_map (as_released c.args.slot)) (sym c.in-None.is) ∙ gives _ past c.args.slot _ _ _ _ c.take.result (c.take.ensures.gives _ past.slots stands.slots) broken durable
 
 pub returns-in-Some-clause-some : goal.returns-in-Some-clause-some
 returns-in-Some-clause-some g c = λ past stands.

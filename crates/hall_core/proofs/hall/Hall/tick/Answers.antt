@@ -1,37 +1,31 @@
-use Rattle.std.proofs.Common.{rules, ◌≡◌, refl, subst, ◌∙◌, inl, inr, None, Some}
+use Rattle.std.proofs.Common.{rules, ◌≡◌, refl, ap, subst, ◌∙◌, inl, inr, None, Some}
 use Rattle.std.specs.Prelude.{is_some}
 use Rattle.hall_core.specs.Plans.{PlansTick}
 use Rattle.hall_core.specs.Prepared.{IsPreparedFor}
 use Rattle.hall_core.specs.Issuing.{HasPlaceFor}
-use Rattle.hall_core.specs.Hall.{view_of, refusal_of_moving}
-use Rattle.hall_core.proofs.Ticking.{ticked, tick_refused_by, moving_finds_place}
+use Rattle.hall_core.specs.Past.{tick}
+use Rattle.hall_core.specs.Effects.{Effect}
+use Rattle.hall_core.specs.Hall.{view_of, settings_in, refusal_of_moving}
+use Rattle.hall_core.proofs.Arriving.{called_but_for_memory, issued_but_for_memory}
+use Rattle.hall_core.proofs.Ticking.{ticked, tick_refused_by, moving_finds_place, tick_effect_is, tick_unrefused}
 use Rattle.hall_core.proofs.hall.Hall.tick.Goals as goal
 
 pub returns-in-Some-clause-refused : goal.returns-in-Some-clause-refused
 returns-in-Some-clause-refused g c = λ past stands.
     let old = view_of g.I.Issuer.view c.args.self.now in
     let laws = g.met.I.Issuer.laws c.args.self.now.issuer in
-    let effect = c.plan_tick-plan.result in
+    let effect = c.plan_tick-plan.result.effect in
     let plans = subst (λ t. PlansTick t c.args.self.now.environments c.args.self.now.stops c.args.now effect) c.table.ensures c.plan_tick-plan.ensures.effect in
     let why : refusal_of_moving old (is_some effect.command) ≡ Some c.in-Some.why = search rules in
     inl (tick_refused_by old past c.args.now effect laws stands plans ∙ why)
-
-pub returns-in_default-prepare-clause-refused : goal.returns-in_default-prepare-clause-refused
-returns-in_default-prepare-clause-refused g c = λ past stands.
-    let old = view_of g.I.Issuer.view c.args.self.now in
-    let laws = g.met.I.Issuer.laws c.args.self.now.issuer in
-    let effect = c.plan_tick-plan.result in
-    let plans = subst (λ t. PlansTick t c.args.self.now.environments c.args.self.now.stops c.args.now effect) c.table.ensures c.plan_tick-plan.ensures.effect in
-    let none : refusal_of_moving old (is_some effect.command) ≡ None = search rules in
-    inr (tick_refused_by old past c.args.now effect laws stands plans ∙ none, refl)
 
 pub returns-in-Ok-do_moving-clause-ok : goal.returns-in-Ok-do_moving-clause-ok
 returns-in-Ok-do_moving-clause-ok g c = λ past stands.
     let old = view_of g.I.Issuer.view c.args.self.now in
     let new = view_of g.I.Issuer.view c.do_moving.new.self in
-    let effect = c.plan_tick-plan.result in
+    let effect = c.plan_tick-plan.result.effect in
     let plans = subst (λ t. PlansTick t c.args.self.now.environments c.args.self.now.stops c.args.now effect) c.table.ensures c.plan_tick-plan.ensures.effect in
-    let prepared = subst (λ t. IsPreparedFor t c.args.self.now.environments effect c.in-Ok.prepared) c.table-2.ensures c.in-Ok.ensures in
+    let prepared = subst (λ t. IsPreparedFor t c.args.self.now.environments effect c.in-Ok.prepared) c.table-2.ensures c.in-Ok.ensures.ok in
     let none : refusal_of_moving old (is_some effect.command) ≡ None = search rules in
     ticked old new past c.args.now effect c.in-Ok.prepared c.in-Ok-do_moving.issued
     (g.met.I.Issuer.laws c.args.self.now.issuer) (g.met.I.Issuer.laws c.do_moving.new.self.issuer) stands c.requires none plans prepared
@@ -42,9 +36,31 @@ pub returns-in-Err-clause-refused : goal.returns-in-Err-clause-refused
 returns-in-Err-clause-refused g c = λ past stands.
     let old = view_of g.I.Issuer.view c.args.self.now in
     let laws = g.met.I.Issuer.laws c.args.self.now.issuer in
-    let effect = c.plan_tick-plan.result in
+    let effect = c.plan_tick-plan.result.effect in
     let plans = subst (λ t. PlansTick t c.args.self.now.environments c.args.self.now.stops c.args.now effect) c.table.ensures c.plan_tick-plan.ensures.effect in
-    let prepared = subst (λ t. IsPreparedFor t c.args.self.now.environments effect c.in-Ok.prepared) c.table-2.ensures c.in-Ok.ensures in
+    let none : refusal_of_moving old (is_some effect.command) ≡ None = search rules in
+    let is = plans past stands.environments stands.stopping ∙ tick_effect_is (settings_in old) past c.args.now in
+    let made = tick_unrefused old past c.args.now effect laws stands c.requires none is in (
+    inr (
+      tick_refused_by old past c.args.now effect laws stands plans ∙ none,
+      called_but_for_memory old past (tick c.args.now) effect c.in-Err.why stands is made c.in-Err.ensures.refused,
+    )
+    )
+
+pub returns-in-Err-do_moving-clause-refused : goal.returns-in-Err-do_moving-clause-refused
+returns-in-Err-do_moving-clause-refused g c = λ past stands.
+    let old = view_of g.I.Issuer.view c.args.self.now in
+    let laws = g.met.I.Issuer.laws c.args.self.now.issuer in
+    let effect = c.plan_tick-plan.result.effect in
+    let plans = subst (λ t. PlansTick t c.args.self.now.environments c.args.self.now.stops c.args.now effect) c.table.ensures c.plan_tick-plan.ensures.effect in
+    let prepared = subst (λ t. IsPreparedFor t c.args.self.now.environments effect c.in-Ok.prepared) c.table-2.ensures c.in-Ok.ensures.ok in
     let none : refusal_of_moving old (is_some effect.command) ≡ None = search rules in
     let place : HasPlaceFor (g.I.Issuer.view c.args.self.now.issuer) c.in-Ok.prepared.command = rw prepared.command (moving_finds_place old effect.command laws none) in
-    inr (tick_refused_by old past c.args.now effect laws stands plans ∙ none, c.in-Err.ensures.memory place)
+    let is = plans past stands.environments stands.stopping ∙ tick_effect_is (settings_in old) past c.args.now in
+    let made = tick_unrefused old past c.args.now effect laws stands c.requires none is in (
+    inr (
+      tick_refused_by old past c.args.now effect laws stands plans ∙ none,
+      issued_but_for_memory old past (tick c.args.now) c.in-Ok.prepared.command c.in-Err-do_moving.why stands made
+          (prepared.command ∙ ap (λ (e : Effect). e.command) is) (c.in-Err-do_moving.ensures.refused place),
+    )
+    )

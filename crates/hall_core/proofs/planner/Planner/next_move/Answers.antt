@@ -1,5 +1,6 @@
-use Rattle.std.proofs.Common.{◌∙◌, refl}
+use Rattle.std.proofs.Common.{◌∙◌, ap, refl}
 use Rattle.hall_core.specs.laws.Moving.{first_moving-is, first_moving-none}
+use Rattle.hall_core.specs.Plans.{PlanView}
 use Rattle.hall_core.proofs.planner.Planner.next_move.Goals as goal
 
 pub returns-in-Some-clause-effect : goal.returns-in-Some-clause-effect
@@ -11,5 +12,5 @@ returns-in-Some-clause-effect c past meets =
 pub returns-in-None-clause-effect : goal.returns-in-None-clause-effect
 returns-in-None-clause-effect c past meets =
     let all = c.in-None.ensures.by_history past.history meets.table_is in
-    c.nothing.ensures
+    ap (λ (p : PlanView). p.effect) c.nothing.ensures
     ∙ rw (first_moving-none c.args.self.now.table.now.settings past.history c.args.self.now.moment _ all) refl
