@@ -46,14 +46,21 @@ fn settings(alloc: Global) -> Result<Settings, AllocError> {
     })
 }
 
-// A formatted disk of 64 sectors.
-pub fn formatted(alloc: Global) -> Result<MemDisk, Fail> {
-    let settings = settings(alloc)?;
+// Formats a disk with good settings.
+fn format_disk(alloc: Global, disk: &mut MemDisk, settings: &Settings) -> Result<(), Fail> {
     if settings.check().is_err() {
         return Err(Fail::new("the settings are not good"));
     }
+    match format(alloc, disk, settings) {
+        Ok(()) => Ok(()),
+        Err(_) => Err(Fail::new("the disk is not formatted")),
+    }
+}
+
+// A formatted disk of 64 sectors.
+pub fn formatted(alloc: Global) -> Result<MemDisk, Fail> {
     let mut disk = MemDisk::new(alloc, 64)?;
-    format(alloc, &mut disk, &settings)?;
+    format_disk(alloc, &mut disk, &settings(alloc)?)?;
     Ok(disk)
 }
 
