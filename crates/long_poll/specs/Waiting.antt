@@ -1,6 +1,5 @@
 -- The future of one reply: the slot that it waits for, and the number that has to be durable before the office is asked.
 use Rattle.std.specs.Prelude.{ℕ, Option, Some, None}
-use Rattle.long_poll.specs.declared.bell.Bell.{Bell}
 use Rattle.long_poll.specs.declared.waiting.Stage.{Stage}
 use Rattle.long_poll.specs.declared.waiting.Stage.TheVariants as stage
 
@@ -9,7 +8,3 @@ abbrev pub number_at : Stage → Option ℕ
 number_at (stage.Issued ticket) = Some ticket
 number_at (stage.Durable receipt) = Some receipt
 number_at stage.Told = None
-
--- the source at which the tasks of a bell wait
-abbrev pub source_of : Bell → ℕ
-source_of bell = bell.source.id

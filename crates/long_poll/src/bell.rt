@@ -23,7 +23,7 @@ pub struct Registered {
 }
 
 impl Bell {
-    ghost use Rattle.long_poll.specs.Waiting.{source_of};
+    ghost use Rattle.long_poll.specs.Bell.{source_of};
 
     pub fn new(alloc: Global) -> Bell {
         Bell {

@@ -1,5 +1,5 @@
 // The tasks that wait at a bell, behind its lock.
-ghost use Rattle.std.specs.Prelude.{◌≡◌};
+ghost use Rattle.std.specs.Prelude.{◌≡◌, ◌≤◌, ◌++◌, ◌∷◌, [], None, OnOk, OnErr, vec_len, vec_capacity};
 ghost use Rattle.futures.specs.Task.{Hears, IsArmed, Keeps};
 
 use futures::task::{Context, Source, Waker};
@@ -18,11 +18,14 @@ struct Entry {
 pub(crate) struct Waiters {
     alloc: Global,
     entries: Vec<Entry>,
-    /// Empty, with room for as many wakers as there are places, unless a ring has it.
+    /// With room for as many wakers as there are places, unless a ring has it.
     room: Vec<Waker>,
+    ghost empty: { room.items ≡ [] },
 }
 
 impl Waiters {
+    ghost use Rattle.long_poll.specs.Bell.{AreFree, Waits};
+
     pub(crate) fn new(alloc: Global) -> Waiters {
         Waiters {
             alloc,
@@ -32,7 +35,11 @@ impl Waiters {
     }
 
     /// Makes a place for a key, so that neither registering there nor ringing needs memory.
-    pub(crate) fn enter(&mut self, key: u64) -> Result<(), AllocError> {
+    pub(crate) fn enter(&mut self, key: u64) -> Result<(), AllocError>
+        ensures place { OnOk result (self.new.entries.items ≡ self.old.entries.items ++ record { key = key; waker = None } ∷ []) }
+        ensures room { OnOk result (vec_len self.new.entries ≤ vec_capacity self.new.room) }
+        ensures err { OnErr result (self.new.entries.items ≡ self.old.entries.items) }
+    {
         self.room.reserve(self.entries.len().saturating_add(1))?;
         self.entries.push(Entry { key, waker: None })?;
         Ok(())
@@ -50,12 +57,9 @@ impl Waiters {
         ensures armed { IsArmed cx.new }
         ensures heard { Hears cx.new source.now.id }
         ensures kept { Keeps cx.old cx.new }
+        ensures waits { Waits self.new.entries.items key cx.old cx.new }
     {
-        if let Some(entry) = self.entries.iter_mut().find(|entry| entry.key == key) {
-            cx.register::<()>(source, &mut entry.waker);
-            return;
-        }
-        let mut waker = None;
+        let mut waker = self.leave(key);
         cx.register::<()>(source, &mut waker);
         if self.entries.push(Entry { key, waker }).is_err() {
             cx.yield_now::<()>();
@@ -63,7 +67,9 @@ impl Waiters {
     }
 
     /// Takes all wakers out of their places. One for which there is no room wakes its task here.
-    pub(crate) fn take_wakers(&mut self) -> Vec<Waker> {
+    pub(crate) fn take_wakers(&mut self) -> Vec<Waker>
+        ensures free { AreFree self.new.entries.items }
+    {
         let mut wakers = mem::replace(&mut self.room, Vec::new(self.alloc));
         for entry in self.entries.iter_mut() {
             if let Some(waker) = entry.waker.take() {
@@ -76,7 +82,11 @@ impl Waiters {
     }
 
     /// Takes the room back that a ring had, where it is not less than what is here.
-    pub(crate) fn give_back(&mut self, room: Vec<Waker>) {
+    pub(crate) fn give_back(&mut self, room: Vec<Waker>)
+        requires empty { room.items ≡ [] }
+        ensures same { self.new.entries.items ≡ self.old.entries.items }
+        ensures room { vec_capacity room ≤ vec_capacity self.new.room }
+    {
         if self.room.capacity() < room.capacity() {
             self.room = room;
         }

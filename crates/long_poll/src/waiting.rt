@@ -109,7 +109,7 @@ impl<R: Wait, L: Ledger> Waiting<R, L> {
 impl<R: Wait + Drop, L: Ledger> Future for Waiting<R, L> {
     type Output = Released;
 
-    ghost use Rattle.long_poll.specs.Waiting.{source_of};
+    ghost use Rattle.long_poll.specs.Bell.{source_of};
 
     ghost needs = { λ waiting source. source ≡ source_of waiting.port.value.bell.value };
 
