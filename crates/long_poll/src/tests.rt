@@ -33,11 +33,12 @@ where
     house.wait_for(ticket, slot)?;
     assert_eq!(rt; house.poll().len(), 0);
     let durable = house.commit()?;
-    house.ring();
+    house.ring(1);
     assert_eq!(rt; house.poll().len(), 0);
     house.raise(durable);
+    house.ring(0);
     assert_eq!(rt; house.poll().len(), 0);
-    house.ring();
+    house.ring(1);
     assert_eq!(rt; house.poll().as_slice(), [(slot, 202)].as_slice());
     assert_eq!(rt; house.open_slots(), 0);
     Ok(())
@@ -61,12 +62,12 @@ where
     let (ticket, second) = house.ask(RUNTIME_NEXT, 1)?;
     house.wait_for(ticket, second)?;
     assert_eq!(rt; house.poll().len(), 0);
-    house.ring();
+    house.ring(0);
     assert_eq!(rt; house.poll().as_slice(), [(first, 409)].as_slice());
     let (ticket, accepted) = house.ask(invoke(alloc)?, 1)?;
     house.wait_for(ticket, accepted)?;
     assert_eq!(rt; house.tick()?, Some(2));
-    house.ring();
+    house.ring(0);
     assert_eq!(rt; house.poll().len(), 0);
     assert_eq!(rt; house.commit_and_tell()?, 2);
     assert_eq!(rt; house.poll().len(), 2);
@@ -101,8 +102,6 @@ where
     assert_eq!(rt; house.open_slots(), 2);
     assert_eq!(rt; house.poll().len(), 0);
     assert_eq!(rt; house.commit_and_tell().err(), Some(HallError::Fault));
-    house.say_broken();
-    house.ring();
     let told = house.poll();
     assert_eq!(rt; told.len(), 2);
     assert!(rt; told.contains(&(parked, 503)) && told.contains(&(refused, 503)));

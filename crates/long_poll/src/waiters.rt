@@ -6,11 +6,28 @@ use futures::task::{Context, Source, Waker};
 use std::alloc::{AllocError, Global};
 use std::mem;
 
-/// The place of one key, with the waker of the task that waits there since the last ring.
+/// The place of one key, with the waker of the task that waits there, and the number that it waits for.
 #[derive(Drop)]
 struct Entry {
     key: u64,
+    number: u64,
     waker: Option<Waker>,
+}
+
+impl Entry {
+    ghost use Rattle.long_poll.specs.Bell.{IsFree};
+
+    // What waits here for this number or one below.
+    #[tactic(auto, unfolding(crate::specs::Bell::IsFree))]
+    fn take(&mut self, number: u64) -> Option<Waker>
+        ensures { IsFree number self.new }
+    {
+        if self.number <= number {
+            self.waker.take()
+        } else {
+            None
+        }
+    }
 }
 
 /// A place for each key, and room for their wakers.
@@ -36,43 +53,48 @@ impl Waiters {
 
     /// Makes a place for a key, so that neither registering there nor ringing needs memory.
     pub(crate) fn enter(&mut self, key: u64) -> Result<(), AllocError>
-        ensures place { OnOk result (self.new.entries.items ≡ self.old.entries.items ++ record { key = key; waker = None } ∷ []) }
+        ensures place { OnOk result (self.new.entries.items ≡ self.old.entries.items ++ record { key = key; number = 0; waker = None } ∷ []) }
         ensures room { OnOk result (vec_len self.new.entries ≤ vec_capacity self.new.room) }
         ensures err { OnErr result (self.new.entries.items ≡ self.old.entries.items) }
     {
         self.room.reserve(self.entries.len().saturating_add(1))?;
-        self.entries.push(Entry { key, waker: None })?;
+        self.entries.push(Entry {
+            key,
+            number: 0,
+            waker: None,
+        })?;
         Ok(())
     }
 
     /// Takes a key's place away, and hands out what waits there.
     pub(crate) fn leave(&mut self, key: u64) -> Option<Waker> {
         let at = self.entries.iter().position(|entry| entry.key == key)?;
-        let Entry { key: _, waker } = self.entries.swap_remove(at);
+        let Entry { waker, .. } = self.entries.swap_remove(at);
         waker
     }
 
-    /// Leaves the task's waker at the key's place. Where there is none and no memory for one, the task is polled again.
-    pub(crate) fn register(&mut self, source: &Source, key: u64, cx: &mut Context<'_>)
+    /// Leaves the task's waker at the key's place, for rings of this number and above. Where there is no place and no memory
+    /// for one, the task is polled again.
+    pub(crate) fn register(&mut self, source: &Source, key: u64, number: u64, cx: &mut Context<'_>)
         ensures armed { IsArmed cx.new }
         ensures heard { Hears cx.new source.now.id }
         ensures kept { Keeps cx.old cx.new }
-        ensures waits { Waits self.new.entries.items key cx.old cx.new }
+        ensures waits { Waits self.new.entries.items key number cx.old cx.new }
     {
         let mut waker = self.leave(key);
         cx.register::<()>(source, &mut waker);
-        if self.entries.push(Entry { key, waker }).is_err() {
+        if self.entries.push(Entry { key, number, waker }).is_err() {
             cx.yield_now::<()>();
         }
     }
 
-    /// Takes all wakers out of their places. One for which there is no room wakes its task here.
-    pub(crate) fn take_wakers(&mut self) -> Vec<Waker>
-        ensures free { AreFree self.new.entries.items }
+    /// Takes all wakers of this number and below out of their places. One for which there is no room wakes its task here.
+    pub(crate) fn take_wakers(&mut self, number: u64) -> Vec<Waker>
+        ensures free { AreFree number self.new.entries.items }
     {
         let mut wakers = mem::replace(&mut self.room, Vec::new(self.alloc));
         for entry in self.entries.iter_mut() {
-            if let Some(waker) = entry.waker.take() {
+            if let Some(waker) = entry.take(number) {
                 if let Err(refused) = wakers.push(waker) {
                     drop(refused);
                 }

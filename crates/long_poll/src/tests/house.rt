@@ -203,20 +203,27 @@ where
         self.board.raise(&mut self.committer, durable);
     }
 
-    pub fn ring(&self) {
-        self.port.bell().ring(&self.rt);
+    // Wakes those that wait for this number or one below.
+    pub fn ring(&self, number: u64) {
+        self.port.bell().ring_up_to(&self.rt, number);
     }
 
-    pub fn say_broken(&self) {
-        self.port.bell().say_broken();
-    }
-
-    // Commits, raises the board and rings.
+    // Commits, raises the board and rings; after a fault it is said that the hall broke.
     pub fn commit_and_tell(&mut self) -> Result<u64, HallError> {
-        let durable = self.commit()?;
-        self.raise(durable);
-        self.ring();
-        Ok(durable.number())
+        match self.commit() {
+            Ok(durable) => {
+                self.raise(durable);
+                self.ring(durable.number());
+                Ok(durable.number())
+            }
+            Err(why) => {
+                if matches!(why, HallError::Fault) {
+                    self.port.bell().say_broken();
+                }
+                self.port.bell().ring(&self.rt);
+                Err(why)
+            }
+        }
     }
 
     // Whether the board shows this ticket's number.
