@@ -3,6 +3,7 @@ mod house;
 
 use crate::tests::house::{House, formatted};
 use api_core::Call;
+use futures::executor::block_on;
 use hall_core::HallError;
 use invoke_records::Bytes;
 use sector_disk::{CallKind, FaultOnceDisk, MemDisk};
@@ -13,6 +14,8 @@ use std::random::RandomSource;
 use std::sync::Wait;
 use std::sync::ledger::{Blank, Ledger};
 use std::test::Fail;
+use std::thread;
+use std::thread::Threads;
 
 // An invoke of `{}`.
 fn invoke(alloc: Global) -> Result<Call, AllocError> {
@@ -133,4 +136,26 @@ where
 #[test]
 fn a_dropped_future_forgets_its_slot(rt: HostRuntime) -> Result<(), Fail> {
     dropped::<Brand, _>(rt, Blank::new(8))
+}
+
+// Another thread waits for the reply, and is woken by the commit's ring.
+fn another_thread<L, R>(rt: R, blank: Blank) -> Result<(), Fail>
+where
+    L: Ledger + Send + Sync + 'static,
+    R: Abort + Threads + Wait + RandomSource + AllocGlobal + Copy + Drop + Send + 'static,
+{
+    let alloc = rt.alloc();
+    let mut house = House::<R, MemDisk, L>::open(rt, formatted(alloc)?, blank)?;
+    let (ticket, slot) = house.ask(invoke(alloc)?, 1)?;
+    let waiting = house.waiting(ticket, slot)?;
+    let thread = thread::spawn(&rt, move || block_on(&rt, waiting))?;
+    assert_eq!(rt; house.commit_and_tell()?, 1);
+    let released = thread.join(&rt)?;
+    assert_eq!(rt; (released.slot(), released.reply.status), (slot, 202));
+    Ok(())
+}
+
+#[test]
+fn a_ring_wakes_another_thread(rt: HostRuntime) -> Result<(), Fail> {
+    another_thread::<Brand, _>(rt, Blank::new(8))
 }
