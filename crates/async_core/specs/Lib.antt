@@ -8,6 +8,7 @@ pub mod State
 pub mod Histories
 pub mod Readers
 pub mod Choice
+pub mod Equality
 pub mod Steps
 pub mod Examples
 pub mod laws

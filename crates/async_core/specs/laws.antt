@@ -7,3 +7,4 @@ pub mod Pace
 pub mod Rows
 pub mod Tables
 pub mod Limits
+pub mod Equality

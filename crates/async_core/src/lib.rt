@@ -8,6 +8,7 @@
 mod changes;
 mod choice;
 mod copies;
+mod equality;
 pub mod examples;
 mod illegal;
 mod legality;

@@ -5,3 +5,7 @@ pub mod Reopening
 pub mod Results
 pub mod Rested
 pub mod Resumed
+pub mod Memory
+pub mod Taken
+pub mod Writes
+pub mod Joined

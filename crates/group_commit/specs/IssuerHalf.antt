@@ -1,6 +1,6 @@
 -- An issue half as contracts see it, and as an issuer of commands.
-use Rattle.std.specs.Prelude.{◌≡◌, ℕ, ◌≤◌, Bool, Option, List, length, drop}
-use Rattle.std.proofs.Common.{ap, ◌∙◌}
+use Rattle.std.specs.Prelude.{◌≡◌, ℕ, ◌≤◌, Option, List, length, drop}
+use Rattle.std.proofs.Common.{refl, ap, ◌∙◌}
 use Rattle.retry_rules.specs.declared.settings.Settings.{Settings}
 use Rattle.invoke_records.specs.declared.snapshot.Snapshot.{Snapshot}
 use Rattle.invoke_records.specs.declared.command.Command.{Command}
@@ -9,16 +9,13 @@ use Rattle.async_core.specs.laws.Tables.{number-table_of}
 use Rattle.group_commit.specs.declared.issue_half.IssueHalf.{IssueHalf}
 use Rattle.group_commit.specs.Issuer.{IssuerView, IsIssuer, GoesOn}
 
--- the last number of the batch that is out, if one is
-abbrev pub lent_of : IssueHalf → Option ℕ
-lent_of half = half.lent
-
--- the history is legal, the half's table is that of the history, and what is pending is its end behind the durable commands
-pub record HalfStands (half : IssueHalf) (history : List Command) : Type 0 where
-  pub legal : IsLegal half.table.settings history
-  pub table_is : half.table.table ≡ table_of half.table.settings history
-  pub durable_is : half.durable ≤ length history
-  pub pending_is : half.pending.items ≡ drop half.durable history
+-- A half with these settings, this table, these pending commands and this durable number stands for a legal history of
+-- which the table is, and whose end behind the durable commands is pending.
+pub record StandsInMemory (s : Settings) (table : Snapshot) (pending : List Command) (durable : ℕ) (history : List Command) : Type 0 where
+  pub legal : IsLegal s history
+  pub table_is : table ≡ table_of s history
+  pub durable_is : durable ≤ length history
+  pub pending_is : pending ≡ drop durable history
 
 -- the half at a moment
 abbrev pub half_view : IssueHalf → IssuerView
@@ -28,7 +25,7 @@ half_view half = record {
   pending = half.pending.items;
   durable = half.durable;
   broken = half.broken;
-  stands = λ history. HalfStands half history;
+  stands = λ history. StandsInMemory half.table.settings half.table.table half.pending.items half.durable history;
 }
 
 -- a half is as an issuer has to be
@@ -47,9 +44,13 @@ half_laws half = record {
   };
 }
 
--- it calls nothing outside memory
-abbrev pub calls_nothing : IssueHalf → IssueHalf → Type 0
-calls_nothing old new = Unit {0}
+-- the last number of the batch that is out, if one is
+abbrev pub lent_of : IssueHalf → Option ℕ
+lent_of half = half.lent
 
-pub nothing_goes_on : GoesOn calls_nothing
-nothing_goes_on = record { at_first = λ a. (); on = λ a b c first second. () }
+-- the same batch is out, or none
+abbrev pub has_same_lent : IssueHalf → IssueHalf → Type 0
+has_same_lent old new = lent_of new ≡ lent_of old
+
+pub same_lent_goes_on : GoesOn has_same_lent
+same_lent_goes_on = record { at_first = λ a. refl; on = λ a b c first second. second ∙ first }

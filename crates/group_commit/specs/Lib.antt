@@ -7,6 +7,11 @@ pub mod DrillBroker
 pub mod Issuer
 pub mod IssuerBroker
 pub mod IssuerHalf
+pub mod Batch
+pub mod Lending
+pub mod Splitting
+pub mod Writing
+pub mod Taking
 pub mod Resume
 pub mod Steps
 pub mod laws

@@ -1,11 +1,14 @@
 -- Names only steps of private functions: a reader of the public contracts need not believe it.
-use Rattle.std.specs.Prelude.{◌≡◌, ◌⊎◌, None, Some, Option}
+use Rattle.std.specs.Prelude.{◌≡◌, ◌⊎◌, ◌≤◌, ◌^◌, All, List, length, None, Some, Option}
 use Rattle.sector_disk.specs.Disk.{DiskView}
 use Rattle.sector_disk.specs.Moments.{LeavesOnly}
 use Rattle.sector_disk.specs.declared.disk.Disk.{Ghosts}
 use Rattle.invoke_records.specs.declared.snapshot.Snapshot.{Snapshot}
 use Rattle.async_core.specs.declared.illegal.Illegal.{Illegal}
 use Rattle.async_core.specs.Rules.{replay}
+use Rattle.async_core.specs.State.{State, refusal_by}
+use Rattle.invoke_records.specs.declared.command.Command.{Command}
+use Rattle.invoke_records.specs.Spelling.{command_fault}
 use Rattle.checkpoint.specs.declared.opened.Opened.{Opened}
 use Rattle.checkpoint.specs.Live.{RecoversTo, RecoversToEither, IsLive}
 use Rattle.checkpoint.specs.Live.{settings_of as live_settings}
@@ -33,3 +36,15 @@ ForBothTables view broker P =
 abbrev pub LeavesEither : {D : Type 0} {g : Ghosts D} → (D → DiskView) → Broker D g → Broker D g → Snapshot → Type 0
 LeavesEither view old new before =
     LeavesOnly (view (disk_of old)) (view (disk_of new)) (RecoversToEither (settings_of old) before (table_in old))
+
+-- why a table and what is pending on it refuse a command
+abbrev pub IsTakeReason : State → List Command → Command → IssueError → Type 0
+IsTakeReason table pending command issue_error.Broken = ⊥
+IsTakeReason table pending command issue_error.WornOut = 2 ^ 62 ≤ table.table.number
+IsTakeReason table pending command (issue_error.Illegal why) = refusal_by table command ≡ Some why
+IsTakeReason table pending command issue_error.Backlog = (refusal_by table command ≡ None) × (length pending ≡ 256)
+IsTakeReason table pending command issue_error.OutOfMemory = refusal_by table command ≡ None
+
+-- each of these commands has a spelling
+abbrev pub AreSpelled : List Command → Type 0
+AreSpelled commands = All (λ c. command_fault c ≡ None) commands

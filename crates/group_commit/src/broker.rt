@@ -111,6 +111,13 @@ impl<D: Disk> Broker<D> {
         Durable::new(self.durable)
     }
 
+    /// Whether the device failed: the disk has to be opened again.
+    pub fn is_broken(&self) -> bool
+        ensures { result ≡ is_broken self.now }
+    {
+        self.broken
+    }
+
     /// The table after all that was issued.
     pub fn table(&self) -> &Table
         ensures { result.now ≡ record { settings = settings_of self.now; table = table_in self.now } }

@@ -1,13 +1,15 @@
 // Issuing commands: they are applied to the table and pending until they are committed.
-ghost use Rattle.std.specs.Prelude.{◌≡◌, ◌<◌, ◌≤◌, ◌^◌, false, None, Some, Err, IsTrue, IsOkUnless, OnErr, IfOk, IfErr};
+ghost use Rattle.std.specs.Prelude.{◌≡◌, ◌+◌, ◌<◌, ◌≤◌, ◌^◌, ◌++◌, ◌∷◌, [], false, None, Some, Err, length, IsTrue, IsOkUnless, OnOk, OnErr, IfOk, IfErr};
 ghost use Rattle.invoke_records.specs.declared.command.Command.{Command};
 ghost use Rattle.async_core.specs.declared.illegal.Illegal.{Illegal};
 ghost use Rattle.async_core.specs.Rules.{refusal_at};
+ghost use Rattle.async_core.specs.State.{refusal_by, state_after};
 ghost use Rattle.group_commit.specs.declared.error.IssueError.TheVariants as issue_error;
 ghost use Rattle.group_commit.specs.Broker.{disk_of, settings_of, issued_of, is_broken, Stands, IsSameBroker, Issues, IsReason};
 ghost use Rattle.group_commit.specs.Promises.{ForEachHistory, LeavesLegalStops, Accepts};
 ghost use Rattle.group_commit.specs.Refusals.{OnUsable, IsLegalNow, Fails, IsFull, HasPlace, TellsIllegal};
-ghost use Rattle.group_commit.specs.Steps.{IsErrorFor};
+ghost use Rattle.group_commit.specs.History.{AreGood};
+ghost use Rattle.group_commit.specs.Steps.{IsErrorFor, IsTakeReason, AreSpelled};
 
 use crate::broker::{MOST_COMMANDS, MOST_PENDING};
 use crate::{Broker, IssueError, Ticket};
@@ -33,7 +35,28 @@ pub(crate) fn take(
     table: &mut Table,
     pending: &mut Vec<Command>,
     command: Command,
-) -> Result<(), IssueError> {
+) -> Result<(), IssueError>
+    requires few { length pending.old.items ≤ 256 }
+    ensures worn_out { 2 ^ 62 ≤ table.old.table.number → result ≡ Err issue_error.WornOut }
+    ensures illegal { table.old.table.number < 2 ^ 62 → (why : Illegal) → refusal_by table.old command ≡ Some why
+        → result ≡ Err (issue_error.Illegal why) }
+    ensures backlog { table.old.table.number < 2 ^ 62 → refusal_by table.old command ≡ None → length pending.old.items ≡ 256
+        → result ≡ Err issue_error.Backlog }
+    ensures accepted { table.old.table.number < 2 ^ 62 → refusal_by table.old command ≡ None → length pending.old.items < 256
+        → IsOkUnless result issue_error.OutOfMemory }
+    ensures reason { IfErr result (IsTakeReason table.old pending.old.items command) }
+    ensures settings { table.new.settings ≡ table.old.settings }
+    ensures counted { table.new.table.number + length pending.old.items ≡ table.old.table.number + length pending.new.items }
+    ensures bounded { table.old.table.number ≤ 2 ^ 62 → table.new.table.number ≤ 2 ^ 62 }
+    ensures few { length pending.new.items ≤ 256 }
+    ensures spelled { AreGood table.old.settings → AreSpelled pending.old.items → AreSpelled pending.new.items }
+    ensures legal { OnOk result (refusal_by table.old command ≡ None) }
+    ensures applied { OnOk result (table.new ≡ state_after table.old command) }
+    ensures number { OnOk result (table.new.table.number ≡ table.old.table.number + 1) }
+    ensures kept { OnOk result (pending.new.items ≡ pending.old.items ++ command ∷ []) }
+    ensures err { OnErr result (table.new ≡ table.old) }
+    ensures err_kept { OnErr result (pending.new.items ≡ pending.old.items) }
+{
     if table.number() >= MOST_COMMANDS {
         return Err(IssueError::WornOut);
     }

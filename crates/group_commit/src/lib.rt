@@ -20,6 +20,7 @@ mod recovery;
 mod resuming;
 mod script;
 mod splitting;
+mod taking;
 mod token;
 
 pub use batch::{Batch, Failed, Written};

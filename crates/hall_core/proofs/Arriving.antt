@@ -33,7 +33,7 @@ use Rattle.hall_core.specs.OpenSlots.{KeepFor, unavailable_in}
 use Rattle.hall_core.specs.Answering.{polls_told}
 use Rattle.hall_core.specs.Changes.{Leads, answered_to, IsUncalled}
 use Rattle.hall_core.specs.Settling.{replies_told, replied_at, own_at}
-use Rattle.hall_core.specs.Issuing.{HasPlaceFor, Continues, IsAnswered, IsUnissued, told_of}
+use Rattle.hall_core.specs.Issuing.{HasPlaceFor, Continues, IsAnswered, IsWanting, told_of}
 use Rattle.hall_core.specs.Hall.{HallView, StandsFor, settings_in, pending_in, refusal_of_arrival, request}
 use Rattle.std.specs.Prelude.{slice_index}
 use Rattle.api_core.specs.declared.reply.Reply.{Reply}
@@ -234,6 +234,10 @@ called_but_for_memory old past call effect error.Stopping stands is made uncalle
 called_but_for_memory old past call effect error.WornOut stands is made uncalled = absurd uncalled
 called_but_for_memory old past call effect error.Backlog stands is made uncalled = absurd uncalled
 called_but_for_memory old past call effect error.Fault stands is made uncalled = absurd uncalled
+called_but_for_memory old past call effect error.OtherHalf stands is made uncalled = absurd uncalled
+called_but_for_memory old past call effect (error.Mismatch told found) stands is made uncalled = absurd uncalled
+called_but_for_memory old past call effect error.Unfit stands is made uncalled = absurd uncalled
+called_but_for_memory old past call effect error.Lent stands is made uncalled = absurd uncalled
 
 not_illegal : (old : HallView) (past : Past) (call : HallCall) (c : Command) (why : Illegal) → StandsFor old past → IsUnrefused (settings_in old) past call
     → Some c ≡ command_of (settings_in old) past call → Fails old.issuer c why → ⊥
@@ -246,16 +250,20 @@ not_illegal old past call c why stands made is fails =
 
 -- after a past, the command of a call is legal: it is not issued for want of memory alone
 pub issued_but_for_memory : (old : HallView) (past : Past) (call : HallCall) (command : Option Command) (why : HallError) → StandsFor old past
-    → IsUnrefused (settings_in old) past call → command ≡ command_of (settings_in old) past call → IsUnissued old.issuer command why
+    → IsUnrefused (settings_in old) past call → command ≡ command_of (settings_in old) past call → IsWanting old.issuer command why
     → why ≡ error.OutOfMemory
-issued_but_for_memory old past call command error.OutOfMemory stands made is unissued = refl
-issued_but_for_memory old past call None error.BadKind stands made is unissued = absurd unissued
-issued_but_for_memory old past call (Some c) error.BadKind stands made is unissued = absurd (not_illegal old past call c unissued.0 stands made is unissued.1)
-issued_but_for_memory old past call command error.Broken stands made is unissued = absurd unissued
-issued_but_for_memory old past call command error.Stopping stands made is unissued = absurd unissued
-issued_but_for_memory old past call command error.WornOut stands made is unissued = absurd unissued
-issued_but_for_memory old past call command error.Backlog stands made is unissued = absurd unissued
-issued_but_for_memory old past call command error.Fault stands made is unissued = absurd unissued
+issued_but_for_memory old past call command error.OutOfMemory stands made is wanting = refl
+issued_but_for_memory old past call None error.BadKind stands made is wanting = absurd wanting
+issued_but_for_memory old past call (Some c) error.BadKind stands made is wanting = absurd (not_illegal old past call c wanting.0 stands made is wanting.1)
+issued_but_for_memory old past call command error.Broken stands made is wanting = absurd wanting
+issued_but_for_memory old past call command error.Stopping stands made is wanting = absurd wanting
+issued_but_for_memory old past call command error.WornOut stands made is wanting = absurd wanting
+issued_but_for_memory old past call command error.Backlog stands made is wanting = absurd wanting
+issued_but_for_memory old past call command error.Fault stands made is wanting = absurd wanting
+issued_but_for_memory old past call command error.Lent stands made is wanting = absurd wanting
+issued_but_for_memory old past call command error.OtherHalf stands made is wanting = absurd wanting
+issued_but_for_memory old past call command (error.Mismatch told found) stands made is wanting = absurd wanting
+issued_but_for_memory old past call command error.Unfit stands made is wanting = absurd wanting
 
 pub arrived : (old new : HallView) (past : Past) (slot : ℕ) (call : Call) (now : ℕ) (words : List ℕ) (effect : Effect) (p : Prepared) (stops : Bool) (unavailable : Reply) (issued : Option Issued)
     → IsIssuer old.issuer → IsIssuer new.issuer → StandsFor old past → IsFit (settings_in old) (request slot call now words)

@@ -43,11 +43,15 @@ abbrev pub HasPlaceFor : IssuerView → Option Command → Type 0
 HasPlaceFor issuer None = Unit {0}
 HasPlaceFor issuer (Some c) = (issuer.broken ≡ false) × (issued_in issuer < 2 ^ 62) × (length issuer.pending < 256)
 
--- why a command is not issued for which there is a place: for want of memory, or where it is not legal
+-- memory is wanting, or the command is not legal
+abbrev pub IsWanting : IssuerView → Option Command → HallError → Type 0
+IsWanting issuer command error.OutOfMemory = Unit {0}
+IsWanting issuer (Some c) error.BadKind = (why : Illegal) × Fails issuer c why
+IsWanting issuer command other = ⊥
+
+-- why a command is not issued, where there is a place for it
 abbrev pub IsUnissued : IssuerView → Option Command → HallError → Type 0
-IsUnissued issuer command error.OutOfMemory = Unit {0}
-IsUnissued issuer (Some c) error.BadKind = (why : Illegal) × Fails issuer c why
-IsUnissued issuer command other = ⊥
+IsUnissued issuer command why = HasPlaceFor issuer command → IsWanting issuer command why
 
 -- why the hall refuses, by why the issuer does. After a history, a command that a call has is legal
 abbrev pub error_of : IssueError → HallError

@@ -18,6 +18,7 @@ pub mod Issuing
 pub mod Settling
 pub mod Doing
 pub mod Hall
+pub mod Halves
 pub mod Steps
 pub mod Promises
 pub mod laws

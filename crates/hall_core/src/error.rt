@@ -32,10 +32,10 @@ pub enum HallError {
     /// A batch is out, and has to be settled first.
     #[error("a batch is out")]
     Lent,
-    /// The halves do not go together: a batch or its outcome is not that of the other half, or their tables differ.
-    #[error("the halves differ")]
+    /// What is settled is not what became of the batch that is out, or the half over the disk does not go on with it.
+    #[error("the batch is not one of this half")]
     OtherHalf,
-    /// Fewer commands were issued than this desk was told before. Only an office answers this.
+    /// Fewer commands were issued than a desk was told before. Only an office answers this.
     #[error("told {told}, found {found}")]
     Mismatch { told: u64, found: u64 },
     /// A request to an environment that is not there, with an answer above the settings' limit, or at a moment past the end

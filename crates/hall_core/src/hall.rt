@@ -53,7 +53,7 @@ impl<I: Issuer> Hall<I> {
     ghost use Rattle.hall_core.specs.declared.error.HallError.TheVariants as HallError;
     ghost use Rattle.hall_core.specs.OpenSlots.{has_open, unavailable_in};
     ghost use Rattle.hall_core.specs.Changes.{IsWithin, Leads};
-    ghost use Rattle.hall_core.specs.Issuing.{Continues, IsAnswered, HasPlaceFor, IsUnissued};
+    ghost use Rattle.hall_core.specs.Issuing.{Continues, IsAnswered, IsUnissued};
     ghost use Rattle.hall_core.specs.Doing.{KeepRequest, KeepTick};
     ghost use Rattle.hall_core.specs.Agreement.{IsFit};
     ghost use Rattle.hall_core.specs.Plans.{IsToOneOf};
@@ -117,7 +117,7 @@ impl<I: Issuer> Hall<I> {
         ensures stops { OnOk result (self.new.stops ≡ (self.old.stops || stops)) }
         ensures no_call { I.is_untouched self.old.issuer self.new.issuer }
         ensures err { OnErr result (IsSameHall (view_of I.view self.old) (view_of I.view self.new)) }
-        ensures refused { HasPlaceFor (I.view self.old.issuer) prepared.command → IfErr result (IsUnissued (I.view self.old.issuer) prepared.command) }
+        ensures refused { IfErr result (IsUnissued (I.view self.old.issuer) prepared.command) }
     {
         let Prepared {
             command,
@@ -225,7 +225,7 @@ impl<I: Issuer> Hall<I> {
         ensures stops { OnOk result (self.new.stops ≡ self.old.stops) }
         ensures no_call { I.is_untouched self.old.issuer self.new.issuer }
         ensures err { OnErr result (IsSameHall (view_of I.view self.old) (view_of I.view self.new)) }
-        ensures refused { HasPlaceFor (I.view self.old.issuer) prepared.command → IfErr result (IsUnissued (I.view self.old.issuer) prepared.command) }
+        ensures refused { IfErr result (IsUnissued (I.view self.old.issuer) prepared.command) }
     {
         let Prepared {
             command,

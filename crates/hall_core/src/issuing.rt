@@ -2,7 +2,7 @@
 ghost use Rattle.std.specs.Prelude.{◌≡◌, ◌++◌, false, option_map, IfOk, IfErr, OnOk, OnErr, is_some, is_none};
 ghost use Rattle.group_commit.specs.Issuer.{ForEachHistory, IsSameIssuer};
 ghost use Rattle.hall_core.specs.Run.{option_list};
-ghost use Rattle.hall_core.specs.Issuing.{IsAnswered, Continues, HasPlaceFor, IsUnissued, error_of};
+ghost use Rattle.hall_core.specs.Issuing.{IsAnswered, Continues, IsUnissued, error_of};
 
 use crate::error::HallError;
 use group_commit::{IssueError, Issuer};
@@ -38,7 +38,7 @@ pub(crate) fn issue<I: Issuer>(
     ensures goes_on { OnOk result (Continues (I.view issuer.old) (I.view issuer.new) command) }
     ensures no_call { I.is_untouched issuer.old issuer.new }
     ensures err { OnErr result (IsSameIssuer (I.view issuer.old) (I.view issuer.new)) }
-    ensures refused { HasPlaceFor (I.view issuer.old) command → IfErr result (IsUnissued (I.view issuer.old) command) }
+    ensures refused { IfErr result (IsUnissued (I.view issuer.old) command) }
 {
     let Some(command) = command else {
         return Ok(None);

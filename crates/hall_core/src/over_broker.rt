@@ -50,18 +50,16 @@ impl<D: Disk> Hall<Broker<D>> {
         let Ok(environments) = Environments::new(alloc, count) else {
             return Err(HallFailure { broker });
         };
-        match broker.ticket().settled_by(broker.durable().number()) {
-            Ok(receipt) => Ok(Hall {
-                alloc,
-                issuer: broker,
-                environments,
-                slots: Slots::new(alloc),
-                stops: false,
-                broken: false,
-                receipt,
-            }),
-            Err(_) => Err(HallFailure { broker }),
-        }
+        let receipt = broker.durable().receipt();
+        Ok(Hall {
+            alloc,
+            issuer: broker,
+            environments,
+            slots: Slots::new(alloc),
+            stops: false,
+            broken: false,
+            receipt,
+        })
     }
 
     /// Makes all that was issued durable: how many commands that is. Replies that show no more can then be told.
@@ -78,9 +76,7 @@ impl<D: Disk> Hall<Broker<D>> {
     {
         match self.issuer.commit() {
             Ok(durable) => {
-                if let Ok(receipt) = self.issuer.ticket().settled_by(durable.number()) {
-                    self.receipt = receipt;
-                }
+                self.receipt = durable.receipt();
                 Ok(durable)
             }
             Err(why) => {

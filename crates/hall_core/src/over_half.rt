@@ -1,4 +1,14 @@
 // A hall over an issue half: it lends what is pending, and settles what became of it, while a disk half writes.
+ghost use Rattle.std.specs.Prelude.{◌≡◌, [], false, take, IfOk, IfErr, OnErr};
+ghost use Rattle.group_commit.specs.Broker.{pending_of, is_broken, issued_of, Stands};
+ghost use Rattle.group_commit.specs.IssuerBroker.{issuer_of};
+ghost use Rattle.group_commit.specs.IssuerHalf.{half_view, has_same_lent};
+ghost use Rattle.group_commit.specs.Lending.{Lends, CanLend, SettlesBy};
+ghost use Rattle.group_commit.specs.Splitting.{broker_of, Splits, IsSplitReason, Joins, IsNotJoined};
+ghost use Rattle.hall_core.specs.Hall.{view_of, StandsFor, ForEachPast, IsSameHall};
+ghost use Rattle.hall_core.specs.Halves.{HasSameParts, IsNotLent, IsNotDurable};
+ghost use Rattle.hall_core.specs.Halves as meant;
+
 use crate::error::HallError;
 use crate::hall::Hall;
 use group_commit::{
@@ -9,9 +19,9 @@ use sector_disk::Disk;
 
 /// A hall whose broker was not split, and why. It is handed back.
 #[derive(Drop)]
-pub struct HallSplitFailure<D: Disk> {
+pub struct HallSplitFailure<H> {
     pub cause: SplitError,
-    pub hall: Hall<Broker<D>>,
+    pub hall: H,
 }
 
 /// A hall and a disk half that were not joined, and why. Both are handed back.
@@ -23,7 +33,9 @@ pub struct HallJoinFailure<D: Disk> {
     pub disk: DiskHalf<D>,
 }
 
-fn lend_error_of(why: LendError) -> HallError {
+fn lend_error_of(why: LendError) -> HallError
+    ensures { result ≡ meant.lend_error_of why }
+{
     match why {
         LendError::Broken => HallError::Broken,
         LendError::Lent => HallError::Lent,
@@ -31,7 +43,9 @@ fn lend_error_of(why: LendError) -> HallError {
     }
 }
 
-fn write_error_of(why: WriteError) -> HallError {
+fn write_error_of(why: WriteError) -> HallError
+    ensures { result ≡ meant.write_error_of why }
+{
     match why {
         WriteError::Broken => HallError::Broken,
         WriteError::Mismatch => HallError::OtherHalf,
@@ -43,7 +57,9 @@ fn write_error_of(why: WriteError) -> HallError {
     }
 }
 
-fn settle_error_of(why: SettleError) -> HallError {
+fn settle_error_of(why: SettleError) -> HallError
+    ensures { result ≡ meant.settle_error_of why }
+{
     match why {
         SettleError::Mismatch => HallError::OtherHalf,
         SettleError::NotWritten(why) => write_error_of(why),
@@ -51,17 +67,27 @@ fn settle_error_of(why: SettleError) -> HallError {
 }
 
 // Whether the issuer is broken after this.
-fn breaks(why: SettleError) -> bool {
-    matches!(
-        why,
-        SettleError::NotWritten(WriteError::Broken | WriteError::Fault)
-    )
+fn breaks(why: SettleError) -> bool
+    ensures { result ≡ meant.breaks why }
+{
+    match why {
+        SettleError::NotWritten(WriteError::Broken | WriteError::Fault) => true,
+        _ => false,
+    }
 }
 
 impl<D: Disk> Hall<Broker<D>> {
     /// Splits the broker, where nothing is pending: the hall goes on over the half that issues, and the half over the disk
     /// writes what is lent. It is refused, and handed back: `Broken`, `OutOfMemory`.
-    pub fn split(self) -> Result<(Hall<IssueHalf>, DiskHalf<D>), HallSplitFailure<D>> {
+    pub fn split(self) -> Result<(Hall<IssueHalf>, DiskHalf<D>), HallSplitFailure<Hall<Broker<D>>>>
+        requires { pending_of self.issuer ≡ [] }
+        ensures ok { IfOk result (λ halves. Splits self.issuer halves.0.issuer halves.1) }
+        ensures parts { IfOk result (λ halves. HasSameParts (view_of (issuer_of D.view) self) (view_of half_view halves.0)) }
+        ensures stands { ForEachPast (view_of (issuer_of D.view) self) (λ past.
+            IfOk result (λ halves. StandsFor (view_of half_view halves.0) past)) }
+        ensures same { IfErr result (λ failure. failure.hall ≡ self) }
+        ensures reason { IfErr result (λ failure. IsSplitReason self.issuer failure.cause) }
+    {
         let Hall {
             alloc,
             issuer,
@@ -106,7 +132,13 @@ impl Hall<IssueHalf> {
     /// until what became of it is settled.
     ///
     /// It is refused, and then changes nothing: `Broken`, `Lent` (a batch is out), `OutOfMemory`, in this order.
-    pub fn lend(&mut self) -> Result<Option<Batch>, HallError> {
+    pub fn lend(&mut self) -> Result<Option<Batch>, HallError>
+        ensures same { IsSameHall (view_of half_view self.old) (view_of half_view self.new) }
+        ensures could { IfOk result (λ batch. CanLend self.old.issuer) }
+        ensures ok { IfOk result (Lends self.old.issuer self.new.issuer) }
+        ensures reason { IfErr result (IsNotLent self.old.issuer) }
+        ensures kept { OnErr result (has_same_lent self.old.issuer self.new.issuer) }
+    {
         match self.issuer.lend() {
             Ok(batch) => Ok(batch),
             Err(why) => Err(lend_error_of(why)),
@@ -117,8 +149,14 @@ impl Hall<IssueHalf> {
     /// told. It takes no memory.
     ///
     /// It is refused by `OtherHalf`, where no batch is out or it is another one, and then nothing changes. Else it answers
-    /// why the batch was not written: after `Fault` or `Broken` the hall is broken, else what was lent is pending again.
-    pub fn settle(&mut self, outcome: Result<Written, Failed>) -> Result<Durable, HallError> {
+    /// why the batch was not written, `OtherHalf` where the half over the disk does not go on with it: after `Fault` or
+    /// `Broken` the hall is broken, else what was lent is pending again.
+    pub fn settle(&mut self, outcome: Result<Written, Failed>) -> Result<Durable, HallError>
+        ensures stands { ForEachPast (view_of half_view self.old) (λ past. StandsFor (view_of half_view self.new) past) }
+        ensures parts { HasSameParts (view_of half_view self.old) (view_of half_view self.new) }
+        ensures ok { IfOk result (SettlesBy self.old.issuer self.new.issuer outcome) }
+        ensures err { IfErr result (IsNotDurable self.old.issuer self.new.issuer outcome) }
+    {
         match self.issuer.settle(outcome) {
             Ok(durable) => {
                 self.receipt = durable.receipt();
@@ -137,7 +175,16 @@ impl Hall<IssueHalf> {
     ///
     /// It is refused, and hands both back: `Lent` (a batch is out), `Backlog`, `OutOfMemory`, `Mismatch` (the tables
     /// differ). A broken half gives a broken hall, and nothing is compared then.
-    pub fn join<D: Disk>(self, disk: DiskHalf<D>) -> Result<Hall<Broker<D>>, HallJoinFailure<D>> {
+    pub fn join<D: Disk>(self, disk: DiskHalf<D>) -> Result<Hall<Broker<D>>, HallJoinFailure<D>>
+        ensures ok { IfOk result (λ hall. Joins self.issuer (broker_of disk) hall.issuer) }
+        ensures parts { IfOk result (λ hall. HasSameParts (view_of half_view self) (view_of (issuer_of D.view) hall)) }
+        ensures stands { ForEachPast (view_of half_view self) (λ past.
+            Stands D.view (broker_of disk) (take (issued_of (broker_of disk)) past.history)
+            → IfOk result (λ hall. is_broken hall.issuer ≡ false → StandsFor (view_of (issuer_of D.view) hall) past)) }
+        ensures same { IfErr result (λ failure. failure.hall ≡ self) }
+        ensures err { IfErr result (λ failure.
+            IsNotJoined self.issuer failure.hall.issuer (broker_of disk) (broker_of failure.disk) failure.cause) }
+    {
         let Hall {
             alloc,
             issuer,
@@ -148,15 +195,19 @@ impl Hall<IssueHalf> {
             receipt,
         } = self;
         match Broker::join(issuer, disk) {
-            Ok(issuer) => Ok(Hall {
-                alloc,
-                issuer,
-                environments,
-                slots,
-                stops,
-                broken,
-                receipt,
-            }),
+            Ok(issuer) => {
+                let broken = issuer.is_broken();
+                let receipt = issuer.durable().receipt();
+                Ok(Hall {
+                    alloc,
+                    issuer,
+                    environments,
+                    slots,
+                    stops,
+                    broken,
+                    receipt,
+                })
+            }
             Err(failure) => {
                 let cause = failure.cause;
                 let hall = Hall {

@@ -1,0 +1,5 @@
+pub mod Marks
+pub mod Following
+pub mod Answers
+pub mod Desks
+pub mod Kept

@@ -1,11 +1,16 @@
 // The desks of an office, one for each thread that asks it.
+ghost use Rattle.std.specs.Prelude.{◌≡◌, ◌<◌, vec_len};
+ghost use Rattle.receipts.specs.Desks.{desk_count};
+
 use crate::mark::Mark;
 use retry_rules::Settings;
 use std::sync::ledger::{Ledger, Share};
 
 /// How many desks an office has: for each environment's port one, and three for the callers' port, the committer and the
 /// ticker; at least eight.
-pub fn desks(settings: &Settings) -> u64 {
+pub fn desks(settings: &Settings) -> u64
+    ensures { result ≡ desk_count settings.now }
+{
     let wanted = u64::from(settings.environments) + 3;
     if wanted < 8 { 8 } else { wanted }
 }
@@ -22,16 +27,30 @@ pub struct Desk<L: Ledger> {
     pub(crate) own: Vec<Mark>,
     /// How many they are counts in the ledger.
     pub(crate) share: Share<L>,
+    ghost one: { share.parts ≡ 1 },
+    ghost counted: { vec_len own ≡ share.amount },
+    ghost few: { number < 32 },
 }
 
 impl<L: Ledger> Desk<L> {
     /// Its number among the desks of its office, from 0 on.
-    pub fn number(&self) -> u64 {
+    pub fn number(&self) -> u64
+        ensures { result ≡ self.now.number }
+    {
         self.number
     }
 
     /// The greatest number that it was told.
-    pub fn told(&self) -> u64 {
+    pub fn told(&self) -> u64
+        ensures { result ≡ self.now.told }
+    {
         self.told
+    }
+
+    /// The marks of the commands that its calls issued, in order.
+    pub fn marks(&self) -> &[Mark]
+        ensures { result.now ≡ self.now.own.items }
+    {
+        &self.own
     }
 }

@@ -1,17 +1,16 @@
 // Why an office is not opened or not closed.
 use crate::desk::Desk;
 use crate::office::Office;
-use group_commit::{Broker, DiskHalf, JoinError, SplitError};
-use hall_core::Hall;
+use group_commit::{DiskHalf, JoinError, SplitError};
 use sector_disk::Disk;
 use std::sync::ledger::{Blank, Ledger};
 use thiserror::Error;
 
 /// A hall over which no office was made, and why. It is handed back with the blank ledger.
 #[derive(Drop)]
-pub struct OfficeFailure<D: Disk> {
+pub struct OfficeFailure<H> {
     pub cause: SplitError,
-    pub hall: Hall<Broker<D>>,
+    pub hall: H,
     pub blank: Blank,
 }
 

@@ -1,4 +1,9 @@
 // Closing an office: its desks come back, and tell what its marks tell.
+ghost use Rattle.std.specs.Prelude.{◌≡◌, ◌↔◌, ◌==◌, ◌∷◌, count_by, IfSome, IfNone, List, All, IsTrue, IfOk, IfErr};
+ghost use Rattle.receipts.specs.Marks.{history_of_desk, AreNumberedFromSome};
+ghost use Rattle.receipts.specs.declared.mark.Mark.{Mark};
+ghost use Rattle.receipts.specs.Desks.{IsEachOnce, HaveEachOnce, AreAll};
+
 use crate::desk::Desk;
 use crate::error::{FinishError, FinishFailure};
 use crate::kept::Kept;
@@ -11,7 +16,9 @@ use std::sync::Mutex;
 use std::sync::ledger::Ledger;
 
 // How many of the desks have this number.
-fn count_of<L: Ledger>(desks: &[Desk<L>], number: u64) -> usize {
+fn count_of<L: Ledger>(desks: &[Desk<L>], number: u64) -> usize
+    ensures { result ≡ count_by (λ d. d.number == number) desks.now }
+{
     let mut count = 0;
     for desk in desks {
         if desk.number == number {
@@ -21,34 +28,58 @@ fn count_of<L: Ledger>(desks: &[Desk<L>], number: u64) -> usize {
     count
 }
 
-// Whether there are so many desks, which have each number below that once.
-fn have_each_number<L: Ledger>(desks: &[Desk<L>], count: u64) -> bool {
+// Whether each number below this is that of one desk.
+fn has_each_once<L: Ledger>(desks: &[Desk<L>], count: u64) -> bool
+    ensures { IsTrue result ↔ IsEachOnce (λ d. d.number) count desks.now }
+{
     for number in 0..count {
         if count_of(desks, number) != 1 {
             return false;
         }
     }
-    desks.len() as u64 == count
+    true
 }
 
-// Whether a desk's marks are those of its number among all.
-fn is_history<L: Ledger>(marks: &[Mark], desk: &Desk<L>) -> bool {
-    let mut known = 0;
-    for mark in marks {
-        if mark.desk == desk.number {
-            if known >= desk.own.len() || desk.own[known] != *mark {
-                return false;
+// Whether there are so many desks, which have each number below that once.
+fn have_each_number<L: Ledger>(desks: &[Desk<L>], count: u64) -> bool
+    ensures { IsTrue result ↔ HaveEachOnce (λ d. d.number) count desks.now }
+{
+    desks.len() as u64 == count && has_each_once(desks, count)
+}
+
+// The marks behind the first, if that is this one.
+fn behind<'a>(marks: &'a [Mark], first: &Mark) -> Option<&'a [Mark]>
+    ensures some { IfSome result (λ rest. marks.now ≡ first.now ∷ rest.now) }
+    ensures none { IfNone result ((rest : List Mark) → marks.now ≡ first.now ∷ rest → ⊥) }
+{
+    match marks.split_first() {
+        Some((mark, rest)) => { if *mark == *first { Some(rest) } else { None } }
+        None => None,
+    }
+}
+
+// Whether these marks are those of a desk's number among all.
+fn is_history(all: &[Mark], number: u64, own: &[Mark]) -> bool
+    ensures { IsTrue result ↔ (own.now ≡ history_of_desk number all.now) }
+{
+    let mut rest = own;
+    for mark in all {
+        if mark.desk == number {
+            match behind(rest, mark) {
+                Some(later) => rest = later,
+                None => return false,
             }
-            known += 1;
         }
     }
-    known == desk.own.len()
+    rest.is_empty()
 }
 
 // Whether each desk's marks are its own.
-fn are_histories<L: Ledger>(marks: &[Mark], desks: &[Desk<L>]) -> bool {
+fn are_histories<L: Ledger>(all: &[Mark], desks: &[Desk<L>]) -> bool
+    ensures { IsTrue result ↔ All (λ d. d.own.items ≡ history_of_desk d.number all.now) desks.now }
+{
     for desk in desks {
-        if !is_history(marks, desk) {
+        if !is_history(all, desk.number, &desk.own) {
             return false;
         }
     }
@@ -57,8 +88,10 @@ fn are_histories<L: Ledger>(marks: &[Mark], desks: &[Desk<L>]) -> bool {
 
 impl<L: Ledger> Kept<L> {
     // Whether these are all its desks, each with its own marks.
-    fn has_all(&self, desks: &[Desk<L>]) -> bool {
-        have_each_number(desks, self.desks) && are_histories(&self.marks.all, desks)
+    fn has_all(&self, desks: &[Desk<L>]) -> bool
+        ensures { IsTrue result ↔ AreAll (λ d. d.number) (λ d. d.own.items) L.parts self.now.marks.all.items desks.now }
+    {
+        have_each_number(desks, self.seats.count()) && are_histories(&self.marks.all, desks)
     }
 }
 
@@ -72,7 +105,11 @@ impl<L: Ledger> Office<L> {
         self,
         desks: Vec<Desk<L>>,
         disk: DiskHalf<D>,
-    ) -> Result<(Hall<Broker<D>>, Vec<Mark>), FinishFailure<D, L>> {
+    ) -> Result<(Hall<Broker<D>>, Vec<Mark>), FinishFailure<D, L>>
+        ensures all { IfOk result (λ r. AreAll (λ d. d.number) (λ d. d.own.items) L.parts r.1.items desks.items) }
+        ensures numbered { IfOk result (λ r. AreNumberedFromSome r.1.items) }
+        ensures back { IfErr result (λ failure. failure.desks.items ≡ desks.items) }
+    {
         let Office { kept } = self;
         let kept = kept.into_inner();
         if !kept.has_all(&desks) {
@@ -92,7 +129,7 @@ impl<L: Ledger> Office<L> {
             opening,
             marks,
             slots,
-            desks: count,
+            seats,
         } = kept;
         match hall.join(disk) {
             Ok(hall) => Ok((hall, marks.all)),
@@ -102,7 +139,7 @@ impl<L: Ledger> Office<L> {
                     opening,
                     marks,
                     slots,
-                    desks: count,
+                    seats,
                 };
                 let office = Office {
                     kept: Mutex::new(kept),

@@ -1,7 +1,18 @@
 // What the office keeps under its lock: the hall, and the marks of all that it issued.
+ghost use Rattle.std.specs.Prelude.{◌≡◌, ◌+◌, ◌<◌, ◌≤◌, ◌^◌, ◌++◌, length, vec_len, vec_capacity, IfOk, OnOk, OnErr, OnSome, IfSome, option_map};
+ghost use Rattle.group_commit.specs.Issuer.{issued_in};
+ghost use Rattle.receipts.specs.Marks.{marks_by, AreNumbered};
+ghost use Rattle.receipts.specs.Following.{Follows};
+ghost use Rattle.receipts.specs.Answers.{AddsAtMostOne, AddsAnswered, IsToldMore, IsToldIfAny, IsSlotOf};
+ghost use Rattle.receipts.specs.Kept.{issuer_in, IsToldByLoan, number_of, either_number};
+ghost use Rattle.invoke_records.specs.Spelling.{greatest_moment};
+ghost use Rattle.group_commit.specs.Batch.{last_in};
+ghost use Rattle.hall_core.specs.Hall.{slot_told};
+
 use crate::desk::Desk;
 use crate::mark::Mark;
 use crate::marks::Marks;
+use crate::seats::Seats;
 use api_core::Call;
 use group_commit::{Batch, Durable, Failed, IssueHalf, Ticket, Written};
 use hall_core::{Hall, HallError, Issued, Released};
@@ -14,7 +25,7 @@ pub(crate) const MOST_SLOTS: u64 = 1 << 58;
 /// How many desks an office can tell apart in the numbers of slots.
 pub(crate) const MOST_DESKS: u64 = 32;
 
-/// What is there to write.
+/// What there is to write.
 #[derive(Drop)]
 pub(crate) enum Loan {
     /// Nothing: so much is durable.
@@ -33,12 +44,46 @@ pub(crate) struct Kept<L: Ledger> {
     /// How many slots were counted.
     pub(crate) slots: u64,
     /// How many desks there are.
-    pub(crate) desks: u64,
+    pub(crate) seats: Seats<L>,
+    ghost numbered: { AreNumbered opening.number marks.all.items },
+    ghost reached: { issued_in (issuer_in hall) ≡ opening.number + length marks.all.items },
+    ghost followed: { Follows (issuer_in hall).settings opening marks.all.items (issuer_in hall).table },
+}
+
+// Marks what a call issued, if it did, where there is room for a mark.
+fn note<L: Ledger>(marks: &mut Marks<L>, desk: &mut Desk<L>, issued: Option<Issued>)
+    requires room_here { vec_len marks.old.all < vec_capacity marks.old.all }
+    requires room_there { vec_len desk.old.own < vec_capacity desk.old.own }
+    ensures all { marks.new.all.items ≡ marks.old.all.items ++ marks_by desk.old.number issued }
+    ensures own { desk.new.own.items ≡ desk.old.own.items ++ marks_by desk.old.number issued }
+    ensures desk { (desk.new.number ≡ desk.old.number) × (desk.new.told ≡ desk.old.told) }
+{
+    if let Some(issued) = issued {
+        let mark = Mark::of(issued, desk.number);
+        marks.add(desk, mark);
+    }
+}
+
+// The number of what a tick issued, if it did, which the desk is told.
+fn told_by<L: Ledger>(desk: &mut Desk<L>, issued: Option<Issued>) -> Option<u64>
+    ensures number { result ≡ option_map number_of issued }
+    ensures told { desk.new.told ≡ either_number desk.old.told issued }
+    ensures rest { (desk.new.number ≡ desk.old.number) × (desk.new.own.items ≡ desk.old.own.items) }
+{
+    match issued {
+        Some(issued) => {
+            desk.told = issued.number;
+            Some(issued.number)
+        }
+        None => None,
+    }
 }
 
 impl<L: Ledger> Kept<L> {
     // What the hall issued is not below what the desk was told.
-    fn check(&self, desk: &Desk<L>) -> Result<(), HallError> {
+    fn check(&self, desk: &Desk<L>) -> Result<(), HallError>
+        ensures { OnOk result (desk.now.told ≤ issued_in (issuer_in self.now.hall)) }
+    {
         let found = self.hall.issued();
         if found < desk.told {
             return Err(HallError::Mismatch {
@@ -50,19 +95,14 @@ impl<L: Ledger> Kept<L> {
     }
 
     // The next slot of a desk.
-    fn next_slot(&self, desk: &Desk<L>) -> Result<u64, HallError> {
+    fn next_slot(&self, desk: &Desk<L>) -> Result<u64, HallError>
+        ensures slot { IfOk result (IsSlotOf desk.now.number) }
+        ensures room { OnOk result (self.now.slots < 2 ^ 58) }
+    {
         if self.slots >= MOST_SLOTS {
             return Err(HallError::WornOut);
         }
         Ok(MOST_DESKS * self.slots + desk.number)
-    }
-
-    // Marks what a call issued, if it did, where there is room for a mark.
-    fn note(&mut self, desk: &mut Desk<L>, issued: Option<Issued>) {
-        if let Some(issued) = issued {
-            let mark = Mark::of(issued, desk.number);
-            self.marks.add(desk, mark);
-        }
     }
 
     /// A request of a desk: `Hall::arrive` with the desk's next slot, and a mark of the command that it issued.
@@ -72,38 +112,64 @@ impl<L: Ledger> Kept<L> {
         call: Call,
         now: u64,
         words: [u64; 2],
-    ) -> Result<(Ticket, u64), HallError> {
+    ) -> Result<(Ticket, u64), HallError>
+        ensures marks { IfOk result (λ r. AddsAtMostOne desk.old.number desk.old.own.items desk.new.own.items r.0) }
+        ensures told { IfOk result (λ r. IsToldMore desk.old.told desk.new.told r.0) }
+        ensures slot { IfOk result (λ r. IsSlotOf desk.old.number r.1) }
+        ensures number { desk.new.number ≡ desk.old.number }
+        ensures err { OnErr result ((desk.new.own.items ≡ desk.old.own.items) × (desk.new.told ≡ desk.old.told)) }
+    {
         self.check(desk)?;
         let slot = self.next_slot(desk)?;
         if !self.hall.fits(slot, &call, now, &words) {
             return Err(HallError::Unfit);
         }
         self.marks.reserve(desk)?;
-        let issued = self.hall.arrive(slot, call, now, words)?;
-        self.slots += 1;
-        self.note(desk, issued);
-        let ticket = self.hall.ticket();
-        desk.told = ticket.number();
-        Ok((ticket, slot))
+        let Kept {
+            hall,
+            marks,
+            slots,
+            ..
+        } = self;
+        match hall.arrive(slot, call, now, words) {
+            Ok(issued) => {
+                *slots += 1;
+                note(marks, desk, issued);
+                let ticket = hall.ticket();
+                desk.told = ticket.number();
+                Ok((ticket, slot))
+            }
+            Err(why) => Err(why),
+        }
     }
 
     /// A move of the hall, and a mark of its command.
-    pub(crate) fn tick(&mut self, desk: &mut Desk<L>, now: u64) -> Result<Option<u64>, HallError> {
+    pub(crate) fn tick(&mut self, desk: &mut Desk<L>, now: u64) -> Result<Option<u64>, HallError>
+        requires { now ≤ greatest_moment }
+        ensures marks { IfOk result (AddsAnswered desk.old.number desk.old.own.items desk.new.own.items) }
+        ensures told { IfOk result (IsToldIfAny desk.old.told desk.new.told) }
+        ensures number { desk.new.number ≡ desk.old.number }
+        ensures err { OnErr result ((desk.new.own.items ≡ desk.old.own.items) × (desk.new.told ≡ desk.old.told)) }
+    {
         self.check(desk)?;
         self.marks.reserve(desk)?;
-        let issued = self.hall.tick(now)?;
-        self.note(desk, issued);
-        match issued {
-            Some(issued) => {
-                desk.told = issued.number;
-                Ok(Some(issued.number))
+        let Kept { hall, marks, .. } = self;
+        match hall.tick(now) {
+            Ok(issued) => {
+                note(marks, desk, issued);
+                Ok(told_by(desk, issued))
             }
-            None => Ok(None),
+            Err(why) => Err(why),
         }
     }
 
     /// What is there to write, which is then out; where nothing is, the desk is told how much is durable.
-    pub(crate) fn lend(&mut self, desk: &mut Desk<L>) -> Result<Loan, HallError> {
+    pub(crate) fn lend(&mut self, desk: &mut Desk<L>) -> Result<Loan, HallError>
+        ensures told { IfOk result (IsToldByLoan desk.old.told desk.new.told) }
+        ensures number { desk.new.number ≡ desk.old.number }
+        ensures own { desk.new.own.items ≡ desk.old.own.items }
+        ensures err { OnErr result (desk.new.told ≡ desk.old.told) }
+    {
         self.check(desk)?;
         match self.hall.lend() {
             Ok(Some(batch)) => Ok(Loan::Out(batch)),
@@ -121,14 +187,22 @@ impl<L: Ledger> Kept<L> {
         &mut self,
         desk: &mut Desk<L>,
         outcome: Result<Written, Failed>,
-    ) -> Result<Durable, HallError> {
+    ) -> Result<Durable, HallError>
+        requires { desk.old.told ≤ last_in outcome }
+        ensures told { IfOk result (IsToldMore desk.old.told desk.new.told) }
+        ensures number { desk.new.number ≡ desk.old.number }
+        ensures own { desk.new.own.items ≡ desk.old.own.items }
+        ensures err { OnErr result (desk.new.told ≡ desk.old.told) }
+    {
         let durable = self.hall.settle(outcome)?;
         desk.told = durable.number();
         Ok(durable)
     }
 
     /// The reply of a slot, where it is told.
-    pub(crate) fn take(&mut self, slot: u64) -> Option<Released> {
+    pub(crate) fn take(&mut self, slot: u64) -> Option<Released>
+        ensures { IfSome result (λ released. slot_told released ≡ slot) }
+    {
         self.hall.take(slot)
     }
 

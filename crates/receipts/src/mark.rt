@@ -1,4 +1,7 @@
 // What an office keeps of a command.
+ghost use Rattle.std.specs.Prelude.{◌≡◌};
+ghost use Rattle.receipts.specs.Marks.{mark_of};
+
 use hall_core::Issued;
 use invoke_records::Kind;
 
@@ -15,12 +18,15 @@ pub struct Mark {
 
 impl Mark {
     /// The mark of a command that this desk's call issued.
-    pub(crate) fn of(issued: Issued, desk: u64) -> Mark {
+    pub(crate) fn of(issued: Issued, desk: u64) -> Mark
+        ensures { result ≡ mark_of desk issued }
+    {
+        let id = issued.id;
         Mark {
             number: issued.number,
             desk,
             kind: issued.kind,
-            id: issued.id,
+            id,
             time: issued.time,
         }
     }

@@ -1,11 +1,19 @@
 // The office: the hall under its lock.
+ghost use Rattle.std.specs.Prelude.{◌≡◌, ◌≤◌, [], map, All, vec_len, vec_capacity, IfOk, IfErr, OnErr, IfSome};
+ghost use Rattle.std.specs.List.{range_with_len};
+ghost use Rattle.invoke_records.specs.Spelling.{greatest_moment};
+ghost use Rattle.group_commit.specs.Broker.{pending_of, settings_of, table_in};
+ghost use Rattle.hall_core.specs.Hall.{slot_told};
+ghost use Rattle.receipts.specs.Desks.{desk_count};
+ghost use Rattle.receipts.specs.Answers.{AddsAtMostOne, AddsAnswered, IsToldMore, IsToldIfAny, IsSlotOf};
+
 use crate::desk::{Desk, desks};
 use crate::error::OfficeFailure;
 use crate::kept::{Kept, Loan};
-use crate::mark::Mark;
 use crate::marks::Marks;
+use crate::seats::Seats;
 use api_core::Call;
-use group_commit::{Broker, DiskHalf, Durable, IssueHalf, SplitError, Ticket};
+use group_commit::{Broker, DiskHalf, Durable, SplitError, Ticket};
 use hall_core::{Hall, HallError, Released};
 use invoke_records::Snapshot;
 use sector_disk::Disk;
@@ -19,32 +27,39 @@ pub struct Office<L: Ledger> {
     pub(crate) kept: Mutex<Kept<L>>,
 }
 
-// A copy of the table, and room for the desks.
+// A copy of the table, and room for so many desks.
 fn prepare<D: Disk, L: Ledger>(
     alloc: Global,
     hall: &Hall<Broker<D>>,
     count: u64,
-) -> Result<(Snapshot, Vec<Desk<L>>), AllocError> {
+) -> Result<(Snapshot, Vec<Desk<L>>), AllocError>
+    ensures opening { IfOk result (λ r. r.0 ≡ table_in hall.now.issuer) }
+    ensures none { IfOk result (λ r. r.1.items ≡ []) }
+    ensures room { IfOk result (λ r. vec_capacity r.1 ≡ count) }
+{
     let opening = hall.table().snapshot()?;
     let desks = Vec::with_capacity(alloc, count as usize)?;
     Ok((opening, desks))
 }
 
-// So many desks, each with one part of the share and no mark, where there is room for them.
-fn seat<L: Ledger>(
-    alloc: Global,
-    desks: Vec<Desk<L>>,
-    share: Share<L>,
-    count: u64,
-    told: u64,
-) -> Vec<Desk<L>> {
-    let mut desks = desks;
+// So many desks, each with one part of the share and no mark. There is room for them.
+fn seat<L: Ledger>(alloc: Global, room: Vec<Desk<L>>, share: Share<L>, count: u64) -> Vec<Desk<L>>
+    requires none { room.items ≡ [] }
+    requires room { vec_capacity room ≡ count }
+    requires few { count ≤ 32 }
+    requires parts { share.parts ≡ count }
+    requires amount { share.amount ≡ 0 }
+    ensures numbers { map (λ d. d.number) result.items ≡ range_with_len 0 count }
+    ensures none { All (λ d. d.own.items ≡ []) result.items }
+    ensures untold { All (λ d. d.told ≡ 0) result.items }
+{
+    let mut desks = room;
     let mut rest = share;
     for number in 0..count {
         let share = rest.split_off(1, 0);
         desks.push_reserved(Desk {
             number,
-            told,
+            told: 0,
             own: Vec::new(alloc),
             share,
         });
@@ -53,16 +68,26 @@ fn seat<L: Ledger>(
 }
 
 impl<L: Ledger> Office<L> {
-    /// Opens an office over a hall in which no slot is open and nothing is pending: the hall goes on over the half of its
-    /// broker that issues, under the lock, and the half over the disk is for whoever commits. There are as many desks as
-    /// `desks` says of the settings, which is the number of parts of the blank ledger.
+    /// Opens an office over a hall in which nothing is pending: the hall goes on over the half of its broker that issues,
+    /// under the lock, and the half over the disk is for whoever commits. There are as many desks as `desks` says of the
+    /// settings, which is the number of parts of the blank ledger.
     ///
     /// It is refused, and hands the hall and the blank back: `Broken`, `OutOfMemory`.
     pub fn new<D: Disk>(
         alloc: Global,
         hall: Hall<Broker<D>>,
         blank: Blank,
-    ) -> Result<(Office<L>, Vec<Desk<L>>, DiskHalf<D>), OfficeFailure<D>> {
+    ) -> Result<(Office<L>, Vec<Desk<L>>, DiskHalf<D>), OfficeFailure<Hall<Broker<D>>>>
+        requires nothing { pending_of hall.issuer ≡ [] }
+        requires name { blank.name ≡ L.name }
+        requires parts { blank.parts ≡ L.parts }
+        requires seats { L.parts ≡ desk_count (settings_of hall.issuer) }
+        ensures numbers { IfOk result (λ r. map (λ d. d.number) r.1.items ≡ range_with_len 0 L.parts) }
+        ensures none { IfOk result (λ r. All (λ d. d.own.items ≡ []) r.1.items) }
+        ensures untold { IfOk result (λ r. All (λ d. d.told ≡ 0) r.1.items) }
+        ensures same { IfErr result (λ failure. failure.hall ≡ hall) }
+        ensures blank { IfErr result (λ failure. failure.blank ≡ blank) }
+    {
         let count = desks(hall.table().settings());
         let Ok((opening, room)) = prepare(alloc, &hall, count) else {
             let cause = SplitError::OutOfMemory;
@@ -71,13 +96,13 @@ impl<L: Ledger> Office<L> {
         match hall.split() {
             Ok((hall, disk)) => {
                 let (book, share) = blank.open::<L>();
-                let seats = seat(alloc, room, share, count, hall.issued());
+                let seats = seat(alloc, room, share, count);
                 let kept = Kept {
                     hall,
                     opening,
                     marks: Marks::new(alloc, book),
                     slots: 0,
-                    desks: count,
+                    seats: Seats::new(count),
                 };
                 let office = Office {
                     kept: Mutex::new(kept),
@@ -106,7 +131,13 @@ impl<L: Ledger> Office<L> {
         call: Call,
         now: u64,
         words: [u64; 2],
-    ) -> Result<(Ticket, u64), HallError> {
+    ) -> Result<(Ticket, u64), HallError>
+        ensures marks { IfOk result (λ r. AddsAtMostOne desk.old.number desk.old.own.items desk.new.own.items r.0) }
+        ensures told { IfOk result (λ r. IsToldMore desk.old.told desk.new.told r.0) }
+        ensures slot { IfOk result (λ r. IsSlotOf desk.old.number r.1) }
+        ensures number { desk.new.number ≡ desk.old.number }
+        ensures err { OnErr result ((desk.new.own.items ≡ desk.old.own.items) × (desk.new.told ≡ desk.old.told)) }
+    {
         self.kept.lock(rt).arrive(desk, call, now, words)
     }
 
@@ -120,7 +151,13 @@ impl<L: Ledger> Office<L> {
         rt: &R,
         desk: &mut Desk<L>,
         now: u64,
-    ) -> Result<Option<u64>, HallError> {
+    ) -> Result<Option<u64>, HallError>
+        requires { now ≤ greatest_moment }
+        ensures marks { IfOk result (AddsAnswered desk.old.number desk.old.own.items desk.new.own.items) }
+        ensures told { IfOk result (IsToldIfAny desk.old.told desk.new.told) }
+        ensures number { desk.new.number ≡ desk.old.number }
+        ensures err { OnErr result ((desk.new.own.items ≡ desk.old.own.items) × (desk.new.told ≡ desk.old.told)) }
+    {
         self.kept.lock(rt).tick(desk, now)
     }
 
@@ -135,7 +172,12 @@ impl<L: Ledger> Office<L> {
         rt: &R,
         desk: &mut Desk<L>,
         disk: &mut DiskHalf<D>,
-    ) -> Result<Durable, HallError> {
+    ) -> Result<Durable, HallError>
+        ensures told { IfOk result (IsToldMore desk.old.told desk.new.told) }
+        ensures number { desk.new.number ≡ desk.old.number }
+        ensures marks { desk.new.own.items ≡ desk.old.own.items }
+        ensures err { OnErr result (desk.new.told ≡ desk.old.told) }
+    {
         let loan = self.kept.lock(rt).lend(desk)?;
         match loan {
             Loan::Nothing(durable) => Ok(durable),
@@ -147,13 +189,18 @@ impl<L: Ledger> Office<L> {
     }
 
     /// The reply of a slot, where all that it shows is durable, as `Hall::take` gives it. It takes no memory.
-    pub fn take<R: Wait>(&self, rt: &R, desk: &mut Desk<L>, slot: u64) -> Option<Released> {
+    pub fn take<R: Wait>(&self, rt: &R, desk: &mut Desk<L>, slot: u64) -> Option<Released>
+        ensures slot { IfSome result (λ released. slot_told released ≡ slot) }
+        ensures desk { desk.new ≡ desk.old }
+    {
         let _ = desk;
         self.kept.lock(rt).take(slot)
     }
 
     /// The reply of a slot is not wanted any more, as `Hall::forget` says. It takes no memory.
-    pub fn forget<R: Wait>(&self, rt: &R, desk: &mut Desk<L>, slot: u64) {
+    pub fn forget<R: Wait>(&self, rt: &R, desk: &mut Desk<L>, slot: u64)
+        ensures desk { desk.new ≡ desk.old }
+    {
         let _ = desk;
         self.kept.lock(rt).forget(slot)
     }

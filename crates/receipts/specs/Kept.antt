@@ -1,0 +1,30 @@
+-- The hall under the lock, as its marks see it, and what its calls tell.
+use Rattle.std.specs.Prelude.{◌≡◌, ℕ, ◌≤◌, Option, Some, None}
+use Rattle.hall_core.specs.declared.hall.Hall.{Hall}
+use Rattle.hall_core.specs.declared.issuing.Issued.{Issued}
+use Rattle.group_commit.specs.declared.issuer.Issuer.{Ghosts}
+use Rattle.group_commit.specs.declared.issue_half.IssueHalf.{IssueHalf}
+use Rattle.group_commit.specs.Issuer.{IssuerView}
+use Rattle.group_commit.specs.IssuerHalf.{half_view}
+use Rattle.group_commit.specs.Batch.{last_of}
+use Rattle.hall_core.specs.Hall.{view_of}
+use Rattle.receipts.specs.declared.kept.Loan.{Loan}
+use Rattle.receipts.specs.declared.kept.Loan.TheVariants.{Nothing, Out}
+use Rattle.receipts.specs.Answers.{IsToldMore}
+
+-- its issuer
+abbrev pub issuer_in : {g : Ghosts IssueHalf} → Hall IssueHalf g → IssuerView
+issuer_in hall = (view_of half_view hall).issuer
+
+abbrev pub number_of : Issued → ℕ
+number_of issued = issued.number
+
+-- the number of what was issued, if something was
+abbrev pub either_number : ℕ → Option Issued → ℕ
+either_number otherwise (Some issued) = issued.number
+either_number otherwise None = otherwise
+
+-- where nothing is lent, so much is durable and told; what is lent goes at least as far as what was told
+abbrev pub IsToldByLoan : ℕ → ℕ → Loan → Type 0
+IsToldByLoan old new (Nothing durable) = IsToldMore old new durable
+IsToldByLoan old new (Out batch) = (old ≤ last_of batch) × (new ≡ old)

@@ -1,0 +1,32 @@
+-- Marks: what an office keeps of the commands that were issued since it was opened.
+use Rattle.std.specs.Prelude.{◌≡◌, ℕ, ◌+◌, Bool, ◌==◌, List, [], ◌∷◌, length, map, filter, Option, Some, None}
+use Rattle.std.specs.List.{range_with_len}
+use Rattle.hall_core.specs.declared.issuing.Issued.{Issued}
+use Rattle.receipts.specs.declared.mark.Mark.{Mark}
+
+-- the mark of a command that a call of this desk issued
+abbrev pub mark_of : ℕ → Issued → Mark
+mark_of desk issued = record { number = issued.number; desk = desk; kind = issued.kind; id = issued.id; time = issued.time }
+
+-- the marks that a call of this desk makes, which issued this or nothing
+abbrev pub marks_by : ℕ → Option Issued → List Mark
+marks_by desk None = []
+marks_by desk (Some issued) = mark_of desk issued ∷ []
+
+abbrev pub is_of : ℕ → Mark → Bool
+is_of desk mark = mark.desk == desk
+
+-- the history of a desk: the marks that have its number
+abbrev pub history_of_desk : ℕ → List Mark → List Mark
+history_of_desk desk marks = filter (is_of desk) marks
+
+abbrev pub numbers_of : List Mark → List ℕ
+numbers_of marks = map (λ (mark : Mark). mark.number) marks
+
+-- the marks are numbered without a gap, behind so many commands
+abbrev pub AreNumbered : ℕ → List Mark → Type 0
+AreNumbered before marks = numbers_of marks ≡ range_with_len (before + 1) (length marks)
+
+-- the same, behind however many commands
+abbrev pub AreNumberedFromSome : List Mark → Type 0
+AreNumberedFromSome marks = (before : ℕ) × AreNumbered before marks
