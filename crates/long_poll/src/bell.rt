@@ -1,5 +1,4 @@
 // The bell: tasks register there, and a ring wakes them.
-ghost use Rattle.std.specs.Prelude.{◌≡◌};
 ghost use Rattle.futures.specs.Task.{Hears, IsArmed, Keeps};
 
 use crate::waiters::Waiters;
@@ -24,6 +23,8 @@ pub struct Registered {
 }
 
 impl Bell {
+    ghost use Rattle.long_poll.specs.Bell.{source_of};
+
     pub fn new(alloc: Global) -> Bell {
         Bell {
             source: Source::new(),
@@ -43,21 +44,34 @@ impl Bell {
         drop(waker);
     }
 
-    /// Registers the task under this key: the next ring wakes it. Where the key has no place and there is no memory for
-    /// one, the task is polled again at once.
-    pub fn register<R: Wait>(&self, rt: &R, key: u64, cx: &mut Context<'_>) -> Registered
+    /// Registers the task under this key: the next ring of this number or above wakes it. Where the key has no place and
+    /// there is no memory for one, the task is polled again at once.
+    pub fn register<R: Wait>(
+        &self,
+        rt: &R,
+        key: u64,
+        number: u64,
+        cx: &mut Context<'_>,
+    ) -> Registered
         ensures armed { IsArmed cx.new }
-        ensures heard { Hears cx.new self.now.source.id }
+        ensures heard { Hears cx.new (source_of self.now) }
         ensures kept { Keeps cx.old cx.new }
     {
-        self.waiters.lock(rt).register(&self.source, key, cx);
+        self.waiters
+            .lock(rt)
+            .register(&self.source, key, number, cx);
         Registered { made: () }
     }
 
-    /// Wakes all tasks that registered since the last ring. A waker wakes its task when it is dropped, which happens
-    /// outside the lock.
+    /// Wakes all tasks that registered since they were woken last.
     pub fn ring<R: Wait>(&self, rt: &R) {
-        let mut wakers = self.waiters.lock(rt).take_wakers();
+        self.ring_up_to(rt, u64::MAX);
+    }
+
+    /// Wakes the tasks that wait for this number or one below. Those that wait for 0 need no commit: a request may have
+    /// answered them. A waker wakes its task when it is dropped, which happens outside the lock.
+    pub fn ring_up_to<R: Wait>(&self, rt: &R, number: u64) {
+        let mut wakers = self.waiters.lock(rt).take_wakers(number);
         wakers.clear();
         self.waiters.lock(rt).give_back(wakers);
     }

@@ -1,6 +1,7 @@
 // What the futures of one port share.
-ghost use Rattle.std.specs.Prelude.{◌≡◌, IfOk, IfErr};
+ghost use Rattle.std.specs.Prelude.{◌≡◌, IfOk, IfErr, IfSome};
 ghost use Rattle.front_board.specs.Board.{SitsAt};
+ghost use Rattle.hall_core.specs.Hall.{slot_told};
 
 use crate::bell::Bell;
 use api_core::Call;
@@ -60,12 +61,16 @@ impl<L: Ledger> Port<L> {
     }
 
     /// The office.
-    pub fn office(&self) -> &Office<L> {
+    pub fn office(&self) -> &Office<L>
+        ensures { result.now ≡ self.now.office.value }
+    {
         &self.office
     }
 
     /// The bell.
-    pub fn bell(&self) -> &Bell {
+    pub fn bell(&self) -> &Bell
+        ensures { result.now ≡ self.now.bell.value }
+    {
         &self.bell
     }
 
@@ -94,7 +99,9 @@ impl<L: Ledger> Port<L> {
     }
 
     /// The reply of a slot, as `Office::take` gives it.
-    pub(crate) fn take<R: Wait>(&self, rt: &R, slot: u64) -> Option<Released> {
+    pub(crate) fn take<R: Wait>(&self, rt: &R, slot: u64) -> Option<Released>
+        ensures slot { IfSome result (λ released. slot_told released ≡ slot) }
+    {
         let mut desk = self.desk.lock(rt);
         self.office.take(rt, &mut desk, slot)
     }

@@ -1,16 +1,33 @@
 // The tasks that wait at a bell, behind its lock.
-ghost use Rattle.std.specs.Prelude.{◌≡◌};
+ghost use Rattle.std.specs.Prelude.{◌≡◌, ◌≤◌, ◌++◌, ◌∷◌, [], None, OnOk, OnErr, vec_len, vec_capacity};
 ghost use Rattle.futures.specs.Task.{Hears, IsArmed, Keeps};
 
 use futures::task::{Context, Source, Waker};
 use std::alloc::{AllocError, Global};
 use std::mem;
 
-/// The place of one key, with the waker of the task that waits there since the last ring.
+/// The place of one key, with the waker of the task that waits there, and the number that it waits for.
 #[derive(Drop)]
 struct Entry {
     key: u64,
+    number: u64,
     waker: Option<Waker>,
+}
+
+impl Entry {
+    ghost use Rattle.long_poll.specs.Bell.{IsFree};
+
+    // What waits here for this number or one below.
+    #[tactic(auto, unfolding(crate::specs::Bell::IsFree))]
+    fn take(&mut self, number: u64) -> Option<Waker>
+        ensures { IsFree number self.new }
+    {
+        if self.number <= number {
+            self.waker.take()
+        } else {
+            None
+        }
+    }
 }
 
 /// A place for each key, and room for their wakers.
@@ -18,11 +35,14 @@ struct Entry {
 pub(crate) struct Waiters {
     alloc: Global,
     entries: Vec<Entry>,
-    /// Empty, with room for as many wakers as there are places, unless a ring has it.
+    /// With room for as many wakers as there are places, unless a ring has it.
     room: Vec<Waker>,
+    ghost empty: { room.items ≡ [] },
 }
 
 impl Waiters {
+    ghost use Rattle.long_poll.specs.Bell.{AreFree, Waits};
+
     pub(crate) fn new(alloc: Global) -> Waiters {
         Waiters {
             alloc,
@@ -32,41 +52,49 @@ impl Waiters {
     }
 
     /// Makes a place for a key, so that neither registering there nor ringing needs memory.
-    pub(crate) fn enter(&mut self, key: u64) -> Result<(), AllocError> {
+    pub(crate) fn enter(&mut self, key: u64) -> Result<(), AllocError>
+        ensures place { OnOk result (self.new.entries.items ≡ self.old.entries.items ++ record { key = key; number = 0; waker = None } ∷ []) }
+        ensures room { OnOk result (vec_len self.new.entries ≤ vec_capacity self.new.room) }
+        ensures err { OnErr result (self.new.entries.items ≡ self.old.entries.items) }
+    {
         self.room.reserve(self.entries.len().saturating_add(1))?;
-        self.entries.push(Entry { key, waker: None })?;
+        self.entries.push(Entry {
+            key,
+            number: 0,
+            waker: None,
+        })?;
         Ok(())
     }
 
     /// Takes a key's place away, and hands out what waits there.
     pub(crate) fn leave(&mut self, key: u64) -> Option<Waker> {
         let at = self.entries.iter().position(|entry| entry.key == key)?;
-        let Entry { key: _, waker } = self.entries.swap_remove(at);
+        let Entry { waker, .. } = self.entries.swap_remove(at);
         waker
     }
 
-    /// Leaves the task's waker at the key's place. Where there is none and no memory for one, the task is polled again.
-    pub(crate) fn register(&mut self, source: &Source, key: u64, cx: &mut Context<'_>)
+    /// Leaves the task's waker at the key's place, for rings of this number and above. Where there is no place and no memory
+    /// for one, the task is polled again.
+    pub(crate) fn register(&mut self, source: &Source, key: u64, number: u64, cx: &mut Context<'_>)
         ensures armed { IsArmed cx.new }
         ensures heard { Hears cx.new source.now.id }
         ensures kept { Keeps cx.old cx.new }
+        ensures waits { Waits self.new.entries.items key number cx.old cx.new }
     {
-        if let Some(entry) = self.entries.iter_mut().find(|entry| entry.key == key) {
-            cx.register::<()>(source, &mut entry.waker);
-            return;
-        }
-        let mut waker = None;
+        let mut waker = self.leave(key);
         cx.register::<()>(source, &mut waker);
-        if self.entries.push(Entry { key, waker }).is_err() {
+        if self.entries.push(Entry { key, number, waker }).is_err() {
             cx.yield_now::<()>();
         }
     }
 
-    /// Takes all wakers out of their places. One for which there is no room wakes its task here.
-    pub(crate) fn take_wakers(&mut self) -> Vec<Waker> {
+    /// Takes all wakers of this number and below out of their places. One for which there is no room wakes its task here.
+    pub(crate) fn take_wakers(&mut self, number: u64) -> Vec<Waker>
+        ensures free { AreFree number self.new.entries.items }
+    {
         let mut wakers = mem::replace(&mut self.room, Vec::new(self.alloc));
         for entry in self.entries.iter_mut() {
-            if let Some(waker) = entry.waker.take() {
+            if let Some(waker) = entry.take(number) {
                 if let Err(refused) = wakers.push(waker) {
                     drop(refused);
                 }
@@ -76,7 +104,11 @@ impl Waiters {
     }
 
     /// Takes the room back that a ring had, where it is not less than what is here.
-    pub(crate) fn give_back(&mut self, room: Vec<Waker>) {
+    pub(crate) fn give_back(&mut self, room: Vec<Waker>)
+        requires empty { room.items ≡ [] }
+        ensures same { self.new.entries.items ≡ self.old.entries.items }
+        ensures room { vec_capacity room ≤ vec_capacity self.new.room }
+    {
         if self.room.capacity() < room.capacity() {
             self.room = room;
         }

@@ -1,6 +1,7 @@
 // The future of one reply.
-ghost use Rattle.std.specs.Prelude.{◌≡◌};
-ghost use Rattle.futures.specs.Task.{IsArmed, Keeps};
+ghost use Rattle.std.specs.Prelude.{◌≡◌, Some, None, IfSome, IfNone, OnSome};
+ghost use Rattle.futures.specs.Task.{Covers, Keeps};
+ghost use Rattle.hall_core.specs.Hall.{slot_told};
 
 use crate::bell::Registered;
 use crate::port::Port;
@@ -39,9 +40,16 @@ pub struct Waiting<R: Wait, L: Ledger> {
 }
 
 impl<R: Wait, L: Ledger> Waiting<R, L> {
+    ghost use Rattle.long_poll.specs.Bell.{source_of};
+    ghost use Rattle.long_poll.specs.Waiting.{number_at};
+
     /// Waits for the reply of this slot of the port's office, which came with this ticket. It makes itself a place at the
     /// bell; where there is no memory for one now, each poll tries again.
-    pub fn new(rt: R, port: Arc<Port<L>>, ticket: Ticket, slot: u64) -> Waiting<R, L> {
+    pub fn new(rt: R, port: Arc<Port<L>>, ticket: Ticket, slot: u64) -> Waiting<R, L>
+        ensures slot { result.slot ≡ slot }
+        ensures number { number_at result.stage ≡ Some ticket }
+        ensures port { result.port ≡ port }
+    {
         let entered = port.bell().enter(&rt, slot);
         drop(entered);
         Waiting {
@@ -52,49 +60,82 @@ impl<R: Wait, L: Ledger> Waiting<R, L> {
         }
     }
 
-    // Looks at the board for the ticket, if there is still one: why the office may be asked, if it may.
-    fn cause(&mut self) -> Option<Cause> {
+    // Registers for rings of this number and above.
+    fn register(&self, number: u64, cx: &mut Context<'_>) -> Registered
+        ensures covers { Covers cx.new (λ source. source ≡ source_of self.now.port.value.bell.value) }
+        ensures kept { Keeps cx.old cx.new }
+    {
+        self.port.bell().register(&self.rt, self.slot, number, cx)
+    }
+
+    // Looks at the board for a ticket, after the task has registered for its number: why the office may be asked, if it may.
+    fn check(&mut self, ticket: Ticket, _registered: Registered) -> Option<Cause>
+        ensures same { (self.new.slot ≡ self.old.slot) × (self.new.port ≡ self.old.port) }
+        ensures number { number_at self.new.stage ≡ Some ticket }
+    {
+        match self.port.check(&self.rt, ticket) {
+            Ok(receipt) => {
+                self.stage = Stage::Durable(receipt);
+                Some(Cause::Durable(receipt))
+            }
+            Err(ticket) => {
+                self.stage = Stage::Issued(ticket);
+                self.port.bell().has_broken().then_some(Cause::HallBroke)
+            }
+        }
+    }
+
+    // Why the office may be asked. Where it may not, the task has registered.
+    fn cause(&mut self, cx: &mut Context<'_>) -> Option<Cause>
+        ensures same { (self.new.slot ≡ self.old.slot) × (self.new.port ≡ self.old.port) }
+        ensures number { number_at self.new.stage ≡ number_at self.old.stage }
+        ensures covers { IfNone result (Covers cx.new (λ source. source ≡ source_of self.old.port.value.bell.value)) }
+        ensures kept { Keeps cx.old cx.new }
+    {
         match mem::replace(&mut self.stage, Stage::Told) {
-            Stage::Issued(ticket) => match self.port.check(&self.rt, ticket) {
-                Ok(receipt) => {
-                    self.stage = Stage::Durable(receipt);
-                    Some(Cause::Durable(receipt))
-                }
-                Err(ticket) => {
-                    self.stage = Stage::Issued(ticket);
-                    self.port.bell().has_broken().then_some(Cause::HallBroke)
-                }
-            },
+            Stage::Issued(ticket) => {
+                let registered = self.register(ticket.number(), cx);
+                self.check(ticket, registered)
+            }
             Stage::Durable(receipt) => {
                 self.stage = Stage::Durable(receipt);
                 Some(Cause::Durable(receipt))
             }
-            Stage::Told => None,
+            Stage::Told => {
+                self.register(0, cx);
+                None
+            }
         }
     }
 
-    // Asks the office, of which there has to be a cause.
-    fn ask(&mut self, _cause: Cause) -> Option<Released> {
+    // Asks the office, of which there has to be a cause, after the task has registered for each ring.
+    fn ask(&mut self, _cause: Cause, _registered: Registered) -> Option<Released>
+        ensures same { (self.new.slot ≡ self.old.slot) × (self.new.port ≡ self.old.port) }
+        ensures slot { IfSome result (λ released. slot_told released ≡ self.old.slot) }
+        ensures told { OnSome result (number_at self.new.stage ≡ None) }
+        ensures waits { IfNone result (number_at self.new.stage ≡ number_at self.old.stage) }
+    {
         let released = self.port.take(&self.rt, self.slot)?;
         self.stage = Stage::Told;
         Some(released)
-    }
-
-    // The last look of a poll, which has registered.
-    fn look(&mut self, _registered: Registered) -> Option<Released> {
-        let cause = self.cause()?;
-        self.ask(cause)
     }
 }
 
 impl<R: Wait + Drop, L: Ledger> Future for Waiting<R, L> {
     type Output = Released;
 
-    ghost needs = { λ w s. s ≡ w.port.value.bell.value.source.id };
+    ghost use Rattle.long_poll.specs.Bell.{source_of};
+
+    ghost needs = { λ waiting source. source ≡ source_of waiting.port.value.bell.value };
+
+    ghost gives = { λ waiting released. slot_told released ≡ waiting.slot };
 
     fn poll(&mut self, cx: &mut Context<'_>) -> Poll<Released> {
-        let registered = self.port.bell().register(&self.rt, self.slot, cx);
-        match self.look(registered) {
+        let Some(cause) = self.cause(cx) else {
+            return Poll::Pending;
+        };
+        let registered = self.register(0, cx);
+        match self.ask(cause, registered) {
             Some(released) => Poll::Ready(released),
             None => Poll::Pending,
         }
