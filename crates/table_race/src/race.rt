@@ -88,9 +88,10 @@ impl Race {
     // An answer of an attempt that runs, or its interruption.
     fn answer(&mut self) -> Result<Command, AllocError> {
         let after = self.draw.below(self.slow.number().max(1));
-        let Some((_, id)) = self.slow.next_running(after) else {
+        let Some(running) = self.slow.next_running(after) else {
             return self.any();
         };
+        let id = running.1;
         let length = self.draw.below(17);
         match self.draw.below(4) {
             0 => command(self.alloc, Kind::Succeed, id, 0, self.now, length),
