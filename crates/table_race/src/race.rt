@@ -121,14 +121,14 @@ impl Race {
     }
 
     fn drawn(&mut self) -> Result<Command, AllocError> {
-        if self.draw.below(4) == 0 {
-            self.now = self.now.saturating_add(self.draw.below(120));
+        if self.draw.below(8) == 0 {
+            self.now = self.now.saturating_add(self.draw.below(400));
         }
         match self.draw.below(16) {
-            0..=4 => self.next(),
-            5..=8 => self.accept(),
+            0..=5 => self.next(),
+            6..=8 => self.accept(),
             9..=11 => self.answer(),
-            12..=13 => self.collect(),
+            12..=14 => self.collect(),
             _ => self.any(),
         }
     }
