@@ -1,0 +1,212 @@
+// One random history over both tables.
+use crate::commands::{Draw, command, id_of, kind_of, settings_for};
+use crate::compare::{agree_on_event, agree_on_order, same_rows};
+use async_core::Side;
+use invoke_records::{Cause, Command, GREATEST_NUMBER, Kind};
+use std::alloc::{AllocError, Global};
+
+/// What a race saw.
+#[derive(Drop)]
+pub struct Report {
+    pub applied: u64,
+    pub refused: u64,
+    pub most_held: usize,
+    /// How many commands after which some answer differed.
+    pub differ: u64,
+}
+
+#[derive(Drop)]
+struct Race {
+    alloc: Global,
+    table: async_core::Table,
+    slow: slow_table::Table,
+    draw: Draw,
+    events: u64,
+    now: u64,
+}
+
+impl Race {
+    fn drawn_id(&mut self) -> [u8; 16] {
+        let many = self.events.saturating_mul(2);
+        id_of(self.draw.below(many))
+    }
+
+    fn drawn_environment(&mut self) -> u16 {
+        match u16::try_from(self.draw.below(6)) {
+            Ok(environment) => environment,
+            Err(_) => 0,
+        }
+    }
+
+    fn accept(&mut self) -> Result<Command, AllocError> {
+        let id = self.drawn_id();
+        let length = self.draw.below(17).max(1);
+        command(self.alloc, Kind::Accept, id, 0, self.now, length)
+    }
+
+    fn any(&mut self) -> Result<Command, AllocError> {
+        let kind = kind_of(self.draw.below(10));
+        let id = self.drawn_id();
+        let environment = if self.draw.below(2) == 0 {
+            0
+        } else {
+            self.drawn_environment()
+        };
+        let back = self.draw.below(40) / 39;
+        let length = self.draw.below(19);
+        command(
+            self.alloc,
+            kind,
+            id,
+            environment,
+            self.now.saturating_sub(back),
+            length,
+        )
+    }
+
+    // The next move, where an environment is ready or none is.
+    fn next(&mut self) -> Result<Command, AllocError> {
+        let environment = self.drawn_environment().clamp(1, 4);
+        let ready = if self.draw.below(3) == 0 {
+            None
+        } else {
+            Some(environment)
+        };
+        match self.slow.next_move(self.now, ready) {
+            Some(next) => command(
+                self.alloc,
+                next.kind,
+                next.id,
+                next.environment,
+                self.now,
+                0,
+            ),
+            None => self.any(),
+        }
+    }
+
+    // An answer of an attempt that runs, or its interruption.
+    fn answer(&mut self) -> Result<Command, AllocError> {
+        let after = self.draw.below(self.slow.number().max(1));
+        let Some(running) = self.slow.next_running(after) else {
+            return self.any();
+        };
+        let id = running.1;
+        let length = self.draw.below(17);
+        match self.draw.below(4) {
+            0 => command(self.alloc, Kind::Succeed, id, 0, self.now, length),
+            1 => command(
+                self.alloc,
+                Kind::Fail(Cause::Reported),
+                id,
+                0,
+                self.now,
+                length,
+            ),
+            2 => command(self.alloc, Kind::Fail(Cause::Exited), id, 0, self.now, 0),
+            _ => command(self.alloc, Kind::Interrupt, id, 0, self.now, 0),
+        }
+    }
+
+    fn collect(&mut self) -> Result<Command, AllocError> {
+        let side = if self.draw.below(2) == 0 {
+            Side::Success
+        } else {
+            Side::Failure
+        };
+        match self.slow.oldest_ended(side) {
+            Some(id) => command(self.alloc, Kind::Collect, id, 0, self.now, 0),
+            None => self.accept(),
+        }
+    }
+
+    fn drawn(&mut self) -> Result<Command, AllocError> {
+        if self.draw.below(8) == 0 {
+            self.now = self.now.saturating_add(self.draw.below(400));
+        }
+        match self.draw.below(16) {
+            0..=5 => self.next(),
+            6..=8 => self.accept(),
+            9..=11 => self.answer(),
+            12..=14 => self.collect(),
+            _ => self.any(),
+        }
+    }
+
+    // Whether both say the same after a command of this event.
+    fn agrees(&mut self, id: &[u8; 16]) -> bool {
+        let other = self.drawn_id();
+        let after = self.draw.below(self.slow.number().max(1));
+        let environment = self.drawn_environment().clamp(1, 4);
+        let now = self.now.saturating_add(self.draw.below(2000));
+        agree_on_event(&self.table, &self.slow, id)
+            && agree_on_event(&self.table, &self.slow, &other)
+            && agree_on_order(&self.table, &self.slow, now, after, environment)
+    }
+
+    // Whether all rows are the same, and a table made of them is equal. That one goes on.
+    fn is_whole(&mut self) -> Result<bool, AllocError> {
+        let snapshot = self.table.snapshot()?;
+        let is_same = same_rows(snapshot.rows.as_slice(), &self.slow);
+        let settings = settings_for(self.alloc, self.events)?;
+        let anew = async_core::Table::from_snapshot(self.alloc, snapshot, settings)?;
+        let is_equal = anew == self.table;
+        self.table = anew;
+        Ok(is_same && is_equal)
+    }
+}
+
+fn run_step(race: &mut Race, report: &mut Report) -> Result<bool, AllocError> {
+    let next = race.drawn()?;
+    let judged = race.table.judge(&next).err() == race.slow.judge(&next).err();
+    if race.table.number() >= GREATEST_NUMBER {
+        return Ok(false);
+    }
+    let refusal = race.table.apply(&next).err();
+    let same = refusal == race.slow.apply(&next).err();
+    match refusal {
+        Some(_) => report.refused = report.refused.saturating_add(1),
+        None => report.applied = report.applied.saturating_add(1),
+    }
+    report.most_held = report.most_held.max(race.slow.rows().len());
+    Ok(judged && same && race.agrees(&next.id))
+}
+
+/// So many commands over both tables.
+pub fn run_race(
+    alloc: Global,
+    seed: u64,
+    commands: u64,
+    events: u64,
+) -> Result<Report, AllocError> {
+    let settings = settings_for(alloc, events)?;
+    let table = async_core::Table::new(alloc, settings);
+    let settings = settings_for(alloc, events)?;
+    let slow = slow_table::Table::new(alloc, settings);
+    let mut race = Race {
+        alloc,
+        table,
+        slow,
+        draw: Draw::new(seed),
+        events,
+        now: 1_573_755_365_568,
+    };
+    let mut report = Report {
+        applied: 0,
+        refused: 0,
+        most_held: 0,
+        differ: 0,
+    };
+    for n in 0..commands {
+        let agrees = run_step(&mut race, &mut report)?;
+        let is_whole = if n % 256 == 255 {
+            race.is_whole()?
+        } else {
+            true
+        };
+        if !(agrees && is_whole) {
+            report.differ = report.differ.saturating_add(1);
+        }
+    }
+    Ok(report)
+}
