@@ -8,6 +8,7 @@ use crate::formatting::{NewDisk, make_disk};
 use crate::trial::{Trial, TrialError, run_trial};
 use crate::words::{Task, read_task};
 use audit_report::Older;
+use clap::error::ErrorKind;
 use invoke_records::Standing;
 use std::fmt::Display;
 use std::fs::File;
@@ -39,6 +40,7 @@ pub fn run<R: Files<File = File> + AllocGlobal, W: Write>(
         Ok(Some(Task::Format(new))) => print_format(rt, &new, out),
         Ok(Some(Task::Audit(old))) => print_audit(rt, &old, out),
         Ok(None) => Ok(USAGE),
+        Err(fault) if fault.kind() == ErrorKind::OutOfMemory => refuse_for_memory(out),
         Err(fault) => {
             write!(out, "{fault}")?;
             Ok(if fault.exit_code() == 0 { DONE } else { USAGE })
@@ -111,6 +113,13 @@ fn print_lines<W: Write>(audit: &Audit, out: &mut W) -> io::Result<u8>
         Older::Differs => REFUSED,
         _ => DONE,
     })
+}
+
+/// Prints that memory ran out.
+pub fn refuse_for_memory<W: Write>(out: &mut W) -> io::Result<u8>
+    ensures { IfOk result (λ status. status ≡ 1) }
+{
+    print_fault(&"out of memory", false, out)
 }
 
 // Prints why a command was not carried out.
