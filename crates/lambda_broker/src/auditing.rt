@@ -2,10 +2,10 @@
 ghost use Rattle.std.specs.Prelude.{◌≡◌};
 ghost use Rattle.lambda_broker.specs.Auditing.{is_device_fault};
 
-use audit_report::{Report, explain, inspect};
+use audit_report::{Report, audit, explain, inspect};
 use group_commit::OpenError;
-use sector_disk::{FileDisk, FileError};
-use std::alloc::AllocError;
+use sector_disk::{Disk, FileDisk, FileError};
+use std::alloc::{AllocError, Global};
 use std::fs::File;
 use std::rt::Files;
 use thiserror::Error;
@@ -50,16 +50,30 @@ impl AuditError {
     }
 }
 
+// What a disk holds, and the line of one event.
+fn with_event<D: Disk>(alloc: Global, disk: &mut D, id: &[u8; 16]) -> Result<Audit, AuditError> {
+    let (table, report) = inspect(alloc, disk)?;
+    let event = explain(alloc, &table, id)?;
+    Ok(Audit {
+        report,
+        event: Some(event),
+    })
+}
+
 /// Reads what a disk holds, which is opened for reading alone.
 pub fn audit_disk<R: Files<File = File> + AllocGlobal>(
     rt: &R,
     old: &OldDisk<'_>,
 ) -> Result<Audit, AuditError> {
     let mut disk = FileDisk::open_read_only(rt, old.path)?;
-    let (table, report) = inspect(rt.alloc(), &mut disk)?;
-    let event = match old.event {
-        Some(id) => Some(explain(rt.alloc(), &table, &id)?),
-        None => None,
-    };
-    Ok(Audit { report, event })
+    match old.event {
+        Some(id) => with_event(rt.alloc(), &mut disk, &id),
+        None => {
+            let report = audit(rt.alloc(), disk)?;
+            Ok(Audit {
+                report,
+                event: None,
+            })
+        }
+    }
 }

@@ -9,6 +9,7 @@ use crate::serving::{Address, serve_disk};
 use crate::trial::{Trial, TrialError, run_trial};
 use crate::words::{Task, read_task};
 use audit_report::Older;
+use clap::error::ErrorKind;
 use invoke_records::Standing;
 use std::alloc::AllocGlobal;
 use std::fmt::Display;
@@ -56,6 +57,7 @@ where
         Ok(Some(Task::Audit(old))) => print_audit(&rt, &old, out),
         Ok(Some(Task::Serve(at))) => print_serve(rt, &at, out),
         Ok(None) => Ok(USAGE),
+        Err(fault) if fault.kind() == ErrorKind::OutOfMemory => refuse_for_memory(out),
         Err(fault) => {
             write!(out, "{fault}")?;
             Ok(if fault.exit_code() == 0 { DONE } else { USAGE })
@@ -151,6 +153,13 @@ fn print_lines<W: Write>(audit: &Audit, out: &mut W) -> io::Result<u8>
         Older::Differs => REFUSED,
         _ => DONE,
     })
+}
+
+/// Prints that memory ran out.
+pub fn refuse_for_memory<W: Write>(out: &mut W) -> io::Result<u8>
+    ensures { IfOk result (λ status. status ≡ 1) }
+{
+    print_fault(&"out of memory", false, out)
 }
 
 // Prints why a command was not carried out.

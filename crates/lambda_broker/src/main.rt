@@ -11,17 +11,29 @@ mod serving;
 mod trial;
 mod words;
 
-use std::io::Write;
+use std::io::{ErrorKind, Write};
 use std::process::ExitCode;
+use std::rt::Env;
 use std::{env, io};
 
-fn main(rt: HostRuntime) -> io::Result<ExitCode> {
+// The words of the command line.
+fn words_of<R: Env + AllocGlobal>(rt: &R) -> io::Result<Vec<String>> {
     let mut words = Vec::new(rt.alloc());
-    for word in env::args(&rt)? {
+    for word in env::args(rt)? {
         words.push(word)?;
     }
+    Ok(words)
+}
+
+fn main(rt: HostRuntime) -> io::Result<ExitCode> {
     let mut out = io::writer(&rt);
-    let status = command_line::run(rt, &words, &mut out)?;
+    let status = match words_of(&rt) {
+        Ok(words) => command_line::run(rt, &words, &mut out)?,
+        Err(fault) if fault.kind() == ErrorKind::OutOfMemory => {
+            command_line::refuse_for_memory(&mut out)?
+        }
+        Err(fault) => return Err(fault),
+    };
     out.flush()?;
     Ok(ExitCode::from(status))
 }
