@@ -4,7 +4,7 @@ use crate::text::Text;
 use async_core::Illegal;
 use checkpoint::{FormatError, OpenError};
 use gate_journal::AppendError;
-use group_commit::{CommitError, IssueError};
+use group_commit::{CommitError, IssueError, JoinError, LendError, SettleError, WriteError};
 use invoke_records::RecordError;
 
 pub fn illegal(why: Illegal) -> &'static str {
@@ -43,6 +43,42 @@ pub fn commit(why: CommitError) -> &'static str {
         CommitError::BadKind => "bad kind",
         CommitError::OutOfMemory => "out of memory",
         CommitError::Fault => "fault",
+    }
+}
+
+pub fn lend(why: LendError) -> &'static str {
+    match why {
+        LendError::Broken => "broken",
+        LendError::Lent => "lent",
+        LendError::OutOfMemory => "out of memory",
+    }
+}
+
+pub fn write(why: WriteError) -> &'static str {
+    match why {
+        WriteError::Broken => "broken",
+        WriteError::Mismatch => "mismatch",
+        WriteError::WornOut => "worn out",
+        WriteError::Backlog => "backlog",
+        WriteError::BadKind => "bad kind",
+        WriteError::OutOfMemory => "out of memory",
+        WriteError::Fault => "fault",
+    }
+}
+
+pub fn settle(why: SettleError) -> &'static str {
+    match why {
+        SettleError::Mismatch => "mismatch",
+        SettleError::NotWritten(why) => write(why),
+    }
+}
+
+pub fn join(why: JoinError) -> &'static str {
+    match why {
+        JoinError::Lent => "lent",
+        JoinError::Backlog => "backlog",
+        JoinError::OutOfMemory => "out of memory",
+        JoinError::Mismatch => "mismatch",
     }
 }
 

@@ -4,6 +4,7 @@ use crate::disks::disk_step;
 use crate::environments::environment_step;
 use crate::events::broker_step;
 use crate::halls::hall_step;
+use crate::halves::{Halves, halves_step};
 use crate::memory::{format_disk, memory_step};
 use crate::records::record_step;
 use crate::refusals;
@@ -12,11 +13,12 @@ use crate::reply::Reply;
 use crate::requests::request_step;
 use crate::running::Scene;
 use crate::settings::{set, usual_settings};
+use crate::split_drilling::split_orders_step;
 use crate::text::Text;
 use crate::words::Words;
 use checkpoint::OpenError;
 use env_phase::Env;
-use group_commit::{Broker, OpenFailure, Ticket};
+use group_commit::{Broker, JoinFailure, OpenFailure, Ticket};
 use hall_core::Hall;
 use retry_rules::Settings;
 use sector_disk::{CallKind, FaultOnceDisk, FuseDisk, MemDisk};
@@ -33,6 +35,7 @@ enum Stage {
     Closed(CaseDisk),
     Open(Broker<CaseDisk>),
     Asked(Hall<Broker<CaseDisk>>),
+    Split(Halves<CaseDisk>),
 }
 
 /// Where a case stands.
@@ -127,6 +130,42 @@ fn opened_hall(alloc: Global, disk: CaseDisk, answer: &mut Text) -> (Stage, Repl
     }
 }
 
+// Opens a disk and splits its broker: where it stands then, and what is answered.
+fn opened_halves(alloc: Global, disk: CaseDisk, answer: &mut Text) -> (Stage, Reply) {
+    match Broker::open(alloc, disk) {
+        Ok(broker) => match broker.split() {
+            Ok((issue, disk)) => (Stage::Split(Halves::new(issue, disk)), Reply::Done),
+            Err(failure) => (
+                Stage::Closed(failure.broker.close()),
+                Reply::Refused("out of memory"),
+            ),
+        },
+        Err(OpenFailure { cause, disk }) => (Stage::Closed(disk), refusals::open(cause, answer)),
+    }
+}
+
+// Joins two halves: where it stands then, and what is answered.
+fn joined(halves: Halves<CaseDisk>) -> (Stage, Reply) {
+    let Halves {
+        issue,
+        disk,
+        held,
+        lent,
+    } = halves;
+    match Broker::join(issue, disk) {
+        Ok(broker) => (Stage::Open(broker), Reply::Done),
+        Err(JoinFailure { cause, issue, disk }) => {
+            let halves = Halves {
+                issue,
+                disk,
+                held,
+                lent,
+            };
+            (Stage::Split(halves), Reply::Refused(refusals::join(cause)))
+        }
+    }
+}
+
 // Opens a disk: where it stands then, and why it is not open.
 fn opened(alloc: Global, disk: CaseDisk) -> (Stage, Option<OpenError>) {
     match Broker::open(alloc, disk) {
@@ -168,6 +207,11 @@ impl World {
                 self.issued = hall.issued();
                 Some(hall.close())
             }
+            Stage::Split(halves) => {
+                self.durable = halves.written();
+                self.issued = halves.lent;
+                Some(halves.disk.close())
+            }
         }
     }
 
@@ -177,6 +221,26 @@ impl World {
             return Reply::Unreadable;
         };
         let (stage, reply) = opened_hall(alloc, disk, answer);
+        self.stage = stage;
+        reply
+    }
+
+    // Opens the disk, and splits its broker.
+    fn open_halves(&mut self, alloc: Global, answer: &mut Text) -> Reply {
+        let Some(disk) = self.take_disk() else {
+            return Reply::Unreadable;
+        };
+        let (stage, reply) = opened_halves(alloc, disk, answer);
+        self.stage = stage;
+        reply
+    }
+
+    // Joins the halves to a broker that is open.
+    fn join(&mut self) -> Reply {
+        let Stage::Split(halves) = mem::replace(&mut self.stage, Stage::Nothing) else {
+            return Reply::Unreadable;
+        };
+        let (stage, reply) = joined(halves);
         self.stage = stage;
         reply
     }
@@ -301,6 +365,7 @@ impl World {
                 broker_step(alloc, broker, &mut self.tickets, word, words, answer)
             }
             Stage::Asked(hall) => hall_step(alloc, hall, &self.settings, word, words, answer),
+            Stage::Split(halves) => halves_step(alloc, halves, word, words, answer),
         }
     }
 }
@@ -322,7 +387,10 @@ impl Scene for World {
             "reply" => reply_step(alloc, &self.settings, words, answer),
             "env" => environment_step(alloc, &mut self.environment, words, answer),
             "member" => tell_member(alloc, &self.record, words, answer),
-            "halt" | "format" | "barriers" | "drill" => {
+            "split" => self.open_halves(alloc, answer),
+            "join" => self.join(),
+            "split-orders" => split_orders_step(alloc, &self.settings, words, answer),
+            "halt" | "format" | "barriers" | "drill" | "drill-split" => {
                 self.memory_step(alloc, word, SOUND, words, answer)
             }
             _ => {
