@@ -1,7 +1,7 @@
 -- What two halves are joined to.
-use Rattle.std.proofs.Common.{◌≡◌, ◌⊎◌, ℕ, ◌+◌, ◌-◌, ◌<◌, ◌≤◌, Bool, true, false, None, Some, List, [], ◌++◌, length, take, drop, refl, sym, ap, subst, ◌∙◌, arith, ⊎_elim, length-append, length-drop}
+use Rattle.std.proofs.Common.{◌≡◌, ℕ, ◌+◌, ◌-◌, ◌<◌, ◌≤◌, Bool, true, None, Some, List, ◌++◌, length, take, drop, sym, ap, subst, ◌∙◌, arith, ⊎_elim, length-drop}
 use Rattle.std.specs.Prelude.{slice_get, IfSome, IsSome}
-use Rattle.std.proofs.lemmas.List.{append-nil, drop-drop, take_all, take-append-drop}
+use Rattle.std.proofs.lemmas.List.{drop-drop, take_all, take-append-drop}
 use Rattle.std.proofs.lemmas.Bool.{cases_lt}
 use Rattle.sector_disk.specs.Disk.{DiskView}
 use Rattle.sector_disk.specs.declared.disk.Disk.{Ghosts}
@@ -10,12 +10,11 @@ use Rattle.invoke_records.specs.declared.snapshot.Snapshot.{Snapshot}
 use Rattle.invoke_records.specs.declared.command.Command.{Command}
 use Rattle.async_core.specs.Rules.{refusal_at, replay}
 use Rattle.async_core.specs.State.{State}
-use Rattle.async_core.specs.History.{table_of}
 use Rattle.async_core.specs.laws.Tables.{number-table_of}
 use Rattle.checkpoint.specs.declared.opened.Opened.{Opened}
 use Rattle.group_commit.specs.declared.broker.Broker.{Broker}
 use Rattle.group_commit.specs.declared.issue_half.IssueHalf.{IssueHalf}
-use Rattle.group_commit.specs.Broker.{disk_of, settings_of, table_in, issued_of, pending_of, durable_of, is_broken, opened_of, StandsBy, Stands}
+use Rattle.group_commit.specs.Broker.{settings_of, table_in, issued_of, StandsBy, Stands}
 use Rattle.group_commit.specs.Issuer.{state_in}
 use Rattle.group_commit.specs.IssuerHalf.{half_view}
 use Rattle.group_commit.specs.Splitting.{Takes, Agree, ahead_of}

@@ -9,3 +9,4 @@ pub mod Memory
 pub mod Taken
 pub mod Writes
 pub mod Joined
+pub mod SplitDrilled

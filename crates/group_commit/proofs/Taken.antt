@@ -1,5 +1,5 @@
 -- What a broker stands for that takes commands, one after another.
-use Rattle.std.proofs.Common.{◌≡◌, ℕ, zero, suc, ◌+◌, ◌-◌, ◌<◌, ◌≤◌, None, Some, Option, List, [], ◌∷◌, ◌++◌, length, take, get_or, refl, sym, ap, subst, ◌∙◌, arith, append_assoc, length-append}
+use Rattle.std.proofs.Common.{◌≡◌, ℕ, zero, suc, ◌+◌, ◌-◌, ◌<◌, None, Some, Option, List, [], ◌∷◌, ◌++◌, length, take, refl, sym, ap, subst, ◌∙◌, arith, append_assoc, length-append}
 use Rattle.std.specs.Prelude.{slice_get, IfSome, IsSome}
 use Rattle.std.proofs.Math.Seq.{take-append_seam, take-append-add, get_or-append_seam}
 use Rattle.std.proofs.lemmas.List.{append-nil}
@@ -12,10 +12,9 @@ use Rattle.invoke_records.specs.declared.command.Command.{Command}
 use Rattle.async_core.specs.declared.illegal.Illegal.{Illegal}
 use Rattle.async_core.specs.Rules.{refusal_at, table_after, where_legal, replay}
 use Rattle.group_commit.specs.declared.broker.Broker.{Broker}
-use Rattle.group_commit.specs.Broker.{disk_of, settings_of, table_in, issued_of, pending_of, durable_of, is_broken, opened_of, Stands, IsSameBroker, Issues}
+use Rattle.group_commit.specs.Broker.{settings_of, table_in, issued_of, pending_of, Stands, IsSameBroker, Issues}
 use Rattle.group_commit.specs.Splitting.{Takes}
 use Rattle.group_commit.specs.Taking.{IllegalNext}
-use Rattle.group_commit.proofs.Issued.{stands_along}
 
 -- ## Replaying one command more
 

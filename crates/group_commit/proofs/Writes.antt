@@ -1,5 +1,5 @@
 -- What a write of a batch makes of the half over the disk.
-use Rattle.std.proofs.Common.{◌≡◌, ◌⊎◌, ℕ, ◌+◌, ◌-◌, ◌^◌, ◌<◌, ◌≤◌, true, false, List, [], ◌++◌, length, take, drop, refl, sym, ap, subst, ◌∙◌, arith, inl, inr, ⊎_elim, length-append, length-drop}
+use Rattle.std.proofs.Common.{◌≡◌, ◌⊎◌, ℕ, ◌+◌, ◌-◌, ◌^◌, ◌<◌, ◌≤◌, true, false, List, ◌++◌, length, take, drop, refl, sym, ap, subst, ◌∙◌, arith, inl, inr, ⊎_elim, length-append}
 use Rattle.std.proofs.Math.Seq.{take-add}
 use Rattle.std.proofs.lemmas.List.{append-nil, drop-drop, length-take}
 use Rattle.std.proofs.lemmas.Bool.{cases_lt, false≢true}
@@ -18,14 +18,13 @@ use Rattle.group_commit.specs.declared.broker.Broker.{Broker}
 use Rattle.group_commit.specs.declared.batch.Batch.{Batch}
 use Rattle.group_commit.specs.declared.error.CommitError.{CommitError}
 use Rattle.group_commit.specs.declared.error.CommitError.TheVariants as commit_error
-use Rattle.group_commit.specs.declared.error.WriteError.{WriteError}
 use Rattle.group_commit.specs.declared.error.WriteError.TheVariants as write_error
 use Rattle.group_commit.specs.History.{IsLegalStop}
-use Rattle.group_commit.specs.Broker.{disk_of, settings_of, table_in, issued_of, pending_of, durable_of, is_broken, opened_of, Stands, IsSameBroker, Breaks}
+use Rattle.group_commit.specs.Broker.{disk_of, settings_of, table_in, issued_of, durable_of, is_broken, Stands, IsSameBroker, Breaks}
 use Rattle.group_commit.specs.Refusals.{IsWornOut, NeedsSwitch, HasBadTable}
-use Rattle.group_commit.specs.Batch.{first_of, last_of, commands_of, is_lasting}
+use Rattle.group_commit.specs.Batch.{first_of}
 use Rattle.group_commit.specs.Taking.{TakesMissing, HasTaken, commit_cause}
-use Rattle.group_commit.specs.Writing.{IsApart, missing_in, taken_from, HasAll, IsWriteReason, IsNotWritten, EndsWith, IsFrontOf, StaysInFront, LeavesStopsWith}
+use Rattle.group_commit.specs.Writing.{IsApart, missing_in, taken_from, HasAll, IsNotWritten, EndsWith, IsFrontOf, StaysInFront, LeavesStopsWith}
 use Rattle.group_commit.proofs.Issued.{stop_of_more}
 
 -- ## The front of a longer list

@@ -1,5 +1,5 @@
 -- What goes between the two halves, as contracts see it.
-use Rattle.std.specs.Prelude.{◌≡◌, ℕ, ◌+◌, true, false, Bool, List, Some, Result, Ok, Err}
+use Rattle.std.specs.Prelude.{ℕ, true, false, Bool, List, Result, Ok, Err}
 use Rattle.invoke_records.specs.declared.command.Command.{Command}
 use Rattle.group_commit.specs.declared.batch.Batch.{Batch}
 use Rattle.group_commit.specs.declared.batch.Written.{Written}

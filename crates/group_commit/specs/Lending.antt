@@ -1,5 +1,5 @@
 -- What an issue half lends, and what it settles.
-use Rattle.std.specs.Prelude.{◌≡◌, ◌↔◌, ℕ, ◌+◌, ◌-◌, ◌≤◌, Bool, true, false, List, [], length, drop, Option, Some, None, IsSome, Result, Ok, Err}
+use Rattle.std.specs.Prelude.{◌≡◌, ◌↔◌, ℕ, ◌+◌, ◌-◌, ◌≤◌, true, false, List, [], length, drop, Option, Some, None, IsSome, Result, Ok, Err}
 use Rattle.invoke_records.specs.declared.command.Command.{Command}
 use Rattle.group_commit.specs.declared.issue_half.IssueHalf.{IssueHalf}
 use Rattle.group_commit.specs.declared.batch.Batch.{Batch}

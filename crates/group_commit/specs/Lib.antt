@@ -12,6 +12,8 @@ pub mod Lending
 pub mod Splitting
 pub mod Writing
 pub mod Taking
+pub mod SplitDrill
+pub mod SplitSteps
 pub mod Resume
 pub mod Steps
 pub mod laws

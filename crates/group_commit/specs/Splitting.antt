@@ -1,8 +1,7 @@
 -- What a broker is split into, and what two halves are joined to.
-use Rattle.std.specs.Prelude.{◌≡◌, ◌⊎◌, ℕ, ◌-◌, ◌≤◌, ◌<◌, ◌+◌, Bool, true, false, List, [], ◌++◌, length, take, drop, None, Some, IsSome}
+use Rattle.std.specs.Prelude.{◌≡◌, ◌⊎◌, ℕ, ◌-◌, ◌≤◌, ◌<◌, ◌+◌, true, false, List, [], ◌++◌, length, take, drop, None, Some, IsSome}
 use Rattle.sector_disk.specs.Disk.{DiskView}
 use Rattle.sector_disk.specs.declared.disk.Disk.{Ghosts}
-use Rattle.invoke_records.specs.declared.snapshot.Snapshot.{Snapshot}
 use Rattle.invoke_records.specs.declared.command.Command.{Command}
 use Rattle.async_core.specs.Rules.{replay}
 use Rattle.group_commit.specs.declared.broker.Broker.{Broker}

@@ -1,5 +1,5 @@
 -- What a write of a batch does to the half over the disk.
-use Rattle.std.specs.Prelude.{◌≡◌, ◌⊎◌, ℕ, ◌+◌, ◌-◌, ◌<◌, ◌≤◌, true, false, List, [], ◌++◌, length, take, drop, slice_get, IfSome, None, Some, IsSome, Result, Ok, Err}
+use Rattle.std.specs.Prelude.{◌≡◌, ◌⊎◌, ◌+◌, ◌-◌, ◌<◌, true, false, List, [], ◌++◌, length, take, drop, slice_get, IfSome, IsSome, Result, Ok, Err}
 use Rattle.sector_disk.specs.Disk.{DiskView}
 use Rattle.sector_disk.specs.Moments.{LeavesOnly}
 use Rattle.sector_disk.specs.declared.disk.Disk.{Ghosts}

@@ -1,7 +1,7 @@
 // Scripts of steps, stops among them, on a disk in memory.
-ghost use Rattle.std.specs.Prelude.{◌≡◌, ◌≤◌, length, Ok, IfOk, IfErr, is_ok};
+ghost use Rattle.std.specs.Prelude.{◌≡◌, ◌≤◌, [], length, Ok, IfOk, IfErr, is_ok};
 ghost use Rattle.sector_disk.specs.Memory.{memory_view};
-ghost use Rattle.group_commit.specs.Broker.{settings_of, durable_of};
+ghost use Rattle.group_commit.specs.Broker.{settings_of, pending_of, durable_of};
 ghost use Rattle.group_commit.specs.Promises.{ForEachHistory, ForEachHistoryOn};
 ghost use Rattle.group_commit.specs.Refusals.{IsCutOff};
 ghost use Rattle.group_commit.specs.declared.script.Step.TheVariants as step;
@@ -30,9 +30,10 @@ fn opened(
 }
 
 // Opens a disk.
-fn start(alloc: Global, disk: MemDisk) -> Result<Broker<MemDisk>, OpenError>
+pub(crate) fn start(alloc: Global, disk: MemDisk) -> Result<Broker<MemDisk>, OpenError>
     ensures recovers { ForEachHistoryOn (memory_view disk) (λ s history durable. IfOk result (IsStarted s history durable)) }
     ensures refused { ForEachHistoryOn (memory_view disk) (λ s history durable. IfErr result IsCutOff) }
+    ensures nothing { IfOk result (λ b. pending_of b ≡ []) }
 {
     opened(Broker::open(alloc, disk))
 }

@@ -19,6 +19,8 @@ mod joining;
 mod recovery;
 mod resuming;
 mod script;
+mod split_drilling;
+mod split_script;
 mod splitting;
 mod taking;
 mod token;
@@ -35,4 +37,6 @@ pub use error::{
 pub use issue_half::IssueHalf;
 pub use issuer::Issuer;
 pub use script::{Drill, DrillFailure, Step, StepAnswer};
+pub use split_drilling::drill_split;
+pub use split_script::{SplitAnswer, SplitDrill, SplitStep};
 pub use token::{Durable, Receipt, Ticket};

@@ -1,6 +1,7 @@
 use Rattle.std.proofs.Common.{ℕ, take, sym, subst, arith}
 use Rattle.sector_disk.specs.Memory.{memory_view}
 use Rattle.group_commit.specs.Broker.{Stands}
+use Rattle.group_commit.proofs.Issued.{if_ok}
 use Rattle.group_commit.proofs.Results.{if_ok_both, ok_from, err_from}
 use Rattle.group_commit.proofs.drilling.start.Goals as goal
 
@@ -22,3 +23,6 @@ pub returns-clause-refused : goal.returns-clause-refused
 returns-clause-refused c s history durable legal stops =
     err_from (λ failure. failure.cause) _ c.open.result c.opened.result c.opened.ensures.err c.opened.ensures.same
     (c.open.ensures.refused tt s history durable legal stops)
+
+pub returns-clause-nothing : goal.returns-clause-nothing
+returns-clause-nothing c = ok_from _ c.open.result c.opened.result c.opened.ensures.ok (if_ok _ _ c.open.result (λ b fresh. fresh.1) c.open.ensures.fresh)

@@ -1,12 +1,9 @@
-use Rattle.std.proofs.Common.{rules, ◌≡◌, ℕ, ◌+◌, ◌-◌, ◌++◌, ◌∷◌, [], length, take, Some, Option, List, sym, ap, subst, ◌∙◌, arith, append_assoc, length-append}
-use Rattle.std.specs.Prelude.{slice_get, IfSome, IsSome}
-use Rattle.async_core.specs.declared.illegal.Illegal.{Illegal}
-use Rattle.async_core.specs.Rules.{refusal_at}
+use Rattle.std.proofs.Common.{rules, ◌≡◌, ℕ, ◌+◌, ◌++◌, ◌∷◌, [], length, take, List, sym, ap, subst, ◌∙◌, append_assoc, length-append}
 use Rattle.invoke_records.specs.declared.command.Command.{Command}
 use Rattle.group_commit.specs.declared.error.IssueError.{IssueError}
 use Rattle.group_commit.specs.Broker.{IsReason, Stands}
 use Rattle.group_commit.specs.Splitting.{Takes}
-use Rattle.group_commit.proofs.Taken.{NextAt, next_at, illegal_next, takes_more, takes_same, stands_next, stands_by_count}
+use Rattle.group_commit.proofs.Taken.{next_at, illegal_next, takes_more, takes_same, stands_next, stands_by_count}
 use Rattle.group_commit.proofs.taking.take_all.Goals as goal
 
 pub loop-command-preserved : goal.loop-command-preserved

@@ -1,10 +1,10 @@
-use Rattle.std.proofs.Common.{◌≡◌, ℕ, ◌++◌, ◌∷◌, [], List, refl, sym, ap, subst, ◌∙◌, arith}
+use Rattle.std.proofs.Common.{◌≡◌, ◌++◌, ◌∷◌, [], refl, sym, ap, subst, ◌∙◌, arith}
 use Rattle.invoke_records.specs.declared.snapshot.Snapshot.{Snapshot}
 use Rattle.async_core.specs.State.{State}
 use Rattle.async_core.specs.laws.Tables.{number-table_of}
 use Rattle.group_commit.specs.declared.error.IssueError.{IssueError}
 use Rattle.group_commit.specs.declared.error.IssueError.TheVariants as issue_error
-use Rattle.group_commit.specs.Broker.{disk_of, settings_of, pending_of, durable_of, is_broken, opened_of}
+use Rattle.group_commit.specs.Broker.{disk_of, settings_of, durable_of, is_broken, opened_of}
 use Rattle.group_commit.specs.Steps.{IsTakeReason}
 use Rattle.group_commit.proofs.Issued.{refusal_is, stands_more, stands_along}
 use Rattle.group_commit.proofs.broker.Broker.issue.Goals as goal

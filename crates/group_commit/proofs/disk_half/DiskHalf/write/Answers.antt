@@ -1,14 +1,13 @@
-use Rattle.std.proofs.Common.{◌≡◌, ◌⊎◌, ◌∙◌, ◌++◌, ◌≤◌, ◌-◌, length, sym, ap, subst, arith, Err, inl, inr, ⊎_elim}
+use Rattle.std.proofs.Common.{◌≡◌, ◌∙◌, ◌++◌, sym, ap, subst, arith, Err, inl, inr, ⊎_elim}
 use Rattle.invoke_records.specs.declared.snapshot.Snapshot.{Snapshot}
-use Rattle.group_commit.specs.declared.error.CommitError.TheVariants as commit_error
 use Rattle.group_commit.specs.declared.error.WriteError.{WriteError}
 use Rattle.group_commit.specs.declared.error.WriteError.TheVariants as write_error
-use Rattle.group_commit.specs.Broker.{table_in, issued_of, IsSameBroker}
+use Rattle.group_commit.specs.Broker.{table_in, issued_of}
 use Rattle.group_commit.specs.Splitting.{broker_of}
 use Rattle.group_commit.specs.Batch.{cause_of}
 use Rattle.group_commit.specs.Taking.{commit_cause}
-use Rattle.group_commit.specs.Writing.{IsApart, missing_in, taken_from, IsNotWritten}
-use Rattle.group_commit.proofs.Writes.{stays_in_front, leaves_at_first, same_table, same_settings, stands_on, leaves_on, not_written, bad_of}
+use Rattle.group_commit.specs.Writing.{taken_from, IsNotWritten}
+use Rattle.group_commit.proofs.Writes.{stays_in_front, leaves_at_first, same_table, stands_on, leaves_on, not_written, bad_of}
 use Rattle.group_commit.proofs.disk_half.DiskHalf.write.Goals as goal
 
 -- ## Nothing was committed

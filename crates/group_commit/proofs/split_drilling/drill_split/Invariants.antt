@@ -1,0 +1,13 @@
+use Rattle.std.proofs.Common.{ℕ, List, take}
+use Rattle.sector_disk.specs.Memory.{memory_view}
+use Rattle.retry_rules.specs.declared.settings.Settings.{Settings}
+use Rattle.invoke_records.specs.declared.command.Command.{Command}
+use Rattle.async_core.specs.History.{IsLegal}
+use Rattle.group_commit.specs.History.{IsLegalStop}
+use Rattle.group_commit.specs.SplitSteps.{IsSplitDrilledOn}
+use Rattle.group_commit.proofs.split_drilling.drill_split.Given as goal
+
+abbrev pub invariant-loop-index : goal.invariant-loop-index
+invariant-loop-index l =
+    (s : Settings) (history : List Command) (durable : ℕ) → IsLegal s history → ((image : List ℕ) → (memory_view l.fn.disk).may_leave image → IsLegalStop s history durable image)
+    → IsSplitDrilledOn s history durable (take l.index l.steps) l.answers.items l.halves

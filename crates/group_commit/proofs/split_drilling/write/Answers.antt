@@ -1,0 +1,19 @@
+use Rattle.std.proofs.Common.{refl, sym, subst}
+use Rattle.group_commit.specs.declared.split_script.SplitStep.TheVariants as step
+use Rattle.group_commit.specs.declared.split_script.SplitAnswer.{SplitAnswer}
+use Rattle.group_commit.specs.declared.split_drilling.Halves.{Halves}
+use Rattle.group_commit.specs.declared.split_drilling.Held.TheVariants as held
+use Rattle.group_commit.specs.SplitDrill.{SplitLog, IsSplitStep}
+use Rattle.group_commit.specs.SplitSteps.{IsHeld, Keeps}
+use Rattle.group_commit.proofs.SplitDrilled.{write_leads}
+use Rattle.group_commit.proofs.split_drilling.write.Goals as goal
+
+pub returns : goal.returns
+returns c = record {
+  step = λ s log keeps.
+      let old = c.args.halves in
+      let new : Halves = record { issue = old.issue; disk = c.write-outcome.new.self; held = held.Done c.write-outcome.result } in
+      let wrote = c.write-outcome.ensures in
+      subst (λ (answer : SplitAnswer). (next : SplitLog) × IsSplitStep s log step.Write answer next × Keeps s next new) (sym c.answer_to-answer.ensures)
+      (write_leads s log old new c.in-Lent.batch c.write-outcome.result keeps (subst (IsHeld log) c.in-Lent.is keeps.held_is) refl refl wrote.settings wrote.stands wrote.front wrote.last wrote.ok wrote.err);
+}

@@ -1,0 +1,72 @@
+-- The two halves of a script between its steps. Names only steps of private functions: a reader of the public contracts need
+-- not believe it.
+use Rattle.std.specs.Prelude.{◌≡◌, ℕ, ◌+◌, ◌≤◌, List, length, take, drop, IfOk, Result, Ok, Err}
+use Rattle.sector_disk.specs.Memory.{memory_view}
+use Rattle.retry_rules.specs.declared.settings.Settings.{Settings}
+use Rattle.invoke_records.specs.declared.command.Command.{Command}
+use Rattle.group_commit.specs.declared.split_script.SplitStep.{SplitStep}
+use Rattle.group_commit.specs.declared.split_script.SplitAnswer.{SplitAnswer}
+use Rattle.group_commit.specs.declared.split_script.SplitAnswer.TheVariants as answer
+use Rattle.group_commit.specs.declared.batch.Written.{Written}
+use Rattle.group_commit.specs.declared.batch.Failed.{Failed}
+use Rattle.group_commit.specs.declared.split_drilling.Halves.{Halves}
+use Rattle.group_commit.specs.declared.split_drilling.Held.{Held}
+use Rattle.group_commit.specs.declared.split_drilling.Held.TheVariants as held
+use Rattle.group_commit.specs.Broker.{settings_of, issued_of, durable_of, Stands}
+use Rattle.group_commit.specs.IssuerHalf.{half_view}
+use Rattle.group_commit.specs.Batch.{first_of, last_of, commands_of, last_written, cause_of}
+use Rattle.group_commit.specs.Splitting.{broker_of}
+use Rattle.group_commit.specs.SplitDrill.{SplitLog, IsSplitStep, IsSplitRun, recovered}
+
+-- a batch that is held has what was lent, and a write that was Ok is the last
+abbrev pub IsHeld : SplitLog → Held → Type 0
+IsHeld log held.Nothing = Unit {0}
+IsHeld log (held.Lent batch) = (first_of batch ≡ log.durable + 1) × (last_of batch ≡ log.lent) × (commands_of batch ≡ drop log.durable (take log.lent log.history))
+IsHeld log (held.Done outcome) = IfOk outcome (λ written. last_written written ≡ log.written)
+
+-- the issue half stands for the list, and the half over the disk for a front of what was lent
+pub record Keeps (s : Settings) (log : SplitLog) (halves : Halves) : Type 0 where
+  pub settings : (half_view halves.issue).settings ≡ s
+  pub durable : (half_view halves.issue).durable ≡ log.durable
+  pub stands : (half_view halves.issue).stands log.history
+  pub disk_settings : settings_of (broker_of halves.disk) ≡ s
+  pub disk_durable : durable_of (broker_of halves.disk) ≡ log.written
+  pub disk_most : issued_of (broker_of halves.disk) ≤ log.lent
+  pub disk_stands : Stands memory_view (broker_of halves.disk) (take (issued_of (broker_of halves.disk)) log.history)
+  pub lent : log.lent ≤ length log.history
+  pub held_is : IsHeld log halves.held
+
+-- this holds of each list and three numbers that the halves stand for
+abbrev pub ForEachLog : Halves → (Settings → SplitLog → Type 0) → Type 0
+ForEachLog halves P = (s : Settings) (log : SplitLog) → Keeps s log halves → P s log
+
+-- the step that answers so leads on from each of them
+abbrev pub Leads : Halves → SplitStep → SplitAnswer → Halves → Type 0
+Leads old step answer new = ForEachLog old (λ s log. (next : SplitLog) × IsSplitStep s log step answer next × Keeps s next new)
+
+-- the halves after an opening: they stand for a front of the history, all of which is durable
+abbrev pub IsBegun : Settings → List Command → ℕ → Halves → Type 0
+IsBegun s history durable halves =
+    (durable ≤ (half_view halves.issue).durable) × ((half_view halves.issue).durable ≤ length history)
+    × Keeps s (recovered (take (half_view halves.issue).durable history)) halves
+
+-- the halves after a stop: they stand for a front of the list, from what was written to what was lent
+abbrev pub IsStopped : Settings → SplitLog → Halves → Type 0
+IsStopped s log new =
+    (log.written ≤ (half_view new.issue).durable) × ((half_view new.issue).durable ≤ log.lent) × ((half_view new.issue).durable ≤ length log.history)
+    × Keeps s (recovered (take (half_view new.issue).durable log.history)) new
+
+-- what a step says of a write
+abbrev pub write_answer : Result Written Failed → SplitAnswer
+write_answer (Ok written) = answer.Number (last_written written)
+write_answer (Err failed) = answer.WriteRefused (cause_of failed)
+
+-- a script was run so far: its answers are those of one list, which begins with what the opening recovered, and the halves
+-- stand for what that list came to
+pub record IsSplitDrilledOn (s : Settings) (history : List Command) (durable : ℕ) (steps : List SplitStep) (answers : List SplitAnswer) (halves : Halves) : Type 0 where
+  pub opened : ℕ
+  pub least : durable ≤ opened
+  pub most : opened ≤ length history
+  pub end : SplitLog
+  pub run : IsSplitRun s (recovered (take opened history)) steps answers end
+  pub keeps : Keeps s end halves

@@ -1,0 +1,221 @@
+// Scripts of steps of two halves, stops among them, on a disk in memory.
+ghost use Rattle.std.specs.Prelude.{◌≡◌, ◌≤◌, length, IfOk, IfErr};
+ghost use Rattle.sector_disk.specs.Memory.{memory_view};
+ghost use Rattle.group_commit.specs.Promises.{ForEachHistoryOn};
+ghost use Rattle.group_commit.specs.Refusals.{IsCutOff};
+ghost use Rattle.group_commit.specs.declared.split_script.SplitStep.TheVariants as split_step;
+ghost use Rattle.group_commit.specs.SplitDrill.{MayBeCutOff, IsSplitDrillOf, IsSplitDrillFailure};
+ghost use Rattle.group_commit.specs.SplitSteps.{ForEachLog, Leads, IsBegun, IsStopped, write_answer};
+
+use crate::copying::copy_command;
+use crate::drilling::start;
+use crate::{
+    Batch, DiskHalf, DrillFailure, Failed, IssueHalf, SplitAnswer, SplitDrill, SplitFailure,
+    SplitStep, Written,
+};
+use checkpoint::OpenError;
+use invoke_records::Command;
+use sector_disk::MemDisk;
+use std::alloc::{AllocError, Global};
+
+/// What the last lend or write left.
+#[derive(Drop)]
+pub(crate) enum Held {
+    Nothing,
+    Lent(Batch),
+    Done(Result<Written, Failed>),
+}
+
+/// Both halves, and what is held between them.
+#[derive(Drop)]
+pub(crate) struct Halves {
+    pub(crate) issue: IssueHalf,
+    pub(crate) disk: DiskHalf<MemDisk>,
+    pub(crate) held: Held,
+}
+
+// Opens a disk and splits its broker.
+fn begin(alloc: Global, disk: MemDisk) -> Result<Halves, OpenError>
+    ensures begins { ForEachHistoryOn (memory_view disk) (λ s history durable. IfOk result (IsBegun s history durable)) }
+    ensures refused { ForEachHistoryOn (memory_view disk) (λ s history durable. IfErr result IsCutOff) }
+{
+    let broker = match start(alloc, disk) {
+        Ok(broker) => broker,
+        Err(cause) => return Err(cause),
+    };
+    match broker.split() {
+        Ok((issue, disk)) => Ok(Halves {
+            issue,
+            disk,
+            held: Held::Nothing,
+        }),
+        Err(SplitFailure { .. }) => Err(OpenError::OutOfMemory),
+    }
+}
+
+// Stops the disk, opens it and splits again.
+fn stop(alloc: Global, halves: Halves, choice: &[(u64, [u8; 512])]) -> Result<Halves, OpenError>
+    ensures recovers { ForEachLog halves (λ s log. IfOk result (IsStopped s log)) }
+    ensures refused { ForEachLog halves (λ s log. IfErr result IsCutOff) }
+{
+    let Halves { disk, .. } = halves;
+    begin(alloc, disk.close().stop(choice))
+}
+
+// Issues a command, a copy of which takes memory.
+fn issue(halves: &mut Halves, command: &Command) -> Result<SplitAnswer, AllocError>
+    ensures step { IfOk result (λ answer. Leads halves.old (split_step.Issue command.now) answer halves.new) }
+{
+    let command = copy_command(command)?;
+    Ok(match halves.issue.issue(command) {
+        Ok(ticket) => SplitAnswer::Number(ticket.number()),
+        Err(why) => SplitAnswer::IssueRefused(why),
+    })
+}
+
+// Lends what is pending.
+fn lend(halves: Halves) -> (Halves, SplitAnswer)
+    ensures step { Leads halves split_step.Lend result.1 result.0 }
+{
+    let Halves {
+        mut issue,
+        disk,
+        held,
+    } = halves;
+    match issue.lend() {
+        Ok(Some(batch)) => {
+            let answer = SplitAnswer::Number(batch.last());
+            let held = Held::Lent(batch);
+            (Halves { issue, disk, held }, answer)
+        }
+        Ok(None) => (Halves { issue, disk, held }, SplitAnswer::Idle),
+        Err(why) => (Halves { issue, disk, held }, SplitAnswer::LendRefused(why)),
+    }
+}
+
+// What a step says of a write.
+fn answer_to(outcome: &Result<Written, Failed>) -> SplitAnswer
+    ensures { result ≡ write_answer outcome.now }
+{
+    match outcome {
+        Ok(written) => SplitAnswer::Number(written.last()),
+        Err(failed) => SplitAnswer::WriteRefused(failed.cause()),
+    }
+}
+
+// Writes the batch that is held.
+fn write(halves: Halves) -> (Halves, SplitAnswer)
+    ensures step { Leads halves split_step.Write result.1 result.0 }
+{
+    let Halves {
+        issue,
+        mut disk,
+        held,
+    } = halves;
+    let Held::Lent(batch) = held else {
+        return (Halves { issue, disk, held }, SplitAnswer::Idle);
+    };
+    let outcome = disk.write(batch);
+    let answer = answer_to(&outcome);
+    let held = Held::Done(outcome);
+    (Halves { issue, disk, held }, answer)
+}
+
+// Settles the result that is held.
+fn settle(halves: Halves) -> (Halves, SplitAnswer)
+    ensures step { Leads halves split_step.Settle result.1 result.0 }
+{
+    let Halves {
+        mut issue,
+        disk,
+        held,
+    } = halves;
+    let Held::Done(outcome) = held else {
+        return (Halves { issue, disk, held }, SplitAnswer::Idle);
+    };
+    let held = Held::Nothing;
+    match issue.settle(outcome) {
+        Ok(durable) => (
+            Halves { issue, disk, held },
+            SplitAnswer::Number(durable.number()),
+        ),
+        Err(why) => (
+            Halves { issue, disk, held },
+            SplitAnswer::SettleRefused(why),
+        ),
+    }
+}
+
+// Runs one step.
+fn run_step(
+    alloc: Global,
+    halves: Halves,
+    step: &SplitStep,
+) -> Result<(Halves, SplitAnswer), OpenError>
+    ensures step { IfOk result (λ r. Leads halves step.now r.1 r.0) }
+    ensures refused { ForEachLog halves (λ s log. IfErr result IsCutOff) }
+    ensures needs { IfErr result (MayBeCutOff step.now) }
+{
+    match step {
+        SplitStep::Issue(command) => {
+            let mut halves = halves;
+            match issue(&mut halves, command) {
+                Ok(answer) => Ok((halves, answer)),
+                Err(AllocError) => Err(OpenError::OutOfMemory),
+            }
+        }
+        SplitStep::Lend => Ok(lend(halves)),
+        SplitStep::Write => Ok(write(halves)),
+        SplitStep::Settle => Ok(settle(halves)),
+        SplitStep::Stop(choice) => {
+            let halves = match stop(alloc, halves, choice) {
+                Ok(halves) => halves,
+                Err(cause) => return Err(cause),
+            };
+            let recovered = halves.issue.durable().number();
+            Ok((halves, SplitAnswer::Number(recovered)))
+        }
+    }
+}
+
+/// Opens a disk in memory, splits its broker, and runs a script on the halves, stops among its steps.
+///
+/// On a disk of which each image is a legal stop of a history, the answers are those of one list and three numbers: how many
+/// commands are durable, up to which the disk half has written, and up to which they were lent. Each begins as the number of
+/// commands that the opening recovered; a stop cuts the list to a length from the second number to the third. It fails as
+/// `drill` does.
+pub fn drill_split(
+    alloc: Global,
+    disk: MemDisk,
+    steps: &[SplitStep],
+) -> Result<SplitDrill, DrillFailure>
+    ensures run { ForEachHistoryOn (memory_view disk) (λ s history durable. IfOk result (IsSplitDrillOf s history durable steps.now)) }
+    ensures refused { ForEachHistoryOn (memory_view disk) (λ s history durable. IfErr result (λ failure. IsCutOff failure.cause)) }
+    ensures failed { ForEachHistoryOn (memory_view disk) (λ s history durable.
+        IfErr result (IsSplitDrillFailure s history durable steps.now)) }
+    ensures place { IfErr result (λ failure. failure.step ≤ length steps.now) }
+{
+    let mut halves = match begin(alloc, disk) {
+        Ok(halves) => halves,
+        Err(cause) => return Err(DrillFailure { step: 0, cause }),
+    };
+    let mut answers = Vec::new(alloc);
+    for (index, step) in steps.iter().enumerate() {
+        if answers.reserve(1).is_err() {
+            let cause = OpenError::OutOfMemory;
+            return Err(DrillFailure { step: index, cause });
+        }
+        let (next, answer) = match run_step(alloc, halves, step) {
+            Ok(done) => done,
+            Err(cause) => return Err(DrillFailure { step: index, cause }),
+        };
+        halves = next;
+        answers.push_reserved(answer);
+    }
+    let Halves { issue, disk, .. } = halves;
+    Ok(SplitDrill {
+        answers,
+        issue,
+        disk,
+    })
+}
