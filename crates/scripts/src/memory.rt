@@ -4,6 +4,7 @@ use crate::drilling::drill_step;
 use crate::records::check;
 use crate::refusals;
 use crate::reply::Reply;
+use crate::split_drilling::drill_split_step;
 use crate::text::Text;
 use crate::words::Words;
 use group_commit::format;
@@ -48,6 +49,7 @@ pub fn memory_step(
     match word {
         "halt" | "stop" => halt(alloc, disk, words.rest()),
         "drill" => drill_step(alloc, disk, words.rest(), answer),
+        "drill-split" => drill_split_step(alloc, disk, words.rest(), answer),
         "barriers" => (Reply::Number(disk.barriers()), Some(disk)),
         "format" => {
             let mut disk = disk;

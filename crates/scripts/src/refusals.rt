@@ -4,7 +4,7 @@ use crate::text::Text;
 use async_core::Illegal;
 use checkpoint::{FormatError, OpenError};
 use gate_journal::AppendError;
-use group_commit::{CommitError, IssueError, WriteError};
+use group_commit::{CommitError, IssueError, JoinError, LendError, SettleError, WriteError};
 use invoke_records::RecordError;
 
 pub fn illegal(why: Illegal) -> &'static str {
@@ -46,6 +46,14 @@ pub fn commit(why: CommitError) -> &'static str {
     }
 }
 
+pub fn lend(why: LendError) -> &'static str {
+    match why {
+        LendError::Broken => "broken",
+        LendError::Lent => "lent",
+        LendError::OutOfMemory => "out of memory",
+    }
+}
+
 pub fn write(why: WriteError) -> &'static str {
     match why {
         WriteError::Broken => "broken",
@@ -55,6 +63,22 @@ pub fn write(why: WriteError) -> &'static str {
         WriteError::BadKind => "bad kind",
         WriteError::OutOfMemory => "out of memory",
         WriteError::Fault => "fault",
+    }
+}
+
+pub fn settle(why: SettleError) -> &'static str {
+    match why {
+        SettleError::Mismatch => "mismatch",
+        SettleError::NotWritten(why) => write(why),
+    }
+}
+
+pub fn join(why: JoinError) -> &'static str {
+    match why {
+        JoinError::Lent => "lent",
+        JoinError::Backlog => "backlog",
+        JoinError::OutOfMemory => "out of memory",
+        JoinError::Mismatch => "mismatch",
     }
 }
 

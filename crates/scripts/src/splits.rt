@@ -4,8 +4,8 @@ use crate::refusals;
 use crate::reply::Reply;
 use crate::text::Text;
 use crate::words::Words;
-use group_commit::{Batch, DiskHalf, Failed, IssueHalf, Written};
-use hall_core::Hall;
+use group_commit::{Batch, Broker, DiskHalf, Failed, IssueHalf, SplitError, Written};
+use hall_core::{Hall, HallJoinFailure, HallSplitFailure};
 use retry_rules::Settings;
 use sector_disk::Disk;
 use std::alloc::Global;
@@ -29,7 +29,7 @@ pub enum Between {
     Outcome(Result<Written, Failed>),
 }
 
-// The last number that is lent, or `none`.
+// The last number that is lent, or `idle`.
 fn lend<D: Disk>(split: &mut SplitHall<D>) -> Reply {
     match split.hall.lend() {
         Ok(Some(batch)) => {
@@ -37,7 +37,7 @@ fn lend<D: Disk>(split: &mut SplitHall<D>) -> Reply {
             split.between = Between::Batch(batch);
             Reply::Number(last)
         }
-        Ok(None) => Reply::NONE,
+        Ok(None) => Reply::Word("idle"),
         Err(why) => Reply::Refused(refusal(why)),
     }
 }
@@ -55,7 +55,7 @@ fn write<D: Disk>(split: &mut SplitHall<D>) -> Reply {
         }
         other => {
             split.between = other;
-            Reply::NONE
+            Reply::Word("idle")
         }
     }
 }
@@ -63,7 +63,7 @@ fn write<D: Disk>(split: &mut SplitHall<D>) -> Reply {
 // Settles what became of what was lent, if it was written: how many commands are durable.
 fn settle<D: Disk>(split: &mut SplitHall<D>) -> Reply {
     let Between::Outcome(outcome) = &split.between else {
-        return Reply::NONE;
+        return Reply::Word("idle");
     };
     match split.hall.settle(*outcome) {
         Ok(durable) => Reply::Number(durable.number()),
@@ -85,5 +85,58 @@ pub fn split_step<D: Disk>(
         "write" => write(split),
         "settle" => settle(split),
         _ => hall_step(alloc, &mut split.hall, settings, word, words, answer),
+    }
+}
+
+/// A hall over a broker, or one that was split.
+#[derive(Drop)]
+pub enum SplitOrWhole<D: Disk> {
+    Whole(Hall<Broker<D>>),
+    Split(SplitHall<D>),
+}
+
+/// Splits a hall of which all is durable: the hall then, and what is answered.
+pub fn split_hall<D: Disk>(hall: Hall<Broker<D>>) -> (SplitOrWhole<D>, Reply) {
+    if !hall.is_all_durable() {
+        return (SplitOrWhole::Whole(hall), Reply::Unreadable);
+    }
+    match hall.split() {
+        Ok((hall, disk)) => {
+            let between = Between::Nothing;
+            let split = SplitHall {
+                hall,
+                disk,
+                between,
+            };
+            (SplitOrWhole::Split(split), Reply::Done)
+        }
+        Err(HallSplitFailure { cause, hall }) => {
+            let why = match cause {
+                SplitError::Broken => "broken",
+                SplitError::OutOfMemory => "out of memory",
+            };
+            (SplitOrWhole::Whole(hall), Reply::Refused(why))
+        }
+    }
+}
+
+/// Joins a hall that was split: the hall then, and what is answered.
+pub fn joined_hall<D: Disk>(split: SplitHall<D>) -> (SplitOrWhole<D>, Reply) {
+    let SplitHall {
+        hall,
+        disk,
+        between,
+    } = split;
+    match hall.join(disk) {
+        Ok(hall) => (SplitOrWhole::Whole(hall), Reply::Done),
+        Err(HallJoinFailure { cause, hall, disk }) => {
+            let split = SplitHall {
+                hall,
+                disk,
+                between,
+            };
+            let reply = Reply::Refused(refusals::join(cause));
+            (SplitOrWhole::Split(split), reply)
+        }
     }
 }

@@ -4,6 +4,7 @@ use crate::disks::disk_step;
 use crate::environments::environment_step;
 use crate::events::broker_step;
 use crate::halls::whole_hall_step;
+use crate::halves::{Halves, halves_step};
 use crate::memory::{format_disk, memory_step};
 use crate::records::record_step;
 use crate::refusals;
@@ -12,13 +13,14 @@ use crate::reply::Reply;
 use crate::requests::request_step;
 use crate::running::Scene;
 use crate::settings::{set, usual_settings};
-use crate::splits::{Between, SplitHall, split_step};
+use crate::split_drilling::split_orders_step;
+use crate::splits::{SplitHall, SplitOrWhole, joined_hall, split_hall, split_step};
 use crate::text::Text;
 use crate::words::Words;
 use checkpoint::OpenError;
 use env_phase::Env;
-use group_commit::{Broker, JoinError, OpenFailure, SplitError, Ticket};
-use hall_core::{Hall, HallJoinFailure, HallSplitFailure};
+use group_commit::{Broker, JoinFailure, OpenFailure, Ticket};
+use hall_core::Hall;
 use retry_rules::Settings;
 use sector_disk::{CallKind, FaultOnceDisk, FuseDisk, MemDisk};
 use std::alloc::Global;
@@ -34,7 +36,8 @@ enum Stage {
     Closed(CaseDisk),
     Open(Broker<CaseDisk>),
     Asked(Hall<Broker<CaseDisk>>),
-    Split(SplitHall<CaseDisk>),
+    Split(Halves<CaseDisk>),
+    AskedSplit(SplitHall<CaseDisk>),
 }
 
 /// Where a case stands.
@@ -129,62 +132,47 @@ fn opened_hall(alloc: Global, disk: CaseDisk, answer: &mut Text) -> (Stage, Repl
     }
 }
 
+// Opens a disk and splits its broker: where it stands then, and what is answered.
+fn opened_halves(alloc: Global, disk: CaseDisk, answer: &mut Text) -> (Stage, Reply) {
+    match Broker::open(alloc, disk) {
+        Ok(broker) => match broker.split() {
+            Ok((issue, disk)) => (Stage::Split(Halves::new(issue, disk)), Reply::Done),
+            Err(failure) => (
+                Stage::Closed(failure.broker.close()),
+                Reply::Refused("out of memory"),
+            ),
+        },
+        Err(OpenFailure { cause, disk }) => (Stage::Closed(disk), refusals::open(cause, answer)),
+    }
+}
+
+// Joins two halves: where it stands then, and what is answered.
+fn joined(halves: Halves<CaseDisk>) -> (Stage, Reply) {
+    let Halves {
+        issue,
+        disk,
+        held,
+        lent,
+    } = halves;
+    match Broker::join(issue, disk) {
+        Ok(broker) => (Stage::Open(broker), Reply::Done),
+        Err(JoinFailure { cause, issue, disk }) => {
+            let halves = Halves {
+                issue,
+                disk,
+                held,
+                lent,
+            };
+            (Stage::Split(halves), Reply::Refused(refusals::join(cause)))
+        }
+    }
+}
+
 // Opens a disk: where it stands then, and why it is not open.
 fn opened(alloc: Global, disk: CaseDisk) -> (Stage, Option<OpenError>) {
     match Broker::open(alloc, disk) {
         Ok(broker) => (Stage::Open(broker), None),
         Err(OpenFailure { cause, disk }) => (Stage::Closed(disk), Some(cause)),
-    }
-}
-
-// Splits a hall: where it stands then, and what is answered.
-fn split_hall(hall: Hall<Broker<CaseDisk>>) -> (Stage, Reply) {
-    if !hall.is_all_durable() {
-        return (Stage::Asked(hall), Reply::Unreadable);
-    }
-    match hall.split() {
-        Ok((hall, disk)) => {
-            let between = Between::Nothing;
-            let split = SplitHall {
-                hall,
-                disk,
-                between,
-            };
-            (Stage::Split(split), Reply::Done)
-        }
-        Err(HallSplitFailure { cause, hall }) => {
-            let why = match cause {
-                SplitError::Broken => "broken",
-                SplitError::OutOfMemory => "out of memory",
-            };
-            (Stage::Asked(hall), Reply::Refused(why))
-        }
-    }
-}
-
-// Joins a hall that was split: where it stands then, and what is answered.
-fn joined_hall(split: SplitHall<CaseDisk>) -> (Stage, Reply) {
-    let SplitHall {
-        hall,
-        disk,
-        between,
-    } = split;
-    match hall.join(disk) {
-        Ok(hall) => (Stage::Asked(hall), Reply::Done),
-        Err(HallJoinFailure { cause, hall, disk }) => {
-            let why = match cause {
-                JoinError::Lent => "lent",
-                JoinError::Backlog => "backlog",
-                JoinError::OutOfMemory => "out of memory",
-                JoinError::Mismatch => "mismatch",
-            };
-            let split = SplitHall {
-                hall,
-                disk,
-                between,
-            };
-            (Stage::Split(split), Reply::Refused(why))
-        }
     }
 }
 
@@ -221,7 +209,12 @@ impl World {
                 self.issued = hall.issued();
                 Some(hall.close())
             }
-            Stage::Split(split) => {
+            Stage::Split(halves) => {
+                self.durable = halves.written();
+                self.issued = halves.lent;
+                Some(halves.disk.close())
+            }
+            Stage::AskedSplit(split) => {
                 self.durable = split.hall.durable().number();
                 self.issued = split.hall.issued();
                 let SplitHall { disk, .. } = split;
@@ -240,13 +233,53 @@ impl World {
         reply
     }
 
-    // Splits the hall that is open, or joins the one that was split.
-    fn turn_hall(&mut self) -> Reply {
-        let (stage, reply) = match mem::replace(&mut self.stage, Stage::Nothing) {
-            Stage::Asked(hall) => split_hall(hall),
-            Stage::Split(split) => joined_hall(split),
-            other => (other, Reply::Unreadable),
+    // Splits the hall that is open, or opens the disk and splits its broker.
+    fn split(&mut self, alloc: Global, answer: &mut Text) -> Reply {
+        match mem::replace(&mut self.stage, Stage::Nothing) {
+            Stage::Asked(hall) => self.set_hall(split_hall(hall)),
+            other => {
+                self.stage = other;
+                self.open_halves(alloc, answer)
+            }
+        }
+    }
+
+    // Joins the hall that was split, or the halves.
+    fn join(&mut self) -> Reply {
+        match mem::replace(&mut self.stage, Stage::Nothing) {
+            Stage::AskedSplit(split) => self.set_hall(joined_hall(split)),
+            other => {
+                self.stage = other;
+                self.join_halves()
+            }
+        }
+    }
+
+    fn set_hall(&mut self, made: (SplitOrWhole<CaseDisk>, Reply)) -> Reply {
+        let (hall, reply) = made;
+        self.stage = match hall {
+            SplitOrWhole::Whole(hall) => Stage::Asked(hall),
+            SplitOrWhole::Split(split) => Stage::AskedSplit(split),
         };
+        reply
+    }
+
+    // Opens the disk, and splits its broker.
+    fn open_halves(&mut self, alloc: Global, answer: &mut Text) -> Reply {
+        let Some(disk) = self.take_disk() else {
+            return Reply::Unreadable;
+        };
+        let (stage, reply) = opened_halves(alloc, disk, answer);
+        self.stage = stage;
+        reply
+    }
+
+    // Joins the halves to a broker that is open.
+    fn join_halves(&mut self) -> Reply {
+        let Stage::Split(halves) = mem::replace(&mut self.stage, Stage::Nothing) else {
+            return Reply::Unreadable;
+        };
+        let (stage, reply) = joined(halves);
         self.stage = stage;
         reply
     }
@@ -373,7 +406,10 @@ impl World {
             Stage::Asked(hall) => {
                 whole_hall_step(alloc, hall, &self.settings, word, words, answer)
             }
-            Stage::Split(split) => split_step(alloc, split, &self.settings, word, words, answer),
+            Stage::AskedSplit(split) => {
+                split_step(alloc, split, &self.settings, word, words, answer)
+            }
+            Stage::Split(halves) => halves_step(alloc, halves, word, words, answer),
         }
     }
 }
@@ -387,7 +423,6 @@ impl Scene for World {
             "disk" => self.make_disk(alloc, words, answer),
             "open" => self.open(alloc, answer),
             "hall" => self.open_hall(alloc, answer),
-            "split" | "join" => self.turn_hall(),
             "close" => self.close(),
             "stop" => self.stop(alloc, words, answer),
             "device" => self.set_device(alloc, words, answer),
@@ -396,7 +431,10 @@ impl Scene for World {
             "reply" => reply_step(alloc, &self.settings, words, answer),
             "env" => environment_step(alloc, &mut self.environment, words, answer),
             "member" => tell_member(alloc, &self.record, words, answer),
-            "halt" | "format" | "barriers" | "drill" => {
+            "split" => self.split(alloc, answer),
+            "join" => self.join(),
+            "split-orders" => split_orders_step(alloc, &self.settings, words, answer),
+            "halt" | "format" | "barriers" | "drill" | "drill-split" => {
                 self.memory_step(alloc, word, SOUND, words, answer)
             }
             _ => {
