@@ -1,6 +1,8 @@
 -- What settling a batch leaves as it was.
 use Rattle.std.proofs.Common.{◌≡◌, ℕ, List, ap, sym, ◌∙◌}
-use Rattle.std.specs.Prelude.{Result, Ok, Err}
+use Rattle.std.specs.Prelude.{Result, Ok, Err, IfOk, IfErr}
+use Rattle.hall_core.specs.declared.error.HallError.{HallError}
+use Rattle.hall_core.specs.Halves.{IsNotDurable}
 use Rattle.retry_rules.specs.declared.settings.Settings.{Settings}
 use Rattle.invoke_records.specs.declared.snapshot.Snapshot.{Snapshot}
 use Rattle.group_commit.specs.declared.issue_half.IssueHalf.{IssueHalf}
@@ -40,3 +42,9 @@ follows_still s s' opening old new marks settings table follows =
 
 pub reached_still : (old new : Snapshot) (n : ℕ) → new ≡ old → old.number ≡ n → new.number ≡ n
 reached_still old new n table reached = ap (λ (t : Snapshot). t.number) table ∙ reached
+
+-- whatever is answered
+module _ (old new : IssueHalf) (outcome : Result Written Failed) where
+  pub settle_same : (result : Result ℕ HallError) → IfOk result (SettlesBy old new outcome) → IfErr result (IsNotDurable old new outcome) → HasSameTable old new
+  settle_same (Ok durable) settles left = settled_same old new outcome durable settles
+  settle_same (Err why) settles left = unsettled_same old new outcome left.0 left.2

@@ -1,6 +1,8 @@
 -- How many desks an office has, and when they are all there.
 use Rattle.std.specs.Prelude.{All, ◌≡◌, ℕ, ◌+◌, ◌<◌, max, ◌==◌, List, length, count_by}
 use Rattle.retry_rules.specs.declared.settings.Settings.{Settings}
+use Rattle.receipts.specs.declared.error.FinishError.{FinishError}
+use Rattle.receipts.specs.declared.error.FinishError.TheVariants.{Mismatch, NotJoined}
 use Rattle.receipts.specs.declared.mark.Mark.{Mark}
 use Rattle.receipts.specs.Marks.{history_of_desk}
 
@@ -20,3 +22,12 @@ HaveEachOnce number count desks = (length desks ≡ count) × IsEachOnce number 
 pub record AreAll {X : Type 0} (number : X → ℕ) (own : X → List Mark) (count : ℕ) (marks : List Mark) (desks : List X) : Type 0 where
   pub once : HaveEachOnce number count desks
   pub own_history : All (λ desk. own desk ≡ history_of_desk (number desk) marks) desks
+
+-- why an office is not closed, where this says that all its desks are there
+abbrev pub IsReason : Type 0 → FinishError → Type 0
+IsReason all Mismatch = all → ⊥
+IsReason all (NotJoined why) = all
+
+abbrev pub IsNotMismatch : FinishError → Type 0
+IsNotMismatch Mismatch = ⊥
+IsNotMismatch (NotJoined why) = Unit {0}

@@ -1,8 +1,8 @@
 // Closing an office: its desks come back, and tell what its marks tell.
-ghost use Rattle.std.specs.Prelude.{◌≡◌, ◌↔◌, ◌==◌, ◌∷◌, count_by, IfSome, IfNone, List, All, IsTrue, IfOk, IfErr};
+ghost use Rattle.std.specs.Prelude.{◌≡◌, ◌↔◌, ◌==◌, ◌∷◌, count_by, IfSome, IfNone, List, All, IsTrue, IfOk, IfErr, OnOk};
 ghost use Rattle.receipts.specs.Marks.{history_of_desk, AreNumberedFromSome};
 ghost use Rattle.receipts.specs.declared.mark.Mark.{Mark};
-ghost use Rattle.receipts.specs.Desks.{IsEachOnce, HaveEachOnce, AreAll};
+ghost use Rattle.receipts.specs.Desks.{IsEachOnce, HaveEachOnce, AreAll, IsReason, IsNotMismatch};
 
 use crate::desk::Desk;
 use crate::error::{FinishError, FinishFailure};
@@ -86,12 +86,74 @@ fn are_histories<L: Ledger>(all: &[Mark], desks: &[Desk<L>]) -> bool
     true
 }
 
+/// What was kept under the lock and not closed, and why.
+#[derive(Drop)]
+pub(crate) struct NotClosed<D: Disk, L: Ledger> {
+    cause: FinishError,
+    kept: Kept<L>,
+    disk: DiskHalf<D>,
+}
+
 impl<L: Ledger> Kept<L> {
     // Whether these are all its desks, each with its own marks.
     fn has_all(&self, desks: &[Desk<L>]) -> bool
         ensures { IsTrue result ↔ AreAll (λ d. d.number) (λ d. d.own.items) L.parts self.now.marks.all.items desks.now }
     {
         have_each_number(desks, self.seats.count()) && are_histories(&self.marks.all, desks)
+    }
+
+    // Joins the hall with the disk half.
+    fn join<D: Disk>(
+        self,
+        disk: DiskHalf<D>,
+    ) -> Result<(Hall<Broker<D>>, Vec<Mark>), NotClosed<D, L>>
+        ensures marks { IfOk result (λ r. r.1.items ≡ self.marks.all.items) }
+        ensures err { IfErr result (λ failure. IsNotMismatch failure.cause) }
+    {
+        let Kept {
+            hall,
+            opening,
+            marks,
+            slots,
+            seats,
+        } = self;
+        match hall.join(disk) {
+            Ok(hall) => Ok((hall, marks.all)),
+            Err(failure) => {
+                let kept = Kept {
+                    hall: failure.hall,
+                    opening,
+                    marks,
+                    slots,
+                    seats,
+                };
+                let cause = FinishError::NotJoined(failure.cause);
+                let disk = failure.disk;
+                Err(NotClosed { cause, kept, disk })
+            }
+        }
+    }
+
+    /// The hall and the marks, exactly where these are all its desks, each with its own marks, and the hall joins.
+    fn close<D: Disk>(
+        self,
+        desks: &[Desk<L>],
+        disk: DiskHalf<D>,
+    ) -> Result<(Hall<Broker<D>>, Vec<Mark>), NotClosed<D, L>>
+        ensures all { OnOk result (AreAll (λ d. d.number) (λ d. d.own.items) L.parts self.marks.all.items desks.now) }
+        ensures marks { IfOk result (λ r. r.1.items ≡ self.marks.all.items) }
+        ensures refused { IfErr result (λ failure.
+            IsReason (AreAll (λ d. d.number) (λ d. d.own.items) L.parts self.marks.all.items desks.now) failure.cause) }
+    {
+        if !self.has_all(desks) {
+            let cause = FinishError::Mismatch;
+            return Err(NotClosed {
+                cause,
+                kept: self,
+                disk,
+            });
+        }
+        self.join(disk)
     }
 }
 
@@ -112,40 +174,13 @@ impl<L: Ledger> Office<L> {
     {
         let Office { kept } = self;
         let kept = kept.into_inner();
-        if !kept.has_all(&desks) {
-            let office = Office {
-                kept: Mutex::new(kept),
-            };
-            let cause = FinishError::Mismatch;
-            return Err(FinishFailure {
-                cause,
-                office,
-                desks,
-                disk,
-            });
-        }
-        let Kept {
-            hall,
-            opening,
-            marks,
-            slots,
-            seats,
-        } = kept;
-        match hall.join(disk) {
-            Ok(hall) => Ok((hall, marks.all)),
+        match kept.close(&desks, disk) {
+            Ok(closed) => Ok(closed),
             Err(failure) => {
-                let kept = Kept {
-                    hall: failure.hall,
-                    opening,
-                    marks,
-                    slots,
-                    seats,
-                };
+                let NotClosed { cause, kept, disk } = failure;
                 let office = Office {
                     kept: Mutex::new(kept),
                 };
-                let cause = FinishError::NotJoined(failure.cause);
-                let disk = failure.disk;
                 Err(FinishFailure {
                     cause,
                     office,

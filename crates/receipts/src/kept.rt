@@ -7,7 +7,9 @@ ghost use Rattle.receipts.specs.Answers.{AddsAtMostOne, AddsAnswered, IsToldMore
 ghost use Rattle.receipts.specs.Kept.{issuer_in, IsToldByLoan, number_of, either_number};
 ghost use Rattle.invoke_records.specs.Spelling.{greatest_moment};
 ghost use Rattle.group_commit.specs.Batch.{last_in};
-ghost use Rattle.hall_core.specs.Hall.{slot_told};
+ghost use Rattle.hall_core.specs.Past.{take_slot, forget_slot};
+ghost use Rattle.hall_core.specs.Hall.{view_of, slot_told, Gives, IsDone};
+ghost use Rattle.group_commit.specs.IssuerHalf.{half_view};
 
 use crate::desk::Desk;
 use crate::mark::Mark;
@@ -174,9 +176,9 @@ impl<L: Ledger> Kept<L> {
         match self.hall.lend() {
             Ok(Some(batch)) => Ok(Loan::Out(batch)),
             Ok(None) => {
-                let durable = self.hall.durable();
-                desk.told = durable.number();
-                Ok(Loan::Nothing(durable))
+                let all = self.hall.durable();
+                desk.told = all.number();
+                Ok(Loan::Nothing(all))
             }
             Err(why) => Err(why),
         }
@@ -205,13 +207,17 @@ impl<L: Ledger> Kept<L> {
 
     /// The reply of a slot, where it is told.
     pub(crate) fn take(&mut self, slot: u64) -> Option<Released>
-        ensures { IfSome result (λ released. slot_told released ≡ slot) }
+        ensures slot { IfSome result (λ released. slot_told released ≡ slot) }
+        ensures gives { Gives (view_of half_view self.old.hall) slot result }
+        ensures done { OnSome result (IsDone (view_of half_view self.old.hall) (view_of half_view self.new.hall) (take_slot slot)) }
     {
         self.hall.take(slot)
     }
 
     /// The reply of a slot is not wanted any more.
-    pub(crate) fn forget(&mut self, slot: u64) {
+    pub(crate) fn forget(&mut self, slot: u64)
+        ensures { IsDone (view_of half_view self.old.hall) (view_of half_view self.new.hall) (forget_slot slot) }
+    {
         self.hall.forget(slot);
     }
 }

@@ -3,7 +3,9 @@ ghost use Rattle.std.specs.Prelude.{◌≡◌, ◌≤◌, [], map, All, vec_len,
 ghost use Rattle.std.specs.List.{range_with_len};
 ghost use Rattle.invoke_records.specs.Spelling.{greatest_moment};
 ghost use Rattle.group_commit.specs.Broker.{pending_of, settings_of, table_in};
-ghost use Rattle.hall_core.specs.Hall.{slot_told};
+ghost use Rattle.group_commit.specs.IssuerBroker.{issuer_of};
+ghost use Rattle.hall_core.specs.Hall.{view_of, slot_told};
+ghost use Rattle.hall_core.specs.Halves.{HasSameParts};
 ghost use Rattle.receipts.specs.Desks.{desk_count};
 ghost use Rattle.receipts.specs.Answers.{AddsAtMostOne, AddsAnswered, IsToldMore, IsToldIfAny, IsSlotOf};
 
@@ -85,7 +87,9 @@ impl<L: Ledger> Office<L> {
         ensures numbers { IfOk result (λ r. map (λ d. d.number) r.1.items ≡ range_with_len 0 L.parts) }
         ensures none { IfOk result (λ r. All (λ d. d.own.items ≡ []) r.1.items) }
         ensures untold { IfOk result (λ r. All (λ d. d.told ≡ 0) r.1.items) }
-        ensures same { IfErr result (λ failure. failure.hall ≡ hall) }
+        ensures same { IfErr result (λ failure. failure.hall.issuer ≡ hall.issuer) }
+        ensures same_parts { IfErr result (λ failure.
+            HasSameParts (view_of (issuer_of D.view) hall) (view_of (issuer_of D.view) failure.hall)) }
         ensures blank { IfErr result (λ failure. failure.blank ≡ blank) }
     {
         let count = desks(hall.table().settings());

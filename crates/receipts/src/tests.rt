@@ -8,10 +8,9 @@ use retry_rules::{Settings, Text};
 use sector_disk::{Disk, Fault, MemDisk};
 use std::alloc::{AllocError, Global};
 use std::marker::Brand;
-use std::sync::Arc;
-use std::sync::Wait;
 use std::sync::atomic::{AtomicU64, Ordering};
 use std::sync::ledger::{Blank, Ledger};
+use std::sync::{Arc, Wait};
 use std::test::Fail;
 use std::thread;
 use std::thread::Threads;
@@ -365,8 +364,14 @@ fn a_call_is_answered_while_the_disk_writes(rt: HostRuntime) -> Result<(), Fail>
         answered: Arc::try_clone(&answered)?,
         is_late: false,
     };
-    let ended = invoke_while_writing::<Brand, _>(&rt, alloc, disk, Blank::new(8), &writing, &answered)
-        .expect(&rt, "an end");
+    let ended = invoke_while_writing::<Brand, _>(
+        &rt,
+        alloc,
+        disk,
+        Blank::new(8),
+        &writing,
+        &answered,
+    ).expect(&rt, "an end");
     assert!(rt; !ended.disk.is_late);
     assert_eq!(rt; ended.statuses.0, 202);
     assert_eq!(rt; ended.statuses.1, 202);
