@@ -8,6 +8,7 @@ mod Kept
 pub mod Settled
 mod Holders
 mod FirstUnheld
+mod Halves
 mod Ends
 mod Arriving
 mod Ticking

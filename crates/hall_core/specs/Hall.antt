@@ -1,5 +1,5 @@
 -- A hall as contracts see it, and what its calls have done.
-use Rattle.std.specs.Prelude.{◌≡◌, ℕ, ◌-◌, ◌^◌, Bool, ◌&&◌, List, [], ◌∷◌, length, Option, None, Some, ◌⊎◌, nat_le, slice_index, option_map}
+use Rattle.std.specs.Prelude.{◌≡◌, ℕ, ◌-◌, ◌^◌, Bool, false, ◌&&◌, List, [], ◌∷◌, length, Option, None, Some, ◌⊎◌, nat_le, slice_index, option_map}
 use Rattle.retry_rules.specs.declared.settings.Settings.{Settings}
 use Rattle.env_phase.specs.State.{EnvState}
 use Rattle.api_core.specs.declared.call.Call.{Call}
@@ -19,8 +19,9 @@ use Rattle.hall_core.specs.declared.released.Released.{Released}
 use Rattle.api_core.specs.Replies.{reply_of_told}
 use Rattle.hall_core.specs.Slots.{Reply, released}
 use Rattle.hall_core.specs.Refusals.{first_failed, why_refused}
-use Rattle.hall_core.specs.Plans.{Meets}
-use Rattle.hall_core.specs.OpenSlots.{Entries, KeepFor}
+use Rattle.hall_core.specs.Agreement.{IsFit}
+use Rattle.hall_core.specs.Plans.{Meets, IsToOneOf}
+use Rattle.hall_core.specs.OpenSlots.{Entries, KeepFor, has_open}
 
 -- the parts of a hall at a moment
 pub record HallView : Type 1 where
@@ -52,6 +53,12 @@ ForEachPast hall holds = (past : Past) → StandsFor hall past → holds past
 -- a request with two random words, as a call of the hall
 abbrev pub request : ℕ → Call → ℕ → List ℕ → HallCall
 request slot call now words = arrive slot call now (slice_index words 0, slice_index words 1)
+
+-- the slot is not open, the environment is there, and the conditions of the call are met
+pub record CanBeAsked (hall : HallView) (slot : ℕ) (call : Call) (now : ℕ) (words : List ℕ) : Type 0 where
+  pub free : has_open hall.slots slot ≡ false
+  pub environment : IsToOneOf hall.environments call
+  pub fit : IsFit (settings_in hall) (request slot call now words)
 
 -- ## What a call makes of it
 

@@ -1,9 +1,9 @@
 // Whether a request is one that the hall can be asked.
-ghost use Rattle.std.specs.Prelude.{◌≡◌, IsTrue, false, length};
+ghost use Rattle.std.specs.Prelude.{◌≡◌, ◌↔◌, IsTrue, false, length};
 ghost use Rattle.hall_core.specs.OpenSlots.{has_open};
 ghost use Rattle.hall_core.specs.Plans.{IsToOneOf};
 ghost use Rattle.hall_core.specs.Agreement.{IsFit, text_of};
-ghost use Rattle.hall_core.specs.Hall.{view_of, settings_in, request};
+ghost use Rattle.hall_core.specs.Hall.{view_of, settings_in, request, CanBeAsked};
 ghost use Rattle.hall_core.specs.Environments.{IsNumberIn};
 
 use crate::environments::Environments;
@@ -26,7 +26,7 @@ fn text_size(call: &Call) -> usize
 impl Environments {
     // Whether the environment of a request is one of these, if it is to one.
     fn has_that_of(&self, call: &Call) -> bool
-        ensures { IsTrue result → IsToOneOf self.now call.now }
+        ensures { IsTrue result ↔ IsToOneOf self.now call.now }
     {
         match call {
             Call::RuntimeNext { environment }
@@ -56,6 +56,7 @@ impl<I: Issuer> Hall<I> {
         ensures free { IsTrue result → has_open self.now.slots slot ≡ false }
         ensures environment { IsTrue result → IsToOneOf self.now.environments call.now }
         ensures fit { IsTrue result → IsFit (settings_in (view_of I.view self.now)) (request slot call.now now words.now) }
+        ensures all { CanBeAsked (view_of I.view self.now) slot call.now now words.now → IsTrue result }
     {
         let _ = words;
         let most = self.issuer.table().settings().response as usize;

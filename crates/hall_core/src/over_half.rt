@@ -85,7 +85,9 @@ impl<D: Disk> Hall<Broker<D>> {
         ensures parts { IfOk result (λ halves. HasSameParts (view_of (issuer_of D.view) self) (view_of half_view halves.0)) }
         ensures stands { ForEachPast (view_of (issuer_of D.view) self) (λ past.
             IfOk result (λ halves. StandsFor (view_of half_view halves.0) past)) }
-        ensures same { IfErr result (λ failure. failure.hall ≡ self) }
+        ensures same { IfErr result (λ failure. failure.hall.issuer ≡ self.issuer) }
+        ensures same_parts { IfErr result (λ failure.
+            HasSameParts (view_of (issuer_of D.view) self) (view_of (issuer_of D.view) failure.hall)) }
         ensures reason { IfErr result (λ failure. IsSplitReason self.issuer failure.cause) }
     {
         let Hall {
@@ -181,7 +183,8 @@ impl Hall<IssueHalf> {
         ensures stands { ForEachPast (view_of half_view self) (λ past.
             Stands D.view (broker_of disk) (take (issued_of (broker_of disk)) past.history)
             → IfOk result (λ hall. is_broken hall.issuer ≡ false → StandsFor (view_of (issuer_of D.view) hall) past)) }
-        ensures same { IfErr result (λ failure. failure.hall ≡ self) }
+        ensures same { IfErr result (λ failure. failure.hall.issuer ≡ self.issuer) }
+        ensures same_parts { IfErr result (λ failure. HasSameParts (view_of half_view self) (view_of half_view failure.hall)) }
         ensures err { IfErr result (λ failure.
             IsNotJoined self.issuer failure.hall.issuer (broker_of disk) (broker_of failure.disk) failure.cause) }
     {

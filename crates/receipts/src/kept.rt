@@ -194,9 +194,13 @@ impl<L: Ledger> Kept<L> {
         ensures own { desk.new.own.items ≡ desk.old.own.items }
         ensures err { OnErr result (desk.new.told ≡ desk.old.told) }
     {
-        let durable = self.hall.settle(outcome)?;
-        desk.told = durable.number();
-        Ok(durable)
+        match self.hall.settle(outcome) {
+            Ok(durable) => {
+                desk.told = durable.number();
+                Ok(durable)
+            }
+            Err(why) => Err(why),
+        }
     }
 
     /// The reply of a slot, where it is told.

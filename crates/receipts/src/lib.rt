@@ -9,6 +9,8 @@ mod mark;
 mod marks;
 mod office;
 mod seats;
+#[cfg(test)]
+mod tests;
 
 pub use desk::{Desk, desks};
 pub use error::{FinishError, FinishFailure, OfficeFailure};

@@ -4,7 +4,7 @@ use Rattle.group_commit.specs.IssuerBroker.{issuer_laws}
 use Rattle.hall_core.proofs.Opened.{opened}
 use Rattle.hall_core.proofs.over_broker.Hall+Broker+D.new.Goals as goal
 
-pub returns-in-Ok-clause-stands : goal.returns-in-Ok-clause-stands
-returns-in-Ok-clause-stands g c = λ history stands.
+pub returns-clause-stands : goal.returns-clause-stands
+returns-clause-stands g c = λ history stands.
     let count : length c.in-Ok.environments ≡ (settings_of c.args.broker).environments = search rules in
-    opened _ history (issuer_laws g.D.Disk.view c.args.broker) stands count c.in-Ok.ensures.hold c.new-in-Ok-settled_by.ensures refl
+    opened _ history (issuer_laws g.D.Disk.view c.args.broker) stands count c.in-Ok.ensures.hold c.new-2.ensures refl
