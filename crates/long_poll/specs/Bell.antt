@@ -4,6 +4,7 @@ use Rattle.futures.specs.Task.{Wakes}
 use Rattle.futures.specs.declared.task.context.Context.{Context}
 use Rattle.long_poll.specs.declared.bell.Bell.{Bell}
 use Rattle.long_poll.specs.declared.waiters.Entry.{Entry}
+use Rattle.long_poll.specs.declared.waiters.Registered.{Registered}
 
 -- the source at which the tasks of a bell wait
 abbrev pub source_of : Bell → ℕ
@@ -25,3 +26,7 @@ IsLeft entries key number cx =
 -- the task's waker was left at a place of this key, or there was no memory, and the task is polled again
 abbrev pub Waits : List Entry → ℕ → ℕ → Context → Context → Type 0
 Waits entries key number old new = (new.lacks_waker ≡ true) ⊎ ((new.is_woken ≡ true) ⊎ IsLeft entries key number old)
+
+-- it was registered under this key for this number
+abbrev pub IsUnder : Registered → ℕ → ℕ → Type 0
+IsUnder registered key number = (registered.key ≡ key) × (registered.number ≡ number)

@@ -1,7 +1,7 @@
 // The bell: tasks register there, and a ring wakes them.
 ghost use Rattle.futures.specs.Task.{Hears, IsArmed, Keeps};
 
-use crate::waiters::Waiters;
+use crate::waiters::{Registered, Waiters};
 use futures::task::{Context, Source};
 use std::alloc::{AllocError, Global};
 use std::sync::atomic::{AtomicBool, Ordering};
@@ -16,14 +16,8 @@ pub struct Bell {
     waiters: Mutex<Waiters>,
 }
 
-/// That a task has registered: the next ring wakes it. Only `Bell::register` makes one.
-#[derive(Drop)]
-pub struct Registered {
-    made: (),
-}
-
 impl Bell {
-    ghost use Rattle.long_poll.specs.Bell.{source_of};
+    ghost use Rattle.long_poll.specs.Bell.{IsUnder, source_of};
 
     pub fn new(alloc: Global) -> Bell {
         Bell {
@@ -53,14 +47,14 @@ impl Bell {
         number: u64,
         cx: &mut Context<'_>,
     ) -> Registered
+        ensures under { IsUnder result key number }
         ensures armed { IsArmed cx.new }
         ensures heard { Hears cx.new (source_of self.now) }
         ensures kept { Keeps cx.old cx.new }
     {
         self.waiters
             .lock(rt)
-            .register(&self.source, key, number, cx);
-        Registered { made: () }
+            .register(&self.source, key, number, cx)
     }
 
     /// Wakes all tasks that registered since they were woken last.

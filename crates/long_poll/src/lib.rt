@@ -12,6 +12,7 @@ mod tests;
 mod waiters;
 mod waiting;
 
-pub use bell::{Bell, Registered};
+pub use bell::Bell;
 pub use port::Port;
+pub use waiters::Registered;
 pub use waiting::Waiting;

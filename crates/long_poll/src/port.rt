@@ -1,6 +1,7 @@
 // What the futures of one port share.
-ghost use Rattle.std.specs.Prelude.{◌≡◌, IfOk, IfErr, IfSome};
+ghost use Rattle.std.specs.Prelude.{◌≡◌, ◌≤◌, IfOk, IfErr, IfSome};
 ghost use Rattle.front_board.specs.Board.{SitsAt};
+ghost use Rattle.invoke_records.specs.Spelling.{greatest_moment};
 ghost use Rattle.hall_core.specs.Hall.{slot_told};
 
 use crate::bell::Bell;
@@ -50,6 +51,8 @@ impl<L: Ledger> Port<L> {
         seat: Seat,
     ) -> Port<L>
         requires sits { SitsAt board.value seat }
+        ensures office { result.office ≡ office }
+        ensures bell { result.bell ≡ bell }
     {
         let place = Place { board, seat };
         Port {
@@ -92,8 +95,10 @@ impl<L: Ledger> Port<L> {
         self.office.arrive(rt, &mut desk, call, now, words)
     }
 
-    /// Makes one move that is due, as `Office::tick` says, from the port's desk.
-    pub fn tick<R: Wait>(&self, rt: &R, now: u64) -> Result<Option<u64>, HallError> {
+    /// Makes one move that is due, as `Office::tick` says, from the port's desk. A moment is at most the end of the year 9999.
+    pub fn tick<R: Wait>(&self, rt: &R, now: u64) -> Result<Option<u64>, HallError>
+        requires { now ≤ greatest_moment }
+    {
         let mut desk = self.desk.lock(rt);
         self.office.tick(rt, &mut desk, now)
     }

@@ -1,4 +1,6 @@
 // Long polls over an office on a disk in memory.
+ghost use Rattle.std.specs.Prelude.{◌≡◌};
+
 mod house;
 
 use crate::tests::house::{House, formatted};
@@ -29,6 +31,8 @@ const RUNTIME_NEXT: Call = Call::RuntimeNext { environment: 1 };
 fn an_invoke<L: Ledger, R>(rt: R, blank: Blank) -> Result<(), Fail>
 where
     R: Abort + Wait + RandomSource + AllocGlobal + Copy + Drop,
+    requires name { blank.name ≡ L.name }
+    requires parts { (blank.parts ≡ L.parts) × (L.parts ≡ 8) }
 {
     let alloc = rt.alloc();
     let mut house = House::<R, MemDisk, L>::open(rt, formatted(alloc)?, blank)?;
@@ -56,6 +60,8 @@ fn an_invoke_is_told_after_its_commit(rt: HostRuntime) -> Result<(), Fail> {
 fn parked_polls<L: Ledger, R>(rt: R, blank: Blank) -> Result<(), Fail>
 where
     R: Abort + Wait + RandomSource + AllocGlobal + Copy + Drop,
+    requires name { blank.name ≡ L.name }
+    requires parts { (blank.parts ≡ L.parts) × (L.parts ≡ 8) }
 {
     let alloc = rt.alloc();
     let mut house = House::<R, MemDisk, L>::open(rt, formatted(alloc)?, blank)?;
@@ -87,6 +93,8 @@ fn parked_polls_are_told_when_they_are_answered(rt: HostRuntime) -> Result<(), F
 fn a_fault<L: Ledger, R>(rt: R, blank: Blank) -> Result<(), Fail>
 where
     R: Abort + Wait + RandomSource + AllocGlobal + Copy + Drop,
+    requires name { blank.name ≡ L.name }
+    requires parts { (blank.parts ≡ L.parts) × (L.parts ≡ 8) }
 {
     let alloc = rt.alloc();
     let disk = FaultOnceDisk::new(formatted(alloc)?, CallKind::Changes, 9);
@@ -122,6 +130,8 @@ fn both_open_slots_are_told_503_after_a_fault(rt: HostRuntime) -> Result<(), Fai
 fn dropped<L: Ledger, R>(rt: R, blank: Blank) -> Result<(), Fail>
 where
     R: Abort + Wait + RandomSource + AllocGlobal + Copy + Drop,
+    requires name { blank.name ≡ L.name }
+    requires parts { (blank.parts ≡ L.parts) × (L.parts ≡ 8) }
 {
     let alloc = rt.alloc();
     let mut house = House::<R, MemDisk, L>::open(rt, formatted(alloc)?, blank)?;
@@ -143,6 +153,8 @@ fn another_thread<L, R>(rt: R, blank: Blank) -> Result<(), Fail>
 where
     L: Ledger + Send + Sync + 'static,
     R: Abort + Threads + Wait + RandomSource + AllocGlobal + Copy + Drop + Send + 'static,
+    requires name { blank.name ≡ L.name }
+    requires parts { (blank.parts ≡ L.parts) × (L.parts ≡ 8) }
 {
     let alloc = rt.alloc();
     let mut house = House::<R, MemDisk, L>::open(rt, formatted(alloc)?, blank)?;

@@ -30,6 +30,14 @@ impl Entry {
     }
 }
 
+/// That a task has registered under a key, for a number: its waker is at the key's place, or it is polled again. Only
+/// registering makes one.
+#[derive(Drop)]
+pub struct Registered {
+    key: u64,
+    number: u64,
+}
+
 /// A place for each key, and room for their wakers.
 #[derive(Drop)]
 pub(crate) struct Waiters {
@@ -41,7 +49,7 @@ pub(crate) struct Waiters {
 }
 
 impl Waiters {
-    ghost use Rattle.long_poll.specs.Bell.{AreFree, Waits};
+    ghost use Rattle.long_poll.specs.Bell.{AreFree, IsUnder, Waits};
 
     pub(crate) fn new(alloc: Global) -> Waiters {
         Waiters {
@@ -75,7 +83,14 @@ impl Waiters {
 
     /// Leaves the task's waker at the key's place, for rings of this number and above. Where there is no place and no memory
     /// for one, the task is polled again.
-    pub(crate) fn register(&mut self, source: &Source, key: u64, number: u64, cx: &mut Context<'_>)
+    pub(crate) fn register(
+        &mut self,
+        source: &Source,
+        key: u64,
+        number: u64,
+        cx: &mut Context<'_>,
+    ) -> Registered
+        ensures under { IsUnder result key number }
         ensures armed { IsArmed cx.new }
         ensures heard { Hears cx.new source.now.id }
         ensures kept { Keeps cx.old cx.new }
@@ -86,6 +101,7 @@ impl Waiters {
         if self.entries.push(Entry { key, number, waker }).is_err() {
             cx.yield_now::<()>();
         }
+        Registered { key, number }
     }
 
     /// Takes all wakers of this number and below out of their places. One for which there is no room wakes its task here.

@@ -3,8 +3,8 @@ ghost use Rattle.std.specs.Prelude.{◌≡◌, Some, None, IfSome, IfNone, OnSom
 ghost use Rattle.futures.specs.Task.{Covers, Keeps};
 ghost use Rattle.hall_core.specs.Hall.{slot_told};
 
-use crate::bell::Registered;
 use crate::port::Port;
+use crate::waiters::Registered;
 use futures::Future;
 use futures::task::{Context, Poll};
 use group_commit::{Receipt, Ticket};
@@ -40,7 +40,7 @@ pub struct Waiting<R: Wait, L: Ledger> {
 }
 
 impl<R: Wait, L: Ledger> Waiting<R, L> {
-    ghost use Rattle.long_poll.specs.Bell.{source_of};
+    ghost use Rattle.long_poll.specs.Bell.{IsUnder, source_of};
     ghost use Rattle.long_poll.specs.Waiting.{number_at};
 
     /// Waits for the reply of this slot of the port's office, which came with this ticket. It makes itself a place at the
@@ -62,6 +62,7 @@ impl<R: Wait, L: Ledger> Waiting<R, L> {
 
     // Registers for rings of this number and above.
     fn register(&self, number: u64, cx: &mut Context<'_>) -> Registered
+        ensures under { IsUnder result self.now.slot number }
         ensures covers { Covers cx.new (λ source. source ≡ source_of self.now.port.value.bell.value) }
         ensures kept { Keeps cx.old cx.new }
     {
@@ -69,10 +70,12 @@ impl<R: Wait, L: Ledger> Waiting<R, L> {
     }
 
     // Looks at the board for a ticket, after the task has registered for its number: why the office may be asked, if it may.
-    fn check(&mut self, ticket: Ticket, _registered: Registered) -> Option<Cause>
+    fn check(&mut self, ticket: Ticket, registered: Registered) -> Option<Cause>
+        requires { IsUnder registered self.old.slot ticket }
         ensures same { (self.new.slot ≡ self.old.slot) × (self.new.port ≡ self.old.port) }
         ensures number { number_at self.new.stage ≡ Some ticket }
     {
+        drop(registered);
         match self.port.check(&self.rt, ticket) {
             Ok(receipt) => {
                 self.stage = Stage::Durable(receipt);
@@ -109,12 +112,15 @@ impl<R: Wait, L: Ledger> Waiting<R, L> {
     }
 
     // Asks the office, of which there has to be a cause, after the task has registered for each ring.
-    fn ask(&mut self, _cause: Cause, _registered: Registered) -> Option<Released>
+    fn ask(&mut self, cause: Cause, registered: Registered) -> Option<Released>
+        requires { IsUnder registered self.old.slot 0 }
         ensures same { (self.new.slot ≡ self.old.slot) × (self.new.port ≡ self.old.port) }
         ensures slot { IfSome result (λ released. slot_told released ≡ self.old.slot) }
         ensures told { OnSome result (number_at self.new.stage ≡ None) }
         ensures waits { IfNone result (number_at self.new.stage ≡ number_at self.old.stage) }
     {
+        drop(cause);
+        drop(registered);
         let released = self.port.take(&self.rt, self.slot)?;
         self.stage = Stage::Told;
         Some(released)

@@ -1,4 +1,8 @@
 // A hall with an office, one port, a committer and a board, on one thread.
+ghost use Rattle.std.specs.Prelude.{◌≡◌, [], IfOk};
+ghost use Rattle.group_commit.specs.Broker.{pending_of};
+ghost use Rattle.front_board.specs.Board.{SitsAt};
+
 use crate::{Bell, Port, Waiting};
 use api_core::Call;
 use async_core::Side;
@@ -8,7 +12,7 @@ use futures::executor::LocalPool;
 use futures::task::{Context, Poll};
 use group_commit::{Broker, DiskHalf, Durable, Ticket, format};
 use hall_core::{Hall, HallError};
-use receipts::{Desk, Office};
+use receipts::{Desk, Office, desks};
 use retry_rules::{Settings, Text};
 use sector_disk::{Disk, MemDisk};
 use std::alloc::{AllocError, AllocGlobal, Global};
@@ -65,7 +69,9 @@ pub fn formatted(alloc: Global) -> Result<MemDisk, Fail> {
 }
 
 // A hall over a formatted disk.
-fn hall_over<D: Disk + Drop>(alloc: Global, disk: D) -> Result<Hall<Broker<D>>, Fail> {
+fn hall_over<D: Disk + Drop>(alloc: Global, disk: D) -> Result<Hall<Broker<D>>, Fail>
+    ensures { IfOk result (λ hall. pending_of hall.issuer ≡ []) }
+{
     let Ok(broker) = Broker::open(alloc, disk) else {
         return Err(Fail::new("the disk is not opened"));
     };
@@ -113,15 +119,22 @@ pub struct House<R: Wait + Drop, D: Disk + Drop, L: Ledger> {
     looker: Seat,
     pool: LocalPool<Noted<R, L>>,
     told: Arc<Mutex<Vec<Reply>>>,
+    ghost sits: { SitsAt board.value committer × SitsAt board.value looker },
 }
 
 impl<R, D: Disk + Drop, L: Ledger> House<R, D, L>
 where
     R: Wait + RandomSource + AllocGlobal + Copy + Drop,
 {
-    pub fn open(rt: R, disk: D, blank: Blank) -> Result<House<R, D, L>, Fail> {
+    pub fn open(rt: R, disk: D, blank: Blank) -> Result<House<R, D, L>, Fail>
+        requires name { blank.name ≡ L.name }
+        requires parts { (blank.parts ≡ L.parts) × (L.parts ≡ 8) }
+    {
         let alloc = rt.alloc();
         let hall = hall_over(alloc, disk)?;
+        if desks(hall.table().settings()) != 8 {
+            return Err(Fail::new("the settings ask for other desks"));
+        }
         let (board, mut seats) = Board::new(alloc, hall.durable(), 3)?;
         let Ok((office, mut desks, disk)) = Office::new(alloc, hall, blank) else {
             return Err(Fail::new("the office is not opened"));
