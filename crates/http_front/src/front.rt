@@ -1,4 +1,6 @@
 // What the threads of a front share.
+ghost use Rattle.std.specs.Prelude.{◌≡◌, IfOk};
+
 use crate::moment::{now, words};
 use crate::reading::most_read;
 use crate::wake::Wake;
@@ -38,7 +40,11 @@ impl<L: Ledger> Front<L> {
         office: Arc<Office<L>>,
         board: Arc<Board>,
         settings: Settings,
-    ) -> Result<Front<L>, AllocError> {
+    ) -> Result<Front<L>, AllocError>
+        ensures board { IfOk result (λ front. front.board ≡ board) }
+        ensures office { IfOk result (λ front. front.office ≡ office) }
+        ensures settings { IfOk result (λ front. front.settings ≡ settings) }
+    {
         let most = most_read(&settings);
         Ok(Front {
             alloc,

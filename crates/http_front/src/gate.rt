@@ -1,5 +1,6 @@
 // What the loops of the committer and of the ticker do next.
-ghost use Rattle.std.specs.Prelude.{◌≡◌};
+ghost use Rattle.std.specs.Prelude.{◌≡◌, nat_lt, if◌then◌else◌};
+ghost use Rattle.http_front.specs.declared.gate.Turn.TheVariants as Turn;
 
 /// What a loop does next.
 #[derive(Clone, Copy, Debug, PartialEq, Eq)]
@@ -23,7 +24,9 @@ pub trait Gate {
 pub struct WhenPending;
 
 impl Gate for WhenPending {
-    fn turn(&self, pending: usize) -> Turn {
+    fn turn(&self, pending: usize) -> Turn
+        ensures { result ≡ (if nat_lt 0 pending then Turn.Commit else Turn.Skip) }
+    {
         if pending > 0 {
             Turn::Commit
         } else {

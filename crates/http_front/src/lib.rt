@@ -5,8 +5,8 @@
 //! that are due. The crate above uses `serve`; the loops of committer and ticker are calls of their own.
 #![tactic(auto)]
 
-mod admission;
 mod committing;
+mod connections;
 mod error;
 mod front;
 mod gate;

@@ -1,5 +1,5 @@
 // The body of a request, as it comes.
-ghost use Rattle.std.specs.Prelude.{◌≡◌};
+ghost use Rattle.std.specs.Prelude.{◌≡◌, ◌+◌, max, vec_len, IfOk};
 ghost use Rattle.futures.specs.Task.{IsArmed, Keeps};
 ghost use Rattle.futures.specs.Poll.{OnPending};
 
@@ -19,7 +19,9 @@ const MOST_FRAMES: u32 = 65536;
 const MOST_OTHER: u32 = 4096;
 
 /// How much of a body is read: a byte more than the greatest that any call may have.
-pub(crate) fn most_read(settings: &Settings) -> usize {
+pub(crate) fn most_read(settings: &Settings) -> usize
+    ensures { result ≡ max (max settings.now.payload settings.now.response) 4096 + 1 }
+{
     settings.payload.max(settings.response).max(MOST_OTHER) as usize + 1
 }
 
@@ -87,7 +89,9 @@ impl<I: Drop> Reading<I> {
     }
 
     // What stands for a body that is too large, so that the checks before that of its size come first.
-    fn too_large(&self) -> Result<Vec<u8>, ReadError> {
+    fn too_large(&self) -> Result<Vec<u8>, ReadError>
+        ensures { IfOk result (λ bytes. vec_len bytes ≡ self.now.most) }
+    {
         let mut bytes = Vec::new(self.alloc);
         match bytes.resize(self.most, 0) {
             Ok(()) => Ok(bytes),
