@@ -1,6 +1,6 @@
 -- The ids stay those of the rows.
-use Rattle.std.proofs.Common.{◌≡◌, ℕ, ◌+◌, ◌≤◌, ◌<◌, List, [], ◌∷◌, ◌++◌, Bool, true, false, ◌&&◌, cond, Option, Some, None, refl, sym, ap, ◌∙◌, subst, arith}
-use Rattle.std.specs.Prelude.{find, IsSome, IsTrue, option_map, is_some}
+use Rattle.std.proofs.Common.{◌≡◌, ℕ, ◌+◌, ◌<◌, List, [], ◌∷◌, ◌++◌, Bool, true, false, ◌&&◌, cond, Option, Some, None, refl, sym, ap, ◌∙◌, subst, arith}
+use Rattle.std.specs.Prelude.{find, IsSome, is_some}
 use Rattle.std.specs.Map.{lookup, set_value, values_of, keys_of}
 use Rattle.std.specs.List.Sorted.{IsStrictlySortedBy}
 use Rattle.std.specs.BTreeMap as tree
@@ -18,7 +18,7 @@ use Rattle.std.proofs.lemmas.Map.Text.{is_eq-slice_cmp}
 use Rattle.invoke_records.specs.declared.row.EventRow.{EventRow}
 use Rattle.async_core.specs.Rules.{has_id, change_row, remove_row}
 use Rattle.async_core.specs.Ids.{by_id, is_named, has_name, IsFirstPlace, IsHeld, PutsRow, TakesRow}
-use Rattle.async_core.specs.laws.Held.{bytes_eq-sym, bytes_eq-true, bytes_eq-refl}
+use Rattle.async_core.specs.laws.Held.{bytes_eq-sym, bytes_eq-true}
 use Rattle.async_core.proofs.HeldRows.{row_in, FirstAt, NoneNamed, none_named, first_at, find_none, find_first, change_none, change_first, remove_none, remove_first, pushed}
 
 tie_both : (a b : Ordering) → is_eq (ordering_then a b) ≡ (is_eq a && is_eq b)

@@ -1,16 +1,15 @@
 -- The indexes stay those of the rows, and the first row of an index.
-use Rattle.std.proofs.Common.{◌≡◌, ℕ, ◌+◌, ◌≤◌, ◌<◌, zero, suc, List, [], ◌∷◌, ◌++◌, length, Bool, true, false, ◌&&◌, ◌==◌, cond, Option, Some, None, refl, sym, ap, ◌∙◌, subst, arith, ◌⊎◌, inl, inr, All, Contains, get_or, nat_le}
+use Rattle.std.proofs.Common.{◌≡◌, ℕ, ◌+◌, ◌≤◌, zero, suc, List, [], ◌∷◌, ◌++◌, length, Bool, true, false, ◌&&◌, ◌==◌, cond, Option, Some, None, refl, sym, ap, ◌∙◌, subst, arith, inl, inr, All, Contains, nat_le}
 use Rattle.std.specs.Prelude.{IsSome, option_map, IfSome, unwrap_or}
 use Rattle.std.specs.List.{count_by}
 use Rattle.std.specs.Map.{lookup, set_value, remove_entry, values_of, keys_of}
 use Rattle.std.specs.Str.{bytes_eq}
 use Rattle.std.proofs.lemmas.List.{length-map}
-use Rattle.std.specs.List.Sorted.{IsStrictlySortedBy}
 use Rattle.std.specs.BTreeMap as tree
 use Rattle.std.specs.BTreeSet as sorted
 use Rattle.std.specs.BTreeMap.{BTreeMap, is_at}
 use Rattle.std.specs.BTreeSet.{BTreeSet, contains}
-use Rattle.std.specs.Ordering.{nat_cmp, is_eq, eq_by_cmp}
+use Rattle.std.specs.Ordering.{nat_cmp, is_eq}
 use Rattle.std.specs.Cmp.{nat_cmp_total, unsigned_tied}
 use Rattle.std.proofs.lemmas.Bool.{true≢false, and_parts, and_from, eqb-true, eq-eqb, leb-true, leb-false, le-leb}
 use Rattle.std.proofs.lemmas.Cmp.{eq_by_cmp_equiv}
@@ -24,11 +23,11 @@ use Rattle.async_core.specs.declared.turns.Index.{Index}
 use Rattle.async_core.specs.Choice.{NotBefore}
 use Rattle.async_core.specs.Standings.{is_running}
 use Rattle.async_core.specs.Rules.{running_at}
-use Rattle.async_core.specs.Ids.{by_id, is_named, has_name, IsHeld, PutsRow, TakesRow, IsFirstPlace}
-use Rattle.async_core.specs.Turns.{Turn, index_rank, by_turn, facts_of, turn_in, is_turn, has_turn, AreTurns, put_facts, Switches, StaysAt, IsAtMost, IsFirstTurn, within, turn_within, row_turn, IsLeastBy, IsFirstBy}
+use Rattle.async_core.specs.Ids.{by_id, is_named, has_name, PutsRow, TakesRow, IsFirstPlace}
+use Rattle.async_core.specs.Turns.{Turn, index_rank, by_turn, facts_of, turn_in, is_turn, has_turn, AreTurns, put_facts, Switches, StaysAt, IsAtMost, IsFirstTurn, within, turn_within, row_turn, IsFirstBy}
 use Rattle.async_core.specs.Kept.{facts_in, IsIndexed, Enters, StaysOut}
 use Rattle.async_core.proofs.HeldRows.{row_in}
-use Rattle.async_core.proofs.HeldIds.{none_next, held_more, held_undone, held_fewer, is_name_at, first_held}
+use Rattle.async_core.proofs.HeldIds.{none_next, held_more, held_undone, held_fewer, is_name_at}
 
 -- ## Ids
 

@@ -1,10 +1,9 @@
 -- The first row of an index is the one that goes first.
-use Rattle.std.proofs.Common.{◌≡◌, ℕ, ◌+◌, ◌*◌, ◌≤◌, ◌<◌, zero, suc, List, [], ◌∷◌, length, Bool, true, false, ◌&&◌, ◌||◌, ◌==◌, cond, Option, Some, None, refl, sym, ap, ◌∙◌, subst, arith, All, Contains, get_or, nat_le, nat_lt, min, if◌then◌else◌}
+use Rattle.std.proofs.Common.{◌≡◌, ℕ, ◌<◌, zero, suc, List, [], ◌∷◌, length, Bool, true, false, ◌||◌, ◌==◌, Option, Some, None, refl, sym, ap, ◌∙◌, subst, arith, All, get_or, nat_le, min, if◌then◌else◌}
 use Rattle.std.specs.Prelude.{option_map, is_some}
-use Rattle.std.specs.List.{list_any}
 use Rattle.std.specs.Borrow.{Bor}
 use Rattle.std.specs.Option.{option_copied}
-use Rattle.std.proofs.lemmas.Bool.{true≢false, cases_Bool, leb-true, leb-false, le-leb, lt-leb}
+use Rattle.std.proofs.lemmas.Bool.{true≢false, leb-true, leb-false, le-leb, lt-leb}
 use Rattle.std.proofs.lemmas.Bool.Decides.{nat_tests}
 use Rattle.invoke_records.specs.declared.command.Command.{Command}
 use Rattle.invoke_records.specs.declared.command.Kind.{Kind}
@@ -14,11 +13,11 @@ use Rattle.invoke_records.specs.declared.row.Standing.{Standing}
 use Rattle.invoke_records.specs.declared.row.Standing.TheVariants as standing
 use Rattle.async_core.specs.declared.choice.Order.{Order}
 use Rattle.async_core.specs.declared.choice.Order.TheVariants as order
-use Rattle.async_core.specs.declared.turns.Index.TheVariants.{Ripe, Deadline, Running, Environment, Idle, Success, Failure}
+use Rattle.async_core.specs.declared.turns.Index.TheVariants.{Ripe, Deadline, Environment}
 use Rattle.async_core.specs.Standings.{Rules, runs_in}
 use Rattle.async_core.specs.Rules.{rows_after, row_after, change_row, is_busy_at}
-use Rattle.async_core.specs.Choice.{rank, NotBefore, IsChosen, IsLeast, too_old_at, start_or_throttle, move_when_due, move_by, ripe_by}
-use Rattle.async_core.specs.Turns.{facts_of, turn_in, within, turn_within, row_turn, IsFirstBy, IsLeastBy, ripe_turn, deadline_turn, environment_turn, idle_turn}
+use Rattle.async_core.specs.Choice.{rank, NotBefore, IsChosen, too_old_at, start_or_throttle, move_when_due, move_by, ripe_by}
+use Rattle.async_core.specs.Turns.{facts_of, turn_within, row_turn, IsFirstBy, ripe_turn, deadline_turn, environment_turn, idle_turn}
 use Rattle.async_core.specs.Kept.{Kept, NoneExpired}
 
 -- what a command of any other kind does

@@ -1,6 +1,5 @@
 -- Turns that come and go.
 use Rattle.std.proofs.Common.{◌≡◌, ℕ, ◌==◌, List, [], ◌∷◌, ◌++◌, Bool, true, false, not, ◌&&◌, ◌||◌, cond, Option, Some, None, refl, sym, ap, ◌∙◌, subst}
-use Rattle.std.specs.Prelude.{IsTrue}
 use Rattle.std.specs.List.{list_any}
 use Rattle.std.specs.Ordering.{nat_cmp, is_eq, ordering_then}
 use Rattle.std.specs.declared.cmp.Ordering.{Ordering}
@@ -13,7 +12,7 @@ use Rattle.std.proofs.lemmas.Bool.{true≢false, eqb-true, and_parts}
 use Rattle.async_core.specs.declared.turns.Facts.{Facts}
 use Rattle.async_core.specs.declared.turns.Index.{Index}
 use Rattle.async_core.specs.declared.turns.Index.TheVariants.{Ripe, Deadline, Running, Environment, Idle, Success, Failure}
-use Rattle.async_core.specs.Turns.{Turn, index_rank, by_turn, turn_in, is_turn, has_turn, AreTurns, put_facts, is_among, AddsTurns, AddsSome, DropsTurns, every_index}
+use Rattle.async_core.specs.Turns.{Turn, index_rank, by_turn, turn_in, has_turn, AreTurns, put_facts, is_among, AddsTurns, AddsSome, DropsTurns, every_index}
 
 same_index : (i j : Index) → (index_rank i == index_rank j) ≡ true → i ≡ j
 same_index Ripe Ripe h = refl

@@ -1,10 +1,9 @@
 -- The turns of the rows: in which indexes an event stands, and by what each of them is ordered.
-use Rattle.std.specs.Prelude.{◌≡◌, ℕ, ◌+◌, ◌*◌, ◌<◌, ◌≤◌, ◌⊎◌, min, Bool, true, false, not, ◌&&◌, ◌||◌, ◌==◌, List, [], ◌∷◌, Option, Some, None, if◌then◌else◌, nat_le, All, Contains, option_map}
+use Rattle.std.specs.Prelude.{◌≡◌, ℕ, ◌+◌, ◌*◌, ◌<◌, ◌≤◌, ◌⊎◌, min, Bool, true, false, not, ◌&&◌, ◌||◌, ◌==◌, List, [], ◌∷◌, Option, Some, None, if◌then◌else◌, nat_le, All, Contains}
 use Rattle.std.specs.List.{list_any}
 use Rattle.std.specs.Ordering.{nat_cmp, ordering_then}
 use Rattle.std.specs.declared.cmp.Ordering.{Ordering}
 use Rattle.std.specs.BTreeSet.{BTreeSet, contains}
-use Rattle.invoke_records.specs.declared.row.Outcome.TheVariants as outcome
 use Rattle.invoke_records.specs.declared.row.EventRow.{EventRow}
 use Rattle.invoke_records.specs.declared.row.Standing.{Standing}
 use Rattle.invoke_records.specs.declared.row.Standing.TheVariants as standing

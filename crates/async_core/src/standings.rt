@@ -31,18 +31,6 @@ pub fn is_running(standing: Standing) -> bool
     }
 }
 
-pub fn runs_in(environment: u16, standing: Standing) -> bool
-    ensures { result ≡ meant.runs_in environment standing }
-{
-    match standing {
-        Standing::Running {
-            environment: own,
-            ..
-        } => own == environment,
-        _ => false,
-    }
-}
-
 /// Waiting or due again, and due.
 pub fn is_due(now: u64, standing: Standing) -> bool
     ensures { result ≡ meant.is_due now standing }

@@ -1,6 +1,5 @@
 -- What is lent is changed.
-use Rattle.std.proofs.Common.{◌≡◌, ◌∙◌, ap, sym, subst, Some}
-use Rattle.std.specs.Prelude.{IsSome}
+use Rattle.std.proofs.Common.{◌≡◌, ◌∙◌, ap, subst}
 use Rattle.invoke_records.specs.declared.row.EventRow.{EventRow}
 use Rattle.async_core.specs.Ids.{SetsRow}
 use Rattle.async_core.specs.Steps.{row_with}

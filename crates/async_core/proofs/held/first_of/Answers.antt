@@ -1,6 +1,5 @@
 -- One row more.
-use Rattle.std.proofs.Common.{◌≡◌, ◌++◌, ◌∷◌, [], ◌∙◌, ap, sym, append_assoc}
-use Rattle.std.proofs.lemmas.Map.Iter.{rest_more}
+use Rattle.std.proofs.Common.{◌++◌, ◌∷◌, [], ◌∙◌, ap, sym, append_assoc}
 use Rattle.async_core.proofs.held.first_of.Goals as goal
 
 pub loop-row-preserved : goal.loop-row-preserved

@@ -1,5 +1,5 @@
 -- The first key from the id on decides.
-use Rattle.std.proofs.Common.{◌≡◌, true, false, sym, subst, ◌∙◌}
+use Rattle.std.proofs.Common.{◌≡◌, false, sym, subst, ◌∙◌}
 use Rattle.std.specs.Str.{bytes_eq}
 use Rattle.std.proofs.lemmas.Bool.{true≢false}
 use Rattle.async_core.specs.laws.Held.{bytes_eq-true, bytes_eq-refl}

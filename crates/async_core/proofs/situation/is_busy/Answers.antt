@@ -1,6 +1,5 @@
 -- A row of the environment is found where one runs there.
-use Rattle.std.proofs.Common.{◌≡◌, ◌∙◌}
-use Rattle.std.specs.Option.{option_copied}
+use Rattle.std.proofs.Common.{◌∙◌}
 use Rattle.async_core.proofs.Ranks.{busy}
 use Rattle.async_core.proofs.situation.is_busy.Goals as goal
 

@@ -1,5 +1,5 @@
 -- The turn comes.
-use Rattle.std.proofs.Common.{sym, ◌∙◌}
+use Rattle.std.proofs.Common.{sym}
 use Rattle.async_core.proofs.TurnSteps.{added}
 use Rattle.async_core.proofs.turns.add_turn.Goals as goal
 

@@ -1,5 +1,5 @@
 -- One index more, or some of them.
-use Rattle.std.proofs.Common.{◌≡◌, ◌+◌, ◌++◌, ◌∷◌, [], ◌∙◌, sym, ap, subst, take, List, Some, OnErr, arith, rules}
+use Rattle.std.proofs.Common.{sym, subst, take, List, Some, arith, rules}
 use Rattle.std.proofs.lemmas.List.{take_more}
 use Rattle.async_core.specs.Turns.{AddsTurns, AddsSome}
 use Rattle.async_core.specs.declared.turns.Index.{Index}

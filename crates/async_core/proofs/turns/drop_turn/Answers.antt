@@ -1,5 +1,5 @@
 -- The turn goes.
-use Rattle.std.proofs.Common.{sym, ◌∙◌}
+use Rattle.std.proofs.Common.{sym}
 use Rattle.async_core.proofs.TurnSteps.{dropped, kept_whole}
 use Rattle.async_core.proofs.turns.drop_turn.Goals as goal
 

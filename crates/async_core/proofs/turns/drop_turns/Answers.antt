@@ -1,5 +1,5 @@
 -- One index more.
-use Rattle.std.proofs.Common.{◌≡◌, ◌+◌, ◌++◌, ◌∷◌, [], ◌∙◌, sym, ap, subst, take, List, Some, arith}
+use Rattle.std.proofs.Common.{sym, subst, take, List, Some, arith}
 use Rattle.std.proofs.lemmas.List.{take_more}
 use Rattle.async_core.specs.Turns.{DropsTurns}
 use Rattle.async_core.specs.declared.turns.Index.{Index}

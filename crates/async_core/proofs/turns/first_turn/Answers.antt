@@ -1,7 +1,5 @@
 -- The first key from the index's first possible one on decides.
-use Rattle.std.proofs.Common.{◌≡◌, true, false, sym, subst, ◌∙◌, arith}
-use Rattle.std.specs.BTreeSet.{IsKeyRangeOf}
-use Rattle.std.proofs.lemmas.Bool.{eqb-true, eqb-false}
+use Rattle.std.proofs.Common.{sym, ◌∙◌}
 use Rattle.async_core.proofs.FirstTurns.{no_turn, found_turn, other_turn}
 use Rattle.async_core.proofs.turns.first_turn.Goals as goal
 

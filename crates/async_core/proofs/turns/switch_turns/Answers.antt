@@ -1,6 +1,5 @@
 -- The new turns come first, and then the old ones go; or those that came go again.
-use Rattle.std.proofs.Common.{Some, rules}
-use Rattle.async_core.specs.Turns.{Switches, StaysAt}
+use Rattle.std.proofs.Common.{Some}
 use Rattle.async_core.proofs.TurnSteps.{turns_switched, turns_undone}
 use Rattle.async_core.proofs.turns.switch_turns.Goals as goal
 

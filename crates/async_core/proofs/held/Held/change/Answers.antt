@@ -1,5 +1,5 @@
 -- The row at the first place of the id is changed, with its turns.
-use Rattle.std.proofs.Common.{◌≡◌, ◌∙◌, ap, sym, refl}
+use Rattle.std.proofs.Common.{◌∙◌, ap, sym, refl}
 use Rattle.std.specs.Map.{values_of}
 use Rattle.async_core.specs.Standings.{is_running}
 use Rattle.async_core.specs.declared.turns.Facts.{Facts}

@@ -1,5 +1,5 @@
 -- The row at the first place of the id.
-use Rattle.std.proofs.Common.{◌≡◌, ◌∙◌, ap, sym}
+use Rattle.std.proofs.Common.{◌∙◌, sym}
 use Rattle.async_core.proofs.HeldIds.{found_none, found_first}
 use Rattle.async_core.proofs.held.Held.find.Goals as goal
 

@@ -1,5 +1,5 @@
 -- The first turn's row.
-use Rattle.std.proofs.Common.{◌≡◌, ◌∙◌, ap, sym}
+use Rattle.std.proofs.Common.{sym}
 use Rattle.std.specs.Option.{option_copied}
 use Rattle.async_core.proofs.KeptRows.{no_row, no_row_outside, first_row}
 use Rattle.async_core.proofs.held.Held.first_in.Goals as goal

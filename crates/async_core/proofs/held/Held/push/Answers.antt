@@ -1,6 +1,5 @@
 -- The row comes behind the others with its id and turns, or all is taken back.
-use Rattle.std.proofs.Common.{◌≡◌, ◌∙◌, ap, ◌++◌, ◌∷◌, [], arith, sym, false, refl}
-use Rattle.async_core.specs.Kept.{Kept}
+use Rattle.std.proofs.Common.{ap, arith, false, refl}
 use Rattle.async_core.proofs.HeldIds.{rows_more}
 use Rattle.async_core.proofs.KeptRows.{stays_out, goes_again, comes_in, recount}
 use Rattle.async_core.proofs.held.Held.push.Goals as goal

@@ -1,6 +1,5 @@
 -- The row at the first place of the id goes, with its id and turns.
-use Rattle.std.proofs.Common.{◌≡◌, ◌∙◌, ap, sym, false, refl}
-use Rattle.async_core.specs.Kept.{Kept}
+use Rattle.std.proofs.Common.{◌∙◌, ap, sym, false, refl}
 use Rattle.async_core.specs.Standings.{is_running}
 use Rattle.async_core.specs.declared.turns.Facts.{Facts}
 use Rattle.async_core.proofs.HeldIds.{removed_none, removed_first}
