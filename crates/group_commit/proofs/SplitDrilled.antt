@@ -1,5 +1,5 @@
 -- The steps of a script of two halves, one after another.
-use Rattle.std.proofs.Common.{◌≡◌, ℕ, ◌+◌, ◌<◌, ◌≤◌, List, [], ◌∷◌, ◌++◌, length, take, drop, get_or, Option, refl, sym, ap, subst, ◌∙◌, arith, length-append}
+use Rattle.std.proofs.Common.{◌≡◌, ℕ, ◌+◌, ◌<◌, ◌≤◌, true, false, List, [], ◌∷◌, ◌++◌, length, take, drop, get_or, Option, refl, sym, ap, subst, ◌∙◌, arith, length-append}
 use Rattle.std.specs.Prelude.{IfSome, IfErr, OnOk, Result, Ok, Err}
 use Rattle.std.proofs.lemmas.List.{length-take, take-take, take-append-le, take_all}
 use Rattle.std.proofs.lemmas.Option.{slice_get_read}
@@ -67,16 +67,16 @@ begun s history durable halves started nothing settings same stands =
       disk_most = omega (arith, issued, size);
       disk_stands = subst (λ (x : List Command). Stands memory_view broker x) (sym all) started.4;
       lent = omega arith;
-      held_is = subst (IsHeld (recovered l)) (sym nothing) tt;
+      held_is = subst (IsHeld (recovered l)) (sym nothing) (refl, refl);
     } in
     (omega (arith, same, started.0), omega (arith, same, started.1), subst (λ (x : List Command). Keeps s (recovered x) halves) (sym front) keeps)
 
 -- ## Issuing
 
 held_longer : (log : SplitLog) (c : Command) (held : Held) → log.lent ≤ length log.history → IsHeld log held → IsHeld (record log { history = log.history ++ c ∷ [] }) held
-held_longer log c held.Nothing within is = tt
+held_longer log c held.Nothing within is = is
 held_longer log c (held.Lent batch) within is =
-    (is.0, is.1, is.2 ∙ ap (λ (l : List Command). drop log.durable l) (sym (take-append-le log.lent log.history (c ∷ []) within)))
+    (is.0, is.1, is.2, is.3, is.4 ∙ ap (λ (l : List Command). drop log.durable l) (sym (take-append-le log.lent log.history (c ∷ []) within)))
 held_longer log c (held.Done outcome) within is = is
 
 pub keeps_issued : (s : Settings) (log : SplitLog) (old : Halves) (issue : IssueHalf) (c : Command) → Keeps s log old → (half_view issue).settings ≡ (half_view old.issue).settings
@@ -158,9 +158,10 @@ pub keeps_written : (s : Settings) (log : SplitLog) (old new : Halves) (batch : 
     → settings_of (broker_of new.disk) ≡ settings_of (broker_of old.disk)
     → ((h : List Command) → Stands memory_view (broker_of old.disk) h → Stands memory_view (broker_of new.disk) (h ++ taken_from (broker_of old.disk) (broker_of new.disk) batch))
     → StaysInFront memory_view (broker_of old.disk) (broker_of new.disk) batch
-    → (n : ℕ) → durable_of (broker_of new.disk) ≡ n → IsHeld (record log { written = n }) new.held → Keeps s (record log { written = n }) new
+    → (n : ℕ) → durable_of (broker_of new.disk) ≡ n → IsHeld (record log { written = n; has_batch = false; has_result = true }) new.held
+    → Keeps s (record log { written = n; has_batch = false; has_result = true }) new
 keeps_written s log old new batch keeps is issue settings goes front n durable held =
-    let there = front_on (broker_of old.disk) (broker_of new.disk) batch log.history log.durable log.lent keeps.disk_most keeps.lent is.0 is.1 is.2 keeps.disk_stands goes front in
+    let there = front_on (broker_of old.disk) (broker_of new.disk) batch log.history log.durable log.lent keeps.disk_most keeps.lent is.2 is.3 is.4 keeps.disk_stands goes front in
     record {
       settings = ap (λ (i : IssueHalf). (half_view i).settings) issue ∙ keeps.settings;
       durable = ap (λ (i : IssueHalf). (half_view i).durable) issue ∙ keeps.durable;
@@ -182,23 +183,24 @@ pub write_leads : (s : Settings) (log : SplitLog) (old new : Halves) (batch : Ba
     → (next : SplitLog) × IsSplitStep s log step.Write (write_answer outcome) next × Keeps s next new
 write_leads s log old new batch (Ok written) keeps is issue held settings goes front last ok err =
     let n = last_written written in (
-      record log { written = n },
-      (last ∙ is.1, refl),
-      keeps_written s log old new batch keeps is issue settings goes front n (ok.durable ∙ sym last) (subst (IsHeld (record log { written = n })) (sym held) refl),
+      record log { written = n; has_batch = false; has_result = true },
+      (is.0, last ∙ is.3, refl),
+      keeps_written s log old new batch keeps is issue settings goes front n (ok.durable ∙ sym last) (subst (IsHeld (record log { written = n; has_batch = false; has_result = true })) (sym held) (refl, refl, refl)),
     )
 write_leads s log old new batch (Err failed) keeps is issue held settings goes front last ok err = (
-  log,
-  refl,
-  keeps_written s log old new batch keeps is issue settings goes front log.written (err.durable ∙ keeps.disk_durable) (subst (IsHeld log) (sym held) tt),
+  record log { has_batch = false; has_result = true },
+  (is.0, refl),
+  keeps_written s log old new batch keeps is issue settings goes front log.written (err.durable ∙ keeps.disk_durable)
+      (subst (IsHeld (record log { has_batch = false; has_result = true })) (sym held) (refl, refl, tt)),
 )
 
 -- ## Settling
 
 module _ (s : Settings) (log : SplitLog) (old : Halves) (issue : IssueHalf) (keeps : Keeps s log old) where
   -- the issue half has changed, and nothing is held
-  keeps_settled : (n : ℕ) → (half_view issue).settings ≡ (half_view old.issue).settings → (half_view issue).durable ≡ n → (half_view issue).stands log.history
-      → Keeps s (record log { durable = n }) (record old { issue = issue; held = held.Nothing })
-  keeps_settled n settings durable stands = record {
+  keeps_settled : (n : ℕ) → log.has_batch ≡ false → (half_view issue).settings ≡ (half_view old.issue).settings → (half_view issue).durable ≡ n → (half_view issue).stands log.history
+      → Keeps s (record log { durable = n; has_result = false }) (record old { issue = issue; held = held.Nothing })
+  keeps_settled n unlent settings durable stands = record {
     settings = settings ∙ keeps.settings;
     durable = durable;
     stands = stands;
@@ -207,25 +209,25 @@ module _ (s : Settings) (log : SplitLog) (old : Halves) (issue : IssueHalf) (kee
     disk_most = keeps.disk_most;
     disk_stands = keeps.disk_stands;
     lent = keeps.lent;
-    held_is = tt;
+    held_is = (unlent, refl);
   }
 
   pub settled : (outcome : Result Written Failed) (n : ℕ) → IsHeld log (held.Done outcome) → SettlesBy old.issue issue outcome n
-      → (n ≡ log.written) × Keeps s (record log { durable = n }) (record old { issue = issue; held = held.Nothing })
+      → (n ≡ log.written) × Keeps s (record log { durable = n; has_result = false }) (record old { issue = issue; held = held.Nothing })
   settled (Err failed) n is settles = absurd settles
   settled (Ok written) n is settles =
       let facts = settles.1 in
-      (facts.number ∙ is, keeps_settled n facts.settings (facts.durable_is ∙ sym facts.number) (facts.stands log.history keeps.stands))
+      (facts.number ∙ is.2, keeps_settled n is.0 facts.settings (facts.durable_is ∙ sym facts.number) (facts.stands log.history keeps.stands))
 
-  same_settled : (half_view issue).settings ≡ (half_view old.issue).settings → (half_view issue).durable ≡ (half_view old.issue).durable → (half_view issue).stands log.history
-      → Keeps s log (record old { issue = issue; held = held.Nothing })
-  same_settled settings durable stands = keeps_settled log.durable settings (durable ∙ keeps.durable) stands
+  same_settled : log.has_batch ≡ false → (half_view issue).settings ≡ (half_view old.issue).settings → (half_view issue).durable ≡ (half_view old.issue).durable → (half_view issue).stands log.history
+      → Keeps s (record log { has_result = false }) (record old { issue = issue; held = held.Nothing })
+  same_settled unlent settings durable stands = keeps_settled log.durable unlent settings (durable ∙ keeps.durable) stands
 
-  pub not_settled : (outcome : Result Written Failed) (why : SettleError) → IsNotSettled old.issue issue outcome why → Keeps s log (record old { issue = issue; held = held.Nothing })
-  not_settled (Ok written) settle_error.Mismatch is = let same = is.1 in same_settled same.settings same.durable ((same.stands log.history).1 keeps.stands)
-  not_settled (Err failed) settle_error.Mismatch is = let same = is.1 in same_settled same.settings same.durable ((same.stands log.history).1 keeps.stands)
-  not_settled (Ok written) (settle_error.NotWritten why) is = absurd is
-  not_settled (Err failed) (settle_error.NotWritten why) is = let back = is.2 in same_settled back.settings back.durable ((back.stands log.history).1 keeps.stands)
+  pub not_settled : (outcome : Result Written Failed) (why : SettleError) → log.has_batch ≡ false → IsNotSettled old.issue issue outcome why → Keeps s (record log { has_result = false }) (record old { issue = issue; held = held.Nothing })
+  not_settled (Ok written) settle_error.Mismatch unlent is = let same = is.1 in same_settled unlent same.settings same.durable ((same.stands log.history).1 keeps.stands)
+  not_settled (Err failed) settle_error.Mismatch unlent is = let same = is.1 in same_settled unlent same.settings same.durable ((same.stands log.history).1 keeps.stands)
+  not_settled (Ok written) (settle_error.NotWritten why) unlent is = absurd is
+  not_settled (Err failed) (settle_error.NotWritten why) unlent is = let back = is.2 in same_settled unlent back.settings back.durable ((back.stands log.history).1 keeps.stands)
 
 -- ## Stopping
 

@@ -1,5 +1,5 @@
 -- What the answers of a script of two halves say of one list of commands and of three numbers.
-use Rattle.std.specs.Prelude.{◌≡◌, ◌⊎◌, ℕ, ◌+◌, ◌^◌, ◌≤◌, List, [], ◌∷◌, ◌++◌, length, take, slice_get, IfSome, None, Some}
+use Rattle.std.specs.Prelude.{◌≡◌, ◌⊎◌, ℕ, ◌+◌, ◌^◌, ◌≤◌, Bool, true, false, List, [], ◌∷◌, ◌++◌, length, take, slice_get, IfSome, None, Some}
 use Rattle.retry_rules.specs.declared.settings.Settings.{Settings}
 use Rattle.invoke_records.specs.declared.command.Command.{Command}
 use Rattle.async_core.specs.History.{refusal_of}
@@ -16,16 +16,19 @@ use Rattle.group_commit.specs.declared.split_script.SplitAnswer.TheVariants as a
 use Rattle.group_commit.specs.declared.split_script.SplitDrill.{SplitDrill}
 use Rattle.group_commit.specs.IssuerHalf.{half_view}
 
--- a list of commands, how many are durable, up to which the disk half has written, and up to which they were lent
+-- a list of commands, how many are durable, up to which the disk half has written, and up to which they were lent; and
+-- whether a batch is held that was not written, or a result that was not settled
 pub record SplitLog : Type 0 where
   pub history : List Command
   pub durable : ℕ
   pub written : ℕ
   pub lent : ℕ
+  pub has_batch : Bool
+  pub has_result : Bool
 
 -- this list, recovered
 abbrev pub recovered : List Command → SplitLog
-recovered history = record { history = history; durable = length history; written = length history; lent = length history }
+recovered history = record { history = history; durable = length history; written = length history; lent = length history; has_batch = false; has_result = false }
 
 -- why a command is refused; that the half is broken is not the list's to say
 abbrev pub IsSplitRefusal : Settings → SplitLog → Command → IssueError → Type 0
@@ -42,17 +45,19 @@ IsSplitStep s log (step.Issue c) (answer.Number n) next =
     (refusal_of s log.history c ≡ None) × (n ≡ length log.history + 1) × (next ≡ record log { history = log.history ++ c ∷ [] })
 IsSplitStep s log (step.Issue c) (answer.IssueRefused why) next = IsSplitRefusal s log c why × (next ≡ log)
 -- a lend goes up to the list's end
-IsSplitStep s log step.Lend (answer.Number n) next = (n ≡ length log.history) × (next ≡ record log { lent = n })
+IsSplitStep s log step.Lend (answer.Number n) next = (n ≡ length log.history) × (next ≡ record log { lent = n; has_batch = true; has_result = false })
 IsSplitStep s log step.Lend answer.Idle next = (length log.history ≡ log.durable) × (next ≡ log)
 IsSplitStep s log step.Lend (answer.LendRefused why) next = next ≡ log
 -- a write goes up to what was lent
-IsSplitStep s log step.Write (answer.Number n) next = (n ≡ log.lent) × (next ≡ record log { written = n })
-IsSplitStep s log step.Write answer.Idle next = next ≡ log
-IsSplitStep s log step.Write (answer.WriteRefused why) next = next ≡ log
+IsSplitStep s log step.Write (answer.Number n) next =
+    (log.has_batch ≡ true) × (n ≡ log.lent) × (next ≡ record log { written = n; has_batch = false; has_result = true })
+IsSplitStep s log step.Write answer.Idle next = (log.has_batch ≡ false) × (next ≡ log)
+IsSplitStep s log step.Write (answer.WriteRefused why) next = (log.has_batch ≡ true) × (next ≡ record log { has_batch = false; has_result = true })
 -- and what was written is durable when it is settled
-IsSplitStep s log step.Settle (answer.Number n) next = (n ≡ log.written) × (next ≡ record log { durable = n })
-IsSplitStep s log step.Settle answer.Idle next = next ≡ log
-IsSplitStep s log step.Settle (answer.SettleRefused why) next = next ≡ log
+IsSplitStep s log step.Settle (answer.Number n) next =
+    (log.has_result ≡ true) × (n ≡ log.written) × (next ≡ record log { durable = n; has_result = false })
+IsSplitStep s log step.Settle answer.Idle next = (log.has_result ≡ false) × (next ≡ log)
+IsSplitStep s log step.Settle (answer.SettleRefused why) next = (log.has_result ≡ true) × (next ≡ record log { has_result = false })
 -- a stop leaves what was written, and not more than was lent
 IsSplitStep s log (step.Stop choice) (answer.Number n) next =
     (log.written ≤ n) × (n ≤ log.lent) × (n ≤ length log.history) × (next ≡ recovered (take n log.history))

@@ -1,6 +1,6 @@
 -- The two halves of a script between its steps. Names only steps of private functions: a reader of the public contracts need
 -- not believe it.
-use Rattle.std.specs.Prelude.{◌≡◌, ℕ, ◌+◌, ◌≤◌, List, length, take, drop, IfOk, Result, Ok, Err}
+use Rattle.std.specs.Prelude.{◌≡◌, ℕ, ◌+◌, ◌≤◌, List, length, take, drop, true, false, IfOk, Result, Ok, Err}
 use Rattle.sector_disk.specs.Memory.{memory_view}
 use Rattle.retry_rules.specs.declared.settings.Settings.{Settings}
 use Rattle.invoke_records.specs.declared.command.Command.{Command}
@@ -20,9 +20,11 @@ use Rattle.group_commit.specs.SplitDrill.{SplitLog, IsSplitStep, IsSplitRun, rec
 
 -- a batch that is held has what was lent, and a write that was Ok is the last
 abbrev pub IsHeld : SplitLog → Held → Type 0
-IsHeld log held.Nothing = Unit {0}
-IsHeld log (held.Lent batch) = (first_of batch ≡ log.durable + 1) × (last_of batch ≡ log.lent) × (commands_of batch ≡ drop log.durable (take log.lent log.history))
-IsHeld log (held.Done outcome) = IfOk outcome (λ written. last_written written ≡ log.written)
+IsHeld log held.Nothing = (log.has_batch ≡ false) × (log.has_result ≡ false)
+IsHeld log (held.Lent batch) =
+    (log.has_batch ≡ true) × (log.has_result ≡ false)
+    × (first_of batch ≡ log.durable + 1) × (last_of batch ≡ log.lent) × (commands_of batch ≡ drop log.durable (take log.lent log.history))
+IsHeld log (held.Done outcome) = (log.has_batch ≡ false) × (log.has_result ≡ true) × IfOk outcome (λ written. last_written written ≡ log.written)
 
 -- the issue half stands for the list, and the half over the disk for a front of what was lent
 pub record Keeps (s : Settings) (log : SplitLog) (halves : Halves) : Type 0 where

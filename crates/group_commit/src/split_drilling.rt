@@ -112,13 +112,22 @@ fn write(halves: Halves) -> (Halves, SplitAnswer)
         mut disk,
         held,
     } = halves;
-    let Held::Lent(batch) = held else {
-        return (Halves { issue, disk, held }, SplitAnswer::Idle);
-    };
-    let outcome = disk.write(batch);
-    let answer = answer_to(&outcome);
-    let held = Held::Done(outcome);
-    (Halves { issue, disk, held }, answer)
+    match held {
+        Held::Lent(batch) => {
+            let outcome = disk.write(batch);
+            let answer = answer_to(&outcome);
+            let held = Held::Done(outcome);
+            (Halves { issue, disk, held }, answer)
+        }
+        Held::Nothing => {
+            let held = Held::Nothing;
+            (Halves { issue, disk, held }, SplitAnswer::Idle)
+        }
+        Held::Done(outcome) => {
+            let held = Held::Done(outcome);
+            (Halves { issue, disk, held }, SplitAnswer::Idle)
+        }
+    }
 }
 
 // Settles the result that is held.
@@ -130,19 +139,28 @@ fn settle(halves: Halves) -> (Halves, SplitAnswer)
         disk,
         held,
     } = halves;
-    let Held::Done(outcome) = held else {
-        return (Halves { issue, disk, held }, SplitAnswer::Idle);
-    };
-    let held = Held::Nothing;
-    match issue.settle(outcome) {
-        Ok(durable) => (
-            Halves { issue, disk, held },
-            SplitAnswer::Number(durable.number()),
-        ),
-        Err(why) => (
-            Halves { issue, disk, held },
-            SplitAnswer::SettleRefused(why),
-        ),
+    match held {
+        Held::Done(outcome) => {
+            let held = Held::Nothing;
+            match issue.settle(outcome) {
+                Ok(durable) => {
+                    let answer = SplitAnswer::Number(durable.number());
+                    (Halves { issue, disk, held }, answer)
+                }
+                Err(why) => (
+                    Halves { issue, disk, held },
+                    SplitAnswer::SettleRefused(why),
+                ),
+            }
+        }
+        Held::Nothing => {
+            let held = Held::Nothing;
+            (Halves { issue, disk, held }, SplitAnswer::Idle)
+        }
+        Held::Lent(batch) => {
+            let held = Held::Lent(batch);
+            (Halves { issue, disk, held }, SplitAnswer::Idle)
+        }
     }
 }
 

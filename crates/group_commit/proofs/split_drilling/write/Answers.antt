@@ -8,8 +8,8 @@ use Rattle.group_commit.specs.SplitSteps.{IsHeld, Keeps}
 use Rattle.group_commit.proofs.SplitDrilled.{write_leads}
 use Rattle.group_commit.proofs.split_drilling.write.Goals as goal
 
-pub returns : goal.returns
-returns c = record {
+pub returns-in-Lent : goal.returns-in-Lent
+returns-in-Lent c = record {
   step = λ s log keeps.
       let old = c.args.halves in
       let new : Halves = record { issue = old.issue; disk = c.write-outcome.new.self; held = held.Done c.write-outcome.result } in
