@@ -88,55 +88,45 @@ pub fn split_step<D: Disk>(
     }
 }
 
-/// A hall over a broker, or one that was split.
-#[derive(Drop)]
-pub enum SplitOrWhole<D: Disk> {
-    Whole(Hall<Broker<D>>),
-    Split(SplitHall<D>),
-}
-
-/// Splits a hall of which all is durable: the hall then, and what is answered.
-pub fn split_hall<D: Disk>(hall: Hall<Broker<D>>) -> (SplitOrWhole<D>, Reply) {
+/// Splits a hall of which all is durable. One that is not split is handed back, with what is answered.
+pub fn split_hall<D: Disk>(
+    hall: Hall<Broker<D>>,
+) -> Result<SplitHall<D>, (Hall<Broker<D>>, Reply)> {
     if !hall.is_all_durable() {
-        return (SplitOrWhole::Whole(hall), Reply::Unreadable);
+        return Err((hall, Reply::Unreadable));
     }
     match hall.split() {
-        Ok((hall, disk)) => {
-            let between = Between::Nothing;
-            let split = SplitHall {
-                hall,
-                disk,
-                between,
-            };
-            (SplitOrWhole::Split(split), Reply::Done)
-        }
+        Ok((hall, disk)) => Ok(SplitHall {
+            hall,
+            disk,
+            between: Between::Nothing,
+        }),
         Err(HallSplitFailure { cause, hall }) => {
             let why = match cause {
                 SplitError::Broken => "broken",
                 SplitError::OutOfMemory => "out of memory",
             };
-            (SplitOrWhole::Whole(hall), Reply::Refused(why))
+            Err((hall, Reply::Refused(why)))
         }
     }
 }
 
-/// Joins a hall that was split: the hall then, and what is answered.
-pub fn joined_hall<D: Disk>(split: SplitHall<D>) -> (SplitOrWhole<D>, Reply) {
+/// Joins a hall that was split. One that is not joined is handed back, with what is answered.
+pub fn joined_hall<D: Disk>(split: SplitHall<D>) -> Result<Hall<Broker<D>>, (SplitHall<D>, Reply)> {
     let SplitHall {
         hall,
         disk,
         between,
     } = split;
     match hall.join(disk) {
-        Ok(hall) => (SplitOrWhole::Whole(hall), Reply::Done),
+        Ok(hall) => Ok(hall),
         Err(HallJoinFailure { cause, hall, disk }) => {
             let split = SplitHall {
                 hall,
                 disk,
                 between,
             };
-            let reply = Reply::Refused(refusals::join(cause));
-            (SplitOrWhole::Split(split), reply)
+            Err((split, Reply::Refused(refusals::join(cause))))
         }
     }
 }

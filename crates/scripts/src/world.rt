@@ -14,7 +14,7 @@ use crate::requests::request_step;
 use crate::running::Scene;
 use crate::settings::{set, usual_settings};
 use crate::split_drilling::split_orders_step;
-use crate::splits::{SplitHall, SplitOrWhole, joined_hall, split_hall, split_step};
+use crate::splits::{SplitHall, joined_hall, split_hall, split_step};
 use crate::text::Text;
 use crate::words::Words;
 use checkpoint::OpenError;
@@ -176,6 +176,22 @@ fn opened(alloc: Global, disk: CaseDisk) -> (Stage, Option<OpenError>) {
     }
 }
 
+// Splits a hall: where it stands then, and what is answered.
+fn split_stage(hall: Hall<Broker<CaseDisk>>) -> (Stage, Reply) {
+    match split_hall(hall) {
+        Ok(split) => (Stage::AskedSplit(split), Reply::Done),
+        Err((hall, reply)) => (Stage::Asked(hall), reply),
+    }
+}
+
+// Joins a hall: where it stands then, and what is answered.
+fn joined_stage(split: SplitHall<CaseDisk>) -> (Stage, Reply) {
+    match joined_hall(split) {
+        Ok(hall) => (Stage::Asked(hall), Reply::Done),
+        Err((split, reply)) => (Stage::AskedSplit(split), reply),
+    }
+}
+
 impl World {
     /// With the usual settings and no disk: None where memory is refused.
     pub fn new(alloc: Global) -> Option<World> {
@@ -236,7 +252,11 @@ impl World {
     // Splits the hall that is open, or opens the disk and splits its broker.
     fn split(&mut self, alloc: Global, answer: &mut Text) -> Reply {
         match mem::replace(&mut self.stage, Stage::Nothing) {
-            Stage::Asked(hall) => self.set_hall(split_hall(hall)),
+            Stage::Asked(hall) => {
+                let (stage, reply) = split_stage(hall);
+                self.stage = stage;
+                reply
+            }
             other => {
                 self.stage = other;
                 self.open_halves(alloc, answer)
@@ -247,21 +267,16 @@ impl World {
     // Joins the hall that was split, or the halves.
     fn join(&mut self) -> Reply {
         match mem::replace(&mut self.stage, Stage::Nothing) {
-            Stage::AskedSplit(split) => self.set_hall(joined_hall(split)),
+            Stage::AskedSplit(split) => {
+                let (stage, reply) = joined_stage(split);
+                self.stage = stage;
+                reply
+            }
             other => {
                 self.stage = other;
                 self.join_halves()
             }
         }
-    }
-
-    fn set_hall(&mut self, made: (SplitOrWhole<CaseDisk>, Reply)) -> Reply {
-        let (hall, reply) = made;
-        self.stage = match hall {
-            SplitOrWhole::Whole(hall) => Stage::Asked(hall),
-            SplitOrWhole::Split(split) => Stage::AskedSplit(split),
-        };
-        reply
     }
 
     // Opens the disk, and splits its broker.
