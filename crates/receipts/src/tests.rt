@@ -53,15 +53,15 @@ fn formatted(alloc: Global) -> Result<MemDisk, Fail> {
 
 // A disk whose third barrier, which is the second of its first commit, says that it began and waits for two answers.
 #[derive(Drop)]
-struct SlowDisk {
-    inner: MemDisk,
+struct SlowDisk<D: Disk> {
+    inner: D,
     barriers: u64,
     writing: Arc<AtomicU64, Global>,
     answered: Arc<AtomicU64, Global>,
     is_late: bool,
 }
 
-impl SlowDisk {
+impl<D: Disk> SlowDisk<D> {
     fn wait(&mut self) {
         self.writing.store(1, Ordering::SeqCst);
         for _turn in 0..MOST_TURNS {
@@ -74,14 +74,12 @@ impl SlowDisk {
     }
 }
 
-impl Disk for SlowDisk {
-    ghost use Rattle.sector_disk.specs.Memory.{memory_view};
+impl<D: Disk> Disk for SlowDisk<D> {
+    ghost view = { λ disk. D.view disk.inner };
 
-    ghost view = { λ disk. memory_view disk.inner };
+    ghost fault_count = { λ disk. D.fault_count disk.inner };
 
-    ghost fault_count = { λ disk. MemDisk.Disk.fault_count disk.inner };
-
-    ghost laws = { λ disk. MemDisk.Disk.laws disk.inner };
+    ghost laws = { λ disk. D.laws disk.inner };
 
     fn sectors(&self) -> u64 {
         self.inner.sectors()
@@ -297,11 +295,11 @@ fn two_invokes<L: Ledger + Send + Sync, R: Threads + Wait + Sync>(
 fn invoke_while_writing<L: Ledger + Send + Sync, R: Threads + Wait + Sync>(
     rt: &R,
     alloc: Global,
-    disk: SlowDisk,
+    disk: SlowDisk<MemDisk>,
     blank: Blank,
     writing: &AtomicU64,
     answered: &AtomicU64,
-) -> Option<Ended<SlowDisk>> {
+) -> Option<Ended<SlowDisk<MemDisk>>> {
     let hall = hall(alloc, disk)?;
     let Ok((office, desks, half)) = Office::<L>::new(alloc, hall, blank) else {
         return None;
