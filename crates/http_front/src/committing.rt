@@ -1,15 +1,13 @@
 // The committer's loop.
-ghost use Rattle.front_board.specs.Board.{SitsAt};
-
 use crate::front::Front;
 use crate::gate::{Gate, Turn};
-use front_board::{Board, Seat};
+use crate::seated::Seated;
 use group_commit::DiskHalf;
 use hall_core::HallError;
 use receipts::Desk;
 use sector_disk::Disk;
+use std::sync::Wait;
 use std::sync::ledger::Ledger;
-use std::sync::{Arc, Wait};
 use std::thread;
 
 /// What the committer works with: a desk, the half of the broker over the disk, and a seat of the board.
@@ -17,35 +15,21 @@ use std::thread;
 pub struct Committer<L: Ledger, D: Disk> {
     desk: Desk<L>,
     half: DiskHalf<D>,
-    board: Arc<Board>,
-    seat: Seat,
-    ghost sits: { SitsAt board.value seat },
+    seated: Seated,
 }
 
 impl<L: Ledger, D: Disk> Committer<L, D> {
-    /// A committer with a seat of this board.
-    pub fn new(desk: Desk<L>, half: DiskHalf<D>, board: Arc<Board>, seat: Seat) -> Committer<L, D>
-        requires sits { SitsAt board.value seat }
-    {
-        Committer {
-            desk,
-            half,
-            board,
-            seat,
-        }
+    /// A committer that raises the board from this seat.
+    pub fn new(desk: Desk<L>, half: DiskHalf<D>, seated: Seated) -> Committer<L, D> {
+        Committer { desk, half, seated }
     }
 
     // Commits all that is pending: whether it became durable. The board is raised first, then the bell rings.
     fn commit<R: Wait>(&mut self, rt: &R, front: &Front<L>) -> bool {
-        let Committer {
-            desk,
-            half,
-            board,
-            seat,
-        } = self;
+        let Committer { desk, half, seated } = self;
         match front.office.commit(rt, desk, half) {
             Ok(durable) => {
-                board.raise(seat, durable);
+                seated.raise(durable);
                 front.bell.ring(rt);
                 true
             }

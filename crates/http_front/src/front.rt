@@ -5,7 +5,6 @@ use crate::moment::{now, words};
 use crate::reading::most_read;
 use crate::wake::Wake;
 use api_core::Call;
-use front_board::Board;
 use group_commit::Ticket;
 use hall_core::HallError;
 use long_poll::{Bell, Port};
@@ -18,13 +17,11 @@ use std::sync::{Arc, Wait};
 use std::time::Clock;
 use tokio_util::sync::CancellationToken;
 
-/// What the threads of a front share: the office, the board and the bell, what the committer sleeps on, and whether the
-/// front ends.
+/// What the threads of a front share: the office and the bell, what the committer sleeps on, and whether the front ends.
 #[derive(Drop)]
 pub struct Front<L: Ledger> {
     pub(crate) alloc: Global,
     pub(crate) office: Arc<Office<L>>,
-    pub(crate) board: Arc<Board>,
     pub(crate) bell: Arc<Bell>,
     pub(crate) wake: Wake,
     pub(crate) ending: CancellationToken,
@@ -34,14 +31,12 @@ pub struct Front<L: Ledger> {
 }
 
 impl<L: Ledger> Front<L> {
-    /// A front over an office with these settings, and a board, which no thread serves yet.
+    /// A front over an office with these settings, which no thread serves yet.
     pub fn new(
         alloc: Global,
         office: Arc<Office<L>>,
-        board: Arc<Board>,
         settings: Settings,
     ) -> Result<Front<L>, AllocError>
-        ensures board { IfOk result (λ front. front.board ≡ board) }
         ensures office { IfOk result (λ front. front.office ≡ office) }
         ensures settings { IfOk result (λ front. front.settings ≡ settings) }
     {
@@ -49,7 +44,6 @@ impl<L: Ledger> Front<L> {
         Ok(Front {
             alloc,
             office,
-            board,
             bell: Arc::new(alloc, Bell::new(alloc))?,
             wake: Wake::new(),
             ending: CancellationToken::new(alloc)?,

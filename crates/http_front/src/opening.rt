@@ -1,12 +1,9 @@
 // Opening a front over a hall.
-ghost use Rattle.std.specs.Prelude.{All};
-ghost use Rattle.front_board.specs.Board.{SitsAt};
-
 use crate::committing::Committer;
 use crate::error::ServeError;
 use crate::front::Front;
-use front_board::{Board, Seat};
-use group_commit::{Broker, DiskHalf, Durable};
+use crate::seated::{Seated, seats};
+use group_commit::{Broker, DiskHalf};
 use hall_core::Hall;
 use long_poll::Port;
 use receipts::{Desk, Office};
@@ -18,11 +15,19 @@ use std::sync::ledger::{Blank, Ledger};
 
 /// A front that no thread serves yet: its ports, and what the committer and the ticker work with.
 #[derive(Drop)]
-pub(crate) struct Opened<L: Ledger, D: Disk + Drop> {
+pub(crate) struct Opened<L: Ledger, D: Disk> {
     pub(crate) front: Arc<Front<L>>,
     pub(crate) ports: Vec<Port<L>>,
     pub(crate) committer: Committer<L, D>,
     pub(crate) ticker: Desk<L>,
+}
+
+// A port with this desk and seat.
+fn port<L: Ledger>(front: &Front<L>, desk: Desk<L>, seated: Seated) -> Result<Port<L>, AllocError> {
+    let office = Arc::try_clone(&front.office)?;
+    let bell = Arc::try_clone(&front.bell)?;
+    let Seated { board, seat } = seated;
+    Ok(Port::new(office, bell, board, desk, seat))
 }
 
 // A port for each desk, as far as there are seats.
@@ -30,48 +35,48 @@ fn ports<L: Ledger>(
     alloc: Global,
     front: &Front<L>,
     desks: Vec<Desk<L>>,
-    seats: Vec<Seat>,
-) -> Result<Vec<Port<L>>, AllocError>
-    requires sit { All (SitsAt front.now.board.value) seats.items }
-{
-    let mut ports = Vec::with_capacity(alloc, seats.len())?;
-    let mut desks = desks.into_iter();
-    for seat in seats {
-        let Some(desk) = desks.next() else {
+    seats: Vec<Seated>,
+) -> Result<Vec<Port<L>>, AllocError> {
+    let mut ports = Vec::with_capacity(alloc, desks.len())?;
+    let mut seats = seats.into_iter();
+    for desk in desks {
+        let Some(seated) = seats.next() else {
             break;
         };
-        let office = Arc::try_clone(&front.office)?;
-        let bell = Arc::try_clone(&front.bell)?;
-        let board = Arc::try_clone(&front.board)?;
-        ports.push(Port::new(office, bell, board, desk, seat))?;
+        ports.push(port(front, desk, seated)?)?;
     }
     Ok(ports)
 }
 
-// A front over an office with these desks. None where there are fewer than two.
+// A front over an office, to be shared.
+fn shared<L: Ledger>(
+    alloc: Global,
+    office: Office<L>,
+    settings: Settings,
+) -> Result<Arc<Front<L>>, AllocError> {
+    let office = Arc::new(alloc, office)?;
+    let front = Front::new(alloc, office, settings)?;
+    Ok(Arc::new(alloc, front)?)
+}
+
+// A front with these desks and seats. None where there are too few.
 fn furnish<L: Ledger, D: Disk + Drop>(
     alloc: Global,
-    settings: Settings,
-    durable: Durable,
-    office: Office<L>,
+    front: Arc<Front<L>>,
     desks: Vec<Desk<L>>,
+    seats: Vec<Seated>,
     half: DiskHalf<D>,
 ) -> Result<Option<Opened<L, D>>, AllocError> {
     let mut desks = desks;
-    let (board, seats) = Board::new(alloc, durable, desks.len())?;
     let mut seats = seats;
-    let board = Arc::new(alloc, board)?;
-    let office = Arc::new(alloc, office)?;
-    let theirs = Arc::try_clone(&board)?;
-    let front = Arc::new(alloc, Front::new(alloc, office, theirs, settings)?)?;
-    let (Some(desk), Some(ticker), Some(seat)) = (desks.pop(), desks.pop(), seats.pop()) else {
+    let (Some(desk), Some(ticker), Some(seated)) = (desks.pop(), desks.pop(), seats.pop()) else {
         return Ok(None);
     };
     let ports = ports(alloc, &front, desks, seats)?;
     Ok(Some(Opened {
         front,
         ports,
-        committer: Committer::new(desk, half, board, seat),
+        committer: Committer::new(desk, half, seated),
         ticker,
     }))
 }
@@ -85,7 +90,11 @@ pub(crate) fn open<L: Ledger, D: Disk + Drop>(
     let settings = hall.table().settings().copy()?;
     let durable = hall.durable();
     match Office::<L>::new(alloc, hall, blank) {
-        Ok((office, desks, half)) => { Ok(furnish(alloc, settings, durable, office, desks, half)?) }
+        Ok((office, desks, half)) => {
+            let seats = seats(alloc, durable, desks.len())?;
+            let front = shared(alloc, office, settings)?;
+            Ok(furnish(alloc, front, desks, seats, half)?)
+        }
         Err(failure) => Err(ServeError::Office(failure.cause)),
     }
 }
