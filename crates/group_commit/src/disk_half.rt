@@ -39,7 +39,8 @@ impl<D: Disk> DiskHalf<D> {
     fn take_batch(&mut self, batch: Batch) -> Result<(), WriteError>
         ensures takes { TakesMissing (broker_of self.old) batch (broker_of self.new) }
         ensures broken { is_broken (broker_of self.old) ≡ true → result ≡ Err write_error.Broken }
-        ensures apart { is_broken (broker_of self.old) ≡ false → IsApart (broker_of self.old) batch → result ≡ Err write_error.Mismatch }
+        ensures apart { is_broken (broker_of self.old) ≡ false → IsApart (broker_of self.old) batch
+            → result ≡ Err write_error.Mismatch }
         ensures untouched { IsApart (broker_of self.old) batch → IsSameBroker (broker_of self.old) (broker_of self.new) }
         ensures ok { OnOk result (HasTaken (broker_of self.old) batch (broker_of self.new)) }
         ensures err { IfErr result (IsTakeReason (broker_of self.old) batch (broker_of self.new)) }
@@ -84,7 +85,8 @@ impl<D: Disk> DiskHalf<D> {
         // At Ok the whole batch is durable. A refusal keeps what was taken, in order.
         ensures ok { OnOk result (Writes batch (broker_of self.new)) }
         ensures broken { is_broken (broker_of self.old) ≡ true → IsRefusedAs result write_error.Broken }
-        ensures apart { is_broken (broker_of self.old) ≡ false → IsApart (broker_of self.old) batch → IsRefusedAs result write_error.Mismatch }
+        ensures apart { is_broken (broker_of self.old) ≡ false → IsApart (broker_of self.old) batch
+            → IsRefusedAs result write_error.Mismatch }
         ensures untouched { IsApart (broker_of self.old) batch → IsSameBroker (broker_of self.old) (broker_of self.new) }
         ensures err { IfErr result (λ failed. IsNotWritten (broker_of self.old) batch (broker_of self.new) (cause_of failed)) }
         ensures settings { settings_of (broker_of self.new) ≡ settings_of (broker_of self.old) }

@@ -88,7 +88,8 @@ impl IssueHalf {
         // Where it stands for a history, it accepts what is legal after it, and then stands for it with the command.
         ensures stands { ForEachHistory (half_view self.old) (λ history.
             IfOk result (Accepts (half_view self.old) history command (half_view self.new))) }
-        ensures refused { ForEachHistory (half_view self.old) (λ history. TellsIllegal (half_view self.old).settings history command result) }
+        ensures refused { ForEachHistory (half_view self.old) (λ history.
+            TellsIllegal (half_view self.old).settings history command result) }
     {
         if self.broken {
             return Err(IssueError::Broken);

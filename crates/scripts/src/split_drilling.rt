@@ -117,7 +117,7 @@ fn accept(alloc: Global, event: u64) -> Command {
     }
 }
 
-// The steps of one order: five digits to the base of 5 say which they are.
+// The steps of one order, whose digits to the base of 5 say which they are.
 fn steps_of_order(alloc: Global, order: u64, length: u64) -> Option<Vec<SplitStep>> {
     let mut steps = Vec::new(alloc);
     let mut rest = order;
