@@ -1,4 +1,8 @@
 // Opening a front over a hall.
+ghost use Rattle.std.specs.Prelude.{◌≡◌, []};
+ghost use Rattle.group_commit.specs.Broker.{pending_of, settings_of};
+ghost use Rattle.receipts.specs.Desks.{desk_count};
+
 use crate::committing::Committer;
 use crate::error::ServeError;
 use crate::front::Front;
@@ -86,7 +90,12 @@ pub(crate) fn open<L: Ledger, D: Disk + Drop>(
     alloc: Global,
     hall: Hall<Broker<D>>,
     blank: Blank,
-) -> Result<Option<Opened<L, D>>, ServeError> {
+) -> Result<Option<Opened<L, D>>, ServeError>
+    requires nothing { pending_of hall.issuer ≡ [] }
+    requires name { blank.name ≡ L.name }
+    requires parts { blank.parts ≡ L.parts }
+    requires seats { L.parts ≡ desk_count (settings_of hall.issuer) }
+{
     let settings = hall.table().settings().copy()?;
     let durable = hall.durable();
     match Office::<L>::new(alloc, hall, blank) {

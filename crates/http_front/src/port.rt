@@ -49,11 +49,15 @@ impl<R: Wait + Clock + RandomSource + Drop + Copy, L: Ledger> Door for HttpDoor<
     }
 }
 
-// Serves what comes through a door until the front ends.
-fn run<R, D>(rt: &R, runtime: &mut LocalRuntime, connections: Connections<R, D>) -> io::Result<()>
+// Serves the connections until the front ends.
+fn run<R, L>(
+    rt: &R,
+    runtime: &mut LocalRuntime,
+    connections: Connections<R, HttpDoor<R, L>>,
+) -> io::Result<()>
 where
-    R: Wait + Clock + RandomSource + AllocGlobal + Drop,
-    D: Door,
+    R: Wait + Clock + RandomSource + AllocGlobal + Copy + Drop,
+    L: Ledger,
 {
     runtime.run_all(rt, connections)
 }

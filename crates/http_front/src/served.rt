@@ -1,5 +1,5 @@
 // A connection that is served to its end.
-ghost use Rattle.std.specs.Prelude.{◌≡◌, IfSome, Some};
+ghost use Rattle.std.specs.Prelude.{IfSome};
 
 use futures::Future;
 use futures::task::{Context, Poll};
@@ -10,9 +10,11 @@ pub(crate) struct Served<C> {
     conn: Option<C>,
 }
 
-impl<C> Served<C> {
+impl<C: Future> Served<C> {
+    /// Serves a connection that can be polled.
     pub(crate) fn new(conn: C) -> Served<C>
-        ensures { result ≡ record { conn = Some conn } }
+        requires { C.can_poll conn }
+        ensures { IfSome result.conn C.can_poll }
     {
         Served { conn: Some(conn) }
     }

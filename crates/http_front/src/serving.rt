@@ -1,4 +1,8 @@
 // A whole front, until its last thread has ended.
+ghost use Rattle.std.specs.Prelude.{◌≡◌, []};
+ghost use Rattle.group_commit.specs.Broker.{pending_of, settings_of};
+ghost use Rattle.receipts.specs.Desks.{desk_count};
+
 use crate::committing::Committer;
 use crate::error::ServeError;
 use crate::front::Front;
@@ -159,7 +163,7 @@ where
     Ok(())
 }
 
-/// Serves a hall, in which nothing has come yet: the callers' port at the first listener, that of environment n at the
+/// Serves a hall, in which nothing has come yet and nothing is pending, with a ledger of as many parts as there are desks: the callers' port at the first listener, that of environment n at the
 /// listener n behind it. It returns once the broker was stopped or its device failed and every open request was answered
 /// or its client has gone. The committer, on the calling thread, is asked by the gate beside that.
 pub fn serve<R, L, D, G>(
@@ -183,6 +187,10 @@ where
     L: Ledger + Send + Sync + 'static,
     D: Disk + Drop,
     G: Gate,
+    requires nothing { pending_of hall.issuer ≡ [] }
+    requires name { blank.name ≡ L.name }
+    requires parts { blank.parts ≡ L.parts }
+    requires seats { L.parts ≡ desk_count (settings_of hall.issuer) }
 {
     let alloc = rt.alloc();
     let Some(opened) = open::<L, D>(alloc, hall, blank)? else {

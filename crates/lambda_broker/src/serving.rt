@@ -1,4 +1,7 @@
 // Serving a disk on the ports of this machine.
+ghost use Rattle.std.specs.Prelude.{◌≡◌, [], OnOk};
+ghost use Rattle.group_commit.specs.Broker.{pending_of};
+
 use group_commit::{Broker, CommitError, IssueError, OpenError, OpenFailure};
 use hall_core::{Hall, HallFailure};
 use http_front::{Ending, ServeError, WhenPending, now, serve};
@@ -87,16 +90,29 @@ where
     Ok(listeners)
 }
 
-// Marks the attempts that the last stop cut off, and makes that durable.
-fn resume<R: Clock + Wait, D: Disk>(rt: &R, broker: &mut Broker<D>) -> Result<(), ServingError> {
+// Marks the attempts that the last stop cut off.
+fn mark_attempts<R: Clock + Wait, D: Disk>(
+    rt: &R,
+    broker: &mut Broker<D>,
+) -> Result<(), ServingError> {
     let now = now(rt)?;
     for _ in rt.forever() {
         if broker.resume(now)?.is_none() {
             break;
         }
     }
-    broker.commit()?;
     Ok(())
+}
+
+// Marks the attempts that the last stop cut off, and makes that durable.
+fn resume<R: Clock + Wait, D: Disk>(rt: &R, broker: &mut Broker<D>) -> Result<(), ServingError>
+    ensures { OnOk result (pending_of broker.new ≡ []) }
+{
+    mark_attempts(rt, broker)?;
+    match broker.commit() {
+        Ok(_) => Ok(()),
+        Err(why) => Err(ServingError::Commit(why)),
+    }
 }
 
 /// Serves a disk: callers on a port of this machine and environment n on the port n behind it, from the line that is
@@ -127,10 +143,13 @@ where
         Err(_) => return Err(ServingError::Port),
     };
     resume(&rt, &mut broker)?;
-    let blank = Blank::new(desks(broker.table().settings()));
+    if broker.is_broken() {
+        return Err(ServingError::Broken);
+    }
     let Ok(hall) = Hall::new(alloc, broker) else {
         return Err(ServingError::OutOfMemory(AllocError));
     };
+    let blank = Blank::new(desks(hall.table().settings()));
     let port = at.port;
     writeln!(out, "serving on 127.0.0.1:{port}")?;
     out.flush()?;
