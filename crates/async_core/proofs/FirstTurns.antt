@@ -18,7 +18,7 @@ ordered_two Less b h k = refl
 ordered_two Equal b h k = k refl
 ordered_two Greater b h k = h
 
-equal_from : (m n : ℕ) → m ≡ n → nat_cmp m n ≡ Equal
+pub equal_from : (m n : ℕ) → m ≡ n → nat_cmp m n ≡ Equal
 equal_from m n is = grind (arith, nat_tests)
 
 less_from : (m n : ℕ) → m < n → nat_cmp m n ≡ Less
@@ -28,7 +28,7 @@ same_from : (m n : ℕ) → nat_cmp m n ≡ Equal → m ≡ n
 same_from m n is = grind (arith, nat_tests)
 
 -- from these two numbers on, in one index
-from_low : (rank : ℕ) (low : ℕ × ℕ) (a b q : ℕ) → IsAtMost low (a, b) → is_gt (by_turn (rank, low.0, low.1, 0) (rank, a, b, q)) ≡ false
+pub from_low : (rank : ℕ) (low : ℕ × ℕ) (a b q : ℕ) → IsAtMost low (a, b) → is_gt (by_turn (rank, low.0, low.1, 0) (rank, a, b, q)) ≡ false
 from_low rank low a b q (inl lt) = rw (equal_from rank rank refl, less_from low.0 a lt) refl
 from_low rank low a b q (inr same) =
     rw (equal_from rank rank refl, equal_from low.0 a same.0) (ordered_two (nat_cmp low.1 b) (nat_cmp 0 q) (at_most low.1 b same.1) (λ _. at_most 0 q (omega arith)))

@@ -121,7 +121,7 @@ module _ (age : ℕ) (m : BTreeMap ℕ EventRow) (s : BTreeSet (List ℕ × ℕ)
 
   -- ## The first row of an index
 
-  rows_all : (P : EventRow → Type 0) → ((q : ℕ) (r : EventRow) → tree.get nat_cmp m q ≡ Some r → P r) → All P (values_of m.entries)
+  pub rows_all : (P : EventRow → Type 0) → ((q : ℕ) (r : EventRow) → tree.get nat_cmp m q ≡ Some r → P r) → All P (values_of m.entries)
   rows_all P each = All-values_from_lookup (eq_by_cmp_equiv nat_cmp_total) P m.entries (IsDistinct-from_sorted nat_cmp (keys_of m.entries) indexed.held.ordered) (λ q. found q (tree.get nat_cmp m q) refl)
     where
       found : (q : ℕ) (o : Option EventRow) → tree.get nat_cmp m q ≡ o → IfSome (tree.get nat_cmp m q) P
@@ -129,7 +129,7 @@ module _ (age : ℕ) (m : BTreeMap ℕ EventRow) (s : BTreeSet (List ℕ × ℕ)
       found q (Some r) is = rw is (each q r is)
 
   -- a row stands in the set where it stands in an index
-  stands : (i : Index) (q : ℕ) (r : EventRow) (at : ℕ × ℕ) → tree.get nat_cmp m q ≡ Some r → turn_in age (facts_of r) i ≡ Some at → contains by_turn turns (index_rank i, at.0, at.1, q) ≡ true
+  pub stands : (i : Index) (q : ℕ) (r : EventRow) (at : ℕ × ℕ) → tree.get nat_cmp m q ≡ Some r → turn_in age (facts_of r) i ≡ Some at → contains by_turn turns (index_rank i, at.0, at.1, q) ≡ true
   stands i q r at there turn =
       indexed.turned i at.0 at.1 q
       ∙ ap (λ o. has_turn age (option_map facts_of o) i at.0 at.1) there

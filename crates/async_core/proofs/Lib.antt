@@ -9,3 +9,5 @@ pub mod TurnSteps
 pub mod FirstTurns
 pub mod KeptRows
 pub mod Ranks
+pub mod Walks
+pub mod Expiries

@@ -64,7 +64,7 @@ due_rank full ready free too_old now due number false false old_is due_is =
     let high : nat_le (min due too_old) now ≡ false = lt-leb (min due too_old) now (omega (arith, leb-false due now due_is, leb-false too_old now old_is)) in
     rw (old_is, due_is, low, high) refl
 
-running_rank : (now deadline number : ℕ) (b : Bool) → nat_le deadline now ≡ b → (k : Kind) → turn_within 0 (Some now) (Some (deadline, number)) ≡ option_map (λ (kind : Kind). (deadline, number)) (if b then Some k else None)
+pub running_rank : (now deadline number : ℕ) (b : Bool) → nat_le deadline now ≡ b → (k : Kind) → turn_within 0 (Some now) (Some (deadline, number)) ≡ option_map (λ (kind : Kind). (deadline, number)) (if b then Some k else None)
 running_rank now deadline number true h k =
     let low : nat_le 0 deadline ≡ true = le-leb 0 deadline (omega arith) in
     rw (low, h) refl

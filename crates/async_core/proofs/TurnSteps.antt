@@ -65,7 +65,7 @@ same_index Failure Idle h = absurd (true≢false (sym h))
 same_index Failure Success h = absurd (true≢false (sym h))
 same_index Failure Failure h = refl
 
-tie_both : (a b : Ordering) → is_eq (ordering_then a b) ≡ (is_eq a && is_eq b)
+pub tie_both : (a b : Ordering) → is_eq (ordering_then a b) ≡ (is_eq a && is_eq b)
 tie_both Less b = refl
 tie_both Equal b = refl
 tie_both Greater b = refl

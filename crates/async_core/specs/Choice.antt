@@ -117,6 +117,12 @@ abbrev pub ChoosesAgain : Order → Option EventRow → EventRow → Option Even
 ChoosesAgain order best row chosen =
     (rows : List EventRow) → IsChosen order rows best → IsChosen order (rows ++ row ∷ []) chosen
 
+-- of any of these rows of which best is chosen, and at least as many more of them, the other one is chosen
+abbrev pub ChoosesAmong : Order → List EventRow → (List EventRow → Type 0) → Option EventRow → Option EventRow → Type 0
+ChoosesAmong order rows enough best chosen =
+    (seen : List EventRow) → All (Contains rows) seen → IsChosen order seen best
+    → (more : List EventRow) × All (Contains rows) more × All (Contains more) seen × enough more × IsChosen order more chosen
+
 -- how moves are ranked in these rows
 abbrev pub moving : Settings → List EventRow → ℕ → Bool → Order
 moving s rows now has_ready = order.Moving now has_ready (nat_le s.concurrency (running_at rows)) s.age

@@ -1,17 +1,19 @@
 -- The events that are held, as their rows in the order of acceptance, and the indexes in which they stand.
-use Rattle.std.specs.Prelude.{◌≡◌, ℕ, true, false, List, Option, Some, None, option_map, is_some, All, ◌<◌}
+use Rattle.std.specs.Prelude.{◌≡◌, ℕ, true, false, List, Option, Some, None, option_map, is_some, All, Contains, ◌<◌, ◌≤◌}
 use Rattle.std.specs.Map.{values_of}
 use Rattle.std.specs.Ordering.{nat_cmp}
 use Rattle.std.specs.BTreeMap as tree
 use Rattle.std.specs.BTreeMap.{BTreeMap}
 use Rattle.std.specs.BTreeSet as sorted
-use Rattle.std.specs.BTreeSet.{BTreeSet}
+use Rattle.std.specs.BTreeSet.{BTreeSet, contains}
 use Rattle.invoke_records.specs.declared.row.EventRow.{EventRow}
 use Rattle.async_core.specs.declared.turns.Facts.{Facts}
 use Rattle.async_core.specs.Rules.{running_at}
 use Rattle.async_core.specs.Ids.{by_id, is_named, IsHeld}
-use Rattle.async_core.specs.Turns.{Turn, AreTurns, Switches, StaysAt, facts_of, idle_turn}
-use Rattle.async_core.specs.Choice.{too_old_at}
+use Rattle.async_core.specs.declared.turns.Index.{Index}
+use Rattle.async_core.specs.Turns.{Turn, by_turn, index_rank, row_turn, AreTurns, Switches, StaysAt, facts_of, idle_turn}
+use Rattle.async_core.specs.Choice.{too_old_at, ChoosesAmong}
+use Rattle.async_core.specs.declared.choice.Order.{Order}
 
 -- the age from which events are too old, in seconds, and the rows
 pub record Kept : Type 0 where
@@ -43,3 +45,18 @@ StaysOut age place ids named turns turned =
 -- no event that waits for an attempt is too old
 abbrev pub NoneExpired : ℕ → Kept → Type 0
 NoneExpired now kept = All (λ (r : EventRow). is_some (idle_turn (facts_of r) r.standing) ≡ true → now < too_old_at kept.age r) kept.rows
+
+-- the rows with a turn in this index, up to this number, are among these rows
+abbrev pub HasTurned : BTreeMap ℕ EventRow → BTreeSet Turn → Index → ℕ → List EventRow → Type 0
+HasTurned rows turns i last more =
+    (a b q : ℕ) (r : EventRow) → contains by_turn turns (index_rank i, a, b, q) ≡ true → a ≤ last → tree.get nat_cmp rows q ≡ Some r → Contains more r
+
+abbrev pub ChoosesByTurns : Order → BTreeMap ℕ EventRow → BTreeSet Turn → Index → ℕ → Option EventRow → Option EventRow → Type 0
+ChoosesByTurns order rows turns i last best chosen = ChoosesAmong order (values_of rows.entries) (HasTurned rows turns i last) best chosen
+
+-- the rows that stand in this index, up to this number, are among these rows
+abbrev pub HasThose : Kept → Index → ℕ → List EventRow → Type 0
+HasThose kept i last more = All (λ (r : EventRow). is_some (row_turn kept.age i 0 (Some last) r) ≡ true → Contains more r) kept.rows
+
+abbrev pub ChoosesUpTo : Order → Kept → Index → ℕ → Option EventRow → Option EventRow → Type 0
+ChoosesUpTo order kept i last best chosen = ChoosesAmong order kept.rows (HasThose kept i last) best chosen

@@ -1,5 +1,5 @@
 // The row that goes first.
-ghost use Rattle.std.specs.Prelude.{◌≡◌, min};
+ghost use Rattle.std.specs.Prelude.{◌≡◌, min, is_some};
 ghost use Rattle.std.specs.Option.{option_copied};
 ghost use Rattle.async_core.specs.Choice as meant;
 
@@ -172,6 +172,13 @@ fn rank(order: Order, row: &EventRow) -> Option<(u128, u64)>
             now, has_ready, is_full, age, row,
         ),
     }
+}
+
+/// Whether a row has a rank in this order.
+pub(crate) fn is_ranked(order: Order, row: &EventRow) -> bool
+    ensures { result ≡ is_some (meant.rank order row.now) }
+{
+    rank(order, row).is_some()
 }
 
 fn goes_before(a: (u128, u64), b: (u128, u64)) -> bool

@@ -4,12 +4,11 @@ ghost use Rattle.std.specs.Option.{option_copied};
 ghost use Rattle.std.specs.BTreeMap as tree;
 ghost use Rattle.std.specs.Map.{values_of};
 ghost use Rattle.std.specs.Cmp.Lexicographic.{pointwise};
-ghost use Rattle.async_core.specs.Choice.{IsChosen};
 ghost use Rattle.async_core.specs.Equality as meant;
 ghost use Rattle.async_core.specs.Rules.{has_id, remove_row, running_at};
 ghost use Rattle.async_core.specs.Steps as step;
 ghost use Rattle.async_core.specs.Ids.{PutsRow, TakesRow, SetsRow, ForRowAt};
-ghost use Rattle.async_core.specs.Kept.{with_rows, Enters, StaysOut};
+ghost use Rattle.async_core.specs.Kept.{with_rows, Enters, StaysOut, ChoosesByTurns, ChoosesUpTo};
 ghost use Rattle.async_core.specs.Turns as turned;
 ghost use Rattle.async_core.specs.Turns.{within, row_turn, IsFirstBy};
 
@@ -20,7 +19,7 @@ use crate::equality::same_row;
 use crate::ids::first_place;
 use crate::standings::is_running;
 use crate::turns::{
-    Facts, Index, Turn, facts_of, first_turn, insert_turns, remove_turns, switch_turns,
+    Facts, Index, Turn, facts_of, first_turn, insert_turns, rank, remove_turns, switch_turns,
 };
 use invoke_records::{Answer, Command, EventRow};
 use retry_rules::Settings;
@@ -118,12 +117,24 @@ fn recounted(running: usize, ran: bool, runs: bool) -> usize
     if runs { running + 1 } else { running - 1 }
 }
 
-fn first_of<'a>(rows: &'a BTreeMap<u64, EventRow>, order: Order) -> Option<&'a EventRow>
-    ensures { IsChosen order (values_of rows.now.entries) (option_copied result) }
+/// The row that goes first in this order: of some rows where this one goes first, if there is one, and of those whose
+/// turns in an index are up to this number.
+fn first_by_turns<'a>(
+    rows: &'a BTreeMap<u64, EventRow>,
+    turns: &BTreeSet<Turn>,
+    order: Order,
+    index: Index,
+    last: u64,
+    first: Option<&'a EventRow>,
+) -> Option<&'a EventRow>
+    ensures { ChoosesByTurns order rows.now turns.now index last (option_copied first.entry) (option_copied result) }
 {
-    let mut best = None;
-    for row in rows.values() {
-        best = better(order, best, row);
+    let rank = rank(index);
+    let mut best = first;
+    for turn in turns.range((rank, 0, 0, 0)..(rank, u128::from(last) + 1, 0, 0)) {
+        if let Some(row) = rows.get(&turn.3) {
+            best = better(order, best, row);
+        }
     }
     best
 }
@@ -222,11 +233,18 @@ impl Held {
         self.rows.get(&first.2)
     }
 
-    /// The row that goes first in this order. It looks at each row.
-    pub(crate) fn first_row(&self, order: Order) -> Option<&EventRow>
-        ensures { IsChosen order self.now.rows (option_copied result) }
+    /// The row that goes first in this order: of some rows where this one goes first, if there is one, and of those
+    /// that stand in an index up to this number. It looks at no other row.
+    pub(crate) fn first_up_to<'a>(
+        &'a self,
+        order: Order,
+        index: Index,
+        last: u64,
+        first: Option<&'a EventRow>,
+    ) -> Option<&'a EventRow>
+        ensures { ChoosesUpTo order self.now index last (option_copied first.entry) (option_copied result) }
     {
-        first_of(&self.rows, order)
+        first_by_turns(&self.rows, &self.turns, order, index, last, first)
     }
 
     /// Equal rows in memory of their own.

@@ -7,7 +7,7 @@ ghost use Rattle.async_core.specs.Choice.{IsChosen, IsChosenAs, IsNextAt, IsNext
 ghost use Rattle.async_core.specs.Histories.{ForEachHistory};
 
 use crate::Table;
-use crate::choice::{Move, Order, Side, move_by};
+use crate::choice::{Move, Order, Side, is_ranked, move_by};
 use crate::held::Held;
 use crate::situation::too_old_from;
 use crate::turns::Index;
@@ -56,8 +56,25 @@ fn has_expired(held: &Held, now: u64) -> bool
     }
 }
 
-/// The row that makes the next move. It looks at each row only where an event has expired while no environment is
-/// ready and fewer run than may.
+/// The row that moves first where no environment is ready and fewer run than may: the first that is ripe, if it has a
+/// move, and else the first of those whose deadline has passed and of those that are too old. Events that wait for an
+/// environment are not looked at.
+fn first_expiring(held: &Held, now: u64) -> Option<&EventRow>
+    ensures { IsChosen (Order.Moving now false false held.now.age) held.now.rows (option_copied result) }
+{
+    let order = Order::Moving(now, false, false, held.age());
+    let Some(ripe) = held.first_in(Index::Ripe, 0, Some(now)) else {
+        return None;
+    };
+    if is_ranked(order, ripe) {
+        return Some(ripe);
+    }
+    let late = held.first_in(Index::Deadline, 0, Some(now));
+    let last = now.saturating_sub(1000 * u64::from(held.age()));
+    held.first_up_to(order, Index::Idle, last, late)
+}
+
+/// The row that makes the next move, found by the indexes.
 fn first_moving(held: &Held, now: u64, has_ready: bool, is_full: bool) -> Option<&EventRow>
     ensures { IsChosen (Order.Moving now has_ready is_full held.now.age) held.now.rows (option_copied result) }
 {
@@ -65,7 +82,7 @@ fn first_moving(held: &Held, now: u64, has_ready: bool, is_full: bool) -> Option
         return held.first_in(Index::Ripe, 0, Some(now));
     }
     if has_expired(held, now) {
-        return held.first_row(Order::Moving(now, has_ready, is_full, held.age()));
+        return first_expiring(held, now);
     }
     held.first_in(Index::Deadline, 0, Some(now))
 }

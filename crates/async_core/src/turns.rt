@@ -32,7 +32,7 @@ pub enum Index {
 pub type Turn = (u8, u128, u64, u64);
 
 /// Where an index stands among the others in the set.
-fn rank(index: Index) -> u8
+pub fn rank(index: Index) -> u8
     ensures { result ≡ meant.index_rank index }
 {
     match index {
