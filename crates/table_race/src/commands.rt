@@ -41,8 +41,20 @@ fn text(alloc: Global, bytes: &[u8]) -> Result<Text, AllocError> {
     Ok(Text::from_vec(bytes))
 }
 
-/// Settings for so many events, of which four may run at once.
-pub fn settings_for(alloc: Global, events: u64) -> Result<Settings, AllocError> {
+/// A number below this one by a seed.
+fn by_seed(seed: u64, end: u64) -> u8 {
+    if end == 0 {
+        return 0;
+    }
+    match u8::try_from(seed % end) {
+        Ok(number) => number,
+        Err(_) => 0,
+    }
+}
+
+/// Settings for so many events. One seed in two lets four run at once, the others one; each third one has as many
+/// retries.
+pub fn settings_for(alloc: Global, seed: u64, events: u64) -> Result<Settings, AllocError> {
     let name = text(alloc, b"race")?;
     let handler = text(alloc, b"app.main")?;
     let arn = text(alloc, b"arn:race")?;
@@ -51,10 +63,10 @@ pub fn settings_for(alloc: Global, events: u64) -> Result<Settings, AllocError> 
         Err(_) => 1024,
     };
     Ok(Settings {
-        retries: 2,
+        retries: by_seed(seed.saturating_add(1), 3),
         age: 60,
         timeout: 1,
-        concurrency: 4,
+        concurrency: if by_seed(seed, 2) == 0 { 1 } else { 4 },
         environments: 4,
         events,
         payload: 16,
@@ -78,6 +90,22 @@ pub fn kind_of(n: u64) -> Kind {
         7 => Kind::Interrupt,
         8 => Kind::Expire,
         _ => Kind::Collect,
+    }
+}
+
+/// The number of a kind.
+pub fn number_of_kind(kind: Kind) -> usize {
+    match kind {
+        Kind::Accept => 0,
+        Kind::Start => 1,
+        Kind::Succeed => 2,
+        Kind::Fail(Cause::Reported) => 3,
+        Kind::Fail(Cause::Timeout) => 4,
+        Kind::Fail(Cause::Exited) => 5,
+        Kind::Throttle => 6,
+        Kind::Interrupt => 7,
+        Kind::Expire => 8,
+        Kind::Collect => 9,
     }
 }
 

@@ -1,5 +1,5 @@
 // One random history over both tables.
-use crate::commands::{Draw, command, id_of, kind_of, settings_for};
+use crate::commands::{Draw, command, id_of, kind_of, number_of_kind, settings_for};
 use crate::compare::{agree_on_event, agree_on_order, same_rows};
 use async_core::Side;
 use invoke_records::{Cause, Command, GREATEST_NUMBER, Kind};
@@ -13,6 +13,10 @@ pub struct Report {
     pub most_held: usize,
     /// How many commands after which some answer differed.
     pub differ: u64,
+    /// How many of each kind were applied.
+    pub kinds: [u64; 10],
+    /// How often an event was to expire while one that waits for an environment was due before it.
+    pub behind: u64,
 }
 
 #[derive(Drop)]
@@ -21,8 +25,12 @@ struct Race {
     table: async_core::Table,
     slow: slow_table::Table,
     draw: Draw,
+    seed: u64,
     events: u64,
     now: u64,
+    has_outages: bool,
+    /// Whether no environment is ready for the time being.
+    is_out: bool,
 }
 
 impl Race {
@@ -67,7 +75,7 @@ impl Race {
     // The next move, where an environment is ready or none is.
     fn next(&mut self) -> Result<Command, AllocError> {
         let environment = self.drawn_environment().clamp(1, 4);
-        let ready = if self.draw.below(3) == 0 {
+        let ready = if self.is_out || self.draw.below(3) == 0 {
             None
         } else {
             Some(environment)
@@ -81,6 +89,7 @@ impl Race {
                 self.now,
                 0,
             ),
+            None if self.is_out => self.accept(),
             None => self.any(),
         }
     }
@@ -133,6 +142,28 @@ impl Race {
         }
     }
 
+    // Every 512 commands the environments go or come back. Where they have gone, some events are too old.
+    fn turn(&mut self, n: u64) {
+        if self.has_outages && n % 512 == 511 {
+            self.is_out = !self.is_out;
+            if self.is_out {
+                let gone = self.draw.below(50_000);
+                self.now = self.now.saturating_add(10_000).saturating_add(gone);
+            }
+        }
+    }
+
+    // Whether an event is to expire while one that waits for an environment was due before it.
+    fn is_behind(&self) -> bool {
+        let Some(expiry) = self.slow.next_move(self.now, None) else {
+            return false;
+        };
+        let Some(other) = self.slow.next_move(self.now, Some(1)) else {
+            return false;
+        };
+        matches!(expiry.kind, Kind::Expire) && matches!(other.kind, Kind::Start)
+    }
+
     // Whether both say the same after a command of this event.
     fn agrees(&mut self, id: &[u8; 16]) -> bool {
         let other = self.drawn_id();
@@ -148,11 +179,18 @@ impl Race {
     fn is_whole(&mut self) -> Result<bool, AllocError> {
         let snapshot = self.table.snapshot()?;
         let is_same = same_rows(snapshot.rows.as_slice(), &self.slow);
-        let settings = settings_for(self.alloc, self.events)?;
+        let settings = settings_for(self.alloc, self.seed, self.events)?;
         let anew = async_core::Table::from_snapshot(self.alloc, snapshot, settings)?;
         let is_equal = anew == self.table;
         self.table = anew;
         Ok(is_same && is_equal)
+    }
+}
+
+fn note_applied(report: &mut Report, kind: Kind) {
+    report.applied = report.applied.saturating_add(1);
+    if let Some(count) = report.kinds.get_mut(number_of_kind(kind)) {
+        *count = count.saturating_add(1);
     }
 }
 
@@ -166,38 +204,52 @@ fn run_step(race: &mut Race, report: &mut Report) -> Result<bool, AllocError> {
     let same = refusal == race.slow.apply(&next).err();
     match refusal {
         Some(_) => report.refused = report.refused.saturating_add(1),
-        None => report.applied = report.applied.saturating_add(1),
+        None => note_applied(report, next.kind),
+    }
+    if race.is_behind() {
+        report.behind = report.behind.saturating_add(1);
     }
     report.most_held = report.most_held.max(race.slow.rows().len());
     Ok(judged && same && race.agrees(&next.id))
 }
 
-/// So many commands over both tables.
+fn race_of(alloc: Global, seed: u64, events: u64, has_outages: bool) -> Result<Race, AllocError> {
+    let settings = settings_for(alloc, seed, events)?;
+    let table = async_core::Table::new(alloc, settings);
+    let settings = settings_for(alloc, seed, events)?;
+    let slow = slow_table::Table::new(alloc, settings);
+    Ok(Race {
+        alloc,
+        table,
+        slow,
+        draw: Draw::new(seed),
+        seed,
+        events,
+        now: 1_573_755_365_568,
+        has_outages,
+        is_out: false,
+    })
+}
+
+/// So many commands over both tables, with times without a ready environment or with none such.
 pub fn run_race(
     alloc: Global,
     seed: u64,
     commands: u64,
     events: u64,
+    has_outages: bool,
 ) -> Result<Report, AllocError> {
-    let settings = settings_for(alloc, events)?;
-    let table = async_core::Table::new(alloc, settings);
-    let settings = settings_for(alloc, events)?;
-    let slow = slow_table::Table::new(alloc, settings);
-    let mut race = Race {
-        alloc,
-        table,
-        slow,
-        draw: Draw::new(seed),
-        events,
-        now: 1_573_755_365_568,
-    };
+    let mut race = race_of(alloc, seed, events, has_outages)?;
     let mut report = Report {
         applied: 0,
         refused: 0,
         most_held: 0,
         differ: 0,
+        kinds: [0; 10],
+        behind: 0,
     };
     for n in 0..commands {
+        race.turn(n);
         let agrees = run_step(&mut race, &mut report)?;
         let is_whole = if n % 256 == 255 {
             race.is_whole()?

@@ -1,7 +1,7 @@
 // How long calls take while so many events are held.
 use crate::commands::{command, id_of, settings_for};
 use async_core::Move;
-use invoke_records::{Command, GREATEST_NUMBER, Kind, Standing};
+use invoke_records::{Cause, Command, GREATEST_NUMBER, Kind, Standing};
 use std::alloc::{AllocError, Global};
 use std::io;
 use std::time::{Duration, Instant};
@@ -57,6 +57,25 @@ fn fill<T: Timed>(alloc: Global, table: &mut T, events: u64) -> Result<(), Alloc
     Ok(())
 }
 
+// Holds so many events of which all but one have failed and are too old a minute later, while that one waits and is due
+// before them.
+fn fill_late<T: Timed>(alloc: Global, table: &mut T, events: u64) -> Result<(), AllocError> {
+    for n in 1..events {
+        let id = id_of(n);
+        for (kind, environment, length) in [
+            (Kind::Accept, 0, 2),
+            (Kind::Start, 1, 0),
+            (Kind::Fail(Cause::Reported), 0, 2),
+        ] {
+            let next = command(alloc, kind, id, environment, NOW, length)?;
+            let _ = table.apply(&next);
+        }
+    }
+    let accept = command(alloc, Kind::Accept, id_of(0), 0, NOW + 30_000, 2)?;
+    let _ = table.apply(&accept);
+    Ok(())
+}
+
 // The life of one event of those held, from its start to its next acceptance: how many of the commands were legal.
 fn live<T: Timed>(alloc: Global, table: &mut T, n: u64) -> Result<u64, AllocError> {
     let id = id_of(n);
@@ -109,6 +128,24 @@ fn time_moves<T: Timed, C: std::time::Clock>(
     Ok((start.elapsed(clock)?, some))
 }
 
+// Moves without an environment that is ready, a minute later: how many of them were expiries.
+fn time_expiries<T: Timed, C: std::time::Clock>(
+    clock: &C,
+    table: &T,
+    rounds: u64,
+) -> io::Result<(Duration, u64)> {
+    let start = Instant::now(clock)?;
+    let mut expiries: u64 = 0;
+    for _n in 0..rounds {
+        if let Some(next) = table.next_move(NOW + 60_000, None) {
+            if matches!(next.kind, Kind::Expire) {
+                expiries = expiries.saturating_add(1);
+            }
+        }
+    }
+    Ok((start.elapsed(clock)?, expiries))
+}
+
 fn time_readers<T: Timed, C: std::time::Clock>(
     clock: &C,
     table: &T,
@@ -130,6 +167,7 @@ fn time_table<T: Timed>(
     rt: &HostRuntime,
     name: &str,
     mut table: T,
+    mut late: T,
     events: u64,
     rounds: u64,
 ) -> io::Result<()>
@@ -144,15 +182,22 @@ where
     println!(rt;
         "{name} {events} held, {rounds} rounds: applies {legal} in {lives} us, moves {some} in {moves} us, standings {known} in {readers} us"
     )?;
+    let (aged, old) = time_expiries(rt, &table, rounds)?;
+    fill_late(rt.alloc(), &mut late, events)?;
+    let (behind, few) = time_expiries(rt, &late, rounds)?;
+    let (aged, behind) = (aged.as_micros(), behind.as_micros());
+    println!(rt;
+        "{name} {events} held, {rounds} rounds: expiries {old} in {aged} us, behind one that waits {few} in {behind} us"
+    )?;
     Ok(())
 }
 
 /// Prints how long calls of both tables take.
 pub fn run_times(rt: &HostRuntime, events: u64, rounds: u64) -> io::Result<()> {
-    let settings = settings_for(rt.alloc(), events)?;
-    let table = async_core::Table::new(rt.alloc(), settings);
-    time_table(rt, "table", table, events, rounds)?;
-    let settings = settings_for(rt.alloc(), events)?;
-    let slow = slow_table::Table::new(rt.alloc(), settings);
-    time_table(rt, "slow ", slow, events, rounds)
+    let table = async_core::Table::new(rt.alloc(), settings_for(rt.alloc(), 1, events)?);
+    let late = async_core::Table::new(rt.alloc(), settings_for(rt.alloc(), 1, events)?);
+    time_table(rt, "table", table, late, events, rounds)?;
+    let table = slow_table::Table::new(rt.alloc(), settings_for(rt.alloc(), 1, events)?);
+    let late = slow_table::Table::new(rt.alloc(), settings_for(rt.alloc(), 1, events)?);
+    time_table(rt, "slow ", table, late, events, rounds)
 }
