@@ -1,11 +1,14 @@
 -- What a report tells of an image: what its live segment holds, and what the older one folds to.
-use Rattle.std.specs.Prelude.{◌≡◌, ℕ, List, length, count_by, option_map, Ok}
+use Rattle.std.specs.Prelude.{◌≡◌, ℕ, List, ◌++◌, length, count_by, option_map, Ok, codes, decimal}
+use Rattle.sector_disk.specs.Disk.{DiskView, IsSameDisk, HasRisen}
 use Rattle.async_core.specs.State.{State}
 use Rattle.async_core.specs.Standings.{is_running}
 use Rattle.checkpoint.specs.Image.{DiskImage, parts_of, read_image}
 use Rattle.audit_report.specs.Counts.{is_waiting, is_success, is_failure, stands}
 use Rattle.audit_report.specs.Comparison.{TellsOlder}
 use Rattle.audit_report.specs.declared.report.Report.{Report}
+use Rattle.audit_report.specs.declared.report.Older.{Older}
+use Rattle.audit_report.specs.declared.report.Older.TheVariants as older
 
 -- the settings of an image and the table of its live snapshot
 abbrev pub live_snapshot : DiskImage → State
@@ -38,3 +41,31 @@ pub record IsReportOn (bytes : List ℕ) (report : Report) : Type 0 where
   pub image : DiskImage
   pub reads : read_image bytes ≡ Ok image
   pub tells : Tells image report
+
+-- the disk was given up, and it failed before: there it is the same disk, and its count of faults has risen
+pub record HasFailed {D : Type 0} (view : D → DiskView) (fault_count : D → ℕ) (disk : D) : Type 0 where
+  pub after : D
+  pub same : IsSameDisk (view disk) (view after)
+  pub risen : HasRisen (fault_count disk) (fault_count after)
+
+-- ## Its lines
+
+abbrev pub older_text : Older → List ℕ
+older_text older.None = codes "older none"
+older_text older.Agrees = codes "older agrees"
+older_text (older.Ahead more) = codes "older ahead " ++ decimal more
+older_text older.Differs = codes "older differs"
+
+abbrev pub number_line : Report → List ℕ
+number_line report = codes "generation " ++ (decimal report.generation ++ (codes " number " ++ (decimal report.number ++ codes "\n")))
+
+abbrev pub standing_text : Report → List ℕ
+standing_text report =
+    codes "held " ++ (decimal report.held ++ (codes " waiting " ++ (decimal report.waiting ++ (codes " running " ++ decimal report.running))))
+
+abbrev pub ended_line : Report → List ℕ
+ended_line report = codes " success " ++ (decimal report.success ++ (codes " failure " ++ (decimal report.failure ++ codes "\n")))
+
+-- three lines, of which the last has no end
+abbrev pub report_text : Report → List ℕ
+report_text report = number_line report ++ (standing_text report ++ (ended_line report ++ older_text report.older))

@@ -2,7 +2,7 @@
 ghost use Rattle.std.specs.Prelude.{◌≡◌, ◌≤◌, IsErrOf, IfOk, IfErr};
 ghost use Rattle.sector_disk.specs.Disk.{IsSameDisk, HasRisen};
 ghost use Rattle.checkpoint.specs.Opening.{TellsNotFormatted, TellsDamage};
-ghost use Rattle.audit_report.specs.Report.{IsAudit, IsReportOn};
+ghost use Rattle.audit_report.specs.Report.{IsAudit, IsReportOn, HasFailed};
 
 use crate::Report;
 use crate::counting::counts_of;
@@ -52,6 +52,7 @@ pub fn inspect<D: Disk>(alloc: Global, disk: &mut D) -> Result<(Table, Report), 
 
 /// What a disk holds. The disk is given up; nothing but a barrier was done to it. It is refused as `inspect` refuses.
 pub fn audit<D: Disk + Drop>(alloc: Global, disk: D) -> Result<Report, OpenError>
+    ensures fault { IsErrOf result OpenError.Fault → HasFailed D.view D.fault_count disk }
     ensures exact { (D.view disk).honest → IfOk result (IsReportOn (D.view disk).content) }
     ensures not_formatted { TellsNotFormatted (D.view disk) result }
     ensures damaged { TellsDamage (D.view disk) result }

@@ -35,6 +35,11 @@ pub struct Report {
 }
 
 impl fmt::Display for Older {
+    ghost use Rattle.std.specs.Prelude.{Some};
+    ghost use Rattle.audit_report.specs.Report.{older_text};
+
+    ghost output = { λ told. Some (older_text told) };
+
     fn fmt<W: fmt::Write>(&self, f: &mut fmt::Formatter<W>) -> fmt::Result {
         match self {
             Older::None => write!(f, "older none"),
@@ -46,6 +51,11 @@ impl fmt::Display for Older {
 }
 
 impl fmt::Display for Report {
+    ghost use Rattle.std.specs.Prelude.{Some};
+    ghost use Rattle.audit_report.specs.Report.{report_text};
+
+    ghost output = { λ report. Some (report_text report) };
+
     /// Three lines, of which the last has no end.
     fn fmt<W: fmt::Write>(&self, f: &mut fmt::Formatter<W>) -> fmt::Result {
         let generation = self.generation;

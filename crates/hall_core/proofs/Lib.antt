@@ -9,6 +9,7 @@ pub mod Settled
 mod Holders
 mod FirstUnheld
 mod Halves
+mod Committing
 mod Ends
 mod Arriving
 mod Ticking

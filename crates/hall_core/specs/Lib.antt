@@ -19,6 +19,7 @@ pub mod Settling
 pub mod Doing
 pub mod Hall
 pub mod Halves
+pub mod Committing
 pub mod Steps
 pub mod Promises
 pub mod laws

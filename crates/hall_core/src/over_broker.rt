@@ -1,12 +1,15 @@
 // A hall over a broker: opening it, committing, and closing it.
 ghost use Rattle.std.specs.Prelude.{◌≡◌, List, [], false, true, Err, IfOk, IfErr, OnOk};
 ghost use Rattle.invoke_records.specs.declared.command.Command.{Command};
-ghost use Rattle.group_commit.specs.Broker.{disk_of, pending_of, is_broken, Stands};
+ghost use Rattle.group_commit.specs.Broker.{disk_of, pending_of, is_broken, Stands, Commits};
 ghost use Rattle.group_commit.specs.Promises.{LeavesLegalStops};
+ghost use Rattle.group_commit.specs.Refusals.{FaultsHaveRisen, IsWornOut, NeedsSwitch};
 ghost use Rattle.group_commit.specs.IssuerBroker.{issuer_of};
 ghost use Rattle.hall_core.specs.declared.error.HallError.TheVariants as HallError;
 ghost use Rattle.hall_core.specs.Past.{opening};
 ghost use Rattle.hall_core.specs.Hall.{view_of, StandsFor, ForEachPast, IsAllDurable, commit_error_of};
+ghost use Rattle.hall_core.specs.Halves.{HasSameParts};
+ghost use Rattle.hall_core.specs.Committing.{HasToWrite, IsNotCommitted};
 
 use crate::environments::Environments;
 use crate::error::HallError;
@@ -73,6 +76,14 @@ impl<D: Disk> Hall<Broker<D>> {
         ensures sound { OnOk result (is_broken self.new.issuer ≡ is_broken self.old.issuer) }
         ensures fault { is_broken self.old.issuer ≡ false → is_broken self.new.issuer ≡ true → result ≡ Err HallError.Fault }
         ensures any_moment { LeavesLegalStops D.view self.old.issuer (disk_of self.new.issuer) }
+
+        // Whether a history is known or not: the issuer alone changes, at Ok only in what is durable.
+        ensures parts { HasSameParts (view_of (issuer_of D.view) self.old) (view_of (issuer_of D.view) self.new) }
+        ensures ok { IfOk result (λ durable. Commits self.old.issuer self.new.issuer durable) }
+        ensures err { IfErr result (IsNotCommitted self.old.issuer self.new.issuer) }
+        ensures worn { HasToWrite self.old.issuer → NeedsSwitch self.old.issuer → IsWornOut self.old.issuer
+            → result ≡ Err HallError.WornOut }
+        ensures cause { result ≡ Err HallError.Fault → FaultsHaveRisen D.fault_count self.old.issuer self.new.issuer }
     {
         match self.issuer.commit() {
             Ok(durable) => {
