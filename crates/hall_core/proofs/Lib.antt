@@ -11,5 +11,6 @@ mod FirstUnheld
 mod Halves
 mod Ends
 mod Arriving
+mod Reasons
 mod Ticking
 mod Opened
