@@ -12,5 +12,6 @@ mod Halves
 mod Committing
 mod Ends
 mod Arriving
+mod Reasons
 mod Ticking
 mod Opened

@@ -1,5 +1,5 @@
 -- A hall as contracts see it, and what its calls have done.
-use Rattle.std.specs.Prelude.{◌≡◌, ℕ, ◌-◌, ◌^◌, Bool, false, ◌&&◌, List, [], ◌∷◌, length, Option, None, Some, ◌⊎◌, nat_le, slice_index, option_map}
+use Rattle.std.specs.Prelude.{◌≡◌, ℕ, ◌-◌, ◌^◌, ◌≤◌, Bool, true, false, ◌&&◌, List, [], ◌∷◌, length, Option, None, Some, ◌⊎◌, nat_le, slice_index, option_map}
 use Rattle.retry_rules.specs.declared.settings.Settings.{Settings}
 use Rattle.env_phase.specs.State.{EnvState}
 use Rattle.api_core.specs.declared.call.Call.{Call}
@@ -119,6 +119,16 @@ refusal_of_moving hall has_command =
     ∷ (has_command && nat_le 256 (pending_in hall.issuer), error.Backlog)
     ∷ []
     )
+
+-- why a call is refused, by what the hall keeps, whether a history is known or not
+abbrev pub KeepsReason : HallView → HallError → Type 0
+KeepsReason hall error.Broken = hall.issuer.broken ≡ true
+KeepsReason hall error.Stopping = hall.stops ≡ true
+KeepsReason hall error.WornOut = 2 ^ 62 ≤ issued_in hall.issuer
+KeepsReason hall error.Backlog = (1024 ≤ length hall.slots) ⊎ (256 ≤ pending_in hall.issuer)
+KeepsReason hall error.BadKind = Unit {0}
+KeepsReason hall error.OutOfMemory = Unit {0}
+KeepsReason hall other = ⊥
 
 -- ## Replies
 

@@ -15,6 +15,7 @@ pub mod Changes
 pub mod Planner
 pub mod Prepared
 pub mod Issuing
+pub mod Asked
 pub mod Settling
 pub mod Doing
 pub mod Hall

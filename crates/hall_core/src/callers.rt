@@ -1,10 +1,11 @@
 // What requests of callers do.
-ghost use Rattle.std.specs.Prelude.{◌≡◌, Some, IfSome, option_map};
+ghost use Rattle.std.specs.Prelude.{◌≡◌, Some, None, IfSome, option_map};
 ghost use Rattle.invoke_records.specs.declared.command.Kind.TheVariants.{Accept};
 ghost use Rattle.async_core.specs.Readers.{told, ending_after};
 ghost use Rattle.env_phase.specs.Calls.{IsMoment};
 ghost use Rattle.hall_core.specs.Effects.{command_for, accepts, collects, tells_oldest, stops};
 ghost use Rattle.hall_core.specs.Planner.{ForEachScene};
+ghost use Rattle.hall_core.specs.Asked.{Accepts, Collects};
 ghost use Rattle.hall_core.specs.Plans.{AreCallable};
 ghost use Rattle.hall_core.specs.Steps.{why_not_accepted, why_not_collected};
 
@@ -37,6 +38,7 @@ impl<'a> Planner<'a> {
     pub(crate) fn accept(&self, drawn: [u8; 16], payload: Bytes) -> Plan<'a>
         ensures effect { ForEachScene self.now (λ x. result.effect ≡ accepts x (command_for Accept drawn x.now payload)) }
         ensures within { AreCallable self.now.environments.now result.called }
+        ensures asked { IfSome result.effect.command (λ c. Accepts drawn c.kind c.id) }
     {
         let command = self.command(Kind::Accept, drawn, payload);
         match self.table.judge(&command) {
@@ -48,6 +50,7 @@ impl<'a> Planner<'a> {
     fn collect_event(&self, id: [u8; 16]) -> Plan<'a>
         ensures effect { ForEachScene self.now (λ x. result.effect ≡ collects x (Some id)) }
         ensures within { AreCallable self.now.environments.now result.called }
+        ensures asked { IfSome result.effect.command (λ c. Collects (Some id) c.kind c.id) }
     {
         let command = self.bare(Kind::Collect, id);
         match self.table.judge(&command) {
@@ -60,6 +63,7 @@ impl<'a> Planner<'a> {
     pub(crate) fn collect(&self, id: Option<[u8; 16]>) -> Plan<'a>
         ensures effect { ForEachScene self.now (λ x. result.effect ≡ collects x id) }
         ensures within { AreCallable self.now.environments.now result.called }
+        ensures asked { IfSome result.effect.command (λ c. Collects id c.kind c.id) }
     {
         match id {
             Some(id) => self.collect_event(id),
@@ -86,6 +90,7 @@ impl<'a> Planner<'a> {
     pub(crate) fn oldest(&self, side: Side) -> Plan<'a>
         ensures effect { ForEachScene self.now (λ x. result.effect ≡ tells_oldest x side) }
         ensures within { AreCallable self.now.environments.now result.called }
+        ensures none { result.effect.command ≡ None }
     {
         let Some(id) = self.table.oldest_ended(side) else {
             return Plan::says(Answer::NoRecord);
@@ -100,6 +105,7 @@ impl<'a> Planner<'a> {
     pub(crate) fn stop(&self) -> Plan<'a>
         ensures effect { ForEachScene self.now (λ x. result.effect ≡ stops x) }
         ensures within { AreCallable self.now.environments.now result.called }
+        ensures none { result.effect.command ≡ None }
     {
         Plan {
             command: None,

@@ -56,10 +56,11 @@ impl<I: Issuer> Hall<I> {
     ghost use Rattle.hall_core.specs.Issuing.{Continues, IsAnswered, IsUnissued};
     ghost use Rattle.hall_core.specs.Doing.{KeepRequest, KeepTick};
     ghost use Rattle.hall_core.specs.Agreement.{IsFit};
-    ghost use Rattle.hall_core.specs.Plans.{IsToOneOf};
+    ghost use Rattle.hall_core.specs.Plans.{IsToOneOf, drawn_by};
+    ghost use Rattle.hall_core.specs.Asked.{IsAsked};
     ghost use Rattle.group_commit.specs.Issuer.{issued_in, state_in};
     ghost use Rattle.hall_core.specs.Past.{tick, take_slot, forget_slot};
-    ghost use Rattle.hall_core.specs.Hall.{view_of, settings_in, pending_in, refusal_of_arrival, refusal_of_moving, IsSameHall, request, Does, Refuses};
+    ghost use Rattle.hall_core.specs.Hall.{view_of, settings_in, pending_in, refusal_of_arrival, refusal_of_moving, IsSameHall, request, Does, Refuses, KeepsReason};
     ghost use Rattle.hall_core.specs.Hall.{Gives, slot_told, IsDone, IsAsDurable, IssuesAtMostOne};
 
     // Whether no number is left for a command.
@@ -167,10 +168,12 @@ impl<I: Issuer> Hall<I> {
         requires environment { IsToOneOf self.old.environments call }
         requires fit { IsFit (settings_in (view_of I.view self.old)) (request slot call now words) }
         ensures ok { IfOk result (Does (view_of I.view self.old) (view_of I.view self.new) (request slot call now words)) }
+        ensures asked { IfOk result (IsAsked (drawn_by words) call) }
         ensures issues { IfOk result (IssuesAtMostOne (I.view self.old.issuer) (I.view self.new.issuer)) }
         ensures kept { OnOk result (IsAsDurable (view_of I.view self.old) (view_of I.view self.new)) }
         ensures no_call { I.is_untouched self.old.issuer self.new.issuer }
         ensures refused { IfErr result (Refuses (view_of I.view self.old) (request slot call now words)) }
+        ensures reason { IfErr result (KeepsReason (view_of I.view self.old)) }
         ensures err { OnErr result (IsSameHall (view_of I.view self.old) (view_of I.view self.new)) }
     {
         let stops = is_stop(&call);
@@ -253,6 +256,7 @@ impl<I: Issuer> Hall<I> {
         ensures kept { OnOk result (IsAsDurable (view_of I.view self.old) (view_of I.view self.new)) }
         ensures no_call { I.is_untouched self.old.issuer self.new.issuer }
         ensures refused { IfErr result (Refuses (view_of I.view self.old) (tick now)) }
+        ensures reason { IfErr result (KeepsReason (view_of I.view self.old)) }
         ensures err { OnErr result (IsSameHall (view_of I.view self.old) (view_of I.view self.new)) }
     {
         let plan = plan_tick(

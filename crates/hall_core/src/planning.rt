@@ -3,7 +3,8 @@ ghost use Rattle.std.specs.Prelude.{◌≡◌};
 ghost use Rattle.env_phase.specs.Calls.{IsMoment};
 ghost use Rattle.hall_core.specs.Effects.{effect_of_request};
 ghost use Rattle.hall_core.specs.Planner.{ForEachScene};
-ghost use Rattle.hall_core.specs.Plans.{AreCallable, PlansRequest, IsToOneOf};
+ghost use Rattle.hall_core.specs.Asked.{MayAsk};
+ghost use Rattle.hall_core.specs.Plans.{AreCallable, PlansRequest, IsToOneOf, drawn_by};
 
 use crate::environments::Environments;
 use crate::ids::drawn_id;
@@ -20,6 +21,7 @@ impl<'a> Planner<'a> {
         requires { IsToOneOf self.now.environments.now call }
         ensures effect { ForEachScene self.now (λ x. result.effect ≡ effect_of_request x slot drawn call) }
         ensures within { AreCallable self.now.environments.now result.called }
+        ensures asked { MayAsk drawn call result.effect.command }
     {
         match call {
             Call::Invoke { payload } => self.accept(drawn, payload),
@@ -78,6 +80,7 @@ pub(crate) fn plan_request<'a>(
     requires environment { IsToOneOf environments.now call }
     ensures effect { PlansRequest table.now environments.now slot call now words result.effect }
     ensures within { AreCallable environments.now result.called }
+    ensures asked { MayAsk (drawn_by words) call result.effect.command }
 {
     Planner::new(alloc, table, environments, now).request_of(slot, drawn_id(words), call)
 }

@@ -1,5 +1,7 @@
 // What requests to an environment do.
-ghost use Rattle.std.specs.Prelude.{◌≡◌, true, Some, option_map};
+ghost use Rattle.std.specs.Prelude.{◌≡◌, ◌⊎◌, true, Some, None, IfSome, option_map};
+ghost use Rattle.invoke_records.specs.declared.command.Kind.TheVariants.{Fail};
+ghost use Rattle.invoke_records.specs.declared.command.Cause.TheVariants.{Timeout};
 ghost use Rattle.env_phase.specs.declared.call.EnvCall.TheVariants.{RuntimeNext, ExtensionNext, InitError, ExtensionError};
 ghost use Rattle.env_phase.specs.Calls.{moment_by, IsMoment};
 ghost use Rattle.env_phase.specs.Environment.{running, runs};
@@ -7,6 +9,7 @@ ghost use Rattle.api_core.specs.Replies.{told_by};
 ghost use Rattle.hall_core.specs.Past.{calls_of};
 ghost use Rattle.env_phase.specs.Polls.{refusal_of};
 ghost use Rattle.hall_core.specs.Effects.{refusal_by, requests, is_late, responds, answers_event, exit_of, exits};
+ghost use Rattle.hall_core.specs.Asked.{EndsBy, FailsByExit};
 ghost use Rattle.hall_core.specs.Environments.{IsNumberIn};
 ghost use Rattle.hall_core.specs.Planner.{ForEachScene};
 ghost use Rattle.hall_core.specs.Plans.{AreCallable, moment_replied};
@@ -70,6 +73,7 @@ impl<'a> Planner<'a> {
         requires told_at { IsMoment (moment_replied reply) }
         ensures effect { ForEachScene self.now (λ x. result.effect ≡ requests x environment call command (option_map told_by reply.entry)) }
         ensures within { AreCallable self.now.environments.now result.called }
+        ensures command { (result.effect.command ≡ command) ⊎ (result.effect.command ≡ None) }
     {
         match self.judge(environment, call) {
             None => Plan {
@@ -86,6 +90,7 @@ impl<'a> Planner<'a> {
         requires { IsNumberIn self.now.environments.now environment }
         ensures effect { ForEachScene self.now (λ x. result.effect ≡ times_out x environment id) }
         ensures within { AreCallable self.now.environments.now result.called }
+        ensures asked { IfSome result.effect.command (λ c. (c.kind ≡ Fail Timeout) × (c.id ≡ id)) }
     {
         Plan {
             command: Some(self.bare(Kind::Fail(Cause::Timeout), id)),
@@ -102,6 +107,7 @@ impl<'a> Planner<'a> {
         requires { IsNumberIn self.now.environments.now environment }
         ensures effect { ForEachScene self.now (λ x. result.effect ≡ answers_event x environment kind id bytes) }
         ensures within { AreCallable self.now.environments.now result.called }
+        ensures asked { IfSome result.effect.command (λ c. EndsBy kind (Some id) c.kind c.id) }
     {
         if self.is_late(&id) {
             return self.time_out(environment, id);
@@ -127,6 +133,7 @@ impl<'a> Planner<'a> {
         requires { IsNumberIn self.now.environments.now environment }
         ensures effect { ForEachScene self.now (λ x. result.effect ≡ responds x environment kind id bytes) }
         ensures within { AreCallable self.now.environments.now result.called }
+        ensures asked { IfSome result.effect.command (λ c. EndsBy kind id c.kind c.id) }
     {
         match id {
             Some(id) if self.runs(environment, &id) => {
@@ -138,7 +145,8 @@ impl<'a> Planner<'a> {
 
     // How an attempt fails whose environment an extension has left.
     fn exit_command(&self, id: [u8; 16]) -> Command
-        ensures { ForEachScene self.now (λ x. result ≡ exit_of x id) }
+        ensures command { ForEachScene self.now (λ x. result ≡ exit_of x id) }
+        ensures asked { FailsByExit result.kind }
     {
         let cause = if self.is_late(&id) {
             Cause::Timeout
@@ -154,6 +162,7 @@ impl<'a> Planner<'a> {
         requires called_at { IsMoment (moment_by call) }
         ensures effect { ForEachScene self.now (λ x. result.effect ≡ parks x environment call) }
         ensures within { AreCallable self.now.environments.now result.called }
+        ensures none { result.effect.command ≡ None }
     {
         self.request(environment, call, None, None)
     }
@@ -163,6 +172,7 @@ impl<'a> Planner<'a> {
         requires { IsNumberIn self.now.environments.now environment }
         ensures effect { ForEachScene self.now (λ x. result.effect ≡ parks x environment (RuntimeNext slot)) }
         ensures within { AreCallable self.now.environments.now result.called }
+        ensures none { result.effect.command ≡ None }
     {
         self.park(environment, EnvCall::RuntimeNext { slot })
     }
@@ -177,6 +187,7 @@ impl<'a> Planner<'a> {
         requires { IsNumberIn self.now.environments.now environment }
         ensures effect { ForEachScene self.now (λ x. result.effect ≡ parks x environment (ExtensionNext identifier slot)) }
         ensures within { AreCallable self.now.environments.now result.called }
+        ensures none { result.effect.command ≡ None }
     {
         self.park(environment, EnvCall::ExtensionNext { identifier, slot })
     }
@@ -186,6 +197,7 @@ impl<'a> Planner<'a> {
         requires { IsNumberIn self.now.environments.now environment }
         ensures effect { ForEachScene self.now (λ x. result.effect ≡ reports x environment (InitError x.now)) }
         ensures within { AreCallable self.now.environments.now result.called }
+        ensures none { result.effect.command ≡ None }
     {
         let call = EnvCall::InitError { now: self.moment };
         self.request(environment, call, None, Some(Answer::Taken))
@@ -202,6 +214,7 @@ impl<'a> Planner<'a> {
         requires { IsNumberIn self.now.environments.now environment }
         ensures effect { ForEachScene self.now (λ x. result.effect ≡ registers x environment drawn invoke shutdown) }
         ensures within { AreCallable self.now.environments.now result.called }
+        ensures none { result.effect.command ≡ None }
     {
         let call = EnvCall::Register {
             identifier: drawn,
@@ -216,6 +229,7 @@ impl<'a> Planner<'a> {
         requires { IsNumberIn self.now.environments.now environment }
         ensures effect { ForEachScene self.now (λ x. result.effect ≡ reports x environment (ExtensionError identifier true x.now)) }
         ensures within { AreCallable self.now.environments.now result.called }
+        ensures none { result.effect.command ≡ None }
     {
         let call = EnvCall::ExtensionError {
             identifier,
@@ -230,6 +244,7 @@ impl<'a> Planner<'a> {
         requires { IsNumberIn self.now.environments.now environment }
         ensures effect { ForEachScene self.now (λ x. result.effect ≡ exits x environment identifier) }
         ensures within { AreCallable self.now.environments.now result.called }
+        ensures asked { IfSome result.effect.command (λ c. FailsByExit c.kind) }
     {
         let command = match self.running(environment) {
             Some(id) => Some(self.exit_command(id)),

@@ -18,7 +18,9 @@ use Rattle.hall_core.specs.Run.{option_list}
 use Rattle.hall_core.specs.Issuing.{told_of, table_by}
 use Rattle.receipts.specs.declared.mark.Mark.{Mark}
 use Rattle.receipts.specs.Marks.{mark_of, marks_by, AreNumbered}
-use Rattle.receipts.specs.Answers.{AddsAtMostOne, AddsAnswered}
+use Rattle.api_core.specs.declared.call.Call.{Call}
+use Rattle.hall_core.specs.Asked.{IsAsked}
+use Rattle.receipts.specs.Answers.{AddsAtMostOne, AddsAnswered, AddsAsked}
 use Rattle.receipts.specs.Kept.{number_of}
 use Rattle.receipts.specs.Following.{bare_standing, bare_row, bare, TellTheSame, command_of, table_after_marks, Follows}
 
@@ -198,6 +200,12 @@ module _ (desk : ℕ) (marks later : List Mark) where
   pub adds_answered : (issued : Option Issued) → later ≡ marks ++ marks_by desk issued → (answer : Option ℕ) → answer ≡ option_map number_of issued
       → AddsAnswered desk marks later answer
   adds_answered issued added answer is = subst (AddsAnswered desk marks later) (sym is) (adds_told issued added)
+
+-- a request adds the mark of what it may have
+pub adds_asked : (drawn : List ℕ) (call : Call) (desk : ℕ) (marks later : List Mark) (issued : Option Issued) → later ≡ marks ++ marks_by desk issued
+    → IsAsked drawn call issued → AddsAsked drawn call marks later
+adds_asked drawn call desk marks later None added asked = inl (added ∙ append-nil marks)
+adds_asked drawn call desk marks later (Some issued) added asked = inr (mark_of desk issued, added, asked)
 
 -- the numbers from 0 on, and one more
 pub range_next : (n : ℕ) → range_with_len 0 (n + 1) ≡ range_with_len 0 n ++ n ∷ []

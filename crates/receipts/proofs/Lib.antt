@@ -1,3 +1,4 @@
 pub mod Followed
 pub mod AllThere
 pub mod Settled
+pub mod Refused

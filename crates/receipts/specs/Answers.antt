@@ -1,5 +1,9 @@
 -- What the calls of an office answer to a desk.
 use Rattle.std.specs.Prelude.{◌≡◌, ℕ, ◌+◌, ◌*◌, ◌<◌, ◌≤◌, ◌^◌, List, [], ◌∷◌, ◌++◌, Option, Some, None, ◌⊎◌}
+use Rattle.api_core.specs.declared.call.Call.{Call}
+use Rattle.hall_core.specs.declared.error.HallError.{HallError}
+use Rattle.hall_core.specs.declared.error.HallError.TheVariants as error
+use Rattle.hall_core.specs.Asked.{AsksFor}
 use Rattle.receipts.specs.declared.mark.Mark.{Mark}
 
 -- one mark came to those of this desk, with this number
@@ -27,3 +31,38 @@ IsToldIfAny old new None = new ≡ old
 -- the slot is one of this desk
 abbrev pub IsSlotOf : ℕ → ℕ → Type 0
 IsSlotOf desk slot = (k : ℕ) × (k < 2 ^ 58) × (slot ≡ 32 * k + desk)
+
+-- a mark that came to those of a desk is of a command that this request may have, for which this id was drawn
+abbrev pub AddsAsked : List ℕ → Call → List Mark → List Mark → Type 0
+AddsAsked drawn call old new = (new ≡ old) ⊎ ((mark : Mark) × (new ≡ old ++ mark ∷ []) × AsksFor drawn call mark.kind mark.id)
+
+-- ## Refusals
+
+-- fewer commands were issued than the desk was told, which is what is answered
+abbrev pub IsMismatch : ℕ → ℕ → HallError → Type 0
+IsMismatch told found (error.Mismatch before issued) = (before ≡ told) × (issued ≡ found) × (found < told)
+IsMismatch told found other = ⊥
+
+-- a request of a desk that was told so much is refused with a number below that, and never as a commit is
+abbrev pub IsArrivalRefusal : ℕ → HallError → Type 0
+IsArrivalRefusal told (error.Mismatch before found) = (before ≡ told) × (found < told)
+IsArrivalRefusal told error.Fault = ⊥
+IsArrivalRefusal told error.Lent = ⊥
+IsArrivalRefusal told error.OtherHalf = ⊥
+IsArrivalRefusal told other = Unit {0}
+
+-- the same of a tick, which fits always
+abbrev pub IsTickRefusal : ℕ → HallError → Type 0
+IsTickRefusal told (error.Mismatch before found) = (before ≡ told) × (found < told)
+IsTickRefusal told error.Fault = ⊥
+IsTickRefusal told error.Lent = ⊥
+IsTickRefusal told error.OtherHalf = ⊥
+IsTickRefusal told error.Unfit = ⊥
+IsTickRefusal told other = Unit {0}
+
+-- a commit of a desk that was told so much is refused with a number below that, and never as a request is
+abbrev pub IsCommitRefusal : ℕ → HallError → Type 0
+IsCommitRefusal told (error.Mismatch before found) = (before ≡ told) × (found < told)
+IsCommitRefusal told error.Stopping = ⊥
+IsCommitRefusal told error.Unfit = ⊥
+IsCommitRefusal told other = Unit {0}

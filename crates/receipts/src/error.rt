@@ -1,6 +1,7 @@
 // Why an office is not opened or not closed.
 use crate::desk::Desk;
 use crate::office::Office;
+use crate::unlocked::Unlocked;
 use group_commit::{DiskHalf, JoinError, SplitError};
 use sector_disk::Disk;
 use std::sync::ledger::{Blank, Ledger};
@@ -30,6 +31,16 @@ pub enum FinishError {
 pub struct FinishFailure<D: Disk, L: Ledger> {
     pub cause: FinishError,
     pub office: Office<L>,
+    pub desks: Vec<Desk<L>>,
+    /// The half over the disk, with what it took.
+    pub disk: DiskHalf<D>,
+}
+
+/// An office out of its lock that was not closed, and why. All is handed back.
+#[derive(Drop)]
+pub struct UnlockedFailure<D: Disk, L: Ledger> {
+    pub cause: FinishError,
+    pub office: Unlocked<L>,
     pub desks: Vec<Desk<L>>,
     /// The half over the disk, with what it took.
     pub disk: DiskHalf<D>,

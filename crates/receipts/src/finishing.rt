@@ -2,17 +2,17 @@
 ghost use Rattle.std.specs.Prelude.{◌≡◌, ◌↔◌, ◌==◌, ◌∷◌, count_by, IfSome, IfNone, List, All, IsTrue, IfOk, IfErr, OnOk};
 ghost use Rattle.receipts.specs.Marks.{history_of_desk, AreNumberedFromSome};
 ghost use Rattle.receipts.specs.declared.mark.Mark.{Mark};
-ghost use Rattle.receipts.specs.Desks.{IsEachOnce, HaveEachOnce, AreAll, IsReason, IsNotMismatch};
+ghost use Rattle.receipts.specs.Desks.{IsEachOnce, HaveEachOnce, AreAll, IsReason, IsReasonForSome, IsNotMismatch, IsWhyNotJoined};
+ghost use Rattle.group_commit.specs.Splitting.{broker_of, Joins, IsNotJoined};
 
 use crate::desk::Desk;
-use crate::error::{FinishError, FinishFailure};
+use crate::error::{FinishError, FinishFailure, UnlockedFailure};
 use crate::kept::Kept;
 use crate::mark::Mark;
 use crate::office::Office;
 use group_commit::{Broker, DiskHalf};
 use hall_core::Hall;
 use sector_disk::Disk;
-use std::sync::Mutex;
 use std::sync::ledger::Ledger;
 
 // How many of the desks have this number.
@@ -89,9 +89,9 @@ fn are_histories<L: Ledger>(all: &[Mark], desks: &[Desk<L>]) -> bool
 /// What was kept under the lock and not closed, and why.
 #[derive(Drop)]
 pub(crate) struct NotClosed<D: Disk, L: Ledger> {
-    cause: FinishError,
-    kept: Kept<L>,
-    disk: DiskHalf<D>,
+    pub(crate) cause: FinishError,
+    pub(crate) kept: Kept<L>,
+    pub(crate) disk: DiskHalf<D>,
 }
 
 impl<L: Ledger> Kept<L> {
@@ -108,7 +108,11 @@ impl<L: Ledger> Kept<L> {
         disk: DiskHalf<D>,
     ) -> Result<(Hall<Broker<D>>, Vec<Mark>), NotClosed<D, L>>
         ensures marks { IfOk result (λ r. r.1.items ≡ self.marks.all.items) }
+        ensures joined { IfOk result (λ r. Joins self.hall.issuer (broker_of disk) r.0.issuer) }
         ensures err { IfErr result (λ failure. IsNotMismatch failure.cause) }
+        ensures not_joined { IfErr result (λ failure. IsWhyNotJoined
+            (IsNotJoined self.hall.issuer failure.kept.hall.issuer (broker_of disk) (broker_of failure.disk)) failure.cause) }
+        ensures same { IfErr result (λ failure. failure.kept.marks.all.items ≡ self.marks.all.items) }
     {
         let Kept {
             hall,
@@ -135,15 +139,19 @@ impl<L: Ledger> Kept<L> {
     }
 
     /// The hall and the marks, exactly where these are all its desks, each with its own marks, and the hall joins.
-    fn close<D: Disk>(
+    pub(crate) fn close<D: Disk>(
         self,
         desks: &[Desk<L>],
         disk: DiskHalf<D>,
     ) -> Result<(Hall<Broker<D>>, Vec<Mark>), NotClosed<D, L>>
         ensures all { OnOk result (AreAll (λ d. d.number) (λ d. d.own.items) L.parts self.marks.all.items desks.now) }
         ensures marks { IfOk result (λ r. r.1.items ≡ self.marks.all.items) }
+        ensures joined { IfOk result (λ r. Joins self.hall.issuer (broker_of disk) r.0.issuer) }
         ensures refused { IfErr result (λ failure.
             IsReason (AreAll (λ d. d.number) (λ d. d.own.items) L.parts self.marks.all.items desks.now) failure.cause) }
+        ensures not_joined { IfErr result (λ failure. IsWhyNotJoined
+            (IsNotJoined self.hall.issuer failure.kept.hall.issuer (broker_of disk) (broker_of failure.disk)) failure.cause) }
+        ensures same { IfErr result (λ failure. failure.kept.marks.all.items ≡ self.marks.all.items) }
     {
         if !self.has_all(desks) {
             let cause = FinishError::Mismatch;
@@ -162,7 +170,8 @@ impl<L: Ledger> Office<L> {
     /// issued since it was opened.
     ///
     /// It is refused, and hands all back: `Mismatch` where the desks do not have each desk number once, or a desk's marks
-    /// are not those of its number; and where the hall does not join with the disk half.
+    /// are not those of its number; and where the hall does not join with the disk half. Of the marks under the lock nothing
+    /// can be told but that they are numbered: `unlock` and then `Unlocked::finish` say it of the marks themselves.
     pub fn finish<D: Disk>(
         self,
         desks: Vec<Desk<L>>,
@@ -170,17 +179,19 @@ impl<L: Ledger> Office<L> {
     ) -> Result<(Hall<Broker<D>>, Vec<Mark>), FinishFailure<D, L>>
         ensures all { IfOk result (λ r. AreAll (λ d. d.number) (λ d. d.own.items) L.parts r.1.items desks.items) }
         ensures numbered { IfOk result (λ r. AreNumberedFromSome r.1.items) }
+        ensures refused { IfErr result (λ failure. IsReasonForSome (λ d. d.number) (λ d. d.own.items) L.parts desks.items failure.cause) }
         ensures back { IfErr result (λ failure. failure.desks.items ≡ desks.items) }
     {
-        let Office { kept } = self;
-        let kept = kept.into_inner();
-        match kept.close(&desks, disk) {
+        match self.unlock().finish(desks, disk) {
             Ok(closed) => Ok(closed),
             Err(failure) => {
-                let NotClosed { cause, kept, disk } = failure;
-                let office = Office {
-                    kept: Mutex::new(kept),
-                };
+                let UnlockedFailure {
+                    cause,
+                    office,
+                    desks,
+                    disk,
+                } = failure;
+                let office = office.lock();
                 Err(FinishFailure {
                     cause,
                     office,

@@ -1,14 +1,17 @@
 // What the office keeps under its lock: the hall, and the marks of all that it issued.
-ghost use Rattle.std.specs.Prelude.{◌≡◌, ◌+◌, ◌<◌, ◌≤◌, ◌^◌, ◌++◌, length, vec_len, vec_capacity, IfOk, OnOk, OnErr, OnSome, IfSome, option_map};
+ghost use Rattle.std.specs.Prelude.{◌≡◌, ◌+◌, ◌<◌, ◌≤◌, ◌^◌, ◌++◌, length, vec_len, vec_capacity, IfOk, IfErr, OnOk, OnErr, OnSome, IfSome, option_map};
 ghost use Rattle.group_commit.specs.Issuer.{issued_in};
 ghost use Rattle.receipts.specs.Marks.{marks_by, AreNumbered};
 ghost use Rattle.receipts.specs.Following.{Follows};
-ghost use Rattle.receipts.specs.Answers.{AddsAtMostOne, AddsAnswered, IsToldMore, IsToldIfAny, IsSlotOf};
-ghost use Rattle.receipts.specs.Kept.{issuer_in, IsToldByLoan, number_of, either_number};
+ghost use Rattle.receipts.specs.Answers.{AddsAtMostOne, AddsAnswered, IsToldMore, IsToldIfAny, IsSlotOf, AddsAsked, IsMismatch, IsArrivalRefusal, IsTickRefusal};
+ghost use Rattle.receipts.specs.Kept.{issuer_in, IsToldByLoan, IsNotLentTo, number_of, either_number};
 ghost use Rattle.invoke_records.specs.Spelling.{greatest_moment};
 ghost use Rattle.group_commit.specs.Batch.{last_in};
 ghost use Rattle.hall_core.specs.Past.{take_slot, forget_slot};
-ghost use Rattle.hall_core.specs.Hall.{view_of, slot_told, Gives, IsDone};
+ghost use Rattle.hall_core.specs.Hall.{view_of, pending_in, slot_told, Gives, IsDone};
+ghost use Rattle.hall_core.specs.Halves.{IsNotDurable};
+ghost use Rattle.hall_core.specs.Plans.{drawn_by};
+ghost use Rattle.hall_core.specs.declared.error.HallError.TheVariants.{WornOut};
 ghost use Rattle.group_commit.specs.IssuerHalf.{half_view};
 
 use crate::desk::Desk;
@@ -84,7 +87,8 @@ fn told_by<L: Ledger>(desk: &mut Desk<L>, issued: Option<Issued>) -> Option<u64>
 impl<L: Ledger> Kept<L> {
     // What the hall issued is not below what the desk was told.
     fn check(&self, desk: &Desk<L>) -> Result<(), HallError>
-        ensures { OnOk result (desk.now.told ≤ issued_in (issuer_in self.now.hall)) }
+        ensures ok { OnOk result (desk.now.told ≤ issued_in (issuer_in self.now.hall)) }
+        ensures err { IfErr result (IsMismatch desk.now.told (issued_in (issuer_in self.now.hall))) }
     {
         let found = self.hall.issued();
         if found < desk.told {
@@ -100,6 +104,7 @@ impl<L: Ledger> Kept<L> {
     fn next_slot(&self, desk: &Desk<L>) -> Result<u64, HallError>
         ensures slot { IfOk result (IsSlotOf desk.now.number) }
         ensures room { OnOk result (self.now.slots < 2 ^ 58) }
+        ensures err { IfErr result (λ why. (why ≡ WornOut) × (2 ^ 58 ≤ self.now.slots)) }
     {
         if self.slots >= MOST_SLOTS {
             return Err(HallError::WornOut);
@@ -120,6 +125,8 @@ impl<L: Ledger> Kept<L> {
         ensures slot { IfOk result (λ r. IsSlotOf desk.old.number r.1) }
         ensures number { desk.new.number ≡ desk.old.number }
         ensures err { OnErr result ((desk.new.own.items ≡ desk.old.own.items) × (desk.new.told ≡ desk.old.told)) }
+        ensures asked { OnOk result (AddsAsked (drawn_by words) call desk.old.own.items desk.new.own.items) }
+        ensures refused { IfErr result (IsArrivalRefusal desk.old.told) }
     {
         self.check(desk)?;
         let slot = self.next_slot(desk)?;
@@ -152,6 +159,7 @@ impl<L: Ledger> Kept<L> {
         ensures told { IfOk result (IsToldIfAny desk.old.told desk.new.told) }
         ensures number { desk.new.number ≡ desk.old.number }
         ensures err { OnErr result ((desk.new.own.items ≡ desk.old.own.items) × (desk.new.told ≡ desk.old.told)) }
+        ensures refused { IfErr result (IsTickRefusal desk.old.told) }
     {
         self.check(desk)?;
         self.marks.reserve(desk)?;
@@ -171,6 +179,7 @@ impl<L: Ledger> Kept<L> {
         ensures number { desk.new.number ≡ desk.old.number }
         ensures own { desk.new.own.items ≡ desk.old.own.items }
         ensures err { OnErr result (desk.new.told ≡ desk.old.told) }
+        ensures refused { IfErr result (IsNotLentTo desk.old.told self.old.hall.issuer) }
     {
         self.check(desk)?;
         match self.hall.lend() {
@@ -195,6 +204,7 @@ impl<L: Ledger> Kept<L> {
         ensures number { desk.new.number ≡ desk.old.number }
         ensures own { desk.new.own.items ≡ desk.old.own.items }
         ensures err { OnErr result (desk.new.told ≡ desk.old.told) }
+        ensures refused { IfErr result (IsNotDurable self.old.hall.issuer self.new.hall.issuer outcome) }
     {
         match self.hall.settle(outcome) {
             Ok(durable) => {
@@ -219,5 +229,13 @@ impl<L: Ledger> Kept<L> {
         ensures { IsDone (view_of half_view self.old.hall) (view_of half_view self.new.hall) (forget_slot slot) }
     {
         self.hall.forget(slot);
+    }
+
+    /// How many commands are issued and not durable.
+    pub(crate) fn pending(&self) -> usize
+        ensures is { result ≡ pending_in (issuer_in self.now.hall) }
+        ensures few { result ≤ 256 }
+    {
+        self.hall.pending() as usize
     }
 }

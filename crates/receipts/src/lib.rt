@@ -14,8 +14,10 @@ mod mark;
 mod marks;
 mod office;
 mod seats;
+mod unlocked;
 
 pub use desk::{Desk, desks};
-pub use error::{FinishError, FinishFailure, OfficeFailure};
+pub use error::{FinishError, FinishFailure, OfficeFailure, UnlockedFailure};
 pub use mark::Mark;
 pub use office::Office;
+pub use unlocked::Unlocked;

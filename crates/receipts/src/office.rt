@@ -1,5 +1,5 @@
 // The office: the hall under its lock.
-ghost use Rattle.std.specs.Prelude.{◌≡◌, ◌≤◌, [], map, All, vec_len, vec_capacity, IfOk, IfErr, OnErr, IfSome};
+ghost use Rattle.std.specs.Prelude.{◌≡◌, ◌≤◌, [], map, All, vec_len, vec_capacity, IfOk, IfErr, OnOk, OnErr, IfSome};
 ghost use Rattle.std.specs.List.{range_with_len};
 ghost use Rattle.invoke_records.specs.Spelling.{greatest_moment};
 ghost use Rattle.group_commit.specs.Broker.{pending_of, settings_of, table_in};
@@ -8,6 +8,8 @@ ghost use Rattle.hall_core.specs.Hall.{view_of, slot_told};
 ghost use Rattle.hall_core.specs.Halves.{HasSameParts};
 ghost use Rattle.receipts.specs.Desks.{desk_count};
 ghost use Rattle.receipts.specs.Answers.{AddsAtMostOne, AddsAnswered, IsToldMore, IsToldIfAny, IsSlotOf};
+ghost use Rattle.receipts.specs.Answers.{AddsAsked, IsArrivalRefusal, IsTickRefusal, IsCommitRefusal};
+ghost use Rattle.hall_core.specs.Plans.{drawn_by};
 
 use crate::desk::{Desk, desks};
 use crate::error::OfficeFailure;
@@ -141,6 +143,8 @@ impl<L: Ledger> Office<L> {
         ensures slot { IfOk result (λ r. IsSlotOf desk.old.number r.1) }
         ensures number { desk.new.number ≡ desk.old.number }
         ensures err { OnErr result ((desk.new.own.items ≡ desk.old.own.items) × (desk.new.told ≡ desk.old.told)) }
+        ensures asked { OnOk result (AddsAsked (drawn_by words) call desk.old.own.items desk.new.own.items) }
+        ensures refused { IfErr result (IsArrivalRefusal desk.old.told) }
     {
         self.kept.lock(rt).arrive(desk, call, now, words)
     }
@@ -161,6 +165,7 @@ impl<L: Ledger> Office<L> {
         ensures told { IfOk result (IsToldIfAny desk.old.told desk.new.told) }
         ensures number { desk.new.number ≡ desk.old.number }
         ensures err { OnErr result ((desk.new.own.items ≡ desk.old.own.items) × (desk.new.told ≡ desk.old.told)) }
+        ensures refused { IfErr result (IsTickRefusal desk.old.told) }
     {
         self.kept.lock(rt).tick(desk, now)
     }
@@ -181,6 +186,7 @@ impl<L: Ledger> Office<L> {
         ensures number { desk.new.number ≡ desk.old.number }
         ensures marks { desk.new.own.items ≡ desk.old.own.items }
         ensures err { OnErr result (desk.new.told ≡ desk.old.told) }
+        ensures refused { IfErr result (IsCommitRefusal desk.old.told) }
     {
         let loan = self.kept.lock(rt).lend(desk)?;
         match loan {
@@ -209,9 +215,11 @@ impl<L: Ledger> Office<L> {
         self.kept.lock(rt).forget(slot)
     }
 
-    /// How many commands are issued and not durable.
-    pub fn pending<R: Wait>(&self, rt: &R) -> usize {
-        self.kept.lock(rt).hall.pending() as usize
+    /// How many commands are issued and not durable: at most 256.
+    pub fn pending<R: Wait>(&self, rt: &R) -> usize
+        ensures { result ≤ 256 }
+    {
+        self.kept.lock(rt).pending()
     }
 
     /// How many slots are open.

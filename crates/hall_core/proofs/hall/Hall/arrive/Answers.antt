@@ -6,6 +6,7 @@ use Rattle.hall_core.specs.Issuing.{HasPlaceFor}
 use Rattle.hall_core.specs.Effects.{Effect}
 use Rattle.hall_core.specs.Hall.{view_of, settings_in, request, refusal_of_arrival}
 use Rattle.hall_core.proofs.Arriving.{arrived, refused_by, finds_place, effect_is, planned_unrefused, called_but_for_memory, issued_but_for_memory}
+use Rattle.hall_core.proofs.Reasons.{arrival_reason, uncalled_reason, wanting_reason, told_asked}
 use Rattle.hall_core.proofs.hall.Hall.arrive.Goals as goal
 
 pub returns-in-Some-clause-refused : goal.returns-in-Some-clause-refused
@@ -71,3 +72,29 @@ returns-in-Err-do_for-clause-refused g c = λ past stands.
           (prepared.command ∙ ap (λ (e : Effect). e.command) is) (c.in-Err-do_for.ensures.refused place),
     )
     )
+
+pub returns-in-Some-clause-reason : goal.returns-in-Some-clause-reason
+returns-in-Some-clause-reason g c =
+    let old = view_of g.I.Issuer.view c.args.self.now in
+    let effect = c.plan_request-plan.result.effect in
+    let why : refusal_of_arrival old (is_some effect.command) ≡ Some c.in-Some.why = search rules in
+    arrival_reason old (is_some effect.command) c.in-Some.why why
+
+pub returns-in-Err-clause-reason : goal.returns-in-Err-clause-reason
+returns-in-Err-clause-reason g c =
+    let old = view_of g.I.Issuer.view c.args.self.now in
+    uncalled_reason old c.args.self.now.environments c.plan_request-plan.result.effect.made c.in-Err.why c.in-Err.ensures.refused
+
+pub returns-in-Err-do_for-clause-reason : goal.returns-in-Err-do_for-clause-reason
+returns-in-Err-do_for-clause-reason g c =
+    let old = view_of g.I.Issuer.view c.args.self.now in
+    let laws = g.met.I.Issuer.laws c.args.self.now.issuer in
+    let effect = c.plan_request-plan.result.effect in
+    let prepared = subst (λ t. IsPreparedFor t c.args.self.now.environments effect c.in-Ok-prepare.prepared) c.table-2.ensures c.in-Ok-prepare.ensures.ok in
+    let none : refusal_of_arrival old (is_some effect.command) ≡ None = search rules in
+    let place : HasPlaceFor (g.I.Issuer.view c.args.self.now.issuer) c.in-Ok-prepare.prepared.command = rw prepared.command (finds_place old effect.command laws none) in
+    wanting_reason old (g.I.Issuer.view c.args.self.now.issuer) c.in-Ok-prepare.prepared.command c.in-Err-do_for.why (c.in-Err-do_for.ensures.refused place)
+
+pub returns-in-Ok-do_for-clause-asked : goal.returns-in-Ok-do_for-clause-asked
+returns-in-Ok-do_for-clause-asked g c =
+    rw (c.in-Ok-do_for.ensures.issued, c.in-Ok-prepare.ensures.ok.command) (told_asked _ _ _ _ c.plan_request-plan.ensures.asked)

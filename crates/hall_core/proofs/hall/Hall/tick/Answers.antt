@@ -8,6 +8,7 @@ use Rattle.hall_core.specs.Effects.{Effect}
 use Rattle.hall_core.specs.Hall.{view_of, settings_in, refusal_of_moving}
 use Rattle.hall_core.proofs.Arriving.{called_but_for_memory, issued_but_for_memory}
 use Rattle.hall_core.proofs.Ticking.{ticked, tick_refused_by, moving_finds_place, tick_effect_is, tick_unrefused}
+use Rattle.hall_core.proofs.Reasons.{moving_reason, uncalled_reason, wanting_reason}
 use Rattle.hall_core.proofs.hall.Hall.tick.Goals as goal
 
 pub returns-in-Some-clause-refused : goal.returns-in-Some-clause-refused
@@ -64,3 +65,25 @@ returns-in-Err-do_moving-clause-refused g c = λ past stands.
           (prepared.command ∙ ap (λ (e : Effect). e.command) is) (c.in-Err-do_moving.ensures.refused place),
     )
     )
+
+pub returns-in-Some-clause-reason : goal.returns-in-Some-clause-reason
+returns-in-Some-clause-reason g c =
+    let old = view_of g.I.Issuer.view c.args.self.now in
+    let effect = c.plan_tick-plan.result.effect in
+    let why : refusal_of_moving old (is_some effect.command) ≡ Some c.in-Some.why = search rules in
+    moving_reason old (is_some effect.command) c.in-Some.why why
+
+pub returns-in-Err-clause-reason : goal.returns-in-Err-clause-reason
+returns-in-Err-clause-reason g c =
+    let old = view_of g.I.Issuer.view c.args.self.now in
+    uncalled_reason old c.args.self.now.environments c.plan_tick-plan.result.effect.made c.in-Err.why c.in-Err.ensures.refused
+
+pub returns-in-Err-do_moving-clause-reason : goal.returns-in-Err-do_moving-clause-reason
+returns-in-Err-do_moving-clause-reason g c =
+    let old = view_of g.I.Issuer.view c.args.self.now in
+    let laws = g.met.I.Issuer.laws c.args.self.now.issuer in
+    let effect = c.plan_tick-plan.result.effect in
+    let prepared = subst (λ t. IsPreparedFor t c.args.self.now.environments effect c.in-Ok.prepared) c.table-2.ensures c.in-Ok.ensures.ok in
+    let none : refusal_of_moving old (is_some effect.command) ≡ None = search rules in
+    let place : HasPlaceFor (g.I.Issuer.view c.args.self.now.issuer) c.in-Ok.prepared.command = rw prepared.command (moving_finds_place old effect.command laws none) in
+    wanting_reason old (g.I.Issuer.view c.args.self.now.issuer) c.in-Ok.prepared.command c.in-Err-do_moving.why (c.in-Err-do_moving.ensures.refused place)

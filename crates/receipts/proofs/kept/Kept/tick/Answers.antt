@@ -1,6 +1,9 @@
 use Rattle.std.proofs.Common.{rules, ◌≡◌, ◌++◌}
 use Rattle.receipts.specs.Marks.{marks_by}
 use Rattle.receipts.proofs.Followed.{numbered_by, reached_by, follows_by, adds_answered}
+use Rattle.receipts.proofs.Refused.{refused_tick}
+use Rattle.group_commit.specs.IssuerHalf.{half_view}
+use Rattle.hall_core.specs.Hall.{view_of}
 use Rattle.receipts.proofs.kept.Kept.tick.Goals as goal
 
 pub invariant_of-self-in-Ok : goal.invariant_of-self-in-Ok
@@ -18,3 +21,6 @@ pub returns-in-Ok-clause-marks : goal.returns-in-Ok-clause-marks
 returns-in-Ok-clause-marks g c =
     let added : c.told_by.new.desk.own.items ≡ c.args.desk.now.own.items ++ marks_by c.args.desk.now.number c.in-Ok.issued = search rules in
     adds_answered _ _ _ c.in-Ok.issued added _ c.told_by.ensures.number
+
+pub returns-in-Err-clause-refused : goal.returns-in-Err-clause-refused
+returns-in-Err-clause-refused g c = refused_tick _ (view_of half_view c.args.self.now.hall) c.in-Err.why c.in-Err.ensures.reason

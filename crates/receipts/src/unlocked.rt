@@ -1,0 +1,109 @@
+// An office out of its lock: what was kept under it can be seen.
+ghost use Rattle.std.specs.Prelude.{◌≡◌, ◌+◌, length, IfOk, IfErr, OnOk};
+ghost use Rattle.group_commit.specs.Issuer.{issued_in};
+ghost use Rattle.group_commit.specs.Splitting.{broker_of, Joins, IsNotJoined};
+ghost use Rattle.receipts.specs.Desks.{AreAll, IsReason, IsWhyNotJoined};
+ghost use Rattle.receipts.specs.Following.{Follows};
+ghost use Rattle.receipts.specs.Kept.{issuer_in};
+ghost use Rattle.receipts.specs.Marks.{AreNumbered};
+
+use crate::desk::Desk;
+use crate::error::UnlockedFailure;
+use crate::finishing::NotClosed;
+use crate::kept::Kept;
+use crate::mark::Mark;
+use crate::office::Office;
+use group_commit::{Broker, DiskHalf, IssueHalf};
+use hall_core::Hall;
+use invoke_records::Snapshot;
+use sector_disk::Disk;
+use std::sync::Mutex;
+use std::sync::ledger::Ledger;
+
+/// An office that no thread shares, out of its lock.
+#[derive(Drop)]
+pub struct Unlocked<L: Ledger> {
+    pub(crate) kept: Kept<L>,
+}
+
+impl<L: Ledger> Office<L> {
+    /// Takes the office out of its lock. Its marks are numbered from the opening's number on, without a gap, up to all that
+    /// was issued, and the table's counts, standings and moments are those of the opening's table followed by the marks.
+    pub fn unlock(self) -> Unlocked<L>
+        ensures numbered { AreNumbered result.kept.opening.number result.kept.marks.all.items }
+        ensures issued { issued_in (issuer_in result.kept.hall) ≡ result.kept.opening.number + length result.kept.marks.all.items }
+        ensures follows { Follows (issuer_in result.kept.hall).settings result.kept.opening result.kept.marks.all.items
+            (issuer_in result.kept.hall).table }
+    {
+        let Office { kept } = self;
+        Unlocked {
+            kept: kept.into_inner(),
+        }
+    }
+}
+
+impl<L: Ledger> Unlocked<L> {
+    /// Puts the office under a lock again.
+    pub fn lock(self) -> Office<L> {
+        let Unlocked { kept } = self;
+        Office {
+            kept: Mutex::new(kept),
+        }
+    }
+
+    /// The hall, which tells how many slots are open and commands pending, whether it stops, and whether it is broken.
+    pub fn hall(&self) -> &Hall<IssueHalf>
+        ensures { result.now ≡ self.now.kept.hall }
+    {
+        &self.kept.hall
+    }
+
+    /// The table at the opening.
+    pub fn opening(&self) -> &Snapshot
+        ensures { result.now ≡ self.now.kept.opening }
+    {
+        &self.kept.opening
+    }
+
+    /// The marks of all commands that were issued since the opening, in order.
+    pub fn marks(&self) -> &[Mark]
+        ensures { result.now ≡ self.now.kept.marks.all.items }
+    {
+        &self.kept.marks.all
+    }
+
+    /// Closes the office: its hall, over the broker that the halves make again, and its marks.
+    ///
+    /// It is refused, and hands all back: `Mismatch` exactly where the desks do not have each desk number once, or a desk's
+    /// marks are not those of its number among all; and where the hall does not join with the disk half.
+    pub fn finish<D: Disk>(
+        self,
+        desks: Vec<Desk<L>>,
+        disk: DiskHalf<D>,
+    ) -> Result<(Hall<Broker<D>>, Vec<Mark>), UnlockedFailure<D, L>>
+        ensures all { OnOk result (AreAll (λ d. d.number) (λ d. d.own.items) L.parts self.kept.marks.all.items desks.items) }
+        ensures marks { IfOk result (λ r. r.1.items ≡ self.kept.marks.all.items) }
+        ensures joined { IfOk result (λ r. Joins self.kept.hall.issuer (broker_of disk) r.0.issuer) }
+        ensures refused { IfErr result (λ failure.
+            IsReason (AreAll (λ d. d.number) (λ d. d.own.items) L.parts self.kept.marks.all.items desks.items) failure.cause) }
+        ensures not_joined { IfErr result (λ failure. IsWhyNotJoined
+            (IsNotJoined self.kept.hall.issuer failure.office.kept.hall.issuer (broker_of disk) (broker_of failure.disk)) failure.cause) }
+        ensures desks { IfErr result (λ failure. failure.desks.items ≡ desks.items) }
+        ensures same { IfErr result (λ failure. failure.office.kept.marks.all.items ≡ self.kept.marks.all.items) }
+    {
+        let Unlocked { kept } = self;
+        match kept.close(&desks, disk) {
+            Ok(closed) => Ok(closed),
+            Err(failure) => {
+                let NotClosed { cause, kept, disk } = failure;
+                let office = Unlocked { kept };
+                Err(UnlockedFailure {
+                    cause,
+                    office,
+                    desks,
+                    disk,
+                })
+            }
+        }
+    }
+}
