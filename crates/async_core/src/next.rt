@@ -57,8 +57,8 @@ fn has_expired(held: &Held, now: u64) -> bool
 }
 
 /// The row that moves first where no environment is ready and fewer run than may: the first that is ripe, if it has a
-/// move, and else the first of those whose deadline has passed and of those that are too old. Events that wait for an
-/// environment are not looked at.
+/// move, and else the first of those whose deadline has passed and of those that are too old. Behind the first it looks
+/// at no event that waits for an environment.
 fn first_expiring(held: &Held, now: u64) -> Option<&EventRow>
     ensures { IsChosen (Order.Moving now false false held.now.age) held.now.rows (option_copied result) }
 {
