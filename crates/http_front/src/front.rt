@@ -1,8 +1,7 @@
 // What the threads of a front share.
-ghost use Rattle.std.specs.Prelude.{◌≡◌, IfOk};
+ghost use Rattle.std.specs.Prelude.{◌≡◌, ◌+◌, IfOk, max};
 
 use crate::moment::{now, words};
-use crate::reading::most_read;
 use crate::wake::Wake;
 use api_core::Call;
 use group_commit::Ticket;
@@ -16,6 +15,16 @@ use std::sync::ledger::Ledger;
 use std::sync::{Arc, Wait};
 use std::time::Clock;
 use tokio_util::sync::CancellationToken;
+
+/// The greatest body of a request that carries no payload, response or error.
+const MOST_OTHER: u32 = 4096;
+
+// How much of a body is read: a byte more than the greatest that any call may have.
+fn most_read(settings: &Settings) -> usize
+    ensures { result ≡ max (max settings.now.payload settings.now.response) 4096 + 1 }
+{
+    settings.payload.max(settings.response).max(MOST_OTHER) as usize + 1
+}
 
 /// What the threads of a front share: the office and the bell, what the committer sleeps on, and whether the front ends.
 #[derive(Drop)]

@@ -1,23 +1,19 @@
 //! The front: HTTP/1.1 on one port for callers and one for each environment.
 //!
-//! Each port has a thread and a runtime of its own, on which hand-written futures read a request, hand it to the office
-//! and wait for its reply. A committer writes what is pending outside the office's lock, and a ticker makes the moves
+//! Each port has a thread of its own, on which each request becomes a call, is handed to the office and waits for its
+//! reply. A committer writes what is pending outside the office's lock, and a ticker makes the moves
 //! that are due. The crate above uses `serve`; the loops of committer and ticker are calls of their own.
 #![tactic(auto)]
 
 mod committing;
-mod connections;
 mod error;
 mod front;
 mod gate;
 mod moment;
 mod opening;
-mod port;
-mod reading;
+mod place;
 mod replying;
 mod seated;
-mod served;
-mod service;
 mod serving;
 #[cfg(test)]
 mod tests;

@@ -7,24 +7,10 @@ use api_core::{Answer, Refusal, Reply, reply_text};
 use bytes::Bytes;
 use http::response::Builder;
 use http_body_util::Full;
+use http_port::{Answered, bare};
 use hyper::{Response, StatusCode};
 use retry_rules::Settings;
 use std::alloc::Global;
-
-/// The body of a response.
-pub(crate) type Body = Full<Bytes>;
-
-/// What a port answers with.
-pub(crate) type Answered = Response<Body>;
-
-/// A status alone, for what no reply can be made of.
-pub(crate) fn bare(alloc: Global, status: StatusCode) -> Answered
-    ensures { (head_of result).status ≡ status }
-{
-    let mut response = Response::new(alloc, Full::new(Bytes::new()));
-    *response.status_mut() = status;
-    response
-}
 
 // The headers of a reply.
 fn with_headers(builder: Builder, reply: &Reply) -> Builder {

@@ -8,8 +8,7 @@ use crate::error::ServeError;
 use crate::front::Front;
 use crate::gate::{Gate, Turn};
 use crate::opening::{Opened, open};
-use crate::port::serve_port;
-use crate::service::Place;
+use crate::place::Place;
 use crate::ticking::tick_all;
 use group_commit::Broker;
 use hall_core::Hall;
@@ -69,7 +68,7 @@ impl<L: Ledger> Gate for UntilEnding<'_, L> {
 }
 
 // Serves a place to its end. Where it fails, the front ends.
-fn serve_place<R, L>(rt: R, place: Arc<Place<L>>, listener: TcpListener) -> io::Result<()>
+fn serve_place<R, L>(rt: R, place: Place<R, L>, listener: TcpListener) -> io::Result<()>
 where
     R: Wait
         + Clock
@@ -81,7 +80,7 @@ where
     L: Ledger,
 {
     let front = Arc::try_clone(&place.front)?;
-    let served = serve_port(rt, place, listener);
+    let served = http_port::serve(rt, place, listener, &front.ending);
     front.ending.cancel();
     front.wake.call(&rt);
     served
@@ -118,14 +117,12 @@ where
         };
         let port = Arc::new(alloc, port)?;
         let front = Arc::try_clone(front)?;
-        let place = Arc::new(
-            alloc,
-            Place {
-                number,
-                front,
-                port,
-            },
-        )?;
+        let place = Place {
+            rt,
+            number,
+            front,
+            port,
+        };
         let thread = thread::spawn(&rt, move || serve_place(rt, place, listener))?;
         threads.push(thread)?;
         number = number.wrapping_add(1);

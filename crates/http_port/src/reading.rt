@@ -1,5 +1,5 @@
 // The body of a request, as it comes.
-ghost use Rattle.std.specs.Prelude.{◌≡◌, ◌+◌, max, vec_len, IfOk};
+ghost use Rattle.std.specs.Prelude.{◌≡◌, vec_len, IfOk};
 ghost use Rattle.futures.specs.Task.{IsArmed, Keeps};
 ghost use Rattle.futures.specs.Poll.{OnPending};
 
@@ -8,28 +8,18 @@ use futures::task::{Context, Poll};
 use http_body::{Body, Frame};
 use http_body_util::{Limited, LimitedError};
 use hyper::body::Incoming;
-use retry_rules::Settings;
 use std::alloc::Global;
 use std::mem;
 
 /// How many frames of a body are read.
 const MOST_FRAMES: u32 = 65536;
 
-/// The greatest body of a request that carries no payload, response or error.
-const MOST_OTHER: u32 = 4096;
-
-/// How much of a body is read: a byte more than the greatest that any call may have.
-pub(crate) fn most_read(settings: &Settings) -> usize
-    ensures { result ≡ max (max settings.now.payload settings.now.response) 4096 + 1 }
-{
-    settings.payload.max(settings.response).max(MOST_OTHER) as usize + 1
-}
-
 /// Why a body was not read.
 #[derive(Clone, Copy, Debug, PartialEq, Eq)]
-pub(crate) enum ReadError {
+pub enum ReadError {
     /// The connection failed in it, or it was no body.
     CutOff,
+    /// There was no memory for it.
     OutOfMemory,
 }
 
