@@ -11,6 +11,8 @@ mod port;
 mod reading;
 mod requests;
 mod served;
+#[cfg(test)]
+mod tests;
 
 pub use application::{Answered, Application, Body, bare};
 pub use port::serve;
