@@ -1,7 +1,7 @@
 // A disk one of whose barriers waits for a test.
 use sector_disk::{Disk, Fault, MemDisk};
 use std::sync::Arc;
-use std::sync::atomic::{AtomicBool, Ordering};
+use std::sync::atomic::{AtomicBool, AtomicU32, Ordering};
 use std::thread;
 
 /// How often anything here looks before it gives up.
@@ -13,6 +13,7 @@ pub struct Hold {
     begun: AtomicBool,
     ended: AtomicBool,
     gave_up: AtomicBool,
+    barriers: AtomicU32,
 }
 
 impl Hold {
@@ -21,6 +22,7 @@ impl Hold {
             begun: AtomicBool::new(false),
             ended: AtomicBool::new(false),
             gave_up: AtomicBool::new(false),
+            barriers: AtomicU32::new(0),
         }
     }
 
@@ -52,6 +54,11 @@ impl Hold {
         self.ended.store(true, Ordering::SeqCst);
     }
 
+    /// How many barriers the disk was asked for.
+    pub fn barriers(&self) -> u32 {
+        self.barriers.load(Ordering::SeqCst)
+    }
+
     /// Whether the barrier went on without the test.
     pub fn gave_up(&self) -> bool {
         self.gave_up.load(Ordering::SeqCst)
@@ -73,11 +80,6 @@ impl HeldDisk {
             hold,
             left: number,
         }
-    }
-
-    /// How many barriers it made.
-    pub fn barriers(&self) -> u64 {
-        self.inner.barriers()
     }
 }
 
@@ -111,6 +113,7 @@ impl Disk for HeldDisk {
             self.hold.wait();
         }
         self.left = self.left.saturating_sub(1);
+        self.hold.barriers.fetch_add(1, Ordering::SeqCst);
         self.inner.barrier()
     }
 }

@@ -1,4 +1,7 @@
 // Disks, halls and offices for tests.
+ghost use Rattle.std.specs.Prelude.{◌≡◌, [], IfOk};
+ghost use Rattle.group_commit.specs.Broker.{pending_of};
+
 use crate::front::Front;
 use crate::gate::{Gate, Turn};
 use crate::tests::held::{HeldDisk, Hold, MOST_TURNS};
@@ -61,7 +64,9 @@ pub fn formatted(alloc: Global) -> Result<MemDisk, Fail> {
 }
 
 /// A hall over a formatted disk.
-pub fn hall_over(alloc: Global, disk: HeldDisk) -> Result<Hall<Broker<HeldDisk>>, Fail> {
+pub fn hall_over(alloc: Global, disk: HeldDisk) -> Result<Hall<Broker<HeldDisk>>, Fail>
+    ensures { IfOk result (λ hall. pending_of hall.issuer ≡ []) }
+{
     let Ok(broker) = Broker::open(alloc, disk) else {
         return Err(Fail::new("the disk is not opened"));
     };
