@@ -5,16 +5,23 @@ ghost use Rattle.lambda_broker.specs.Trial.{status_of};
 
 use crate::auditing::{Audit, OldDisk, audit_disk};
 use crate::formatting::{NewDisk, make_disk};
+use crate::serving::{Address, serve_disk};
 use crate::trial::{Trial, TrialError, run_trial};
 use crate::words::{Task, read_task};
 use audit_report::Older;
 use clap::error::ErrorKind;
 use invoke_records::Standing;
+use std::alloc::AllocGlobal;
 use std::fmt::Display;
 use std::fs::File;
 use std::io;
 use std::io::Write;
+use std::net::{Net, TcpListener, TcpStream};
+use std::random::RandomSource;
 use std::rt::Files;
+use std::sync::Wait;
+use std::thread::Threads;
+use std::time::Clock;
 use uuid::Uuid;
 
 /// The command did what it was asked to.
@@ -28,17 +35,27 @@ const DEVICE: u8 = 3;
 
 /// Does what the words say, the first of which is the program's name, prints it to `out`, and answers the status: 0 done,
 /// 1 damaged or refused, 2 usage, 3 device.
-pub fn run<R: Files<File = File> + AllocGlobal, W: Write>(
-    rt: &R,
-    words: &[String],
-    out: &mut W,
-) -> io::Result<u8>
+pub fn run<R, W>(rt: R, words: &[String], out: &mut W) -> io::Result<u8>
+where
+    R: Files<File = File>
+        + Threads
+        + Wait
+        + Clock
+        + Net<Listener = TcpListener, Stream = TcpStream>
+        + RandomSource
+        + AllocGlobal
+        + Copy
+        + Drop
+        + Send
+        + 'static,
+    W: Write,
     ensures { IfOk result (λ status. status ≤ 3) }
 {
     match read_task(rt.alloc(), words) {
         Ok(Some(Task::Trial)) => print_trial(run_trial(rt.alloc()), out),
-        Ok(Some(Task::Format(new))) => print_format(rt, &new, out),
-        Ok(Some(Task::Audit(old))) => print_audit(rt, &old, out),
+        Ok(Some(Task::Format(new))) => print_format(&rt, &new, out),
+        Ok(Some(Task::Audit(old))) => print_audit(&rt, &old, out),
+        Ok(Some(Task::Serve(at))) => print_serve(rt, &at, out),
         Ok(None) => Ok(USAGE),
         Err(fault) if fault.kind() == ErrorKind::OutOfMemory => refuse_for_memory(out),
         Err(fault) => {
@@ -96,6 +113,29 @@ fn print_audit<R: Files<File = File> + AllocGlobal, W: Write>(
 {
     match audit_disk(rt, old) {
         Ok(audit) => print_lines(&audit, out),
+        Err(fault) => print_fault(&fault, fault.is_device_fault(), out),
+    }
+}
+
+// Serves a disk. Its line is printed once it is served.
+fn print_serve<R, W>(rt: R, at: &Address<'_>, out: &mut W) -> io::Result<u8>
+where
+    R: Files<File = File>
+        + Threads
+        + Wait
+        + Clock
+        + Net<Listener = TcpListener, Stream = TcpStream>
+        + RandomSource
+        + AllocGlobal
+        + Copy
+        + Drop
+        + Send
+        + 'static,
+    W: Write,
+    ensures { IfOk result (λ status. status ≤ 3) }
+{
+    match serve_disk(rt, at, out) {
+        Ok(()) => Ok(DONE),
         Err(fault) => print_fault(&fault, fault.is_device_fault(), out),
     }
 }
@@ -163,7 +203,7 @@ mod tests {
             all.push(String::from_str(alloc, word)?)?;
         }
         let mut out: Vec<u8> = Vec::new(alloc);
-        let status = run(rt, all.as_slice(), &mut out)?;
+        let status = run(*rt, all.as_slice(), &mut out)?;
         Ok((status, String::from_utf8_lossy(alloc, out.as_slice())?))
     }
 

@@ -7,6 +7,7 @@
 mod auditing;
 mod command_line;
 mod formatting;
+mod serving;
 mod trial;
 mod words;
 
@@ -27,7 +28,7 @@ fn words_of<R: Env + AllocGlobal>(rt: &R) -> io::Result<Vec<String>> {
 fn main(rt: HostRuntime) -> io::Result<ExitCode> {
     let mut out = io::writer(&rt);
     let status = match words_of(&rt) {
-        Ok(words) => command_line::run(&rt, &words, &mut out)?,
+        Ok(words) => command_line::run(rt, &words, &mut out)?,
         Err(fault) if fault.kind() == ErrorKind::OutOfMemory => {
             command_line::refuse_for_memory(&mut out)?
         }

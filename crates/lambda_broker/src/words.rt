@@ -1,6 +1,7 @@
 // The words of the command line: which command they are, and what it is told.
 use crate::auditing::OldDisk;
 use crate::formatting::{Function, NewDisk, Numbers};
+use crate::serving::Address;
 use clap::builder::ValueParser;
 use clap::error::ErrorKind;
 use clap::{Arg, ArgAction, ArgMatches, Command, Error, value_parser};
@@ -12,6 +13,7 @@ pub enum Task<'a> {
     Trial,
     Format(NewDisk<'a>),
     Audit(OldDisk<'a>),
+    Serve(Address<'a>),
 }
 
 // An option with a value.
@@ -99,6 +101,15 @@ fn audit_command<'a>(alloc: Global) -> Result<Command<'a>, AllocError> {
         .arg(event.value_name("ID"))
 }
 
+fn serve_command<'a>(alloc: Global) -> Result<Command<'a>, AllocError> {
+    let help = "Port of the callers, 1024 to 65519; environment n has the port n behind it";
+    let port = option(alloc, "port", help);
+    Command::new(alloc, "serve")
+        .about("Serve a disk until POST /broker/stop")
+        .arg(disk(alloc))?
+        .arg(port.value_parser(value_parser!(u16).range(1024..65520)).required(true))
+}
+
 fn commands<'a>(alloc: Global) -> Result<Command<'a>, AllocError> {
     let trial = Command::new(alloc, "trial").about(
         "Accept, commit and recover one event on a disk in memory",
@@ -108,7 +119,8 @@ fn commands<'a>(alloc: Global) -> Result<Command<'a>, AllocError> {
         .subcommand_required(true)
         .subcommand(trial)?
         .subcommand(format_command(alloc)?)?
-        .subcommand(audit_command(alloc)?)
+        .subcommand(audit_command(alloc)?)?
+        .subcommand(serve_command(alloc)?)
 }
 
 fn function<'a>(matches: &ArgMatches<'a>) -> Option<Function<'a>> {
@@ -163,6 +175,13 @@ fn old_disk<'a>(alloc: Global, matches: &ArgMatches<'a>) -> Result<Option<Task<'
     }
 }
 
+fn address<'a>(matches: &ArgMatches<'a>) -> Option<Address<'a>> {
+    Some(Address {
+        path: matches.get_str("disk")?,
+        port: matches.get_one("port")?,
+    })
+}
+
 /// The command that the words are, the first of which is the program's name.
 pub fn read_task<'a>(alloc: Global, words: &'a [String]) -> Result<Option<Task<'a>>, Error> {
     let matches = commands(alloc)?.try_get_matches_from(words)?;
@@ -172,6 +191,7 @@ pub fn read_task<'a>(alloc: Global, words: &'a [String]) -> Result<Option<Task<'
     match name {
         "trial" => Ok(Some(Task::Trial)),
         "format" => Ok(new_disk(told).map(Task::Format)),
+        "serve" => Ok(address(told).map(Task::Serve)),
         "audit" => old_disk(alloc, told),
         _ => Ok(None),
     }

@@ -1,0 +1,112 @@
+// What the threads of a front share.
+ghost use Rattle.std.specs.Prelude.{◌≡◌, ◌+◌, IfOk, max};
+
+use crate::moment::{now, words};
+use crate::wake::Wake;
+use api_core::Call;
+use group_commit::Ticket;
+use hall_core::HallError;
+use long_poll::{Bell, Port};
+use receipts::Office;
+use retry_rules::Settings;
+use std::alloc::{AllocError, Global};
+use std::random::RandomSource;
+use std::sync::ledger::Ledger;
+use std::sync::{Arc, Wait};
+use std::time::Clock;
+use tokio_util::sync::CancellationToken;
+
+/// The greatest body of a request that carries no payload, response or error.
+const MOST_OTHER: u32 = 4096;
+
+// How much of a body is read: a byte more than the greatest that any call may have.
+fn most_read(settings: &Settings) -> usize
+    ensures { result ≡ max (max settings.now.payload settings.now.response) 4096 + 1 }
+{
+    settings.payload.max(settings.response).max(MOST_OTHER) as usize + 1
+}
+
+/// What the threads of a front share: the office and the bell, what the committer sleeps on, and whether the front ends.
+#[derive(Drop)]
+pub struct Front<L: Ledger> {
+    pub(crate) alloc: Global,
+    pub(crate) office: Arc<Office<L>>,
+    pub(crate) bell: Arc<Bell>,
+    pub(crate) wake: Wake,
+    pub(crate) ending: CancellationToken,
+    pub(crate) settings: Settings,
+    /// How many bytes of a body are read.
+    pub(crate) most: usize,
+}
+
+impl<L: Ledger> Front<L> {
+    /// A front over an office with these settings, which no thread serves yet.
+    pub fn new(
+        alloc: Global,
+        office: Arc<Office<L>>,
+        settings: Settings,
+    ) -> Result<Front<L>, AllocError>
+        ensures office { IfOk result (λ front. front.office ≡ office) }
+        ensures settings { IfOk result (λ front. front.settings ≡ settings) }
+    {
+        let most = most_read(&settings);
+        Ok(Front {
+            alloc,
+            office,
+            bell: Arc::new(alloc, Bell::new(alloc))?,
+            wake: Wake::new(),
+            ending: CancellationToken::new(alloc)?,
+            settings,
+            most,
+        })
+    }
+
+    // A call comes to a port, and then the moves that are due are made.
+    fn arrive_at<R: Wait + Clock + RandomSource>(
+        &self,
+        rt: &R,
+        port: &Port<L>,
+        call: Call,
+    ) -> Result<(Ticket, u64), HallError> {
+        let (Ok(now), Ok(words)) = (now(rt), words(rt)) else {
+            return Err(HallError::OutOfMemory);
+        };
+        let arrived = port.arrive(rt, call, now, words)?;
+        for _ in rt.forever() {
+            if !matches!(port.tick(rt, now), Ok(Some(_))) {
+                break;
+            }
+        }
+        Ok(arrived)
+    }
+
+    /// A call comes to a port: its ticket and its slot. All that wait for a reply look again, and the committer is called.
+    pub(crate) fn arrive<R: Wait + Clock + RandomSource>(
+        &self,
+        rt: &R,
+        port: &Port<L>,
+        call: Call,
+    ) -> Result<(Ticket, u64), HallError> {
+        let arrived = self.arrive_at(rt, port, call);
+        self.bell.ring(rt);
+        self.wake.call(rt);
+        arrived
+    }
+
+    /// How many commands wait to be written: none once the hall broke.
+    pub(crate) fn pending<R: Wait>(&self, rt: &R) -> usize {
+        if self.bell.has_broken() {
+            0
+        } else {
+            self.office.pending(rt)
+        }
+    }
+
+    /// Whether all is done: the broker was stopped and nothing is pending, or its disk failed, and every open slot was
+    /// answered or forgotten.
+    pub(crate) fn is_over<R: Wait>(&self, rt: &R) -> bool {
+        (self.bell.has_broken() || self.office.is_stopping(rt))
+            && self.pending(rt) == 0
+            && self.office.open_slots(rt) == 0
+    }
+}

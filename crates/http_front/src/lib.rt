@@ -1,0 +1,28 @@
+//! The front: HTTP/1.1 on one port for callers and one for each environment.
+//!
+//! Each port has a thread of its own, on which each request becomes a call, is handed to the office and waits for its
+//! reply. A committer writes what is pending outside the office's lock, and a ticker makes the moves
+//! that are due. The crate above uses `serve`; the loops of committer and ticker are calls of their own.
+#![tactic(auto)]
+
+mod committing;
+mod error;
+mod front;
+mod gate;
+mod moment;
+mod opening;
+mod place;
+mod replying;
+mod seated;
+mod serving;
+mod ticking;
+mod wake;
+
+pub use committing::Committer;
+pub use error::ServeError;
+pub use front::Front;
+pub use gate::{Gate, Turn, WhenPending};
+pub use moment::now;
+pub use seated::Seated;
+pub use serving::{Ending, serve};
+pub use ticking::tick_all;

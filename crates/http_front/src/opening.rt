@@ -1,0 +1,109 @@
+// Opening a front over a hall.
+ghost use Rattle.std.specs.Prelude.{◌≡◌, []};
+ghost use Rattle.group_commit.specs.Broker.{pending_of, settings_of};
+ghost use Rattle.receipts.specs.Desks.{desk_count};
+
+use crate::committing::Committer;
+use crate::error::ServeError;
+use crate::front::Front;
+use crate::seated::{Seated, seats};
+use group_commit::{Broker, DiskHalf};
+use hall_core::Hall;
+use long_poll::Port;
+use receipts::{Desk, Office};
+use retry_rules::Settings;
+use sector_disk::Disk;
+use std::alloc::{AllocError, Global};
+use std::sync::Arc;
+use std::sync::ledger::{Blank, Ledger};
+
+/// A front that no thread serves yet: its ports, and what the committer and the ticker work with.
+#[derive(Drop)]
+pub(crate) struct Opened<L: Ledger, D: Disk> {
+    pub(crate) front: Arc<Front<L>>,
+    pub(crate) ports: Vec<Port<L>>,
+    pub(crate) committer: Committer<L, D>,
+    pub(crate) ticker: Desk<L>,
+}
+
+// A port with this desk and seat.
+fn port<L: Ledger>(front: &Front<L>, desk: Desk<L>, seated: Seated) -> Result<Port<L>, AllocError> {
+    let office = Arc::try_clone(&front.office)?;
+    let bell = Arc::try_clone(&front.bell)?;
+    let Seated { board, seat } = seated;
+    Ok(Port::new(office, bell, board, desk, seat))
+}
+
+// A port for each desk, as far as there are seats.
+fn ports<L: Ledger>(
+    alloc: Global,
+    front: &Front<L>,
+    desks: Vec<Desk<L>>,
+    seats: Vec<Seated>,
+) -> Result<Vec<Port<L>>, AllocError> {
+    let mut ports = Vec::with_capacity(alloc, desks.len())?;
+    let mut seats = seats.into_iter();
+    for desk in desks {
+        let Some(seated) = seats.next() else {
+            break;
+        };
+        ports.push(port(front, desk, seated)?)?;
+    }
+    Ok(ports)
+}
+
+// A front over an office, to be shared.
+fn shared<L: Ledger>(
+    alloc: Global,
+    office: Office<L>,
+    settings: Settings,
+) -> Result<Arc<Front<L>>, AllocError> {
+    let office = Arc::new(alloc, office)?;
+    let front = Front::new(alloc, office, settings)?;
+    Ok(Arc::new(alloc, front)?)
+}
+
+// A front with these desks and seats. None where there are too few.
+fn furnish<L: Ledger, D: Disk + Drop>(
+    alloc: Global,
+    front: Arc<Front<L>>,
+    desks: Vec<Desk<L>>,
+    seats: Vec<Seated>,
+    half: DiskHalf<D>,
+) -> Result<Option<Opened<L, D>>, AllocError> {
+    let mut desks = desks;
+    let mut seats = seats;
+    let (Some(desk), Some(ticker), Some(seated)) = (desks.pop(), desks.pop(), seats.pop()) else {
+        return Ok(None);
+    };
+    let ports = ports(alloc, &front, desks, seats)?;
+    Ok(Some(Opened {
+        front,
+        ports,
+        committer: Committer::new(desk, half, seated),
+        ticker,
+    }))
+}
+
+/// Opens a front over a hall: its office, its board, and the ports.
+pub(crate) fn open<L: Ledger, D: Disk + Drop>(
+    alloc: Global,
+    hall: Hall<Broker<D>>,
+    blank: Blank,
+) -> Result<Option<Opened<L, D>>, ServeError>
+    requires nothing { pending_of hall.issuer ≡ [] }
+    requires name { blank.name ≡ L.name }
+    requires parts { blank.parts ≡ L.parts }
+    requires seats { L.parts ≡ desk_count (settings_of hall.issuer) }
+{
+    let settings = hall.table().settings().copy()?;
+    let durable = hall.durable();
+    match Office::<L>::new(alloc, hall, blank) {
+        Ok((office, desks, half)) => {
+            let seats = seats(alloc, durable, desks.len())?;
+            let front = shared(alloc, office, settings)?;
+            Ok(furnish(alloc, front, desks, seats, half)?)
+        }
+        Err(failure) => Err(ServeError::Office(failure.cause)),
+    }
+}

@@ -1,0 +1,98 @@
+// A port of the front, whose requests become calls.
+use crate::front::Front;
+use crate::replying::{refuse, respond};
+use api_core::{Refusal, RequestError, read_request};
+use futures::Future;
+use futures::task::{Context, Poll};
+use http::request::Parts;
+use http_port::{Answered, Application, ReadError, bare};
+use hyper::StatusCode;
+use long_poll::{Port, Waiting};
+use std::alloc::Global;
+use std::random::RandomSource;
+use std::sync::ledger::Ledger;
+use std::sync::{Arc, Wait};
+use std::time::Clock;
+
+/// The reply of a call, as a response.
+#[derive(Drop)]
+pub(crate) struct Replying<R: Wait, L: Ledger> {
+    alloc: Global,
+    waiting: Waiting<R, L>,
+}
+
+impl<R: Wait + Drop, L: Ledger> Future for Replying<R, L> {
+    type Output = Answered;
+
+    fn poll(&mut self, cx: &mut Context<'_>) -> Poll<Answered> {
+        match self.waiting.poll(cx) {
+            Poll::Pending => Poll::Pending,
+            Poll::Ready(released) => Poll::Ready(respond(self.alloc, released.reply)),
+        }
+    }
+}
+
+/// A port: its number, the desk and the seat of its requests, and what it shares with the others.
+#[derive(Drop)]
+pub(crate) struct Place<R, L: Ledger> {
+    pub(crate) rt: R,
+    pub(crate) number: u16,
+    pub(crate) front: Arc<Front<L>>,
+    pub(crate) port: Arc<Port<L>>,
+}
+
+impl<R: Wait + Clock + RandomSource + Copy, L: Ledger> Place<R, L> {
+    // The call of a request comes; its reply then waits. What is refused is answered at once.
+    fn arrive(&self, head: &Parts, body: Vec<u8>) -> Result<Waiting<R, L>, Refusal> {
+        let front = &self.front;
+        let target = match head.uri.path_and_query() {
+            Some(target) => target.as_str(),
+            None => "/",
+        };
+        let call = match read_request(
+            front.alloc,
+            &front.settings,
+            self.number,
+            &head.method,
+            target,
+            &head.headers,
+            body,
+        ) {
+            Ok(call) => call,
+            Err(RequestError::Refused(why)) => return Err(why),
+            Err(RequestError::OutOfMemory) => return Err(Refusal::Unavailable),
+        };
+        let Ok(port) = Arc::try_clone(&self.port) else {
+            return Err(Refusal::Unavailable);
+        };
+        let Ok((ticket, slot)) = front.arrive(&self.rt, &port, call) else {
+            return Err(Refusal::Unavailable);
+        };
+        Ok(Waiting::new(self.rt, port, ticket, slot))
+    }
+}
+
+impl<R: Wait + Clock + RandomSource + Drop + Copy, L: Ledger> Application for Place<R, L> {
+    type Reply = Replying<R, L>;
+
+    fn most(&self) -> usize {
+        self.front.most
+    }
+
+    fn answer(
+        &self,
+        head: &Parts,
+        body: Result<Vec<u8>, ReadError>,
+    ) -> Result<Replying<R, L>, Answered> {
+        let alloc = self.front.alloc;
+        let arrived = match body {
+            Ok(body) => self.arrive(head, body),
+            Err(ReadError::OutOfMemory) => Err(Refusal::Unavailable),
+            Err(ReadError::CutOff) => return Err(bare(alloc, StatusCode::BAD_REQUEST)),
+        };
+        match arrived {
+            Ok(waiting) => Ok(Replying { alloc, waiting }),
+            Err(why) => Err(refuse(alloc, &self.front.settings, why)),
+        }
+    }
+}

@@ -1,0 +1,32 @@
+// What the committer sleeps on.
+use std::sync::{Condvar, Mutex, Wait};
+
+/// A call that one thread sleeps for. A call that comes while it is awake is kept, so that none is missed.
+#[derive(Drop)]
+pub(crate) struct Wake {
+    called: Mutex<bool>,
+    calls: Condvar,
+}
+
+impl Wake {
+    pub(crate) fn new() -> Wake {
+        Wake {
+            called: Mutex::new(false),
+            calls: Condvar::new(),
+        }
+    }
+
+    /// Calls.
+    pub(crate) fn call<R: Wait>(&self, rt: &R) {
+        *self.called.lock(rt) = true;
+        self.calls.notify_one();
+    }
+
+    /// Sleeps until it is called, or has been since the last time.
+    pub(crate) fn wait<R: Wait>(&self, rt: &R) {
+        let mut called = self
+            .calls
+            .wait_while(rt, self.called.lock(rt), |called| !*called);
+        *called = false;
+    }
+}

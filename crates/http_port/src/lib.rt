@@ -1,0 +1,19 @@
+//! HTTP/1.1 on one port: the requests of its connections are read and handed to an application, which answers each.
+//!
+//! A thread serves a port by `serve`, on a runtime of its own. Each request is a hand-written future: its body is read,
+//! up to as many bytes as the application wants, and then its reply is waited for.
+#![tactic(auto)]
+
+mod application;
+mod connections;
+mod door;
+mod port;
+mod reading;
+mod requests;
+mod served;
+#[cfg(test)]
+mod tests;
+
+pub use application::{Answered, Application, Body, bare};
+pub use port::serve;
+pub use reading::ReadError;

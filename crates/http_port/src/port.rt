@@ -1,0 +1,71 @@
+// A port, served on a thread of its own.
+use crate::application::Application;
+use crate::connections::Connections;
+use crate::door::HttpDoor;
+use hyper::server::conn::http1::Builder;
+use std::alloc::AllocGlobal;
+use std::hash::RandomState;
+use std::io;
+use std::net::Net;
+use std::random::RandomSource;
+use std::sync::{Arc, Wait};
+use std::time::{Clock, Duration};
+use tokio::net::TcpListener;
+use tokio::runtime::LocalRuntime;
+use tokio_util::sync::CancellationToken;
+
+/// How long the connections of a port that ends are waited for, in seconds.
+const LAST_REPLIES: u64 = 5;
+
+// Serves the connections until the port ends.
+fn run<R, A>(
+    rt: &R,
+    runtime: &mut LocalRuntime,
+    connections: Connections<R, HttpDoor<A>>,
+) -> io::Result<()>
+where
+    R: Wait + Clock + RandomSource + AllocGlobal + Drop,
+    A: Application,
+{
+    runtime.run_all(rt, connections)
+}
+
+/// Serves a port on this thread until `ending` is cancelled. A connection goes on from request to request. At the end the
+/// request that it is in is still answered, where that takes no longer than five seconds.
+pub fn serve<R, A>(
+    rt: R,
+    application: A,
+    listener: std::net::TcpListener,
+    ending: &CancellationToken,
+) -> io::Result<()>
+where
+    R: Wait
+        + Clock
+        + Net<Listener = std::net::TcpListener, Stream = std::net::TcpStream>
+        + RandomSource
+        + AllocGlobal
+        + Copy
+        + Drop,
+    A: Application,
+{
+    let mut runtime = LocalRuntime::new(&rt)?;
+    runtime.set_shutdown_timeout(Some(Duration::from_secs(LAST_REPLIES)));
+    let listener = TcpListener::from_std(listener, runtime.handle().reactor())?;
+    let timers = runtime.handle().time().clone()?;
+    let alloc = rt.alloc();
+    let door = HttpDoor {
+        alloc,
+        http: Builder::new(alloc, RandomState::new(&rt)?),
+        application: Arc::new(alloc, application)?,
+        ending: ending.clone()?,
+    };
+    let connections = Connections {
+        rt,
+        door,
+        timers,
+        incoming: listener.incoming(),
+        ending: ending.cancelled()?,
+        pause: None,
+    };
+    run(&rt, &mut runtime, connections)
+}

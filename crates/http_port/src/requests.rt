@@ -1,0 +1,120 @@
+// The future of one request: its body is read, then its reply waits.
+ghost use Rattle.std.specs.Prelude.{◌≡◌, IfOk, IfSome, None};
+ghost use Rattle.futures.specs.Task.{IsArmed, Keeps};
+ghost use Rattle.futures.specs.Poll.{IfReady, OnPending};
+
+use crate::application::{Answered, Application, bare};
+use crate::reading::{ReadError, Reading};
+use futures::Future;
+use futures::task::{Context, Poll};
+use http::request::Parts;
+use hyper::body::Incoming;
+use hyper::service::Service;
+use hyper::{Request, StatusCode};
+use std::alloc::Global;
+use std::convert::Infallible;
+use std::sync::Arc;
+
+/// The future of one request. First its body is read; where it has a reply, that waits.
+#[derive(Drop)]
+pub(crate) struct Serving<A: Application, I: Drop> {
+    alloc: Global,
+    application: Option<Arc<A>>,
+    head: Parts,
+    reading: Option<Reading<I>>,
+    reply: Option<A::Reply>,
+}
+
+impl<A: Application, I: Drop> Serving<A, I> {
+    // A body was read, or was not.
+    fn answer(&mut self, body: Result<Vec<u8>, ReadError>) -> Result<A::Reply, Answered>
+        ensures value { IfOk result A.Reply.can_poll }
+    {
+        match self.application.take() {
+            Some(application) => application.answer(&self.head, body),
+            None => Err(bare(self.alloc, StatusCode::SERVICE_UNAVAILABLE)),
+        }
+    }
+
+    // Reads on, up to the reply that waits.
+    fn poll_body(&mut self, cx: &mut Context<'_>) -> Poll<Result<A::Reply, Answered>>
+        requires { IfSome self.old.reply A.Reply.can_poll }
+        ensures value { IfReady result (λ answered. IfOk answered A.Reply.can_poll) }
+        ensures reads { OnPending result (self.new.reply ≡ None) }
+        ensures armed { OnPending result (IsArmed cx.new) }
+        ensures kept { Keeps cx.old cx.new }
+    {
+        if let Some(reply) = self.reply.take() {
+            return Poll::Ready(Ok(reply));
+        }
+        let Some(mut reading) = self.reading.take() else {
+            return Poll::Ready(Err(bare(self.alloc, StatusCode::SERVICE_UNAVAILABLE)));
+        };
+        match reading.poll(cx) {
+            Poll::Pending => {
+                self.reading = Some(reading);
+                Poll::Pending
+            }
+            Poll::Ready(body) => Poll::Ready(self.answer(body)),
+        }
+    }
+
+    fn poll_reply(
+        &mut self,
+        mut reply: A::Reply,
+        cx: &mut Context<'_>,
+    ) -> Poll<Result<Answered, Infallible>>
+        requires { A.Reply.can_poll reply }
+        ensures waits { OnPending result (IfSome self.new.reply A.Reply.can_poll) }
+        ensures armed { OnPending result (IsArmed cx.new) }
+        ensures kept { Keeps cx.old cx.new }
+    {
+        match reply.poll(cx) {
+            Poll::Pending => {
+                self.reply = Some(reply);
+                Poll::Pending
+            }
+            Poll::Ready(answered) => Poll::Ready(Ok(answered)),
+        }
+    }
+}
+
+impl<A: Application, I: Drop> Future for Serving<A, I> {
+    type Output = Result<Answered, Infallible>;
+
+    ghost can_poll = { λ s. IfSome s.reply A.Reply.can_poll };
+
+    fn poll(&mut self, cx: &mut Context<'_>) -> Poll<Result<Answered, Infallible>> {
+        match self.poll_body(cx) {
+            Poll::Pending => Poll::Pending,
+            Poll::Ready(Ok(reply)) => self.poll_reply(reply, cx),
+            Poll::Ready(Err(answered)) => Poll::Ready(Ok(answered)),
+        }
+    }
+}
+
+/// Serves the requests of a connection.
+#[derive(Drop)]
+pub(crate) struct Requests<A> {
+    pub(crate) alloc: Global,
+    pub(crate) application: Arc<A>,
+}
+
+impl<A: Application, I: Drop> Service<Request<Incoming<I>>> for Requests<A> {
+    type Response = Answered;
+
+    type Error = Infallible;
+
+    type Future = Serving<A, I>;
+
+    fn call(&self, req: Request<Incoming<I>>) -> Serving<A, I> {
+        let (head, body) = req.into_parts();
+        Serving {
+            alloc: self.alloc,
+            application: Arc::try_clone(&self.application).ok(),
+            head,
+            reading: Some(Reading::new(self.alloc, body, self.application.most())),
+            reply: None,
+        }
+    }
+}

@@ -1,0 +1,160 @@
+// Serving a disk on the ports of this machine.
+ghost use Rattle.std.specs.Prelude.{◌≡◌, [], OnOk};
+ghost use Rattle.group_commit.specs.Broker.{pending_of};
+
+use group_commit::{Broker, CommitError, IssueError, OpenError, OpenFailure};
+use hall_core::{Hall, HallFailure};
+use http_front::{Ending, ServeError, WhenPending, now, serve};
+use receipts::desks;
+use sector_disk::{Disk, FileDisk, FileError};
+use std::alloc::{AllocError, AllocGlobal, Global};
+use std::fs::File;
+use std::io;
+use std::io::Write;
+use std::marker::Brand;
+use std::net::{Ipv4Addr, Net, SocketAddr, TcpListener, TcpStream};
+use std::random::RandomSource;
+use std::rt::Files;
+use std::sync::Wait;
+use std::sync::ledger::Blank;
+use std::thread::Threads;
+use std::time::Clock;
+use thiserror::Error;
+
+/// A disk that is to be served, and the port of its callers.
+#[derive(Clone, Copy, Debug)]
+pub struct Address<'a> {
+    /// A file or a block device.
+    pub path: &'a str,
+    pub port: u16,
+}
+
+/// Why a disk was not served, or not to its end.
+#[derive(Debug, Drop, Error)]
+pub enum ServingError {
+    #[error("out of memory")]
+    OutOfMemory(#[from] AllocError),
+    #[error("{0}")]
+    File(#[from] FileError),
+    #[error("{0}")]
+    Open(#[from] OpenError),
+    /// A port is in use, or may not be used.
+    #[error("port in use")]
+    Port,
+    /// The clock could not be read, or a line not be printed.
+    #[error("{0}")]
+    System(#[from] io::Error),
+    /// An attempt that the last stop cut off was not marked.
+    #[error("{0}")]
+    Resume(#[from] IssueError),
+    #[error("{0}")]
+    Commit(#[from] CommitError),
+    #[error("{0}")]
+    Serve(#[from] ServeError),
+    /// The device failed while it was served.
+    #[error("device fault")]
+    Broken,
+}
+
+impl ServingError {
+    /// Whether the device failed.
+    pub fn is_device_fault(&self) -> bool {
+        matches!(
+            self,
+            ServingError::File(FileError::Fault)
+                | ServingError::Open(OpenError::Fault)
+                | ServingError::Commit(CommitError::Fault)
+                | ServingError::Broken
+        )
+    }
+}
+
+// The broker on a disk, or why it was not opened; the disk is then given up.
+fn open<D: Disk + Drop>(alloc: Global, disk: D) -> Result<Broker<D>, OpenError> {
+    match Broker::open(alloc, disk) {
+        Ok(broker) => Ok(broker),
+        Err(OpenFailure { cause, .. }) => Err(cause),
+    }
+}
+
+// Binds the port of the callers and one for each environment behind it.
+fn bind<R>(rt: &R, port: u16, environments: u8) -> io::Result<Vec<TcpListener>>
+where
+    R: Net<Listener = TcpListener, Stream = TcpStream> + AllocGlobal,
+{
+    let mut listeners = Vec::with_capacity(rt.alloc(), usize::from(environments) + 1)?;
+    for number in 0..=u16::from(environments) {
+        let address = SocketAddr::from((Ipv4Addr::LOCALHOST, port.saturating_add(number)));
+        listeners.push(TcpListener::bind(rt, address)?)?;
+    }
+    Ok(listeners)
+}
+
+// Marks the attempts that the last stop cut off.
+fn mark_attempts<R: Clock + Wait, D: Disk>(
+    rt: &R,
+    broker: &mut Broker<D>,
+) -> Result<(), ServingError> {
+    let now = now(rt)?;
+    for _ in rt.forever() {
+        if broker.resume(now)?.is_none() {
+            break;
+        }
+    }
+    Ok(())
+}
+
+// Marks the attempts that the last stop cut off, and makes that durable.
+fn resume<R: Clock + Wait, D: Disk>(rt: &R, broker: &mut Broker<D>) -> Result<(), ServingError>
+    ensures { OnOk result (pending_of broker.new ≡ []) }
+{
+    mark_attempts(rt, broker)?;
+    match broker.commit() {
+        Ok(_) => Ok(()),
+        Err(why) => Err(ServingError::Commit(why)),
+    }
+}
+
+/// Serves a disk: callers on a port of this machine and environment n on the port n behind it, from the line that is
+/// printed on until the broker is stopped. The file is looked at first, then what is on it, then the ports.
+pub fn serve_disk<R, W>(rt: R, at: &Address<'_>, out: &mut W) -> Result<(), ServingError>
+where
+    R: Files<File = File>
+        + Threads
+        + Wait
+        + Clock
+        + Net<Listener = TcpListener, Stream = TcpStream>
+        + RandomSource
+        + AllocGlobal
+        + Copy
+        + Drop
+        + Send
+        + 'static,
+    W: Write,
+{
+    let alloc = rt.alloc();
+    let mut broker = open(alloc, FileDisk::open(&rt, at.path)?)?;
+    let environments = broker.table().settings().environments;
+    let listeners = match bind(&rt, at.port, environments) {
+        Ok(listeners) => listeners,
+        Err(why) if why.kind() == io::ErrorKind::OutOfMemory => {
+            return Err(ServingError::OutOfMemory(AllocError));
+        }
+        Err(_) => return Err(ServingError::Port),
+    };
+    resume(&rt, &mut broker)?;
+    if broker.is_broken() {
+        return Err(ServingError::Broken);
+    }
+    let Ok(hall) = Hall::new(alloc, broker) else {
+        return Err(ServingError::OutOfMemory(AllocError));
+    };
+    let blank = Blank::new(desks(hall.table().settings()));
+    let port = at.port;
+    writeln!(out, "serving on 127.0.0.1:{port}")?;
+    out.flush()?;
+    match serve::<_, Brand, _, _>(rt, hall, blank, listeners, &WhenPending)? {
+        Ending::Stopped => Ok(()),
+        Ending::Broken => Err(ServingError::Broken),
+    }
+}
