@@ -1,10 +1,6 @@
 // A drill: a script of the broker's own, run whole.
-use crate::disks::read_choice;
-use crate::orders::read_command;
-use crate::refusals;
-use crate::reply::Reply;
-use crate::text::Text;
-use crate::words::Words;
+use case_runner::{Reply, Text, Words, read_command};
+use disk_steps::{read_choice, refusals};
 use group_commit::{Drill, DrillFailure, Step, StepAnswer, drill};
 use sector_disk::MemDisk;
 use std::alloc::Global;

@@ -1,66 +1,16 @@
 // Steps on an open broker.
-use crate::orders::{Order, read_order};
-use crate::refusals;
-use crate::reply::Reply;
-use crate::tables::{retaken_step, table_step};
-use crate::text::Text;
-use crate::words::Words;
-use group_commit::{Broker, CommitError, Durable, Ticket};
+use async_core::Table;
+use audit_report::explain;
+use case_runner::{Reply, Text, Words, id_of};
+use disk_steps::{broker_step, keep, refusals};
+use group_commit::{Broker, Ticket};
 use invoke_records::GREATEST_MOMENT;
 use sector_disk::Disk;
 use std::alloc::Global;
 
-// Keeps a ticket: its number.
-fn keep(tickets: &mut Vec<Ticket>, ticket: Ticket) -> Reply {
-    let number = ticket.number();
-    match tickets.push(ticket) {
-        Ok(()) => Reply::Number(number),
-        Err(_) => Reply::NoMemory,
-    }
-}
-
-fn issue_one<D: Disk>(
-    alloc: Global,
-    broker: &mut Broker<D>,
-    tickets: &mut Vec<Ticket>,
-    order: Order,
-    event: u64,
-) -> Reply {
-    let command = match order.command(alloc, event) {
-        Ok(command) => command,
-        Err(reply) => return reply,
-    };
-    match broker.issue(command) {
-        Ok(ticket) => keep(tickets, ticket),
-        Err(why) => Reply::Refused(refusals::issue(why)),
-    }
-}
-
-// Issues a command for each event of a range: the last number, or the first refusal.
-fn issue<D: Disk>(
-    alloc: Global,
-    broker: &mut Broker<D>,
-    tickets: &mut Vec<Ticket>,
-    word: &str,
-    words: &mut Words,
-) -> Reply {
-    let order = read_order(word, words);
-    if words.are_bad() {
-        return Reply::Unreadable;
-    }
-    let mut reply = Reply::Done;
-    for event in order.first..=order.last {
-        reply = issue_one(alloc, broker, tickets, order, event);
-        if !matches!(reply, Reply::Number(_)) {
-            break;
-        }
-    }
-    reply
-}
-
-// How many commands are durable after a commit or a switch.
-fn settled(outcome: Result<Durable, CommitError>) -> Reply {
-    match outcome {
+// How many commands are durable after a switch.
+fn switch<D: Disk>(broker: &mut Broker<D>) -> Reply {
+    match broker.switch() {
         Ok(durable) => Reply::Number(durable.number()),
         Err(why) => Reply::Refused(refusals::commit(why)),
     }
@@ -99,37 +49,20 @@ fn redeem<D: Disk>(
     Reply::Unreadable
 }
 
-// Takes the first ticket with this number.
-fn take_ticket(tickets: &mut Vec<Ticket>, number: u64) -> Option<Ticket> {
-    let index = tickets.iter().position(|ticket| ticket.number() == number)?;
-    Some(tickets.remove(index))
-}
-
-// `N by M`: the receipt of the ticket with number N, which is used up, where M is durable. Else the ticket is kept.
-fn settle(tickets: &mut Vec<Ticket>, words: &mut Words, answer: &mut Text) -> Reply {
-    let number = words.number();
-    words.expect("by");
-    let durable = words.number();
-    if words.are_bad() {
-        return Reply::Unreadable;
-    }
-    let Some(ticket) = take_ticket(tickets, number) else {
-        return Reply::Unreadable;
-    };
-    match ticket.settled_by(durable) {
-        Ok(receipt) => {
-            answer.add_with("receipt ", receipt.number());
+// `ID`: the line of an event.
+fn tell_explanation(alloc: Global, table: &Table, words: &mut Words, answer: &mut Text) -> Reply {
+    let id = id_of(words.number());
+    match explain(alloc, table, &id) {
+        Ok(line) => {
+            answer.add(line.as_str());
             Reply::Told
         }
-        Err(ticket) => match tickets.push(ticket) {
-            Ok(()) => Reply::Refused("not settled"),
-            Err(_) => Reply::NoMemory,
-        },
+        Err(_) => Reply::Refused("out of memory"),
     }
 }
 
 /// What an open broker answers to a step.
-pub fn broker_step<D: Disk>(
+pub fn whole_broker_step<D: Disk>(
     alloc: Global,
     broker: &mut Broker<D>,
     tickets: &mut Vec<Ticket>,
@@ -138,21 +71,10 @@ pub fn broker_step<D: Disk>(
     answer: &mut Text,
 ) -> Reply {
     match word {
-        "commit" => settled(broker.commit()),
-        "switch" => settled(broker.switch()),
+        "switch" => switch(broker),
         "resume" => resume(broker, tickets, words),
         "redeem" => redeem(broker, tickets, words.number(), answer),
-        "ticket" => keep(tickets, broker.ticket()),
-        "settled" => settle(tickets, words, answer),
-        "issued" => Reply::Number(broker.issued()),
-        "durable" => Reply::Number(broker.durable().number()),
-        "retaken" => retaken_step(alloc, broker.table(), words, answer),
-        _ => {
-            let reply = table_step(alloc, broker.table(), word, words, answer);
-            if reply.is_no_step() {
-                return issue(alloc, broker, tickets, word, words);
-            }
-            reply
-        }
+        "explain" => tell_explanation(alloc, broker.table(), words, answer),
+        _ => broker_step(alloc, broker, tickets, word, words, answer),
     }
 }

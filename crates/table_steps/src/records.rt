@@ -1,11 +1,7 @@
 // Steps on records and rules alone: how a record is spelled, and what is read from bytes. They need no disk.
-use crate::bytes::hex_bytes;
 use crate::destinations::tell_stamp;
-use crate::orders::{kind_word, read_command};
 use crate::refusals;
-use crate::reply::Reply;
-use crate::text::Text;
-use crate::words::{Words, number_of_id};
+use case_runner::{Reply, Text, Words, hex_bytes, kind_word, number_of_id, read_command};
 use invoke_records::{Command, EventRow, RecordError, Rows, SettingsRecord, Snapshot};
 use retry_rules::{
     Settings, after_failure, after_pushback, has_name_bytes, has_plain_bytes, too_old,

@@ -1,12 +1,10 @@
 // Steps that read the table of an open broker.
-use crate::audits::tell_explanation;
-use crate::orders::{kind_word, read_command, read_environment};
 use crate::records::spelling;
 use crate::refusals;
-use crate::reply::Reply;
-use crate::text::Text;
-use crate::words::{Words, id_of, number_of_id};
 use async_core::{Ended, Side, Table};
+use case_runner::{
+    Reply, Text, Words, id_of, kind_word, number_of_id, read_command, read_environment,
+};
 use invoke_records::{Answer, EventRow, Outcome, Standing};
 use std::alloc::{AllocError, Global};
 
@@ -186,7 +184,6 @@ pub fn table_step(
         "running" => running(table, words, answer),
         "next" => next_move(table, words, answer),
         "judge" => judge(alloc, table, words),
-        "explain" => tell_explanation(alloc, table, words, answer),
         "number" => Reply::Number(table.number()),
         "moment" => Reply::Number(table.last_moment()),
         "snapshot" => spell_part(alloc, table, None, answer),

@@ -1,10 +1,7 @@
 // Steps on replies alone: the status, the headers and the body that tell an answer.
-use crate::bytes::body;
-use crate::reply;
 use crate::requests::type_of;
-use crate::text::Text;
-use crate::words::{Words, id_of};
-use api_core::{Answer, Refusal, Reply, ShutdownReason, reply_text};
+use api_core::{Answer, Refusal, ShutdownReason, reply_text};
+use case_runner::{Reply, Text, Words, body, id_of};
 use retry_rules::Settings;
 use std::alloc::{AllocError, Global};
 
@@ -32,9 +29,9 @@ const REFUSALS: [Refusal; 19] = [
 ];
 
 /// `STATUS NAME: VALUE .. BODY`
-pub fn tell_reply(replied: Result<Reply, AllocError>, answer: &mut Text) -> reply::Reply {
+pub fn tell_reply(replied: Result<api_core::Reply, AllocError>, answer: &mut Text) -> Reply {
     let Ok(replied) = replied else {
-        return reply::Reply::Refused("out of memory");
+        return Reply::Refused("out of memory");
     };
     answer.add_number(replied.status as u64);
     for place in 0..replied.headers.len() {
@@ -49,7 +46,7 @@ pub fn tell_reply(replied: Result<Reply, AllocError>, answer: &mut Text) -> repl
         answer.add(" ");
         answer.add_body(replied.body.as_slice());
     }
-    reply::Reply::Told
+    Reply::Told
 }
 
 // The refusal of this type.
@@ -81,12 +78,7 @@ fn deadline(words: &mut Words) -> u64 {
 }
 
 // `ID until MOMENT BYTES`
-fn tell_event(
-    alloc: Global,
-    settings: &Settings,
-    words: &mut Words,
-    answer: &mut Text,
-) -> reply::Reply {
+fn tell_event(alloc: Global, settings: &Settings, words: &mut Words, answer: &mut Text) -> Reply {
     let id = id_of(words.number());
     let deadline = deadline(words);
     let payload = match body(alloc, words.rest()) {
@@ -94,7 +86,7 @@ fn tell_event(
         Err(reply) => return reply,
     };
     if words.are_bad() {
-        return reply::Reply::Unreadable;
+        return Reply::Unreadable;
     }
     let event = Answer::RuntimeEvent {
         id,
@@ -129,14 +121,9 @@ fn plain_answer(words: &mut Words) -> Answer<'static> {
 }
 
 // The reply of an answer that is no record.
-fn tell_plain(
-    alloc: Global,
-    settings: &Settings,
-    plain: &Answer,
-    answer: &mut Text,
-) -> reply::Reply {
+fn tell_plain(alloc: Global, settings: &Settings, plain: &Answer, answer: &mut Text) -> Reply {
     match plain {
-        Answer::Record(_) => reply::Reply::Unreadable,
+        Answer::Record(_) => Reply::Unreadable,
         _ => tell_reply(reply_text(alloc, plain, settings), answer),
     }
 }
@@ -148,13 +135,13 @@ pub fn reply_step(
     settings: &Settings,
     words: &mut Words,
     answer: &mut Text,
-) -> reply::Reply {
+) -> Reply {
     if words.takes("event") {
         return tell_event(alloc, settings, words, answer);
     }
     let plain = plain_answer(words);
     if words.are_bad() {
-        return reply::Reply::Unreadable;
+        return Reply::Unreadable;
     }
     tell_plain(alloc, settings, &plain, answer)
 }

@@ -1,7 +1,5 @@
 // Steps on one environment alone: which calls it accepts, and which polls each of them answers.
-use crate::reply::Reply;
-use crate::text::Text;
-use crate::words::{Words, id_of, number_of_id};
+use case_runner::{Reply, Text, Words, id_of, number_of_id};
 use env_phase::{Answered, Env, EnvError, PollAnswer, Reason, Refusal};
 use invoke_records::GREATEST_MOMENT;
 use std::alloc::Global;

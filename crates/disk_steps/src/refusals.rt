@@ -1,31 +1,11 @@
-// What is answered for each refusal.
-use crate::reply::Reply;
-use crate::text::Text;
-use async_core::Illegal;
+//! What is answered for each refusal.
+use case_runner::{Reply, Text};
 use checkpoint::{FormatError, OpenError};
 use gate_journal::AppendError;
 use group_commit::{CommitError, IssueError, JoinError, LendError, SettleError, WriteError};
-use invoke_records::RecordError;
+use table_steps::illegal;
 
-pub fn illegal(why: Illegal) -> &'static str {
-    match why {
-        Illegal::BadKind => "bad kind",
-        Illegal::TooLong => "too long",
-        Illegal::ClockBack => "clock back",
-        Illegal::Unknown => "unknown",
-        Illegal::InUse => "in use",
-        Illegal::Full => "full",
-        Illegal::NotDue => "not due",
-        Illegal::TooOld => "too old",
-        Illegal::NotRunning => "not running",
-        Illegal::Late => "late",
-        Illegal::NotEnded => "not ended",
-        Illegal::AtLimit => "at limit",
-        Illegal::BelowLimit => "below limit",
-        Illegal::EnvBusy => "environment busy",
-    }
-}
-
+/// Why a command is not issued.
 pub fn issue(why: IssueError) -> &'static str {
     match why {
         IssueError::Broken => "broken",
@@ -36,6 +16,7 @@ pub fn issue(why: IssueError) -> &'static str {
     }
 }
 
+/// Why a commit or a switch fails.
 pub fn commit(why: CommitError) -> &'static str {
     match why {
         CommitError::Broken => "broken",
@@ -46,6 +27,7 @@ pub fn commit(why: CommitError) -> &'static str {
     }
 }
 
+/// Why nothing is lent.
 pub fn lend(why: LendError) -> &'static str {
     match why {
         LendError::Broken => "broken",
@@ -54,6 +36,7 @@ pub fn lend(why: LendError) -> &'static str {
     }
 }
 
+/// Why a batch is not written.
 pub fn write(why: WriteError) -> &'static str {
     match why {
         WriteError::Broken => "broken",
@@ -66,6 +49,7 @@ pub fn write(why: WriteError) -> &'static str {
     }
 }
 
+/// Why a batch is not settled.
 pub fn settle(why: SettleError) -> &'static str {
     match why {
         SettleError::Mismatch => "mismatch",
@@ -73,6 +57,7 @@ pub fn settle(why: SettleError) -> &'static str {
     }
 }
 
+/// Why halves are not joined.
 pub fn join(why: JoinError) -> &'static str {
     match why {
         JoinError::Lent => "lent",
@@ -82,6 +67,7 @@ pub fn join(why: JoinError) -> &'static str {
     }
 }
 
+/// Why a frame is not appended.
 pub fn append(why: AppendError) -> &'static str {
     match why {
         AppendError::NoRoom => "no room",
@@ -90,15 +76,7 @@ pub fn append(why: AppendError) -> &'static str {
     }
 }
 
-pub fn record(why: RecordError) -> Reply {
-    Reply::Refused(match why {
-        RecordError::Truncated => "truncated",
-        RecordError::BadKind => "bad kind",
-        RecordError::TooLong => "too long",
-        RecordError::OutOfMemory => "out of memory",
-    })
-}
-
+/// Why a disk is not opened.
 pub fn open(why: OpenError, answer: &mut Text) -> Reply {
     match why {
         OpenError::Fault => Reply::Refused("fault"),
@@ -111,6 +89,7 @@ pub fn open(why: OpenError, answer: &mut Text) -> Reply {
     }
 }
 
+/// Why a disk is not formatted.
 pub fn format(why: FormatError, answer: &mut Text) -> Reply {
     match why {
         FormatError::TooSmall { least } => {

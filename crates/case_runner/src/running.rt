@@ -3,11 +3,13 @@ use crate::case::{Line, Purpose};
 use crate::reply::Reply;
 use crate::text::Text;
 use crate::words::{Words, range_of};
-use crate::world::World;
 use std::alloc::Global;
 
 /// What the steps of a case are done on.
-pub trait Scene {
+pub trait Scene: Drop {
+    /// Where a case begins: None where memory is refused.
+    fn begin(alloc: Global) -> Option<Self>;
+
     /// Does a step. What its reply does not say itself is added to the answer.
     fn step(&mut self, alloc: Global, words: &mut Words, answer: &mut Text) -> Reply;
 }
@@ -188,10 +190,10 @@ fn run_lines<S: Scene>(alloc: Global, scene: &mut S, choice: Choice, report: &mu
     is_as_said
 }
 
-// The same, on a world of its own.
-fn run_choice(alloc: Global, choice: Choice, report: &mut Report) -> bool {
-    match World::new(alloc) {
-        Some(mut world) => run_lines(alloc, &mut world, choice, report),
+// The same, on a scene of its own.
+fn run_choice<S: Scene>(alloc: Global, choice: Choice, report: &mut Report) -> bool {
+    match S::begin(alloc) {
+        Some(mut scene) => run_lines(alloc, &mut scene, choice, report),
         None => {
             report.text.cut();
             false
@@ -246,7 +248,7 @@ fn lines_of_case<'a>(following: &'a [Line<'a>]) -> &'a [Line<'a>] {
 
 /// Does a case, of which these lines follow the title, up to the first choice of its loops' values for which an answer is not
 /// what the script says: whether there is none.
-pub fn run_case<'a>(
+pub fn run_case<'a, S: Scene>(
     alloc: Global,
     title: &Line,
     following: &'a [Line<'a>],
@@ -255,7 +257,7 @@ pub fn run_case<'a>(
     let lines = lines_of_case(following);
     let choices = choices(lines);
     for number in 0..choices {
-        if !run_choice(alloc, Choice { lines, number }, report) {
+        if !run_choice::<S>(alloc, Choice { lines, number }, report) {
             return false;
         }
     }

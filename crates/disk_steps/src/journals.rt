@@ -1,9 +1,6 @@
 // Steps on the journal of an area of a disk: generation 1, from command 1 on.
-use crate::orders::{kind_word, read_command};
 use crate::refusals;
-use crate::reply::Reply;
-use crate::text::Text;
-use crate::words::{Words, number_of_id};
+use case_runner::{Reply, Text, Words, kind_word, number_of_id, read_command};
 use gate_journal::{Area, Journal};
 use invoke_records::Command;
 use sector_disk::Disk;

@@ -1,10 +1,7 @@
-// Steps that tell what a disk holds, and of one event in a line.
+// The step that tells what a disk holds.
 use crate::refusals;
-use crate::reply::Reply;
-use crate::text::Text;
-use crate::words::{Words, id_of};
-use async_core::Table;
-use audit_report::{Report, explain, inspect};
+use audit_report::{Report, inspect};
+use case_runner::{Reply, Text};
 use sector_disk::Disk;
 use std::alloc::Global;
 
@@ -27,22 +24,5 @@ pub fn tell_audit<D: Disk>(alloc: Global, disk: &mut D, answer: &mut Text) -> Re
     match inspect(alloc, disk) {
         Ok((_, report)) => tell_lines(alloc, &report, answer),
         Err(why) => refusals::open(why, answer),
-    }
-}
-
-/// `ID`: the line of an event.
-pub fn tell_explanation(
-    alloc: Global,
-    table: &Table,
-    words: &mut Words,
-    answer: &mut Text,
-) -> Reply {
-    let id = id_of(words.number());
-    match explain(alloc, table, &id) {
-        Ok(line) => {
-            answer.add(line.as_str());
-            Reply::Told
-        }
-        Err(_) => NO_MEMORY,
     }
 }

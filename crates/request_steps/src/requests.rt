@@ -1,10 +1,7 @@
 // Steps on requests alone: which call one is, or which check refuses it.
-use crate::bytes::body;
-use crate::reply::Reply;
-use crate::text::Text;
-use crate::words::{Words, number_of_id};
 use api_core::{Call, Refusal, RequestError, read_request};
 use async_core::Side;
+use case_runner::{Reply, Text, Words, body, number_of_id};
 use http::Method;
 use http::header::{HeaderMap, HeaderName, HeaderNameError, HeaderValue, HeaderValueError};
 use retry_rules::Settings;

@@ -1,8 +1,6 @@
 // Steps on the records of events that have ended, and on their members.
-use crate::reply::Reply;
-use crate::text::Text;
-use crate::words::{Words, id_of};
 use async_core::Table;
+use case_runner::{Reply, Text, Words, id_of};
 use destination_json::{record, stamp};
 use invoke_records::GREATEST_MOMENT;
 use serde_json::Value;

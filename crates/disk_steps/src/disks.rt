@@ -2,9 +2,7 @@
 use crate::audits::tell_audit;
 use crate::journals::{append, fits, frames};
 use crate::refusals;
-use crate::reply::Reply;
-use crate::text::Text;
-use crate::words::{Words, number_of};
+use case_runner::{Reply, Text, Words, number_of};
 use checkpoint::Opened;
 use invoke_records::{Command, Snapshot};
 use sector_disk::{Disk, SECTOR_SIZE};
