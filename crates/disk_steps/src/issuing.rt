@@ -1,0 +1,127 @@
+// Steps on what issues commands: a broker, or the half of one.
+use crate::refusals;
+use case_runner::{Order, Reply, Text, Words, read_order};
+use group_commit::{Broker, Issuer, Ticket};
+use sector_disk::Disk;
+use std::alloc::Global;
+use table_steps::{retaken_step, table_step};
+
+/// Keeps a ticket: its number.
+pub fn keep(tickets: &mut Vec<Ticket>, ticket: Ticket) -> Reply {
+    let number = ticket.number();
+    match tickets.push(ticket) {
+        Ok(()) => Reply::Number(number),
+        Err(_) => Reply::NoMemory,
+    }
+}
+
+fn issue_one<I: Issuer>(
+    alloc: Global,
+    issuer: &mut I,
+    tickets: &mut Vec<Ticket>,
+    order: Order,
+    event: u64,
+) -> Reply {
+    let command = match order.command(alloc, event) {
+        Ok(command) => command,
+        Err(reply) => return reply,
+    };
+    match issuer.issue(command) {
+        Ok(ticket) => keep(tickets, ticket),
+        Err(why) => Reply::Refused(refusals::issue(why)),
+    }
+}
+
+// Issues a command for each event of a range: the last number, or the first refusal.
+fn issue<I: Issuer>(
+    alloc: Global,
+    issuer: &mut I,
+    tickets: &mut Vec<Ticket>,
+    word: &str,
+    words: &mut Words,
+) -> Reply {
+    let order = read_order(word, words);
+    if words.are_bad() {
+        return Reply::Unreadable;
+    }
+    let mut reply = Reply::Done;
+    for event in order.first..=order.last {
+        reply = issue_one(alloc, issuer, tickets, order, event);
+        if !matches!(reply, Reply::Number(_)) {
+            break;
+        }
+    }
+    reply
+}
+
+// Takes the first ticket with this number.
+fn take_ticket(tickets: &mut Vec<Ticket>, number: u64) -> Option<Ticket> {
+    let index = tickets.iter().position(|ticket| ticket.number() == number)?;
+    Some(tickets.remove(index))
+}
+
+// `N by M`: the receipt of the ticket with number N, which is used up, where M is durable. Else the ticket is kept.
+fn settle(tickets: &mut Vec<Ticket>, words: &mut Words, answer: &mut Text) -> Reply {
+    let number = words.number();
+    words.expect("by");
+    let durable = words.number();
+    if words.are_bad() {
+        return Reply::Unreadable;
+    }
+    let Some(ticket) = take_ticket(tickets, number) else {
+        return Reply::Unreadable;
+    };
+    match ticket.settled_by(durable) {
+        Ok(receipt) => {
+            answer.add_with("receipt ", receipt.number());
+            Reply::Told
+        }
+        Err(ticket) => match tickets.push(ticket) {
+            Ok(()) => Reply::Refused("not settled"),
+            Err(_) => Reply::NoMemory,
+        },
+    }
+}
+
+/// What an issuer answers to a step. The tickets of what it issues are kept.
+pub fn issuer_step<I: Issuer>(
+    alloc: Global,
+    issuer: &mut I,
+    tickets: &mut Vec<Ticket>,
+    word: &str,
+    words: &mut Words,
+    answer: &mut Text,
+) -> Reply {
+    match word {
+        "ticket" => keep(tickets, issuer.ticket()),
+        "settled" => settle(tickets, words, answer),
+        "issued" => Reply::Number(issuer.issued()),
+        "durable" => Reply::Number(issuer.durable().number()),
+        "retaken" => retaken_step(alloc, issuer.table(), words, answer),
+        _ => {
+            let reply = table_step(alloc, issuer.table(), word, words, answer);
+            if reply.is_no_step() {
+                return issue(alloc, issuer, tickets, word, words);
+            }
+            reply
+        }
+    }
+}
+
+/// What an open broker answers to a step. The tickets of what it issues are kept.
+pub fn broker_step<D: Disk>(
+    alloc: Global,
+    broker: &mut Broker<D>,
+    tickets: &mut Vec<Ticket>,
+    word: &str,
+    words: &mut Words,
+    answer: &mut Text,
+) -> Reply {
+    if word != "commit" {
+        return issuer_step(alloc, broker, tickets, word, words, answer);
+    }
+    match broker.commit() {
+        Ok(durable) => Reply::Number(durable.number()),
+        Err(why) => Reply::Refused(refusals::commit(why)),
+    }
+}

@@ -1,0 +1,18 @@
+//! Steps of the worked cases on a disk in memory, on its journal, and on what issues commands; and the world of a case, over
+//! whatever a program opens on its disk.
+#![tactic(auto)]
+
+mod audits;
+mod devices;
+mod disks;
+mod issuing;
+mod journals;
+mod memory;
+pub mod refusals;
+mod world;
+
+pub use devices::{CaseDisk, SOUND, wrapped};
+pub use disks::{disk_step, read_choice};
+pub use issuing::{broker_step, issuer_step, keep};
+pub use memory::format_disk;
+pub use world::{Base, Stage, World};

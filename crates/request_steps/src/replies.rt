@@ -1,0 +1,147 @@
+// Steps on replies alone: the status, the headers and the body that tell an answer.
+use crate::requests::type_of;
+use api_core::{Answer, Refusal, ShutdownReason, reply_text};
+use case_runner::{Reply, Text, Words, body, id_of};
+use retry_rules::Settings;
+use std::alloc::{AllocError, Global};
+
+/// The refusals, in the order of their statuses.
+const REFUSALS: [Refusal; 19] = [
+    Refusal::UnsupportedInvocationType,
+    Refusal::InvalidRequestContent,
+    Refusal::InvalidRequestId,
+    Refusal::InvalidExtensionHeader,
+    Refusal::BadSubscription,
+    Refusal::UnknownExtension,
+    Refusal::RegistrationClosed,
+    Refusal::TooManyExtensions,
+    Refusal::WrongPhase,
+    Refusal::NotFound,
+    Refusal::UnknownEvent,
+    Refusal::MethodNotAllowed,
+    Refusal::Replaced,
+    Refusal::NotEnded,
+    Refusal::TooLarge,
+    Refusal::TooManyEvents,
+    Refusal::EnvironmentReset,
+    Refusal::IdInUse,
+    Refusal::Unavailable,
+];
+
+/// `STATUS NAME: VALUE .. BODY`
+pub fn tell_reply(replied: Result<api_core::Reply, AllocError>, answer: &mut Text) -> Reply {
+    let Ok(replied) = replied else {
+        return Reply::Refused("out of memory");
+    };
+    answer.add_number(replied.status as u64);
+    for place in 0..replied.headers.len() {
+        if let Some((name, value)) = replied.headers.get(place) {
+            answer.add(" ");
+            answer.add(name);
+            answer.add(": ");
+            answer.add_body(value);
+        }
+    }
+    if !replied.body.as_slice().is_empty() {
+        answer.add(" ");
+        answer.add_body(replied.body.as_slice());
+    }
+    Reply::Told
+}
+
+// The refusal of this type.
+fn refusal(words: &mut Words) -> Refusal {
+    let word = words.word();
+    for why in REFUSALS {
+        if type_of(why) == word {
+            return why;
+        }
+    }
+    words.refuse();
+    Refusal::Unavailable
+}
+
+fn reason(words: &mut Words) -> ShutdownReason {
+    match words.word() {
+        "spindown" => return ShutdownReason::Spindown,
+        "timeout" => return ShutdownReason::Timeout,
+        "failure" => {}
+        _ => words.refuse(),
+    }
+    ShutdownReason::Failure
+}
+
+// `until MOMENT`
+fn deadline(words: &mut Words) -> u64 {
+    words.expect("until");
+    words.number()
+}
+
+// `ID until MOMENT BYTES`
+fn tell_event(alloc: Global, settings: &Settings, words: &mut Words, answer: &mut Text) -> Reply {
+    let id = id_of(words.number());
+    let deadline = deadline(words);
+    let payload = match body(alloc, words.rest()) {
+        Ok(payload) => payload,
+        Err(reply) => return reply,
+    };
+    if words.are_bad() {
+        return Reply::Unreadable;
+    }
+    let event = Answer::RuntimeEvent {
+        id,
+        deadline,
+        payload: &payload,
+    };
+    tell_reply(reply_text(alloc, &event, settings), answer)
+}
+
+// The answer that these words name, but for records and events.
+fn plain_answer(words: &mut Words) -> Answer<'static> {
+    match words.word() {
+        "accepted" => Answer::Accepted(id_of(words.number())),
+        "no-record" => Answer::NoRecord,
+        "deleted" => Answer::Deleted,
+        "taken" => Answer::Taken,
+        "registered" => Answer::Registered(id_of(words.number())),
+        "invoke" => Answer::Invoke {
+            id: id_of(words.number()),
+            deadline: deadline(words),
+        },
+        "shutdown" => Answer::Shutdown {
+            reason: reason(words),
+            deadline: deadline(words),
+        },
+        "refusal" => Answer::Refusal(refusal(words)),
+        _ => {
+            words.refuse();
+            Answer::NoRecord
+        }
+    }
+}
+
+// The reply of an answer that is no record.
+fn tell_plain(alloc: Global, settings: &Settings, plain: &Answer, answer: &mut Text) -> Reply {
+    match plain {
+        Answer::Record(_) => Reply::Unreadable,
+        _ => tell_reply(reply_text(alloc, plain, settings), answer),
+    }
+}
+
+/// `accepted ID`, `no-record`, `deleted`, `taken`, `registered N`, `event ID until MOMENT BYTES`, `invoke ID until MOMENT`,
+/// `shutdown REASON until MOMENT` or `refusal TYPE`: the reply.
+pub fn reply_step(
+    alloc: Global,
+    settings: &Settings,
+    words: &mut Words,
+    answer: &mut Text,
+) -> Reply {
+    if words.takes("event") {
+        return tell_event(alloc, settings, words, answer);
+    }
+    let plain = plain_answer(words);
+    if words.are_bad() {
+        return Reply::Unreadable;
+    }
+    tell_plain(alloc, settings, &plain, answer)
+}

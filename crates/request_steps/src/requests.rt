@@ -1,0 +1,209 @@
+// Steps on requests alone: which call one is, or which check refuses it.
+use api_core::{Call, Refusal, RequestError, read_request};
+use async_core::Side;
+use case_runner::{Reply, Text, Words, body, number_of_id};
+use http::Method;
+use http::header::{HeaderMap, HeaderName, HeaderNameError, HeaderValue, HeaderValueError};
+use retry_rules::Settings;
+use std::alloc::Global;
+
+/// A refusal's type, as its reply tells it.
+pub fn type_of(why: Refusal) -> &'static str {
+    match why {
+        Refusal::UnsupportedInvocationType => "UnsupportedInvocationType",
+        Refusal::InvalidRequestContent => "InvalidRequestContent",
+        Refusal::InvalidRequestId => "InvalidRequestID",
+        Refusal::InvalidExtensionHeader => "InvalidExtensionHeader",
+        Refusal::BadSubscription => "BadSubscription",
+        Refusal::UnknownExtension => "UnknownExtension",
+        Refusal::RegistrationClosed => "RegistrationClosed",
+        Refusal::TooManyExtensions => "TooManyExtensions",
+        Refusal::WrongPhase => "WrongPhase",
+        Refusal::NotFound => "NotFound",
+        Refusal::UnknownEvent => "UnknownEvent",
+        Refusal::MethodNotAllowed => "MethodNotAllowed",
+        Refusal::Replaced => "Replaced",
+        Refusal::NotEnded => "NotEnded",
+        Refusal::TooLarge => "TooLarge",
+        Refusal::TooManyEvents => "TooManyEvents",
+        Refusal::EnvironmentReset => "EnvironmentReset",
+        Refusal::IdInUse => "IdInUse",
+        Refusal::Unavailable => "Unavailable",
+    }
+}
+
+// ` ID`, or ` none` where it is no id.
+fn tell_id(id: Option<[u8; 16]>, answer: &mut Text) {
+    match id {
+        Some(id) => answer.add_with(" ", number_of_id(&id)),
+        None => answer.add(" none"),
+    }
+}
+
+// ` ENVIRONMENT ID BODY`
+fn tell_attempt(
+    word: &str,
+    environment: u16,
+    id: Option<[u8; 16]>,
+    body: &[u8],
+    answer: &mut Text,
+) {
+    answer.add_with(word, environment as u64);
+    tell_id(id, answer);
+    answer.add(" ");
+    answer.add_body(body);
+}
+
+// ` ENVIRONMENT IDENTIFIER`
+fn tell_extension(word: &str, environment: u16, identifier: &[u8; 16], answer: &mut Text) {
+    answer.add_with(word, environment as u64);
+    answer.add_with(" ", number_of_id(identifier));
+}
+
+fn tell_registration(
+    environment: u16,
+    name: &[u8],
+    invoke: bool,
+    shutdown: bool,
+    answer: &mut Text,
+) {
+    answer.add_with("register ", environment as u64);
+    answer.add(" ");
+    answer.add_body(name);
+    answer.add(if invoke { " invoke" } else { "" });
+    answer.add(if shutdown { " shutdown" } else { "" });
+}
+
+// A call of a runtime or of an extension.
+fn tell_environment_call(call: &Call, answer: &mut Text) {
+    match call {
+        Call::RuntimeNext { environment } => answer.add_with("runtime next ", *environment as u64),
+        Call::Response {
+            environment,
+            id,
+            body,
+        } => tell_attempt("response ", *environment, *id, body.as_slice(), answer),
+        Call::RuntimeError {
+            environment,
+            id,
+            body,
+        } => tell_attempt("error ", *environment, *id, body.as_slice(), answer),
+        Call::RuntimeInitError { environment } => {
+            answer.add_with("runtime init error ", *environment as u64)
+        }
+        Call::Register {
+            environment,
+            name,
+            invoke,
+            shutdown,
+        } => tell_registration(*environment, name.as_slice(), *invoke, *shutdown, answer),
+        Call::ExtensionNext {
+            environment,
+            identifier,
+        } => tell_extension("next ", *environment, identifier, answer),
+        Call::ExtensionInitError {
+            environment,
+            identifier,
+        } => tell_extension("init error ", *environment, identifier, answer),
+        Call::ExtensionExitError {
+            environment,
+            identifier,
+        } => tell_extension("exit error ", *environment, identifier, answer),
+        _ => {}
+    }
+}
+
+// A payload of more than 64 bytes is told by its length.
+fn tell_payload(payload: &[u8], answer: &mut Text) {
+    if payload.len() > 64 {
+        answer.add_with("invoke ", payload.len() as u64);
+        answer.add(" bytes");
+    } else {
+        answer.add("invoke ");
+        answer.add_body(payload);
+    }
+}
+
+fn tell_call(call: &Call, answer: &mut Text) -> Reply {
+    match call {
+        Call::Invoke { payload } => tell_payload(payload.as_slice(), answer),
+        Call::Oldest(Side::Success) => answer.add("oldest success"),
+        Call::Oldest(Side::Failure) => answer.add("oldest failure"),
+        Call::Delete(id) => {
+            answer.add("delete");
+            tell_id(*id, answer);
+        }
+        Call::StopBroker => answer.add("stop"),
+        _ => tell_environment_call(call, answer),
+    }
+    Reply::Told
+}
+
+// Adds the header `NAME=VALUE`, in which `~` stands for a space.
+fn add_header(alloc: Global, headers: &mut HeaderMap, pair: &str) -> Reply {
+    let (name, value) = pair.split_once('=').unwrap_or((pair, ""));
+    let Ok(value) = value.replace(alloc, "~", " ") else {
+        return Reply::NoMemory;
+    };
+    let name = match HeaderName::from_bytes(alloc, name.as_bytes()) {
+        Ok(name) => name,
+        Err(HeaderNameError::Invalid) => return Reply::Unreadable,
+        Err(HeaderNameError::OutOfMemory) => return Reply::NoMemory,
+    };
+    let value = match HeaderValue::from_bytes(alloc, value.as_bytes()) {
+        Ok(value) => value,
+        Err(HeaderValueError::Invalid) => return Reply::Unreadable,
+        Err(HeaderValueError::OutOfMemory) => return Reply::NoMemory,
+    };
+    match headers.append(name, value) {
+        Ok(_) => Reply::Done,
+        Err(_) => Reply::NoMemory,
+    }
+}
+
+/// The call of the request `PORT METHOD TARGET [NAME=VALUE ..] [body BYTES]`, or what is answered at once.
+pub fn read_call(alloc: Global, settings: &Settings, words: &mut Words) -> Result<Call, Reply> {
+    let port = u16::try_from(words.number_to(65535)).unwrap_or(0);
+    let Ok(method) = Method::from_bytes(alloc, words.word().as_bytes()) else {
+        return Err(Reply::Unreadable);
+    };
+    let target = words.word();
+    let (pairs, text) = parts_of_rest(words.rest());
+    let mut headers: HeaderMap = HeaderMap::new(alloc);
+    for pair in pairs.split_whitespace() {
+        match add_header(alloc, &mut headers, pair) {
+            Reply::Done => {}
+            reply => return Err(reply),
+        }
+    }
+    let body = body(alloc, text)?;
+    if words.are_bad() {
+        return Err(Reply::Unreadable);
+    }
+    match read_request(alloc, settings, port, &method, target, &headers, body) {
+        Ok(call) => Ok(call),
+        Err(RequestError::Refused(why)) => Err(Reply::Refused(type_of(why))),
+        Err(RequestError::OutOfMemory) => Err(Reply::Refused("out of memory")),
+    }
+}
+
+// The headers of a request, and its body.
+fn parts_of_rest(rest: &str) -> (&str, &str) {
+    match rest.strip_prefix("body ") {
+        Some(text) => ("", text),
+        None => rest.split_once(" body ").unwrap_or((rest, "")),
+    }
+}
+
+/// `PORT METHOD TARGET [NAME=VALUE ..] [body BYTES]`: the call, or why it is refused.
+pub fn request_step(
+    alloc: Global,
+    settings: &Settings,
+    words: &mut Words,
+    answer: &mut Text,
+) -> Reply {
+    match read_call(alloc, settings, words) {
+        Ok(call) => tell_call(&call, answer),
+        Err(reply) => reply,
+    }
+}

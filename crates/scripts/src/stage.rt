@@ -1,0 +1,140 @@
+// What a case of this program has of a disk: the disk, or a broker that is open on it.
+use crate::drilling::drill_step;
+use crate::events::whole_broker_step;
+use case_runner::{Reply, Text, Words};
+use disk_steps::{Base, CaseDisk, Stage, disk_step, refusals};
+use env_phase::Env;
+use group_commit::{Broker, OpenFailure, Ticket};
+use request_steps::{environment_step, reply_step, request_step};
+use sector_disk::MemDisk;
+use std::alloc::Global;
+use std::mem;
+use table_steps::{record_step, tell_member, tell_record};
+
+#[derive(Drop)]
+enum Place {
+    Nothing,
+    Closed(CaseDisk),
+    Open(Broker<CaseDisk>),
+}
+
+/// The disk of a case, or the broker that is open on it.
+#[derive(Drop)]
+pub struct BrokerStage {
+    place: Place,
+    // The tickets of the broker that is open.
+    tickets: Vec<Ticket>,
+    // The destination record that was told last.
+    record: Vec<u8>,
+    // An environment, which needs no disk.
+    environment: Option<Env>,
+}
+
+impl BrokerStage {
+    // `ID`: the record of an event that has ended.
+    fn tell_record(&mut self, alloc: Global, words: &mut Words, answer: &mut Text) -> Reply {
+        match &self.place {
+            Place::Open(broker) => {
+                tell_record(alloc, broker.table(), &mut self.record, words, answer)
+            }
+            _ => Reply::NoStep,
+        }
+    }
+
+    // A step of the broker, if one is open, or of the disk.
+    fn step_on_place(
+        &mut self,
+        alloc: Global,
+        word: &str,
+        words: &mut Words,
+        answer: &mut Text,
+    ) -> Reply {
+        match &mut self.place {
+            Place::Nothing => Reply::NoStep,
+            Place::Closed(disk) => disk_step(alloc, disk, word, words, answer),
+            Place::Open(broker) => {
+                whole_broker_step(alloc, broker, &mut self.tickets, word, words, answer)
+            }
+        }
+    }
+}
+
+impl Stage for BrokerStage {
+    fn nothing(alloc: Global) -> BrokerStage {
+        BrokerStage {
+            place: Place::Nothing,
+            tickets: Vec::new(alloc),
+            record: Vec::new(alloc),
+            environment: None,
+        }
+    }
+
+    fn put(&mut self, disk: CaseDisk) {
+        self.place = Place::Closed(disk);
+    }
+
+    fn take(&mut self, base: &mut Base) -> Option<CaseDisk> {
+        match mem::replace(&mut self.place, Place::Nothing) {
+            Place::Nothing => None,
+            Place::Closed(disk) => Some(disk),
+            Place::Open(broker) => {
+                base.durable = broker.durable().number();
+                base.issued = broker.issued();
+                self.tickets.clear();
+                Some(broker.close())
+            }
+        }
+    }
+
+    fn open(&mut self, alloc: Global, base: &Base, disk: CaseDisk, answer: &mut Text) -> Reply {
+        match Broker::open(alloc, disk) {
+            Ok(broker) => {
+                let number = broker.issued();
+                self.place = Place::Open(broker);
+                base.recovered(number)
+            }
+            Err(OpenFailure { cause, disk }) => {
+                self.place = Place::Closed(disk);
+                refusals::open(cause, answer)
+            }
+        }
+    }
+
+    fn drill(
+        alloc: Global,
+        disk: MemDisk,
+        word: &str,
+        text: &str,
+        answer: &mut Text,
+    ) -> (Reply, Option<MemDisk>) {
+        if word == "drill" {
+            drill_step(alloc, disk, text, answer)
+        } else {
+            (Reply::NoStep, Some(disk))
+        }
+    }
+
+    fn step(
+        &mut self,
+        alloc: Global,
+        base: &mut Base,
+        word: &str,
+        words: &mut Words,
+        answer: &mut Text,
+    ) -> Reply {
+        match word {
+            "record" => self.tell_record(alloc, words, answer),
+            "request" => request_step(alloc, &base.settings, words, answer),
+            "reply" => reply_step(alloc, &base.settings, words, answer),
+            "env" => environment_step(alloc, &mut self.environment, words, answer),
+            "member" => tell_member(alloc, &self.record, words, answer),
+            _ => {
+                let reply = record_step(alloc, &base.settings, word, words, answer);
+                if reply.is_no_step() {
+                    return self.step_on_place(alloc, word, words, answer);
+                }
+                reply
+            }
+        }
+    }
+}

@@ -1,0 +1,12 @@
+//! Steps of the worked cases on records, rules and a table of events: none of them needs a disk.
+#![tactic(auto)]
+
+mod destinations;
+mod records;
+mod refusals;
+mod tables;
+
+pub use destinations::{tell_member, tell_record};
+pub use records::{check, record_step};
+pub use refusals::illegal;
+pub use tables::{retaken_step, table_step};

@@ -1,0 +1,216 @@
+// Steps that read the table of an open broker.
+use crate::records::spelling;
+use crate::refusals;
+use async_core::{Ended, Side, Table};
+use case_runner::{
+    Reply, Text, Words, id_of, kind_word, number_of_id, read_command, read_environment,
+};
+use invoke_records::{Answer, EventRow, Outcome, Standing};
+use std::alloc::{AllocError, Global};
+
+fn outcome_word(outcome: Outcome) -> &'static str {
+    match outcome {
+        Outcome::Success => "Success",
+        Outcome::RetriesExhausted => "RetriesExhausted",
+        Outcome::EventAgeExceeded => "EventAgeExceeded",
+    }
+}
+
+fn tell_standing(standing: Standing, answer: &mut Text) -> Reply {
+    match standing {
+        Standing::Unknown => answer.add("unknown"),
+        Standing::Waiting { due } => answer.add_with("waiting due ", due),
+        Standing::DueAgain { due } => answer.add_with("due again ", due),
+        Standing::Running {
+            environment,
+            deadline,
+        } => {
+            answer.add_with("running in ", environment as u64);
+            answer.add_with(" until ", deadline);
+        }
+        Standing::Ended { outcome, at } => {
+            answer.add("ended ");
+            answer.add(outcome_word(outcome));
+            answer.add_with(" ", at);
+        }
+    }
+    Reply::Told
+}
+
+fn tell_answer(told: &Answer, answer: &mut Text) {
+    match told {
+        Answer::None => answer.add(" no answer"),
+        Answer::Response(bytes) => {
+            answer.add(" response ");
+            answer.add_body(bytes.as_slice());
+        }
+        Answer::Error(bytes) => {
+            answer.add(" error ");
+            answer.add_body(bytes.as_slice());
+        }
+    }
+}
+
+fn tell_ended(told: Option<Ended>, answer: &mut Text) -> Reply {
+    let Some(told) = told else {
+        return Reply::NONE;
+    };
+    answer.add(outcome_word(told.outcome));
+    answer.add_with(" ", told.at);
+    answer.add_with(" starts ", told.starts as u64);
+    answer.add(" payload ");
+    answer.add_body(told.payload);
+    tell_answer(told.answer, answer);
+    Reply::Told
+}
+
+fn tell_counts(counts: Option<(u32, u32, u32)>, answer: &mut Text) -> Reply {
+    let Some((starts, failures, push_backs)) = counts else {
+        return Reply::NONE;
+    };
+    answer.add_with("starts ", starts as u64);
+    answer.add_with(" failures ", failures as u64);
+    answer.add_with(" pushbacks ", push_backs as u64);
+    Reply::Told
+}
+
+fn tell_payload(bytes: Option<&[u8]>, answer: &mut Text) -> Reply {
+    let Some(bytes) = bytes else {
+        return Reply::NONE;
+    };
+    answer.add_body(bytes);
+    Reply::Told
+}
+
+fn tell_outcome(outcome: Option<Outcome>) -> Reply {
+    match outcome {
+        Some(outcome) => Reply::Word(outcome_word(outcome)),
+        None => Reply::NONE,
+    }
+}
+
+// What is told of one event.
+fn event_step(table: &Table, word: &str, id: &[u8; 16], answer: &mut Text) -> Reply {
+    match word {
+        "standing" => tell_standing(table.standing(id), answer),
+        "counts" => tell_counts(table.counts(id), answer),
+        "payload" => tell_payload(table.payload(id), answer),
+        "ended" => tell_ended(table.ended(id), answer),
+        "accepted" => Reply::number_or_none(table.accepted(id)),
+        "outcome" => tell_outcome(table.outcome(id)),
+        _ => Reply::NoStep,
+    }
+}
+
+// `success` or `failure`: the event that ended first on that side.
+fn oldest(table: &Table, words: &mut Words) -> Reply {
+    let side = match words.word() {
+        "success" => Side::Success,
+        "failure" => Side::Failure,
+        _ => return Reply::Unreadable,
+    };
+    match table.oldest_ended(side) {
+        Some(id) => Reply::Number(number_of_id(&id)),
+        None => Reply::NONE,
+    }
+}
+
+fn running(table: &Table, words: &mut Words, answer: &mut Text) -> Reply {
+    words.expect("after");
+    let Some(first) = table.next_running(words.number()) else {
+        return Reply::NONE;
+    };
+    let id = first.1;
+    answer.add_number(number_of_id(&id));
+    answer.add_with(" by ", first.0);
+    Reply::Told
+}
+
+fn next_move(table: &Table, words: &mut Words, answer: &mut Text) -> Reply {
+    words.expect("at");
+    let now = words.number();
+    let Some(next) = table.next_move(now, read_environment(words, "ready")) else {
+        return Reply::NONE;
+    };
+    answer.add(kind_word(next.kind));
+    answer.add_with(" ", number_of_id(&next.id));
+    if next.environment != 0 {
+        answer.add_with(" in ", next.environment as u64);
+    }
+    Reply::Told
+}
+
+fn judge(alloc: Global, table: &Table, words: &mut Words) -> Reply {
+    let command = match read_command(alloc, words) {
+        Ok(command) => command,
+        Err(reply) => return reply,
+    };
+    match table.judge(&command) {
+        Ok(()) => Reply::Word("legal"),
+        Err(why) => Reply::Refused(refusals::illegal(why)),
+    }
+}
+
+fn spell_row(alloc: Global, rows: &[EventRow], event: u64, answer: &mut Text) -> Reply {
+    for row in rows {
+        if number_of_id(&row.id) == event {
+            return spelling(row.encode(alloc), answer);
+        }
+    }
+    Reply::NONE
+}
+
+// `snapshot` or `row EVENT`: the spelling of the table's snapshot, or of one event's row of it.
+fn spell_part(alloc: Global, table: &Table, event: Option<u64>, answer: &mut Text) -> Reply {
+    let Ok(snapshot) = table.snapshot() else {
+        return Reply::NoMemory;
+    };
+    match event {
+        Some(event) => spell_row(alloc, snapshot.rows.as_slice(), event, answer),
+        None => spelling(snapshot.encode(alloc), answer),
+    }
+}
+
+/// What a table answers to a step that reads it.
+pub fn table_step(
+    alloc: Global,
+    table: &Table,
+    word: &str,
+    words: &mut Words,
+    answer: &mut Text,
+) -> Reply {
+    match word {
+        "oldest" => oldest(table, words),
+        "running" => running(table, words, answer),
+        "next" => next_move(table, words, answer),
+        "judge" => judge(alloc, table, words),
+        "number" => Reply::Number(table.number()),
+        "moment" => Reply::Number(table.last_moment()),
+        "snapshot" => spell_part(alloc, table, None, answer),
+        "row" => spell_part(alloc, table, Some(words.number()), answer),
+        _ => {
+            // The words are left to another step where it is none of an event's.
+            let mut others = *words;
+            let id = id_of(others.number());
+            let reply = event_step(table, word, &id, answer);
+            if !reply.is_no_step() {
+                *words = others;
+            }
+            reply
+        }
+    }
+}
+
+// A table that is taken up from its snapshot.
+fn retake(alloc: Global, table: &Table) -> Result<Table, AllocError> {
+    Table::from_snapshot(alloc, table.snapshot()?, table.settings().copy()?)
+}
+
+/// `STEP`: what a table that is taken up from this one's snapshot answers to a step that reads it.
+pub fn retaken_step(alloc: Global, table: &Table, words: &mut Words, answer: &mut Text) -> Reply {
+    let word = words.word();
+    match retake(alloc, table) {
+        Ok(table) => table_step(alloc, &table, word, words, answer),
+        Err(_) => Reply::NoMemory,
+    }
+}
