@@ -7,6 +7,8 @@
 
 mod bell;
 mod port;
+#[cfg(test)]
+mod tests;
 mod waiters;
 mod waiting;
 
