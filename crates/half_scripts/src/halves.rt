@@ -1,0 +1,106 @@
+// Steps of the two halves of a broker.
+use case_runner::{Reply, Text, Words};
+use disk_steps::{issuer_step, refusals};
+use group_commit::{Batch, DiskHalf, Failed, IssueHalf, Ticket, Written};
+use sector_disk::Disk;
+use std::alloc::Global;
+use std::mem;
+
+/// What the last lend or write left.
+#[derive(Drop)]
+pub enum Held {
+    Nothing,
+    Lent(Batch),
+    Done(Result<Written, Failed>),
+}
+
+/// The two halves of a broker, and what goes between them.
+#[derive(Drop)]
+pub struct Halves<D: Disk> {
+    pub issue: IssueHalf,
+    pub disk: DiskHalf<D>,
+    pub held: Held,
+    /// The last number that was lent.
+    pub lent: u64,
+}
+
+impl<D: Disk> Halves<D> {
+    pub fn new(issue: IssueHalf, disk: DiskHalf<D>) -> Halves<D> {
+        let lent = issue.issued();
+        Halves {
+            issue,
+            disk,
+            held: Held::Nothing,
+            lent,
+        }
+    }
+
+    /// How many commands are durable on the disk.
+    pub fn written(&self) -> u64 {
+        self.disk.durable().number()
+    }
+}
+
+// The last number of the batch that is lent then, or `idle`.
+fn lend<D: Disk>(halves: &mut Halves<D>) -> Reply {
+    match halves.issue.lend() {
+        Ok(Some(batch)) => {
+            halves.lent = batch.last();
+            halves.held = Held::Lent(batch);
+            Reply::Number(halves.lent)
+        }
+        Ok(None) => Reply::Word("idle"),
+        Err(why) => Reply::Refused(refusals::lend(why)),
+    }
+}
+
+// The last number of the batch that is written then, or `idle`.
+fn write<D: Disk>(halves: &mut Halves<D>) -> Reply {
+    let batch = match mem::replace(&mut halves.held, Held::Nothing) {
+        Held::Lent(batch) => batch,
+        held => {
+            halves.held = held;
+            return Reply::Word("idle");
+        }
+    };
+    let outcome = halves.disk.write(batch);
+    let reply = match &outcome {
+        Ok(written) => Reply::Number(written.last()),
+        Err(failed) => Reply::Refused(refusals::write(failed.cause())),
+    };
+    halves.held = Held::Done(outcome);
+    reply
+}
+
+// How many commands are durable after the settlement, or `idle`.
+fn settle<D: Disk>(halves: &mut Halves<D>) -> Reply {
+    let outcome = match mem::replace(&mut halves.held, Held::Nothing) {
+        Held::Done(outcome) => outcome,
+        held => {
+            halves.held = held;
+            return Reply::Word("idle");
+        }
+    };
+    match halves.issue.settle(outcome) {
+        Ok(durable) => Reply::Number(durable.number()),
+        Err(why) => Reply::Refused(refusals::settle(why)),
+    }
+}
+
+/// What two halves answer to a step.
+pub fn halves_step<D: Disk>(
+    alloc: Global,
+    halves: &mut Halves<D>,
+    tickets: &mut Vec<Ticket>,
+    word: &str,
+    words: &mut Words,
+    answer: &mut Text,
+) -> Reply {
+    match word {
+        "lend" => lend(halves),
+        "write" => write(halves),
+        "settle" => settle(halves),
+        "written" => Reply::Number(halves.written()),
+        _ => issuer_step(alloc, &mut halves.issue, tickets, word, words, answer),
+    }
+}

@@ -1,0 +1,219 @@
+// A drill of the two halves of a broker, run whole.
+use case_runner::{Reply, Text, Words, id_of, read_command};
+use disk_steps::{format_disk, read_choice, refusals};
+use group_commit::{DrillFailure, SplitAnswer, SplitDrill, SplitStep, drill_split};
+use invoke_records::{Bytes, Command, Kind};
+use retry_rules::Settings;
+use sector_disk::MemDisk;
+use std::alloc::Global;
+
+fn read_stop(alloc: Global, disk: &mut MemDisk, text: &str) -> Result<SplitStep, Reply> {
+    match read_choice(alloc, disk, text) {
+        Ok(choice) => Ok(SplitStep::Stop(choice)),
+        Err(reply) => Err(reply),
+    }
+}
+
+fn read_step(alloc: Global, disk: &mut MemDisk, line: &str) -> Result<SplitStep, Reply> {
+    let mut words = Words::of(line);
+    if words.takes("lend") {
+        return Ok(SplitStep::Lend);
+    }
+    if words.takes("write") {
+        return Ok(SplitStep::Write);
+    }
+    if words.takes("settle") {
+        return Ok(SplitStep::Settle);
+    }
+    if words.takes("stop") {
+        return read_stop(alloc, disk, words.rest());
+    }
+    match read_command(alloc, &mut words) {
+        Ok(command) => Ok(SplitStep::Issue(command)),
+        Err(reply) => Err(reply),
+    }
+}
+
+// The steps of a drill, between `;`.
+fn read_steps(alloc: Global, disk: &mut MemDisk, text: &str) -> Result<Vec<SplitStep>, Reply> {
+    let mut steps = Vec::new(alloc);
+    for line in text.split(';') {
+        if steps.push(read_step(alloc, disk, line)?).is_err() {
+            return Err(Reply::NoMemory);
+        }
+    }
+    Ok(steps)
+}
+
+// The answers of a drill, one behind another.
+fn tell_answers(answers: &[SplitAnswer], answer: &mut Text) {
+    let mut join = "";
+    for one in answers {
+        answer.add(join);
+        match *one {
+            SplitAnswer::Number(number) => answer.add_number(number),
+            SplitAnswer::Idle => answer.add("idle"),
+            SplitAnswer::IssueRefused(why) => answer.add(refusals::issue(why)),
+            SplitAnswer::LendRefused(why) => answer.add(refusals::lend(why)),
+            SplitAnswer::WriteRefused(why) => answer.add(refusals::write(why)),
+            SplitAnswer::SettleRefused(why) => answer.add(refusals::settle(why)),
+        }
+        join = ", ";
+    }
+}
+
+fn tell_failure(failure: DrillFailure, answer: &mut Text) {
+    answer.add_with("step ", failure.step as u64);
+    answer.add(" ");
+    refusals::open(failure.cause, answer).add_to(answer);
+}
+
+fn run_drill(
+    alloc: Global,
+    disk: MemDisk,
+    steps: &[SplitStep],
+    answer: &mut Text,
+) -> (Reply, Option<MemDisk>) {
+    match drill_split(alloc, disk, steps) {
+        Ok(SplitDrill { answers, disk, .. }) => {
+            tell_answers(&answers, answer);
+            (Reply::Told, Some(disk.close()))
+        }
+        Err(failure) => {
+            tell_failure(failure, answer);
+            (Reply::RefusalTold, None)
+        }
+    }
+}
+
+/// `STEP; STEP; ..`: runs a drill of these steps over the halves of a broker, and tells what they answered. The disk is given
+/// up where an opening fails.
+pub fn drill_split_step(
+    alloc: Global,
+    disk: MemDisk,
+    text: &str,
+    answer: &mut Text,
+) -> (Reply, Option<MemDisk>) {
+    let mut disk = disk;
+    match read_steps(alloc, &mut disk, text) {
+        Ok(steps) => run_drill(alloc, disk, &steps, answer),
+        Err(reply) => (reply, Some(disk)),
+    }
+}
+
+// An event of its own.
+fn accept(alloc: Global, event: u64) -> Command {
+    Command {
+        kind: Kind::Accept,
+        id: id_of(event),
+        environment: 0,
+        time: 1000,
+        bytes: Bytes::empty(alloc),
+    }
+}
+
+// The steps of one order, whose digits to the base of 5 say which they are.
+fn steps_of_order(alloc: Global, order: u64, length: u64) -> Option<Vec<SplitStep>> {
+    let mut steps = Vec::new(alloc);
+    let mut rest = order;
+    for event in 0..length {
+        let step = match rest % 5 {
+            0 => SplitStep::Issue(accept(alloc, event.saturating_add(1))),
+            1 => SplitStep::Lend,
+            2 => SplitStep::Write,
+            3 => SplitStep::Settle,
+            _ => SplitStep::Stop(Vec::new(alloc)),
+        };
+        rest /= 5;
+        if steps.push(step).is_err() {
+            return None;
+        }
+    }
+    Some(steps)
+}
+
+// Whether each length that a stop names lies between what was written last and what was lent last.
+fn is_within(steps: &[SplitStep], answers: &[SplitAnswer]) -> bool {
+    let mut written = 0;
+    let mut lent = 0;
+    for (step, answer) in steps.iter().zip(answers) {
+        let SplitAnswer::Number(number) = *answer else {
+            continue;
+        };
+        match step {
+            SplitStep::Lend => lent = number,
+            SplitStep::Write => written = number,
+            SplitStep::Stop(_) => {
+                if number < written || number > lent {
+                    return false;
+                }
+                written = number;
+                lent = number;
+            }
+            _ => {}
+        }
+    }
+    true
+}
+
+// Runs one order on a disk of its own.
+fn run_order(
+    alloc: Global,
+    settings: &Settings,
+    order: u64,
+    length: u64,
+    answer: &mut Text,
+) -> Reply {
+    let Some(steps) = steps_of_order(alloc, order, length) else {
+        return Reply::NoMemory;
+    };
+    let Ok(mut disk) = MemDisk::new(alloc, 64) else {
+        return Reply::NoMemory;
+    };
+    match format_disk(alloc, &mut disk, settings, answer) {
+        Reply::Done => {}
+        reply => return reply,
+    }
+    match drill_split(alloc, disk, &steps) {
+        Ok(done) if is_within(&steps, &done.answers) => Reply::Done,
+        Ok(done) => {
+            tell_answers(&done.answers, answer);
+            Reply::Told
+        }
+        Err(failure) => {
+            tell_failure(failure, answer);
+            Reply::RefusalTold
+        }
+    }
+}
+
+// How many orders of so many steps there are.
+fn count_orders(length: u64) -> u64 {
+    let mut orders = 1u64;
+    for _ in 0..length {
+        orders = orders.saturating_mul(5);
+    }
+    orders
+}
+
+/// `LENGTH`: runs a drill of each order of an issue, a lend, a write, a settlement and a stop that is so long, and tells how
+/// many there are where each stop names a length between what was written and what was lent; else the first that does not.
+pub fn split_orders_step(
+    alloc: Global,
+    settings: &Settings,
+    words: &mut Words,
+    answer: &mut Text,
+) -> Reply {
+    let length = words.number().min(9);
+    if words.are_bad() {
+        return Reply::Unreadable;
+    }
+    let orders = count_orders(length);
+    for order in 0..orders {
+        match run_order(alloc, settings, order, length, answer) {
+            Reply::Done => {}
+            reply => return reply,
+        }
+    }
+    Reply::Number(orders)
+}
