@@ -1,0 +1,80 @@
+// What a case of this program has of a disk: the disk, or a broker or a hall that is open on it.
+use crate::places::{Place, open, open_hall, put, split_or_join, step_on, take};
+use case_runner::{Reply, Text, Words};
+use disk_steps::{Base, CaseDisk, Stage};
+use group_commit::{Broker, Ticket};
+use sector_disk::MemDisk;
+use std::alloc::Global;
+
+/// The disk of a case, and the broker or the hall on it.
+#[derive(Drop)]
+pub struct HallStage {
+    place: Place<Broker<CaseDisk>, CaseDisk>,
+    // The tickets of the broker that is open.
+    tickets: Vec<Ticket>,
+}
+
+impl Stage for HallStage {
+    fn nothing(alloc: Global) -> HallStage {
+        HallStage {
+            place: Place::Nothing,
+            tickets: Vec::new(alloc),
+        }
+    }
+
+    fn put(&mut self, disk: CaseDisk) {
+        put(&mut self.place, disk);
+    }
+
+    fn take(&mut self, base: &mut Base) -> Option<CaseDisk> {
+        self.tickets.clear();
+        take(&mut self.place, base)
+    }
+
+    fn open(&mut self, alloc: Global, base: &Base, disk: CaseDisk, answer: &mut Text) -> Reply {
+        match open(alloc, &mut self.place, disk, answer) {
+            Ok(number) => base.recovered(number),
+            Err(reply) => reply,
+        }
+    }
+
+    fn drill(
+        _alloc: Global,
+        disk: MemDisk,
+        _word: &str,
+        _text: &str,
+        _answer: &mut Text,
+    ) -> (Reply, Option<MemDisk>) {
+        (Reply::NoStep, Some(disk))
+    }
+
+    fn step(
+        &mut self,
+        alloc: Global,
+        base: &mut Base,
+        word: &str,
+        words: &mut Words,
+        answer: &mut Text,
+    ) -> Reply {
+        match word {
+            "hall" => {
+                self.tickets.clear();
+                open_hall(alloc, &mut self.place, base, answer)
+            }
+            "split" => split_or_join(&mut self.place, true),
+            "join" => split_or_join(&mut self.place, false),
+            _ => {
+                let settings = &base.settings;
+                step_on(
+                    alloc,
+                    &mut self.place,
+                    &mut self.tickets,
+                    settings,
+                    word,
+                    words,
+                    answer,
+                )
+            }
+        }
+    }
+}
