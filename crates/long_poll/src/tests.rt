@@ -47,7 +47,10 @@ where
     house.ring(0);
     assert_eq!(rt; poll_all(&rt, alloc, &mut pool, &told).len(), 0);
     house.ring(1);
-    assert_eq!(rt; poll_all(&rt, alloc, &mut pool, &told).as_slice(), [(slot, 202)].as_slice());
+    assert_eq!(rt;
+        poll_all(&rt, alloc, &mut pool, &told).as_slice(),
+        [(slot, 202)].as_slice()
+    );
     assert_eq!(rt; house.open_slots(), 0);
     Ok(())
 }
@@ -84,7 +87,10 @@ where
     spawn(&pool, noted)?;
     assert_eq!(rt; poll_all(&rt, alloc, &mut pool, &told).len(), 0);
     house.ring(0);
-    assert_eq!(rt; poll_all(&rt, alloc, &mut pool, &told).as_slice(), [(first, 409)].as_slice());
+    assert_eq!(rt;
+        poll_all(&rt, alloc, &mut pool, &told).as_slice(),
+        [(first, 409)].as_slice()
+    );
     let (accepted, noted) = house.ask_noted(invoke(alloc)?, 1, &told)?;
     spawn(&pool, noted)?;
     assert_eq!(rt; house.tick()?, Some(2));
@@ -114,7 +120,10 @@ fn parked_polls_are_told_when_they_are_answered(rt: HostRuntime) -> Result<(), F
 }
 
 // The second commit meets a fault: both open slots are told 503, though the board shows no more than before.
-fn a_fault_in<L: Ledger, R>(rt: R, house: &mut House<R, FaultOnceDisk<MemDisk>, L>) -> Result<(), Fail>
+fn a_fault_in<L: Ledger, R>(
+    rt: R,
+    house: &mut House<R, FaultOnceDisk<MemDisk>, L>,
+) -> Result<(), Fail>
 where
     R: Abort + Wait + RandomSource + AllocGlobal + Copy + Drop,
 {
@@ -125,7 +134,10 @@ where
     spawn(&pool, noted)?;
     assert_eq!(rt; poll_all(&rt, alloc, &mut pool, &told).len(), 0);
     assert_eq!(rt; house.commit_and_tell()?, 1);
-    assert_eq!(rt; poll_all(&rt, alloc, &mut pool, &told).as_slice(), [(accepted, 202)].as_slice());
+    assert_eq!(rt;
+        poll_all(&rt, alloc, &mut pool, &told).as_slice(),
+        [(accepted, 202)].as_slice()
+    );
     let one = house.ticket()?;
     let (parked, noted) = house.ask_noted(RUNTIME_NEXT, 1, &told)?;
     spawn(&pool, noted)?;

@@ -61,7 +61,8 @@ impl Waiters {
 
     /// Makes a place for a key, so that neither registering there nor ringing needs memory.
     pub(crate) fn enter(&mut self, key: u64) -> Result<(), AllocError>
-        ensures place { OnOk result (self.new.entries.items ≡ self.old.entries.items ++ record { key = key; number = 0; waker = None } ∷ []) }
+        ensures place { OnOk result
+            (self.new.entries.items ≡ self.old.entries.items ++ record { key = key; number = 0; waker = None } ∷ []) }
         ensures room { OnOk result (vec_len self.new.entries ≤ vec_capacity self.new.room) }
         ensures err { OnErr result (self.new.entries.items ≡ self.old.entries.items) }
     {
