@@ -107,7 +107,10 @@ fn serve_command<'a>(alloc: Global) -> Result<Command<'a>, AllocError> {
     Command::new(alloc, "serve")
         .about("Serve a disk until POST /broker/stop")
         .arg(disk(alloc))?
-        .arg(port.value_parser(value_parser!(u16).range(1024..65520)).required(true))
+        .arg(
+            port.value_parser(value_parser!(u16).range(1024..65520))
+                .required(true),
+        )
 }
 
 fn commands<'a>(alloc: Global) -> Result<Command<'a>, AllocError> {
