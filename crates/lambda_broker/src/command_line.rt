@@ -196,7 +196,20 @@ mod tests {
     use std::{env, fs, process};
 
     // What is printed for these words behind the program's name, and the status.
-    fn printed(rt: &HostRuntime, words: &[&str]) -> Result<(u8, String), Fail> {
+    fn printed<R>(rt: &R, words: &[&str]) -> Result<(u8, String), Fail>
+    where
+        R: Files<File = File>
+            + Threads
+            + Wait
+            + Clock
+            + Net<Listener = TcpListener, Stream = TcpStream>
+            + RandomSource
+            + AllocGlobal
+            + Copy
+            + Drop
+            + Send
+            + 'static,
+    {
         let alloc = rt.alloc();
         let mut all = Vec::new(alloc);
         for word in words {
@@ -237,7 +250,20 @@ mod tests {
     }
 
     // What is printed where a disk of 64 sectors is formatted with this age, and the status.
-    fn formatted(rt: &HostRuntime, path: &str, age: &str) -> Result<(u8, String), Fail> {
+    fn formatted<R>(rt: &R, path: &str, age: &str) -> Result<(u8, String), Fail>
+    where
+        R: Files<File = File>
+            + Threads
+            + Wait
+            + Clock
+            + Net<Listener = TcpListener, Stream = TcpStream>
+            + RandomSource
+            + AllocGlobal
+            + Copy
+            + Drop
+            + Send
+            + 'static,
+    {
         let words = [
             "lambda_broker",
             "format",
