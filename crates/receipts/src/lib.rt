@@ -14,6 +14,8 @@ mod mark;
 mod marks;
 mod office;
 mod seats;
+#[cfg(test)]
+mod tests;
 mod unlocked;
 
 pub use desk::{Desk, desks};
