@@ -7,8 +7,9 @@ use crate::auditing::{Audit, OldDisk, audit_disk};
 use crate::formatting::{NewDisk, make_disk};
 use crate::serving::{Address, serve_disk};
 use crate::trial::{Trial, TrialError, run_trial};
-use crate::words::{Task, read_task};
+use crate::words::{Job, Task, read_task};
 use audit_report::Older;
+use clap::Error;
 use clap::error::ErrorKind;
 use invoke_records::Standing;
 use std::alloc::AllocGlobal;
@@ -52,17 +53,36 @@ where
     ensures { IfOk result (λ status. status ≤ 3) }
 {
     match read_task(rt.alloc(), words) {
-        Ok(Some(Task::Trial)) => print_trial(run_trial(rt.alloc()), out),
-        Ok(Some(Task::Format(new))) => print_format(&rt, &new, out),
-        Ok(Some(Task::Audit(old))) => print_audit(&rt, &old, out),
+        Ok(Some(Task::Job(job))) => print_job(&rt, &job, out),
         Ok(Some(Task::Serve(at))) => print_serve(rt, &at, out),
         Ok(None) => Ok(USAGE),
-        Err(fault) if fault.kind() == ErrorKind::OutOfMemory => refuse_for_memory(out),
-        Err(fault) => {
-            write!(out, "{fault}")?;
-            Ok(if fault.exit_code() == 0 { DONE } else { USAGE })
-        }
+        Err(fault) => print_usage(&fault, out),
     }
+}
+
+// Does a command that waits for nobody, and prints what came of it.
+fn print_job<R, W>(rt: &R, job: &Job<'_>, out: &mut W) -> io::Result<u8>
+where
+    R: Files<File = File> + AllocGlobal,
+    W: Write,
+    ensures { IfOk result (λ status. status ≤ 3) }
+{
+    match job {
+        Job::Trial => print_trial(run_trial(rt.alloc()), out),
+        Job::Format(new) => print_format(rt, new, out),
+        Job::Audit(old) => print_audit(rt, old, out),
+    }
+}
+
+// Prints why words are no command, or the help that they ask for.
+fn print_usage<W: Write>(fault: &Error, out: &mut W) -> io::Result<u8>
+    ensures { IfOk result (λ status. status ≤ 3) }
+{
+    if fault.kind() == ErrorKind::OutOfMemory {
+        return refuse_for_memory(out);
+    }
+    write!(out, "{fault}")?;
+    Ok(if fault.exit_code() == 0 { DONE } else { USAGE })
 }
 
 fn print_trial<W: Write>(outcome: Result<Trial, TrialError>, out: &mut W) -> io::Result<u8>
@@ -186,5 +206,130 @@ fn print_standing<W: Write>(standing: Standing, out: &mut W) -> io::Result<()> {
         Standing::DueAgain { due } => writeln!(out, "recovered due again due {due}"),
         Standing::Running { deadline, .. } => writeln!(out, "recovered running until {deadline}"),
         Standing::Ended { at, .. } => writeln!(out, "recovered ended at {at}"),
+    }
+}
+
+#[cfg(test)]
+mod tests {
+    use super::*;
+    use std::test::Fail;
+    use std::{env, fs, process};
+
+    // What is printed for these words behind the program's name, and the status.
+    fn printed<R>(rt: &R, words: &[&str]) -> Result<(u8, String), Fail>
+    where
+        R: Files<File = File> + AllocGlobal,
+    {
+        let alloc = rt.alloc();
+        let mut all = Vec::new(alloc);
+        for word in words {
+            all.push(String::from_str(alloc, word)?)?;
+        }
+        let mut out: Vec<u8> = Vec::new(alloc);
+        let status = match read_task(alloc, all.as_slice()) {
+            Ok(Some(Task::Job(job))) => print_job(rt, &job, &mut out)?,
+            Ok(_) => DEVICE,
+            Err(fault) => print_usage(&fault, &mut out)?,
+        };
+        Ok((status, String::from_utf8_lossy(alloc, out.as_slice())?))
+    }
+
+    #[test]
+    fn the_trial_prints_three_lines(rt: HostRuntime) -> Result<(), Fail> {
+        let (status, text) = printed(&rt, &["lambda_broker", "trial"])?;
+        assert_eq!(rt; status, 0);
+        assert_eq!(rt;
+            text.as_str(),
+            "accepted 1 00000000-0000-4000-8000-000000000001\ndurable 1\nrecovered waiting due 1573755365568\n"
+        );
+        Ok(())
+    }
+
+    #[test]
+    fn no_words_and_unknown_ones_are_a_usage_fault(rt: HostRuntime) -> Result<(), Fail> {
+        let (status, text) = printed(&rt, &["lambda_broker"])?;
+        assert_eq!(rt; status, 2);
+        assert!(rt; !text.is_empty());
+        let (status, text) = printed(&rt, &["lambda_broker", "juggle"])?;
+        assert_eq!(rt; status, 2);
+        assert!(rt; !text.is_empty());
+        Ok(())
+    }
+
+    // The path of a file that no other test uses.
+    fn path_of(rt: &HostRuntime, test: &str) -> Result<String, Fail> {
+        let folder = env::temp_dir(rt)?;
+        let id = process::id(rt.process());
+        Ok(format!(in rt.alloc(); "{}/lambda_broker_{test}_{id}", folder.as_str())?)
+    }
+
+    // What is printed where a disk of 64 sectors is formatted with this age, and the status.
+    fn formatted<R>(rt: &R, path: &str, age: &str) -> Result<(u8, String), Fail>
+    where
+        R: Files<File = File> + AllocGlobal,
+    {
+        let words = [
+            "lambda_broker",
+            "format",
+            path,
+            "--sectors",
+            "64",
+            "--name",
+            "my-function",
+            "--handler",
+            "app.main",
+            "--arn",
+            "arn:aws:lambda:us-east-2:1:function:my-function",
+            "--events",
+            "4",
+            "--payload",
+            "1024",
+            "--response",
+            "1024",
+            "--age",
+            age,
+        ];
+        printed(rt, &words)
+    }
+
+    #[test]
+    fn a_disk_in_a_file_is_formatted_and_audited(rt: HostRuntime) -> Result<(), Fail> {
+        let path = path_of(&rt, "audited")?;
+        let (status, text) = formatted(&rt, path.as_str(), "60")?;
+        assert_eq!(rt; (status, text.as_str()), (0, "formatted 64 sectors\n"));
+        let id = "00000000-0000-4000-8000-000000000001";
+        let (status, text) = printed(
+            &rt,
+            &["lambda_broker", "audit", path.as_str(), "--event", id],
+        )?;
+        assert_eq!(rt; status, 0);
+        assert_eq!(rt;
+            text.as_str(),
+            "generation 1 number 0\nheld 0 waiting 0 running 0 success 0 failure 0\nolder none\n00000000-0000-4000-8000-000000000001 unknown\n"
+        );
+        let (status, _) = printed(
+            &rt,
+            &["lambda_broker", "audit", path.as_str(), "--event", "1"],
+        )?;
+        assert_eq!(rt; status, 2);
+        fs::remove_file(&rt, path.as_str())?;
+        Ok(())
+    }
+
+    #[test]
+    fn what_is_no_disk_is_refused_by_name(rt: HostRuntime) -> Result<(), Fail> {
+        let path = path_of(&rt, "refused")?;
+        let (status, text) = formatted(&rt, path.as_str(), "59")?;
+        assert_eq!(rt;
+            (status, text.as_str()),
+            (1, "refused: bad settings: age\n")
+        );
+        let (status, text) = printed(&rt, &["lambda_broker", "audit", path.as_str()])?;
+        assert_eq!(rt; (status, text.as_str()), (1, "refused: no such file\n"));
+        fs::write(&rt, path.as_str(), [0; 64 * 512].as_slice())?;
+        let (status, text) = printed(&rt, &["lambda_broker", "audit", path.as_str()])?;
+        assert_eq!(rt; (status, text.as_str()), (1, "refused: not formatted\n"));
+        fs::remove_file(&rt, path.as_str())?;
+        Ok(())
     }
 }

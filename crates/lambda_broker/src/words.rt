@@ -9,11 +9,19 @@ use std::alloc::{AllocError, Global};
 use uuid::Uuid;
 
 /// A command of the program.
+#[derive(Drop)]
 pub enum Task<'a> {
+    Job(Job<'a>),
+    /// Serves a disk until it is told to stop.
+    Serve(Address<'a>),
+}
+
+/// A command that waits for nobody.
+#[derive(Drop)]
+pub enum Job<'a> {
     Trial,
     Format(NewDisk<'a>),
     Audit(OldDisk<'a>),
-    Serve(Address<'a>),
 }
 
 // An option with a value.
@@ -167,12 +175,12 @@ fn old_disk<'a>(alloc: Global, matches: &ArgMatches<'a>) -> Result<Option<Task<'
         return Ok(None);
     };
     let Some(id) = matches.get_str("event") else {
-        return Ok(Some(Task::Audit(OldDisk { path, event: None })));
+        return Ok(Some(Task::Job(Job::Audit(OldDisk { path, event: None }))));
     };
     match Uuid::parse_str(id) {
         Ok(id) => {
             let event = Some(id.into_bytes());
-            Ok(Some(Task::Audit(OldDisk { path, event })))
+            Ok(Some(Task::Job(Job::Audit(OldDisk { path, event }))))
         }
         Err(_) => Err(bad_id(alloc, id)?),
     }
@@ -192,8 +200,8 @@ pub fn read_task<'a>(alloc: Global, words: &'a [String]) -> Result<Option<Task<'
         return Ok(None);
     };
     match name {
-        "trial" => Ok(Some(Task::Trial)),
-        "format" => Ok(new_disk(told).map(Task::Format)),
+        "trial" => Ok(Some(Task::Job(Job::Trial))),
+        "format" => Ok(new_disk(told).map(Job::Format).map(Task::Job)),
         "serve" => Ok(address(told).map(Task::Serve)),
         "audit" => old_disk(alloc, told),
         _ => Ok(None),
