@@ -15,6 +15,8 @@ mod place;
 mod replying;
 mod seated;
 mod serving;
+#[cfg(test)]
+mod tests;
 mod ticking;
 mod wake;
 

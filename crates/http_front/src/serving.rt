@@ -160,9 +160,10 @@ where
     Ok(())
 }
 
-/// Serves a hall, in which nothing has come yet and nothing is pending, with a ledger of as many parts as there are desks: the callers' port at the first listener, that of environment n at the
-/// listener n behind it. It returns once the broker was stopped or its device failed and every open request was answered
-/// or its client has gone. The committer, on the calling thread, is asked by the gate beside that.
+/// Serves a hall, in which nothing has come yet and nothing is pending, with a ledger of as many parts as there are desks:
+/// the callers' port at the first listener, that of environment n at the listener n behind it. It returns once the broker
+/// was stopped or its device failed and every open request was answered or its client has gone. The committer, on the
+/// calling thread, is asked by the gate beside that.
 pub fn serve<R, L, D, G>(
     rt: R,
     hall: Hall<Broker<D>>,
