@@ -16,8 +16,8 @@ mod text;
 mod words;
 
 pub use bytes::{body, hex_bytes};
-pub use files::run_files;
-pub use orders::{Order, kind_word, read_command, read_environment, read_order};
+pub use files::{race_files, run_files};
+pub use orders::{Order, is_kind, kind_word, read_command, read_environment, read_order};
 pub use reply::Reply;
 pub use running::Scene;
 pub use settings::{set, usual_settings};

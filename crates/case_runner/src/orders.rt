@@ -93,6 +93,21 @@ pub fn read_command(alloc: Global, words: &mut Words) -> Result<Command, Reply> 
     order.command(alloc, order.first)
 }
 
+/// Whether a step of this first word is a command.
+pub fn is_kind(word: &str) -> bool {
+    [
+        "accept",
+        "start",
+        "succeed",
+        "fail",
+        "throttle",
+        "interrupt",
+        "expire",
+        "collect",
+    ]
+    .contains(&word)
+}
+
 /// A kind's word, as `next` answers it.
 pub fn kind_word(kind: Kind) -> &'static str {
     match kind {

@@ -6,7 +6,6 @@
 #![tactic(auto)]
 
 mod commands;
-mod compare;
 mod race;
 mod timing;
 

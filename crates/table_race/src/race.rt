@@ -1,8 +1,8 @@
 // One random history over both tables.
 use crate::commands::{Draw, command, id_of, kind_of, number_of_kind, settings_for};
-use crate::compare::{agree_on_event, agree_on_order, same_rows};
 use async_core::Side;
 use invoke_records::{Cause, Command, GREATEST_NUMBER, Kind};
+use slow_table::{agree_on_event, agree_on_order, same_rows};
 use std::alloc::{AllocError, Global};
 
 /// What a race saw.

@@ -1,4 +1,5 @@
 // Whether both tables answer alike.
+use crate::Table;
 use async_core::{Ended, Side};
 use invoke_records::{Answer, EventRow, Standing};
 
@@ -61,7 +62,7 @@ fn is_ending_of(ended: Option<Ended<'_>>, row: Option<&EventRow>) -> bool {
 }
 
 /// Whether both say the same of an event.
-pub fn agree_on_event(table: &async_core::Table, slow: &slow_table::Table, id: &[u8; 16]) -> bool {
+pub fn agree_on_event(table: &async_core::Table, slow: &Table, id: &[u8; 16]) -> bool {
     table.standing(id) == slow.standing(id)
         && table.outcome(id) == slow.outcome(id)
         && table.accepted(id) == slow.accepted(id)
@@ -73,7 +74,7 @@ pub fn agree_on_event(table: &async_core::Table, slow: &slow_table::Table, id: &
 /// Whether both say the same of what is to be done.
 pub fn agree_on_order(
     table: &async_core::Table,
-    slow: &slow_table::Table,
+    slow: &Table,
     now: u64,
     after: u64,
     environment: u16,
@@ -89,7 +90,7 @@ pub fn agree_on_order(
 }
 
 /// Whether these are the rows of the slow table.
-pub fn same_rows(rows: &[EventRow], slow: &slow_table::Table) -> bool {
+pub fn same_rows(rows: &[EventRow], slow: &Table) -> bool {
     let others = slow.rows();
     if rows.len() != others.len() {
         return false;
