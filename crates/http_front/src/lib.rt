@@ -15,8 +15,6 @@ mod place;
 mod replying;
 mod seated;
 mod serving;
-#[cfg(test)]
-mod tests;
 mod ticking;
 mod wake;
 
