@@ -1,4 +1,5 @@
 // The commands of the scripts given to the table and to the plain list of its rows, side by side.
+use async_core::{ApplyError, Illegal};
 use case_runner::{
     Order, Reply, Scene, Text, Words, is_kind, read_command, read_order, set, usual_settings,
 };
@@ -28,21 +29,30 @@ fn agree_around(table: &async_core::Table, slow: &slow_table::Table, moment: u64
     true
 }
 
-// Applies a command to both: whether they say the same of it and behind it. None where memory is refused.
+// Why a command was refused, if it was: None where memory is wanting.
+fn refusal_of(applied: Result<(), ApplyError>) -> Option<Option<Illegal>> {
+    match applied {
+        Ok(()) => Some(None),
+        Err(ApplyError::Illegal(why)) => Some(Some(why)),
+        Err(ApplyError::OutOfMemory) => None,
+    }
+}
+
+// Applies a command to both: whether they say the same of it and behind it. None where memory is wanting.
 fn apply(
     table: &mut async_core::Table,
     slow: &mut slow_table::Table,
     command: &Command,
 ) -> Option<bool> {
-    let judged = table.judge(command).err() == slow.judge(command).err();
+    let is_judged = table.judge(command).err() == slow.judge(command).err();
     if table.number() >= GREATEST_NUMBER {
-        return Some(judged);
+        return Some(is_judged);
     }
-    let applied = table.apply(command).err();
-    let is_applied = applied == slow.apply(command).err();
+    let refusal = refusal_of(table.apply(command))?;
+    let is_applied = refusal == refusal_of(slow.apply(command))?;
     let snapshot = table.snapshot().ok()?;
     Some(
-        judged
+        is_judged
             && is_applied
             && same_rows(snapshot.rows.as_slice(), slow)
             && agree_on_event(table, slow, &command.id)
