@@ -8,8 +8,6 @@
 mod board;
 mod numbers;
 mod rule;
-#[cfg(test)]
-mod tests;
 
 pub use board::{Board, Seat};
 pub use numbers::{AnyNumber, Numbers};

@@ -33,6 +33,17 @@ pub enum Ending {
     Broken,
 }
 
+impl Ending {
+    // How a front whose threads have ended did.
+    fn of<L: Ledger>(front: &Front<L>) -> Ending {
+        if front.bell.has_broken() {
+            Ending::Broken
+        } else {
+            Ending::Stopped
+        }
+    }
+}
+
 // The gate of a front's committer: its owner's, until all is done.
 #[derive(Drop)]
 struct UntilOver<'a, R, L: Ledger, G> {
@@ -86,6 +97,39 @@ where
     served
 }
 
+// Starts a thread that serves a port.
+fn start_port<R, L>(
+    rt: R,
+    front: &Arc<Front<L>>,
+    number: u16,
+    port: Port<L>,
+    listener: TcpListener,
+) -> io::Result<JoinHandle<io::Result<()>>>
+where
+    R: Threads
+        + Wait
+        + Clock
+        + Net<Listener = TcpListener, Stream = TcpStream>
+        + RandomSource
+        + AllocGlobal
+        + Copy
+        + Drop
+        + Send
+        + 'static,
+    L: Ledger + Send + Sync + 'static,
+{
+    let port = Arc::new(rt.alloc(), port)?;
+    let front = Arc::try_clone(front)?;
+    let place = Place {
+        rt,
+        number,
+        front,
+        port,
+    };
+    let thread = thread::spawn(&rt, move || serve_place(rt, place, listener))?;
+    Ok(thread)
+}
+
 // Starts a thread for each listener, with the next port.
 fn start<R, L>(
     rt: R,
@@ -107,27 +151,24 @@ where
         + 'static,
     L: Ledger + Send + Sync + 'static,
 {
-    let alloc = rt.alloc();
-    let mut ports = ports.into_iter();
     let mut number = 0u16;
-    threads.reserve(listeners.len())?;
-    for listener in listeners {
-        let Some(port) = ports.next() else {
-            break;
-        };
-        let port = Arc::new(alloc, port)?;
-        let front = Arc::try_clone(front)?;
-        let place = Place {
-            rt,
-            number,
-            front,
-            port,
-        };
-        let thread = thread::spawn(&rt, move || serve_place(rt, place, listener))?;
-        threads.push(thread)?;
+    for (port, listener) in ports.into_iter().zip(listeners) {
+        threads.push(start_port(rt, front, number, port, listener)?)?;
         number = number.wrapping_add(1);
     }
     Ok(())
+}
+
+// Waits until all threads have ended: the first error that one ended with.
+fn join_all<R: Threads>(rt: &R, threads: Vec<JoinHandle<io::Result<()>>>) -> io::Result<()> {
+    let mut outcome = Ok(());
+    for thread in threads {
+        let ended = thread.join(rt);
+        if outcome.is_ok() {
+            outcome = ended;
+        }
+    }
+    outcome
 }
 
 // Runs the ticker on a thread of its own and the committer on this one, until the gate or the front ends.
@@ -160,6 +201,46 @@ where
     Ok(())
 }
 
+// Serves an opened front to its end, and waits for its threads.
+fn run<R, L, D, G>(
+    rt: R,
+    opened: Opened<L, D>,
+    listeners: Vec<TcpListener>,
+    gate: &G,
+) -> io::Result<Ending>
+where
+    R: Threads
+        + Wait
+        + Clock
+        + Net<Listener = TcpListener, Stream = TcpStream>
+        + RandomSource
+        + AllocGlobal
+        + Copy
+        + Drop
+        + Send
+        + 'static,
+    L: Ledger + Send + Sync + 'static,
+    D: Disk + Drop,
+    G: Gate,
+{
+    let Opened {
+        front,
+        ports,
+        committer,
+        ticker,
+    } = opened;
+    let mut threads = Vec::new(rt.alloc());
+    let outcome = match start(rt, &front, ports, listeners, &mut threads) {
+        Ok(()) => commit_and_tick(rt, &front, committer, ticker, gate),
+        Err(why) => Err(why),
+    };
+    front.ending.cancel();
+    let joined = join_all(&rt, threads);
+    outcome?;
+    joined?;
+    Ok(Ending::of(&front))
+}
+
 /// Serves a hall, in which nothing has come yet and nothing is pending, with a ledger of as many parts as there are desks:
 /// the callers' port at the first listener, that of environment n at the listener n behind it. It returns once the broker
 /// was stopped or its device failed and every open request was answered or its client has gone. The committer, on the
@@ -190,30 +271,8 @@ where
     requires parts { blank.parts ≡ L.parts }
     requires seats { L.parts ≡ desk_count (settings_of hall.issuer) }
 {
-    let alloc = rt.alloc();
-    let Some(opened) = open::<L, D>(alloc, hall, blank)? else {
-        return Ok(Ending::Stopped);
-    };
-    let Opened {
-        front,
-        ports,
-        committer,
-        ticker,
-    } = opened;
-    let mut threads = Vec::new(alloc);
-    let started = start(rt, &front, ports, listeners, &mut threads);
-    let outcome = match started {
-        Ok(()) => commit_and_tick(rt, &front, committer, ticker, gate),
-        Err(why) => Err(why),
-    };
-    front.ending.cancel();
-    for thread in threads {
-        thread.join(&rt)?;
-    }
-    outcome?;
-    if front.bell.has_broken() {
-        Ok(Ending::Broken)
-    } else {
-        Ok(Ending::Stopped)
+    match open::<L, D>(rt.alloc(), hall, blank)? {
+        Some(opened) => Ok(run(rt, opened, listeners, gate)?),
+        None => Ok(Ending::Stopped),
     }
 }

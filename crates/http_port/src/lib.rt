@@ -11,8 +11,6 @@ mod port;
 mod reading;
 mod requests;
 mod served;
-#[cfg(test)]
-mod tests;
 
 pub use application::{Answered, Application, Body, bare};
 pub use port::serve;

@@ -7,8 +7,6 @@
 
 mod bell;
 mod port;
-#[cfg(test)]
-mod tests;
 mod waiters;
 mod waiting;
 

@@ -14,8 +14,6 @@ mod mark;
 mod marks;
 mod office;
 mod seats;
-#[cfg(test)]
-mod tests;
 mod unlocked;
 
 pub use desk::{Desk, desks};

@@ -259,6 +259,3 @@ impl Disk for FileDisk {
         }
     }
 }
-
-#[cfg(test)]
-mod tests;

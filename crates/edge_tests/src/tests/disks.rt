@@ -1,0 +1,188 @@
+// A disk in memory that tells what it does, and halls over it.
+ghost use Rattle.std.specs.Prelude.{◌≡◌, [], IfOk};
+ghost use Rattle.group_commit.specs.Broker.{pending_of};
+
+use group_commit::{Broker, format};
+use hall_core::Hall;
+use retry_rules::{Settings, Text};
+use sector_disk::{CallKind, Disk, Fault, FaultOnceDisk, MemDisk};
+use std::alloc::{AllocError, Global};
+use std::sync::Arc;
+use std::sync::atomic::{AtomicBool, AtomicU64, Ordering};
+use std::test::Fail;
+use std::thread;
+
+/// After so many turns a test has failed.
+pub const MOST_TURNS: u64 = 1_000_000;
+
+fn text(alloc: Global, bytes: &[u8]) -> Result<Text, AllocError> {
+    Ok(Text::from_vec(Vec::from_slice(alloc, bytes)?))
+}
+
+fn settings(alloc: Global) -> Result<Settings, AllocError> {
+    Ok(Settings {
+        retries: 2,
+        age: 21600,
+        timeout: 3,
+        concurrency: 10,
+        environments: 1,
+        events: 4,
+        payload: 1024,
+        response: 1024,
+        name: text(alloc, b"my-function")?,
+        handler: text(alloc, b"app.main")?,
+        arn: text(
+            alloc,
+            b"arn:aws:lambda:us-east-2:123456789012:function:my-function",
+        )?,
+    })
+}
+
+// Formats a disk with good settings.
+fn format_disk(alloc: Global, disk: &mut MemDisk, settings: &Settings) -> Result<(), Fail> {
+    if settings.check().is_err() {
+        return Err(Fail::new("the settings are not good"));
+    }
+    match format(alloc, disk, settings) {
+        Ok(()) => Ok(()),
+        Err(_) => Err(Fail::new("the disk is not formatted")),
+    }
+}
+
+// A formatted disk of 64 sectors.
+fn formatted(alloc: Global) -> Result<MemDisk, Fail> {
+    let mut disk = MemDisk::new(alloc, 64)?;
+    format_disk(alloc, &mut disk, &settings(alloc)?)?;
+    Ok(disk)
+}
+
+/// What a disk and the threads of a test tell each other.
+#[derive(Drop)]
+pub struct Watch {
+    barriers: AtomicU64,
+    answers: AtomicU64,
+    is_late: AtomicBool,
+}
+
+impl Watch {
+    pub fn new() -> Watch {
+        Watch {
+            barriers: AtomicU64::new(0),
+            answers: AtomicU64::new(0),
+            is_late: AtomicBool::new(false),
+        }
+    }
+
+    /// A call was answered.
+    pub fn note_answer(&self) {
+        self.answers.fetch_add(1, Ordering::SeqCst);
+    }
+
+    /// Waits for the first barrier of the first commit behind the opening.
+    pub fn wait_for_write(&self) {
+        for _turn in 0..MOST_TURNS {
+            if self.barriers() >= 2 {
+                return;
+            }
+            thread::yield_now();
+        }
+    }
+
+    // That barrier waits for so many answers.
+    fn wait_for_answers(&self, answers: u64) {
+        for _turn in 0..MOST_TURNS {
+            if self.answers.load(Ordering::SeqCst) >= answers {
+                return;
+            }
+            thread::yield_now();
+        }
+        self.is_late.store(true, Ordering::SeqCst);
+    }
+
+    /// How many barriers have begun.
+    pub fn barriers(&self) -> u64 {
+        self.barriers.load(Ordering::SeqCst)
+    }
+
+    /// Whether the disk waited in vain.
+    pub fn is_late(&self) -> bool {
+        self.is_late.load(Ordering::SeqCst)
+    }
+}
+
+/// A disk whose second barrier waits for so many answers.
+#[derive(Drop)]
+pub struct WatchedDisk<D: Disk> {
+    inner: D,
+    watch: Arc<Watch>,
+    answers: u64,
+}
+
+/// The disk of all tests: one call may fail, and it is watched.
+pub type TestDisk = WatchedDisk<FaultOnceDisk<MemDisk>>;
+
+impl<D: Disk> Disk for WatchedDisk<D> {
+    ghost view = { λ disk. D.view disk.inner };
+
+    ghost fault_count = { λ disk. D.fault_count disk.inner };
+
+    ghost laws = { λ disk. D.laws disk.inner };
+
+    fn sectors(&self) -> u64 {
+        self.inner.sectors()
+    }
+
+    fn faults(&self) -> u64 {
+        self.inner.faults()
+    }
+
+    fn read(&mut self, at: u64, out: &mut [u8]) -> Result<(), Fault> {
+        self.inner.read(at, out)
+    }
+
+    fn write(&mut self, at: u64, bytes: &[u8]) -> Result<(), Fault> {
+        self.inner.write(at, bytes)
+    }
+
+    fn barrier(&mut self) -> Result<(), Fault> {
+        let before = self.watch.barriers.fetch_add(1, Ordering::SeqCst);
+        if before == 1 {
+            self.watch.wait_for_answers(self.answers);
+        }
+        self.inner.barrier()
+    }
+}
+
+/// A hall over a new disk whose n-th change fails, none at 0, and whose second barrier waits for so many answers.
+pub fn hall(
+    alloc: Global,
+    watch: &Arc<Watch>,
+    fault: u64,
+    answers: u64,
+) -> Result<Hall<Broker<TestDisk>>, Fail>
+    ensures { IfOk result (λ hall. pending_of hall.issuer ≡ []) }
+{
+    let watch = Arc::try_clone(watch)?;
+    let inner = FaultOnceDisk::new(formatted(alloc)?, CallKind::Changes, fault);
+    hall_over(
+        alloc,
+        WatchedDisk {
+            inner,
+            watch,
+            answers,
+        },
+    )
+}
+
+// A hall over a formatted disk.
+fn hall_over<D: Disk + Drop>(alloc: Global, disk: D) -> Result<Hall<Broker<D>>, Fail>
+    ensures { IfOk result (λ hall. pending_of hall.issuer ≡ []) }
+{
+    let Ok(broker) = Broker::open(alloc, disk) else {
+        return Err(Fail::new("the disk is not opened"));
+    };
+    match Hall::new(alloc, broker) {
+        Ok(hall) => Ok(hall),
+        Err(_) => Err(Fail::new("there is no memory for a hall")),
+    }
+}

@@ -1,0 +1,140 @@
+// An office over a hall, for what happens in it.
+ghost use Rattle.std.specs.Prelude.{◌≡◌, []};
+ghost use Rattle.group_commit.specs.Broker.{pending_of, settings_of};
+ghost use Rattle.receipts.specs.Desks.{desk_count};
+
+use crate::tests::disks::{TestDisk, Watch, hall};
+use crate::tests::polls::{Poll, poll_in};
+use crate::tests::threads::{Plan, ask_in_threads};
+use api_core::Call;
+use group_commit::{Broker, DiskHalf, Durable};
+use hall_core::Hall;
+use invoke_records::Bytes;
+use receipts::{Desk, Office, desks};
+use retry_rules::Settings;
+use sector_disk::Disk;
+use std::alloc::{AllocError, AllocGlobal, Global};
+use std::marker::Brand;
+use std::process::Abort;
+use std::random::RandomSource;
+use std::sync::ledger::{Blank, Ledger};
+use std::sync::{Arc, Wait};
+use std::test::Fail;
+use std::thread::Threads;
+
+/// When all is asked, in milliseconds since 1970.
+pub const NOW: u64 = 1573755365568;
+
+/// An invoke of `{}`.
+pub fn invoke(alloc: Global) -> Result<Call, AllocError> {
+    let payload = Bytes::from_vec(Vec::from_slice(alloc, b"{}")?);
+    Ok(Call::Invoke { payload })
+}
+
+/// Ends the test where this does not hold. A call of it costs a proof less than an assertion in its place.
+pub fn expect<R: Abort>(rt: &R, holds: bool, what: &str) {
+    assert!(rt; holds, "it does not hold that {what}");
+}
+
+/// An office with three of its desks, and what a front over it is made of.
+#[derive(Drop)]
+pub struct House<L: Ledger, D: Disk> {
+    pub office: Office<L>,
+    pub one: Desk<L>,
+    pub two: Desk<L>,
+    pub three: Desk<L>,
+    pub others: Vec<Desk<L>>,
+    pub half: DiskHalf<D>,
+    pub durable: Durable,
+    pub settings: Settings,
+}
+
+/// What happens in a house.
+#[derive(Clone, Copy)]
+pub enum Story {
+    /// Threads ask.
+    Threads(Plan),
+    /// Replies are polled.
+    Polls(Poll),
+}
+
+// A house over a hall. None where there is no memory for it.
+fn house_over<L: Ledger, D: Disk + Drop>(
+    alloc: Global,
+    hall: Hall<Broker<D>>,
+    settings: Settings,
+    blank: Blank,
+) -> Option<House<L, D>>
+    requires nothing { pending_of hall.issuer ≡ [] }
+    requires name { blank.name ≡ L.name }
+    requires parts { blank.parts ≡ L.parts }
+    requires seats { L.parts ≡ desk_count (settings_of hall.issuer) }
+{
+    let durable = hall.durable();
+    let Ok((office, desks, half)) = Office::<L>::new(alloc, hall, blank) else {
+        return None;
+    };
+    let mut others: Vec<Desk<L>> = desks;
+    match (others.pop(), others.pop(), others.pop()) {
+        (Some(one), Some(two), Some(three)) => Some(House {
+            office,
+            one,
+            two,
+            three,
+            others,
+            half,
+            durable,
+            settings,
+        }),
+        _ => None,
+    }
+}
+
+// Opens a house over a hall, for a story to happen in it: whether it did.
+fn tell_in<L, R, D>(
+    rt: R,
+    hall: Hall<Broker<D>>,
+    settings: Settings,
+    blank: Blank,
+    watch: &Watch,
+    story: Story,
+) -> bool
+where
+    L: Ledger + Send + Sync,
+    R: Abort + Threads + Wait + RandomSource + AllocGlobal + Copy + Drop + Send + Sync,
+    D: Disk + Drop + Send,
+    requires nothing { pending_of hall.issuer ≡ [] }
+    requires name { blank.name ≡ L.name }
+    requires parts { blank.parts ≡ L.parts }
+    requires seats { L.parts ≡ desk_count (settings_of hall.issuer) }
+{
+    match house_over::<L, D>(rt.alloc(), hall, settings, blank) {
+        Some(house) => match story {
+            Story::Threads(plan) => ask_in_threads(rt, house, watch, plan),
+            Story::Polls(which) => poll_in(rt, house, which),
+        },
+        None => false,
+    }
+}
+
+/// What a disk does beside what it is asked: which change fails, none at 0, and for how many answers its second barrier waits.
+#[derive(Clone, Copy)]
+pub struct Trouble {
+    pub fault: u64,
+    pub answers: u64,
+}
+
+/// Lets a story happen over a new disk with this trouble.
+pub fn tell<R>(rt: R, watch: &Arc<Watch>, trouble: Trouble, story: Story) -> Result<(), Fail>
+where
+    R: Abort + Threads + Wait + RandomSource + AllocGlobal + Copy + Drop + Send + Sync,
+{
+    let hall: Hall<Broker<TestDisk>> = hall(rt.alloc(), watch, trouble.fault, trouble.answers)?;
+    let blank = Blank::new(desks(hall.table().settings()));
+    let settings = hall.table().settings().copy()?;
+    if tell_in::<Brand, R, TestDisk>(rt, hall, settings, blank, watch, story) {
+        Ok(())
+    } else {
+        Err(Fail::new("the house is not opened"))
+    }
+}

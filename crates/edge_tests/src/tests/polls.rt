@@ -1,0 +1,285 @@
+// Futures of replies, polled on one thread over an office, a board and a bell, and once from another thread.
+mod stage;
+
+use crate::tests::disks::Watch;
+use crate::tests::house::{House, Story, Trouble, expect, tell};
+use crate::tests::polls::stage::{Pool, Stage, slot_of, stage_in};
+use api_core::Call;
+use futures::executor::{LocalPool, block_on};
+use hall_core::HallError;
+use sector_disk::Disk;
+use std::alloc::AllocGlobal;
+use std::process::Abort;
+use std::random::RandomSource;
+use std::sync::ledger::Ledger;
+use std::sync::{Arc, Wait};
+use std::test::Fail;
+use std::thread;
+use std::thread::Threads;
+
+const RUNTIME_NEXT: Call = Call::RuntimeNext { environment: 1 };
+
+/// What is polled.
+#[derive(Clone, Copy)]
+pub enum Poll {
+    /// A ticket waits until the board shows its number.
+    Board,
+    /// A reply is told once it is durable, the board shows it and the bell was rung, and not before.
+    Invoke,
+    /// A poll that parks is told by the commit of the command that answers it, and one that is replaced after the next ring.
+    Parked,
+    /// The second commit meets a fault: both open slots are told 503, though the board shows no more than before.
+    Fault,
+    /// A future that is dropped before its reply is told forgets its slot.
+    Dropped,
+    /// Another thread waits for the reply, and is woken by the commit's ring.
+    Thread,
+}
+
+fn a_ticket<R, L, D>(rt: &R, stage: &mut Stage<R, L, D>)
+where
+    R: Abort + Wait + RandomSource + AllocGlobal + Copy + Drop,
+    L: Ledger,
+    D: Disk + Drop,
+{
+    let ticket = match stage.arrive_invoke(1) {
+        Some((ticket, _)) => stage.check(ticket).err(),
+        None => None,
+    };
+    expect(rt, ticket.is_some(), "a ticket waits");
+    expect(rt, stage.commit() == Ok(1), "a command is durable");
+    stage.raise();
+    expect(
+        rt,
+        stage.shows(ticket),
+        "the board shows the ticket's number",
+    );
+}
+
+fn an_invoke<R, L, D>(rt: &R, stage: &mut Stage<R, L, D>, pool: &mut Pool<R, L>)
+where
+    R: Abort + Wait + RandomSource + AllocGlobal + Copy + Drop,
+    L: Ledger,
+    D: Disk + Drop,
+{
+    let slot = stage.invoke(pool, 1);
+    expect(
+        rt,
+        stage.heard(pool).is_nothing(),
+        "nothing is told before a commit",
+    );
+    expect(rt, stage.commit() == Ok(1), "a command is durable");
+    stage.ring(1);
+    expect(
+        rt,
+        stage.heard(pool).is_nothing(),
+        "nothing is told before the board shows it",
+    );
+    stage.raise();
+    stage.ring(0);
+    expect(
+        rt,
+        stage.heard(pool).is_nothing(),
+        "nothing is told before the ring",
+    );
+    stage.ring(1);
+    expect(
+        rt,
+        stage.heard(pool).is_one(slot, 202),
+        "the invoke is told 202",
+    );
+    expect(rt, stage.open_slots() == 0, "no slot is open");
+}
+
+fn parked_polls<R, L, D>(rt: &R, stage: &mut Stage<R, L, D>, pool: &mut Pool<R, L>)
+where
+    R: Abort + Wait + RandomSource + AllocGlobal + Copy + Drop,
+    L: Ledger,
+    D: Disk + Drop,
+{
+    let first = stage.ask(pool, RUNTIME_NEXT, 1);
+    expect(
+        rt,
+        stage.heard(pool).is_nothing(),
+        "the first poll is parked",
+    );
+    let second = stage.ask(pool, RUNTIME_NEXT, 1);
+    expect(
+        rt,
+        stage.heard(pool).is_nothing(),
+        "the second poll is parked",
+    );
+    stage.ring(0);
+    expect(
+        rt,
+        stage.heard(pool).is_one(first, 409),
+        "the first poll is replaced",
+    );
+    let accepted = stage.invoke(pool, 1);
+    expect(rt, stage.tick() == 2, "the event starts");
+    stage.ring(0);
+    expect(
+        rt,
+        stage.heard(pool).is_nothing(),
+        "nothing is told before a commit",
+    );
+    expect(
+        rt,
+        stage.commit_and_tell() == Ok(2),
+        "both commands are durable",
+    );
+    let heard = stage.heard(pool);
+    expect(
+        rt,
+        heard.are_two((second, 200), (accepted, 202)),
+        "both are told",
+    );
+    expect(rt, stage.open_slots() == 0, "no slot is open");
+}
+
+fn a_fault<R, L, D>(rt: &R, stage: &mut Stage<R, L, D>, pool: &mut Pool<R, L>)
+where
+    R: Abort + Wait + RandomSource + AllocGlobal + Copy + Drop,
+    L: Ledger,
+    D: Disk + Drop,
+{
+    let accepted = stage.invoke(pool, 1);
+    expect(
+        rt,
+        stage.heard(pool).is_nothing(),
+        "nothing is told before a commit",
+    );
+    expect(rt, stage.commit_and_tell() == Ok(1), "a command is durable");
+    expect(
+        rt,
+        stage.heard(pool).is_one(accepted, 202),
+        "the invoke is told 202",
+    );
+    let one = stage.ticket();
+    let parked = stage.ask(pool, RUNTIME_NEXT, 1);
+    let refused = stage.invoke(pool, 2);
+    let two = stage.ticket();
+    expect(rt, stage.open_slots() == 2, "two slots are open");
+    expect(
+        rt,
+        stage.heard(pool).is_nothing(),
+        "nothing is told before a commit",
+    );
+    expect(
+        rt,
+        stage.commit_and_tell() == Err(HallError::Fault),
+        "the device fails",
+    );
+    let heard = stage.heard(pool);
+    expect(
+        rt,
+        heard.are_two((parked, 503), (refused, 503)),
+        "both are told 503",
+    );
+    expect(rt, stage.shows(one), "the board shows what is durable");
+    expect(rt, !stage.shows(two), "the board shows no more");
+    expect(
+        rt,
+        stage.commit_and_tell() == Err(HallError::Broken),
+        "the hall is broken",
+    );
+}
+
+fn a_dropped_future<R, L, D>(rt: &R, stage: &mut Stage<R, L, D>)
+where
+    R: Abort + Wait + RandomSource + AllocGlobal + Copy + Drop,
+    L: Ledger,
+    D: Disk + Drop,
+{
+    let waiting = stage.waiting(stage.arrive_invoke(1));
+    expect(rt, waiting.is_some(), "a future waits");
+    expect(rt, stage.open_slots() == 1, "its slot is open");
+    drop(waiting);
+    expect(rt, stage.open_slots() == 0, "its slot is forgotten");
+}
+
+fn another_thread<R, L, D>(rt: &R, stage: &mut Stage<R, L, D>) -> bool
+where
+    R: Abort + Threads + Wait + RandomSource + AllocGlobal + Copy + Drop + Send + Sync,
+    L: Ledger + Send + Sync,
+    D: Disk + Drop + Send,
+{
+    let arrived = stage.arrive_invoke(1);
+    let slot = slot_of(&arrived);
+    let Some(waiting) = stage.waiting(arrived) else {
+        return false;
+    };
+    let (released, told) = thread::join(rt, || block_on(rt, waiting), || stage.commit_and_tell());
+    expect(rt, told == Ok(1), "a command is durable");
+    match released {
+        Ok(released) => {
+            let is_told = released.slot() == slot && released.reply.status == 202;
+            expect(rt, is_told, "the thread is told 202");
+            true
+        }
+        Err(_) => false,
+    }
+}
+
+/// Polls replies in a house: whether there was memory for it.
+pub fn poll_in<R, L, D>(rt: R, house: House<L, D>, which: Poll) -> bool
+where
+    R: Abort + Threads + Wait + RandomSource + AllocGlobal + Copy + Drop + Send + Sync,
+    L: Ledger + Send + Sync,
+    D: Disk + Drop + Send,
+{
+    let (Some(stage), Ok(pool)) = (stage_in(rt, house), LocalPool::new(&rt)) else {
+        return false;
+    };
+    let mut stage: Stage<R, L, D> = stage;
+    let mut pool: Pool<R, L> = pool;
+    match which {
+        Poll::Board => a_ticket(&rt, &mut stage),
+        Poll::Invoke => an_invoke(&rt, &mut stage, &mut pool),
+        Poll::Parked => parked_polls(&rt, &mut stage, &mut pool),
+        Poll::Fault => a_fault(&rt, &mut stage, &mut pool),
+        Poll::Dropped => a_dropped_future(&rt, &mut stage),
+        Poll::Thread => return another_thread(&rt, &mut stage),
+    }
+    true
+}
+
+// Polls in a new house, over a disk whose n-th change fails.
+fn tell_of<R>(rt: R, fault: u64, which: Poll) -> Result<(), Fail>
+where
+    R: Abort + Threads + Wait + RandomSource + AllocGlobal + Copy + Drop + Send + Sync,
+{
+    let watch = Arc::new(rt.alloc(), Watch::new())?;
+    let trouble = Trouble { fault, answers: 0 };
+    tell(rt, &watch, trouble, Story::Polls(which))
+}
+
+#[test]
+fn a_ticket_waits_until_its_number_is_raised(rt: HostRuntime) -> Result<(), Fail> {
+    tell_of(rt, 0, Poll::Board)
+}
+
+#[test]
+fn an_invoke_is_told_after_its_commit(rt: HostRuntime) -> Result<(), Fail> {
+    tell_of(rt, 0, Poll::Invoke)
+}
+
+#[test]
+fn parked_polls_are_told_when_they_are_answered(rt: HostRuntime) -> Result<(), Fail> {
+    tell_of(rt, 0, Poll::Parked)
+}
+
+#[test]
+fn both_open_slots_are_told_503_after_a_fault(rt: HostRuntime) -> Result<(), Fail> {
+    tell_of(rt, 9, Poll::Fault)
+}
+
+#[test]
+fn a_dropped_future_forgets_its_slot(rt: HostRuntime) -> Result<(), Fail> {
+    tell_of(rt, 0, Poll::Dropped)
+}
+
+#[test]
+fn a_ring_wakes_another_thread(rt: HostRuntime) -> Result<(), Fail> {
+    tell_of(rt, 0, Poll::Thread)
+}

@@ -1,0 +1,233 @@
+// What clients ask of a front, and what they are told.
+use crate::tests::disks::Watch;
+use crate::tests::house::expect;
+use crate::tests::ports::clients::{Doors, Told, ask, hear, send};
+use std::alloc::AllocGlobal;
+use std::net::{Net, TcpListener, TcpStream};
+use std::process::Abort;
+use std::thread;
+use std::thread::Threads;
+
+/// Who asks what.
+#[derive(Clone, Copy)]
+pub enum Talk {
+    /// A caller and a runtime: one event's whole life.
+    Life,
+    /// An extension beside the runtime.
+    Extension,
+    /// Two callers whose invokes share a commit, and clients who ask while the disk makes its first barrier.
+    Held,
+    /// One connection with several requests.
+    Connection,
+}
+
+impl Talk {
+    /// How many commands are pending before the committer commits.
+    pub fn pending(self) -> usize {
+        match self {
+            Talk::Held => 2,
+            _ => 1,
+        }
+    }
+}
+
+const INVOKE: &str =
+    "POST /2015-03-31/functions/my-function/invocations HTTP/1.1\r\nhost: h\r\nconnection: close\r\nx-amz-invocation-type: Event\r\ncontent-length: 7\r\n\r\n{\"a\":1}";
+
+const NEXT: &str =
+    "GET /2018-06-01/runtime/invocation/next HTTP/1.1\r\nhost: h\r\nconnection: close\r\n\r\n";
+
+const RESPONSE: [&str; 2] = [
+    "POST /2018-06-01/runtime/invocation/",
+    "/response HTTP/1.1\r\nhost: h\r\nconnection: close\r\ncontent-length: 2\r\n\r\nok",
+];
+
+const REGISTER: &str =
+    "POST /2020-01-01/extension/register HTTP/1.1\r\nhost: h\r\nconnection: close\r\nlambda-extension-name: ext\r\ncontent-length: 21\r\n\r\n{\"events\":[\"INVOKE\"]}";
+
+const EVENT_NEXT: [&str; 2] = [
+    "GET /2020-01-01/extension/event/next HTTP/1.1\r\nhost: h\r\nconnection: close\r\nlambda-extension-identifier: ",
+    "\r\n\r\n",
+];
+
+const OLDEST: &str =
+    "GET /broker/destinations/success HTTP/1.1\r\nhost: h\r\nconnection: close\r\n\r\n";
+
+const NOWHERE: &str = "GET /x HTTP/1.1\r\nhost: h\r\nconnection: close\r\n\r\n";
+
+const STOP: &str =
+    "POST /broker/stop HTTP/1.1\r\nhost: h\r\nconnection: close\r\ncontent-length: 0\r\n\r\n";
+
+// A caller asks: whether these statuses are told.
+fn call<R>(rt: &R, doors: Doors, request: &str, statuses: &str) -> bool
+where
+    R: AllocGlobal + Net<Listener = TcpListener, Stream = TcpStream>,
+{
+    ask(rt, rt.alloc(), doors.callers, [request, "", ""]).has(statuses)
+}
+
+// A caller invokes: the response, with the request's id.
+fn invoke<R>(rt: &R, doors: Doors) -> Told
+where
+    R: AllocGlobal + Net<Listener = TcpListener, Stream = TcpStream>,
+{
+    ask(rt, rt.alloc(), doors.callers, [INVOKE, "", ""])
+}
+
+// Whether an event of this id is told, with the payload of an invoke.
+fn is_event(told: &Told, id: &str) -> bool {
+    let is_whole = id.len() == 36 && told.has("200") && told.all.ends_with("{\"a\":1}");
+    is_whole && told.header("lambda-runtime-aws-request-id: ") == id
+}
+
+// A client of the environment's port asks: whether this status is told.
+fn run<R>(rt: &R, doors: Doors, parts: [&str; 3], status: &str) -> bool
+where
+    R: AllocGlobal + Net<Listener = TcpListener, Stream = TcpStream>,
+{
+    ask(rt, rt.alloc(), doors.environment, parts).has(status)
+}
+
+// The runtime asks for its next event: whether it is that of an invoke.
+fn is_run<R>(rt: &R, doors: Doors, id: &str) -> bool
+where
+    R: AllocGlobal + Net<Listener = TcpListener, Stream = TcpStream>,
+{
+    is_event(&ask(rt, rt.alloc(), doors.environment, [NEXT, "", ""]), id)
+}
+
+// A caller asks for the oldest record: whether it has this id.
+fn is_recorded<R>(rt: &R, doors: Doors, id: &str) -> bool
+where
+    R: AllocGlobal + Net<Listener = TcpListener, Stream = TcpStream>,
+{
+    let record = ask(rt, rt.alloc(), doors.callers, [OLDEST, "", ""]);
+    record.has("200") && record.all.contains(id)
+}
+
+fn a_life<R>(rt: &R, doors: Doors)
+where
+    R: Abort + AllocGlobal + Net<Listener = TcpListener, Stream = TcpStream>,
+{
+    let accepted = invoke(rt, doors);
+    let id = accepted.header("x-amzn-requestid: ");
+    let [before, after] = RESPONSE;
+    expect(rt, accepted.has("202"), "the event is accepted");
+    expect(rt, is_run(rt, doors, id), "the runtime is told the event");
+    expect(
+        rt,
+        run(rt, doors, [before, id, after], "202"),
+        "its answer is taken",
+    );
+    let parked = send(rt, doors.environment, [NEXT, "", ""]);
+    expect(rt, is_recorded(rt, doors, id), "the record has its id");
+    expect(rt, call(rt, doors, STOP, "202"), "the broker stops");
+    expect(
+        rt,
+        hear(rt.alloc(), parked).has("500"),
+        "the parked poll is told so",
+    );
+}
+
+fn an_extension<R>(rt: &R, doors: Doors)
+where
+    R: Abort + AllocGlobal + Net<Listener = TcpListener, Stream = TcpStream>,
+{
+    let registered = ask(rt, rt.alloc(), doors.environment, [REGISTER, "", ""]);
+    let identifier = registered.header("lambda-extension-identifier: ");
+    let [before, after] = EVENT_NEXT;
+    expect(rt, registered.has("200"), "the extension is registered");
+    let extension = send(rt, doors.environment, [before, identifier, after]);
+    let runtime = send(rt, doors.environment, [NEXT, "", ""]);
+    let accepted = invoke(rt, doors);
+    let id = accepted.header("x-amzn-requestid: ");
+    expect(rt, accepted.has("202"), "the event is accepted");
+    expect(
+        rt,
+        is_event(&hear(rt.alloc(), runtime), id),
+        "the runtime is told the event",
+    );
+    let event = hear(rt.alloc(), extension);
+    expect(
+        rt,
+        event.has("200") && event.all.contains(id),
+        "the extension is told it",
+    );
+    expect(rt, call(rt, doors, STOP, "202"), "the broker stops");
+}
+
+// Asks both ports while the disk makes a barrier, which goes on once the environment's has answered.
+fn ask_beside<R>(rt: &R, doors: Doors, watch: &Watch) -> bool
+where
+    R: AllocGlobal + Net<Listener = TcpListener, Stream = TcpStream>,
+{
+    watch.wait_for_write();
+    let oldest = send(rt, doors.callers, [OLDEST, "", ""]);
+    for _turn in 0..10_000 {
+        thread::yield_now();
+    }
+    let is_answered = run(rt, doors, [NOWHERE, "", ""], "404");
+    watch.note_answer();
+    hear(rt.alloc(), oldest).has("204") && is_answered
+}
+
+fn a_held_commit<R>(rt: &R, doors: Doors, watch: &Watch)
+where
+    R: Abort + Threads + AllocGlobal + Sync + Net<Listener = TcpListener, Stream = TcpStream>,
+{
+    let (one, (two, beside)) = thread::join(
+        rt,
+        || call(rt, doors, INVOKE, "202"),
+        || {
+            thread::join(
+                rt,
+                || call(rt, doors, INVOKE, "202"),
+                || ask_beside(rt, doors, watch),
+            )
+        },
+    );
+    expect(rt, one && two, "both events are accepted");
+    expect(rt, beside, "both ports answer beside the write");
+    expect(rt, watch.barriers() == 3, "both share one commit");
+    expect(rt, call(rt, doors, STOP, "202"), "the broker stops");
+}
+
+const SEVERAL: &str =
+    "POST /2015-03-31/functions/my-function/invocations HTTP/1.1\r\nhost: h\r\nx-amz-invocation-type: Event\r\ncontent-length: 2\r\n\r\n{}GET /broker/destinations/success HTTP/1.1\r\nhost: h\r\n\r\nGET /x HTTP/1.1\r\nhost: h\r\nconnection: close\r\n\r\n";
+
+const LARGE: &str =
+    "POST /2015-03-31/functions/my-function/invocations HTTP/1.1\r\nhost: h\r\nconnection: close\r\nx-amz-invocation-type: Event\r\ncontent-length: 1025\r\n\r\n";
+
+// A caller invokes with a payload that is a byte too large: whether it is told so.
+fn is_too_large<R>(rt: &R, doors: Doors) -> bool
+where
+    R: AllocGlobal + Net<Listener = TcpListener, Stream = TcpStream>,
+{
+    match "1".repeat(rt.alloc(), 1025) {
+        Ok(body) => ask(rt, rt.alloc(), doors.callers, [LARGE, body.as_str(), ""]).has("413"),
+        Err(_) => false,
+    }
+}
+
+fn a_connection<R>(rt: &R, doors: Doors)
+where
+    R: Abort + AllocGlobal + Net<Listener = TcpListener, Stream = TcpStream>,
+{
+    let several = call(rt, doors, SEVERAL, "202 204 404");
+    expect(rt, several, "a connection goes on");
+    expect(rt, is_too_large(rt, doors), "a large body is told as such");
+    expect(rt, call(rt, doors, STOP, "202"), "the broker stops");
+}
+
+/// Talks to a front, and stops it.
+pub fn talk_at<R>(rt: &R, doors: Doors, watch: &Watch, talk: Talk)
+where
+    R: Abort + Threads + AllocGlobal + Sync + Net<Listener = TcpListener, Stream = TcpStream>,
+{
+    match talk {
+        Talk::Life => a_life(rt, doors),
+        Talk::Extension => an_extension(rt, doors),
+        Talk::Held => a_held_commit(rt, doors, watch),
+        Talk::Connection => a_connection(rt, doors),
+    }
+}
