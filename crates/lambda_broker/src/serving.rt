@@ -1,5 +1,5 @@
 // Serving a disk on the ports of this machine.
-ghost use Rattle.std.specs.Prelude.{◌≡◌, [], OnOk};
+ghost use Rattle.std.specs.Prelude.{◌≡◌, [], IfOk, OnOk};
 ghost use Rattle.group_commit.specs.Broker.{pending_of};
 
 use group_commit::{Broker, CommitError, IssueError, OpenError, OpenFailure};
@@ -115,6 +115,100 @@ fn resume<R: Clock + Wait, D: Disk>(rt: &R, broker: &mut Broker<D>) -> Result<()
     }
 }
 
+// Listens on the port of the callers and on one for each environment behind it.
+fn listen<R>(rt: &R, port: u16, environments: u8) -> Result<Vec<TcpListener>, ServingError>
+where
+    R: Net<Listener = TcpListener, Stream = TcpStream> + AllocGlobal,
+{
+    match bind(rt, port, environments) {
+        Ok(listeners) => Ok(listeners),
+        Err(why) if why.kind() == io::ErrorKind::OutOfMemory => {
+            Err(ServingError::OutOfMemory(AllocError))
+        }
+        Err(_) => Err(ServingError::Port),
+    }
+}
+
+// A hall over a broker.
+fn hall_over<D: Disk + Drop>(
+    alloc: Global,
+    broker: Broker<D>,
+) -> Result<Hall<Broker<D>>, ServingError>
+    requires { pending_of broker ≡ [] }
+    ensures { IfOk result (λ hall. pending_of hall.issuer ≡ []) }
+{
+    if broker.is_broken() {
+        return Err(ServingError::Broken);
+    }
+    match Hall::new(alloc, broker) {
+        Ok(hall) => Ok(hall),
+        Err(_) => Err(ServingError::OutOfMemory(AllocError)),
+    }
+}
+
+// Prints the line from which on callers are served.
+fn announce<W: Write>(port: u16, out: &mut W) -> io::Result<()> {
+    writeln!(out, "serving on 127.0.0.1:{port}")?;
+    out.flush()
+}
+
+// Serves a hall until the broker is stopped.
+fn serve_hall<R, D>(
+    rt: R,
+    hall: Hall<Broker<D>>,
+    listeners: Vec<TcpListener>,
+) -> Result<(), ServingError>
+where
+    R: Threads
+        + Wait
+        + Clock
+        + Net<Listener = TcpListener, Stream = TcpStream>
+        + RandomSource
+        + AllocGlobal
+        + Copy
+        + Drop
+        + Send
+        + 'static,
+    D: Disk + Drop,
+    requires { pending_of hall.issuer ≡ [] }
+{
+    let blank = Blank::new(desks(hall.table().settings()));
+    match serve::<_, Brand, _, _>(rt, hall, blank, listeners, &WhenPending)? {
+        Ending::Stopped => Ok(()),
+        Ending::Broken => Err(ServingError::Broken),
+    }
+}
+
+// Serves a broker that was opened: the ports first, then the attempts that the last stop cut off.
+fn serve_broker<R, D, W>(
+    rt: R,
+    broker: Broker<D>,
+    port: u16,
+    out: &mut W,
+) -> Result<(), ServingError>
+where
+    R: Threads
+        + Wait
+        + Clock
+        + Net<Listener = TcpListener, Stream = TcpStream>
+        + RandomSource
+        + AllocGlobal
+        + Copy
+        + Drop
+        + Send
+        + 'static,
+    D: Disk + Drop,
+    W: Write,
+{
+    let mut broker = broker;
+    let environments = broker.table().settings().environments;
+    let listeners = listen(&rt, port, environments)?;
+    resume(&rt, &mut broker)?;
+    let hall = hall_over(rt.alloc(), broker)?;
+    announce(port, out)?;
+    serve_hall(rt, hall, listeners)
+}
+
 /// Serves a disk: callers on a port of this machine and environment n on the port n behind it, from the line that is
 /// printed on until the broker is stopped. The file is looked at first, then what is on it, then the ports.
 pub fn serve_disk<R, W>(rt: R, at: &Address<'_>, out: &mut W) -> Result<(), ServingError>
@@ -132,29 +226,7 @@ where
         + 'static,
     W: Write,
 {
-    let alloc = rt.alloc();
-    let mut broker = open(alloc, FileDisk::open(&rt, at.path)?)?;
-    let environments = broker.table().settings().environments;
-    let listeners = match bind(&rt, at.port, environments) {
-        Ok(listeners) => listeners,
-        Err(why) if why.kind() == io::ErrorKind::OutOfMemory => {
-            return Err(ServingError::OutOfMemory(AllocError));
-        }
-        Err(_) => return Err(ServingError::Port),
-    };
-    resume(&rt, &mut broker)?;
-    if broker.is_broken() {
-        return Err(ServingError::Broken);
-    }
-    let Ok(hall) = Hall::new(alloc, broker) else {
-        return Err(ServingError::OutOfMemory(AllocError));
-    };
-    let blank = Blank::new(desks(hall.table().settings()));
-    let port = at.port;
-    writeln!(out, "serving on 127.0.0.1:{port}")?;
-    out.flush()?;
-    match serve::<_, Brand, _, _>(rt, hall, blank, listeners, &WhenPending)? {
-        Ending::Stopped => Ok(()),
-        Ending::Broken => Err(ServingError::Broken),
-    }
+    let disk = FileDisk::open(&rt, at.path)?;
+    let broker = open(rt.alloc(), disk)?;
+    serve_broker(rt, broker, at.port, out)
 }

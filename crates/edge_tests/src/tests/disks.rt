@@ -56,17 +56,37 @@ fn formatted(alloc: Global) -> Result<MemDisk, Fail> {
     Ok(disk)
 }
 
+/// What a disk does beside what it is asked.
+#[derive(Clone, Copy)]
+pub struct Trouble {
+    /// The number of the change that fails, 0 for none.
+    pub fault: u64,
+    /// The number of the barrier that waits, 0 for none. The first one is the opening's.
+    pub barrier: u64,
+    /// How many answers that barrier waits for.
+    pub answers: u64,
+}
+
+/// A disk that does just what it is asked.
+pub const NO_TROUBLE: Trouble = Trouble {
+    fault: 0,
+    barrier: 0,
+    answers: 0,
+};
+
 /// What a disk and the threads of a test tell each other.
 #[derive(Drop)]
 pub struct Watch {
+    trouble: Trouble,
     barriers: AtomicU64,
     answers: AtomicU64,
     is_late: AtomicBool,
 }
 
 impl Watch {
-    pub fn new() -> Watch {
+    pub fn new(trouble: Trouble) -> Watch {
         Watch {
+            trouble,
             barriers: AtomicU64::new(0),
             answers: AtomicU64::new(0),
             is_late: AtomicBool::new(false),
@@ -78,20 +98,20 @@ impl Watch {
         self.answers.fetch_add(1, Ordering::SeqCst);
     }
 
-    /// Waits for the first barrier of the first commit behind the opening.
-    pub fn wait_for_write(&self) {
+    /// Waits until the barrier that waits has begun.
+    pub fn wait_for_barrier(&self) {
         for _turn in 0..MOST_TURNS {
-            if self.barriers() >= 2 {
+            if self.barriers() >= self.trouble.barrier {
                 return;
             }
             thread::yield_now();
         }
     }
 
-    // That barrier waits for so many answers.
-    fn wait_for_answers(&self, answers: u64) {
+    // The barrier that waits does so.
+    fn wait_for_answers(&self) {
         for _turn in 0..MOST_TURNS {
-            if self.answers.load(Ordering::SeqCst) >= answers {
+            if self.answers.load(Ordering::SeqCst) >= self.trouble.answers {
                 return;
             }
             thread::yield_now();
@@ -110,12 +130,11 @@ impl Watch {
     }
 }
 
-/// A disk whose second barrier waits for so many answers.
+/// A disk one of whose barriers waits.
 #[derive(Drop)]
 pub struct WatchedDisk<D: Disk> {
     inner: D,
     watch: Arc<Watch>,
-    answers: u64,
 }
 
 /// The disk of all tests: one call may fail, and it is watched.
@@ -145,33 +164,22 @@ impl<D: Disk> Disk for WatchedDisk<D> {
     }
 
     fn barrier(&mut self) -> Result<(), Fault> {
-        let before = self.watch.barriers.fetch_add(1, Ordering::SeqCst);
-        if before == 1 {
-            self.watch.wait_for_answers(self.answers);
+        let number = self.watch.barriers.fetch_add(1, Ordering::SeqCst);
+        if number.saturating_add(1) == self.watch.trouble.barrier {
+            self.watch.wait_for_answers();
         }
         self.inner.barrier()
     }
 }
 
-/// A hall over a new disk whose n-th change fails, none at 0, and whose second barrier waits for so many answers.
-pub fn hall(
-    alloc: Global,
-    watch: &Arc<Watch>,
-    fault: u64,
-    answers: u64,
-) -> Result<Hall<Broker<TestDisk>>, Fail>
+/// A hall over a new disk that is watched.
+pub fn hall(alloc: Global, watch: &Arc<Watch>) -> Result<Hall<Broker<TestDisk>>, Fail>
     ensures { IfOk result (λ hall. pending_of hall.issuer ≡ []) }
 {
     let watch = Arc::try_clone(watch)?;
+    let fault = watch.trouble.fault;
     let inner = FaultOnceDisk::new(formatted(alloc)?, CallKind::Changes, fault);
-    hall_over(
-        alloc,
-        WatchedDisk {
-            inner,
-            watch,
-            answers,
-        },
-    )
+    hall_over(alloc, WatchedDisk { inner, watch })
 }
 
 // A hall over a formatted disk.

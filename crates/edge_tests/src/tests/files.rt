@@ -1,5 +1,8 @@
 // Disks in files of the system's folder for files of the day.
+use crate::tests::house::expect;
 use sector_disk::{Disk, FileDisk, FileError, SECTOR_SIZE};
+use std::fs::File;
+use std::rt::Files;
 use std::test::Fail;
 use std::{env, fs, process};
 
@@ -30,88 +33,146 @@ fn is_filled(disk: &mut FileDisk, sector: u64, byte: u8) -> bool {
     sector < disk.sectors() && disk.write(sector, &[byte; SECTOR_SIZE]).is_ok()
 }
 
-// Why a disk was not opened, if it was not.
-fn refusal(outcome: Result<FileDisk, FileError>) -> Option<FileError> {
-    outcome.err()
+// How a disk is taken up.
+#[derive(Clone, Copy)]
+enum Opening {
+    Open,
+    ReadOnly,
+    // With so many sectors.
+    Create(u64),
+}
+
+// Why a disk is not taken up, if it is not.
+fn refusal<R: Files<File = File>>(rt: &R, path: &str, opening: Opening) -> Option<FileError> {
+    match opening {
+        Opening::Open => FileDisk::open(rt, path).err(),
+        Opening::ReadOnly => FileDisk::open_read_only(rt, path).err(),
+        Opening::Create(sectors) => FileDisk::create(rt, path, sectors).err(),
+    }
+}
+
+// Whether a disk is refused by this name, however it is opened.
+fn is_refused<R: Files<File = File>>(rt: &R, path: &str, why: FileError) -> bool {
+    let why = Some(why);
+    refusal(rt, path, Opening::Open) == why && refusal(rt, path, Opening::ReadOnly) == why
+}
+
+// Makes a disk of 300 sectors and fills its last one with 7: whether that is durable.
+fn is_made<R: Files<File = File>>(rt: &R, path: &str) -> bool {
+    match FileDisk::create(rt, path, 300) {
+        Ok(disk) => {
+            let mut disk = disk;
+            disk.sectors() == 300 && is_filled(&mut disk, 299, 7) && disk.barrier().is_ok()
+        }
+        Err(_) => false,
+    }
+}
+
+// Whether a disk of 300 sectors is filled with zeros and its last sector with 7.
+fn is_kept<R: Files<File = File>>(rt: &R, path: &str) -> bool {
+    match FileDisk::open(rt, path) {
+        Ok(disk) => {
+            let mut disk = disk;
+            let mut is_kept = disk.sectors() == 300;
+            for (sector, byte) in [(0, 0), (150, 0), (298, 0), (299, 7)] {
+                is_kept = is_kept && byte_at(&mut disk, sector) == Some(byte);
+            }
+            is_kept && disk.faults() == 0
+        }
+        Err(_) => false,
+    }
 }
 
 #[test]
 fn what_was_written_is_read_after_it_was_opened_again(rt: HostRuntime) -> Result<(), Fail> {
     let path = path_of(&rt, "kept")?;
-    fs::write(&rt, path.as_str(), "something else")?;
-    let mut disk = FileDisk::create(&rt, path.as_str(), 300)?;
-    assert_eq!(rt; disk.sectors(), 300);
-    assert!(rt; is_filled(&mut disk, 299, 7));
-    assert!(rt; disk.barrier().is_ok());
-    drop(disk);
-    assert_eq!(rt; fs::metadata(&rt, path.as_str())?.len(), 153600);
-
-    let mut disk = FileDisk::open(&rt, path.as_str())?;
-    assert_eq!(rt; disk.sectors(), 300);
-    for (sector, byte) in [(0, 0), (150, 0), (298, 0), (299, 7)] {
-        assert_eq!(rt; byte_at(&mut disk, sector), Some(byte), "at {sector}");
-    }
-    assert_eq!(rt; disk.faults(), 0);
-    drop(disk);
-    fs::remove_file(&rt, path.as_str())?;
+    let path = path.as_str();
+    fs::write(&rt, path, "something else")?;
+    expect(&rt, is_made(&rt, path), "a disk is made of another file");
+    let size = fs::metadata(&rt, path)?.len();
+    expect(&rt, size == 153600, "the file has 300 sectors");
+    expect(&rt, is_kept(&rt, path), "what was written is read");
+    fs::remove_file(&rt, path)?;
     Ok(())
+}
+
+// Makes a disk of one sector, filled with 9: whether it is refused in each way while it is open.
+fn is_locked<R: Files<File = File>>(rt: &R, path: &str) -> bool {
+    match FileDisk::create(rt, path, 1) {
+        Ok(disk) => {
+            let mut disk = disk;
+            let in_use = Some(FileError::InUse);
+            let is_refused = is_refused(rt, path, FileError::InUse);
+            let is_made = refusal(rt, path, Opening::Create(2)) == in_use;
+            is_filled(&mut disk, 0, 9) && is_refused && is_made
+        }
+        Err(_) => false,
+    }
+}
+
+// Whether a disk that is open for reading is read, not written, and opened once more for reading alone.
+fn is_read_only<R: Files<File = File>>(rt: &R, path: &str) -> bool {
+    match FileDisk::open_read_only(rt, path) {
+        Ok(disk) => {
+            let mut disk = disk;
+            let is_read = byte_at(&mut disk, 0) == Some(9) && disk.barrier().is_ok();
+            let is_written = is_filled(&mut disk, 0, 8) || disk.faults() != 1;
+            let is_locked = refusal(rt, path, Opening::Open) == Some(FileError::InUse);
+            let is_shared = refusal(rt, path, Opening::ReadOnly).is_none();
+            is_read && !is_written && is_locked && is_shared
+        }
+        Err(_) => false,
+    }
 }
 
 #[test]
 fn a_disk_that_is_open_is_not_opened_again(rt: HostRuntime) -> Result<(), Fail> {
     let path = path_of(&rt, "locked")?;
-    let mut disk = FileDisk::create(&rt, path.as_str(), 1)?;
-    assert!(rt; is_filled(&mut disk, 0, 9));
-    let in_use = Some(FileError::InUse);
-    assert_eq!(rt; refusal(FileDisk::open(&rt, path.as_str())), in_use);
-    assert_eq!(rt;
-        refusal(FileDisk::open_read_only(&rt, path.as_str())),
-        in_use
+    let path = path.as_str();
+    expect(&rt, is_locked(&rt, path), "an open disk is refused");
+    expect(
+        &rt,
+        is_read_only(&rt, path),
+        "one that is read is not written",
     );
-    assert_eq!(rt; refusal(FileDisk::create(&rt, path.as_str(), 2)), in_use);
-    drop(disk);
-
-    let mut disk = FileDisk::open_read_only(&rt, path.as_str())?;
-    assert_eq!(rt; byte_at(&mut disk, 0), Some(9));
-    assert!(rt; disk.barrier().is_ok());
-    assert!(rt; !is_filled(&mut disk, 0, 8));
-    assert_eq!(rt; disk.faults(), 1);
-    assert_eq!(rt; refusal(FileDisk::open(&rt, path.as_str())), in_use);
-    assert_eq!(rt; FileDisk::open_read_only(&rt, path.as_str())?.sectors(), 1);
-    drop(disk);
-    fs::remove_file(&rt, path.as_str())?;
+    fs::remove_file(&rt, path)?;
     Ok(())
 }
 
 #[test]
 fn what_is_no_disk_is_refused_by_name(rt: HostRuntime) -> Result<(), Fail> {
     let path = path_of(&rt, "refused")?;
-    let not_found = Some(FileError::NotFound);
-    assert_eq!(rt; refusal(FileDisk::open(&rt, path.as_str())), not_found);
-    assert_eq!(rt;
-        refusal(FileDisk::open_read_only(&rt, path.as_str())),
-        not_found
-    );
-    let inside = format!(in rt.alloc(); "{path}/disk")?;
-    assert_eq!(rt;
-        refusal(FileDisk::create(&rt, inside.as_str(), 1)),
-        not_found
-    );
-    let no_room = Some(FileError::NoRoom);
-    assert_eq!(rt;
-        refusal(FileDisk::create(&rt, path.as_str(), 1 << 54)),
-        no_room
-    );
-    assert!(rt; !fs::exists(&rt, path.as_str())?);
+    let path = path.as_str();
+    let is_absent = is_refused(&rt, path, FileError::NotFound);
+    expect(&rt, is_absent, "there is no file");
+    let large = refusal(&rt, path, Opening::Create(1 << 54));
+    expect(&rt, large == Some(FileError::NoRoom), "there is no room");
+    let is_there = fs::exists(&rt, path)?;
+    expect(&rt, !is_there, "nothing was made");
+    fs::write(&rt, path, [0; 513].as_slice())?;
+    let is_cut = is_refused(&rt, path, FileError::NotWhole);
+    expect(&rt, is_cut, "a sector is cut");
+    fs::remove_file(&rt, path)?;
+    Ok(())
+}
 
-    fs::write(&rt, path.as_str(), [0; 513].as_slice())?;
-    let not_whole = Some(FileError::NotWhole);
-    assert_eq!(rt; refusal(FileDisk::open(&rt, path.as_str())), not_whole);
-    fs::remove_file(&rt, path.as_str())?;
-
+#[test]
+fn what_cannot_be_a_disk_is_refused_by_name(rt: HostRuntime) -> Result<(), Fail> {
     let folder = env::temp_dir(&rt)?;
-    let not_disk = Some(FileError::NotDisk);
-    assert_eq!(rt; refusal(FileDisk::open(&rt, folder.as_str())), not_disk);
-    assert_eq!(rt; refusal(FileDisk::create(&rt, "/dev/null", 1)), not_disk);
+    let folder = folder.as_str();
+    let inside = refusal(&rt, "/dev/null/disk", Opening::Create(1));
+    expect(
+        &rt,
+        inside == Some(FileError::NotFound),
+        "there is no folder",
+    );
+    let is_no_disk = is_refused(&rt, folder, FileError::NotDisk);
+    expect(&rt, is_no_disk, "a folder is no disk");
+    let device = refusal(&rt, "/dev/null", Opening::Create(1));
+    expect(
+        &rt,
+        device == Some(FileError::NotDisk),
+        "nor is a device of characters",
+    );
     Ok(())
 }

@@ -11,7 +11,6 @@ use group_commit::{Broker, DiskHalf, Durable};
 use hall_core::Hall;
 use invoke_records::Bytes;
 use receipts::{Desk, Office, desks};
-use retry_rules::Settings;
 use sector_disk::Disk;
 use std::alloc::{AllocError, AllocGlobal, Global};
 use std::marker::Brand;
@@ -36,7 +35,7 @@ pub fn expect<R: Abort>(rt: &R, holds: bool, what: &str) {
     assert!(rt; holds, "it does not hold that {what}");
 }
 
-/// An office with three of its desks, and what a front over it is made of.
+/// An office with three of its desks, the half of its broker over the disk, and what is durable.
 #[derive(Drop)]
 pub struct House<L: Ledger, D: Disk> {
     pub office: Office<L>,
@@ -46,7 +45,6 @@ pub struct House<L: Ledger, D: Disk> {
     pub others: Vec<Desk<L>>,
     pub half: DiskHalf<D>,
     pub durable: Durable,
-    pub settings: Settings,
 }
 
 /// What happens in a house.
@@ -62,7 +60,6 @@ pub enum Story {
 fn house_over<L: Ledger, D: Disk + Drop>(
     alloc: Global,
     hall: Hall<Broker<D>>,
-    settings: Settings,
     blank: Blank,
 ) -> Option<House<L, D>>
     requires nothing { pending_of hall.issuer ≡ [] }
@@ -84,21 +81,13 @@ fn house_over<L: Ledger, D: Disk + Drop>(
             others,
             half,
             durable,
-            settings,
         }),
         _ => None,
     }
 }
 
 // Opens a house over a hall, for a story to happen in it: whether it did.
-fn tell_in<L, R, D>(
-    rt: R,
-    hall: Hall<Broker<D>>,
-    settings: Settings,
-    blank: Blank,
-    watch: &Watch,
-    story: Story,
-) -> bool
+fn tell_in<L, R, D>(rt: R, hall: Hall<Broker<D>>, blank: Blank, watch: &Watch, story: Story) -> bool
 where
     L: Ledger + Send + Sync,
     R: Abort + Threads + Wait + RandomSource + AllocGlobal + Copy + Drop + Send + Sync,
@@ -108,7 +97,7 @@ where
     requires parts { blank.parts ≡ L.parts }
     requires seats { L.parts ≡ desk_count (settings_of hall.issuer) }
 {
-    match house_over::<L, D>(rt.alloc(), hall, settings, blank) {
+    match house_over::<L, D>(rt.alloc(), hall, blank) {
         Some(house) => match story {
             Story::Threads(plan) => ask_in_threads(rt, house, watch, plan),
             Story::Polls(which) => poll_in(rt, house, which),
@@ -117,22 +106,14 @@ where
     }
 }
 
-/// What a disk does beside what it is asked: which change fails, none at 0, and for how many answers its second barrier waits.
-#[derive(Clone, Copy)]
-pub struct Trouble {
-    pub fault: u64,
-    pub answers: u64,
-}
-
-/// Lets a story happen over a new disk with this trouble.
-pub fn tell<R>(rt: R, watch: &Arc<Watch>, trouble: Trouble, story: Story) -> Result<(), Fail>
+/// Lets a story happen over a new disk that is watched.
+pub fn tell<R>(rt: R, watch: &Arc<Watch>, story: Story) -> Result<(), Fail>
 where
     R: Abort + Threads + Wait + RandomSource + AllocGlobal + Copy + Drop + Send + Sync,
 {
-    let hall: Hall<Broker<TestDisk>> = hall(rt.alloc(), watch, trouble.fault, trouble.answers)?;
+    let hall: Hall<Broker<TestDisk>> = hall(rt.alloc(), watch)?;
     let blank = Blank::new(desks(hall.table().settings()));
-    let settings = hall.table().settings().copy()?;
-    if tell_in::<Brand, R, TestDisk>(rt, hall, settings, blank, watch, story) {
+    if tell_in::<Brand, R, TestDisk>(rt, hall, blank, watch, story) {
         Ok(())
     } else {
         Err(Fail::new("the house is not opened"))

@@ -1,8 +1,8 @@
 // Futures of replies, polled on one thread over an office, a board and a bell, and once from another thread.
 mod stage;
 
-use crate::tests::disks::Watch;
-use crate::tests::house::{House, Story, Trouble, expect, tell};
+use crate::tests::disks::{NO_TROUBLE, Trouble, Watch};
+use crate::tests::house::{House, Story, expect, tell};
 use crate::tests::polls::stage::{Pool, Stage, slot_of, stage_in};
 use api_core::Call;
 use futures::executor::{LocalPool, block_on};
@@ -221,6 +221,41 @@ where
     }
 }
 
+// Polls what needs a pool: whether there was memory for one.
+fn poll_pooled<R, L, D>(rt: &R, stage: &mut Stage<R, L, D>, which: Poll) -> bool
+where
+    R: Abort + Wait + RandomSource + AllocGlobal + Copy + Drop,
+    L: Ledger,
+    D: Disk + Drop,
+{
+    let Ok(pool) = LocalPool::new(rt) else {
+        return false;
+    };
+    let mut pool: Pool<R, L> = pool;
+    match which {
+        Poll::Invoke => an_invoke(rt, stage, &mut pool),
+        Poll::Parked => parked_polls(rt, stage, &mut pool),
+        _ => a_fault(rt, stage, &mut pool),
+    }
+    true
+}
+
+// Polls replies on a stage: whether there was memory for it.
+fn poll_on<R, L, D>(rt: &R, stage: &mut Stage<R, L, D>, which: Poll) -> bool
+where
+    R: Abort + Threads + Wait + RandomSource + AllocGlobal + Copy + Drop + Send + Sync,
+    L: Ledger + Send + Sync,
+    D: Disk + Drop + Send,
+{
+    match which {
+        Poll::Board => a_ticket(rt, stage),
+        Poll::Dropped => a_dropped_future(rt, stage),
+        Poll::Thread => return another_thread(rt, stage),
+        _ => return poll_pooled(rt, stage, which),
+    }
+    true
+}
+
 /// Polls replies in a house: whether there was memory for it.
 pub fn poll_in<R, L, D>(rt: R, house: House<L, D>, which: Poll) -> bool
 where
@@ -228,20 +263,13 @@ where
     L: Ledger + Send + Sync,
     D: Disk + Drop + Send,
 {
-    let (Some(stage), Ok(pool)) = (stage_in(rt, house), LocalPool::new(&rt)) else {
-        return false;
-    };
-    let mut stage: Stage<R, L, D> = stage;
-    let mut pool: Pool<R, L> = pool;
-    match which {
-        Poll::Board => a_ticket(&rt, &mut stage),
-        Poll::Invoke => an_invoke(&rt, &mut stage, &mut pool),
-        Poll::Parked => parked_polls(&rt, &mut stage, &mut pool),
-        Poll::Fault => a_fault(&rt, &mut stage, &mut pool),
-        Poll::Dropped => a_dropped_future(&rt, &mut stage),
-        Poll::Thread => return another_thread(&rt, &mut stage),
+    match stage_in(rt, house) {
+        Some(stage) => {
+            let mut stage = stage;
+            poll_on(&rt, &mut stage, which)
+        }
+        None => false,
     }
-    true
 }
 
 // Polls in a new house, over a disk whose n-th change fails.
@@ -249,9 +277,12 @@ fn tell_of<R>(rt: R, fault: u64, which: Poll) -> Result<(), Fail>
 where
     R: Abort + Threads + Wait + RandomSource + AllocGlobal + Copy + Drop + Send + Sync,
 {
-    let watch = Arc::new(rt.alloc(), Watch::new())?;
-    let trouble = Trouble { fault, answers: 0 };
-    tell(rt, &watch, trouble, Story::Polls(which))
+    let trouble = Trouble {
+        fault,
+        ..NO_TROUBLE
+    };
+    let watch = Arc::new(rt.alloc(), Watch::new(trouble))?;
+    tell(rt, &watch, Story::Polls(which))
 }
 
 #[test]

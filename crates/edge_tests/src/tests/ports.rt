@@ -6,9 +6,8 @@ ghost use Rattle.receipts.specs.Desks.{desk_count};
 mod clients;
 mod talks;
 
-use crate::tests::disks::{TestDisk, Watch, hall};
+use crate::tests::disks::{NO_TROUBLE, TestDisk, Trouble, Watch, hall};
 use crate::tests::gate::AtLeast;
-use crate::tests::house::Trouble;
 use crate::tests::ports::clients::{Doors, listen};
 use crate::tests::ports::talks::{Talk, talk_at};
 use group_commit::Broker;
@@ -87,8 +86,8 @@ where
     matches!(ending, Ok(Ending::Stopped))
 }
 
-// Serves a hall over a new disk whose watched barrier waits for so many answers.
-fn tell<R>(rt: R, answers: u64, talk: Talk) -> Result<(), Fail>
+// Serves a hall over a new disk with this trouble.
+fn tell<R>(rt: R, trouble: Trouble, talk: Talk) -> Result<(), Fail>
 where
     R: Abort
         + Threads
@@ -103,8 +102,8 @@ where
         + Sync
         + 'static,
 {
-    let watch = Arc::new(rt.alloc(), Watch::new())?;
-    let hall: Hall<Broker<TestDisk>> = hall(rt.alloc(), &watch, 0, answers)?;
+    let watch = Arc::new(rt.alloc(), Watch::new(trouble))?;
+    let hall: Hall<Broker<TestDisk>> = hall(rt.alloc(), &watch)?;
     let blank = Blank::new(desks(hall.table().settings()));
     let theirs = Arc::try_clone(&watch)?;
     if !serve_talk::<R, Brand, TestDisk>(rt, hall, blank, theirs, talk) {
@@ -118,20 +117,30 @@ where
 
 #[test]
 fn an_event_is_accepted_run_answered_and_told(rt: HostRuntime) -> Result<(), Fail> {
-    tell(rt, 0, Talk::Life)
+    tell(rt, NO_TROUBLE, Talk::Life)
 }
 
 #[test]
 fn an_extension_is_told_of_the_same_event(rt: HostRuntime) -> Result<(), Fail> {
-    tell(rt, 0, Talk::Extension)
+    tell(rt, NO_TROUBLE, Talk::Extension)
 }
 
 #[test]
 fn a_commit_holds_no_lock_and_no_port_while_it_writes(rt: HostRuntime) -> Result<(), Fail> {
-    tell(rt, 1, Talk::Held)
+    let trouble = Trouble {
+        fault: 0,
+        barrier: 2,
+        answers: 1,
+    };
+    tell(rt, trouble, Talk::Held)
 }
 
 #[test]
 fn a_connection_goes_on_and_a_large_body_is_told_as_such(rt: HostRuntime) -> Result<(), Fail> {
-    tell(rt, 0, Talk::Connection)
+    tell(rt, NO_TROUBLE, Talk::Connection)
+}
+
+#[test]
+fn what_is_cut_off_is_no_event(rt: HostRuntime) -> Result<(), Fail> {
+    tell(rt, NO_TROUBLE, Talk::Cut)
 }

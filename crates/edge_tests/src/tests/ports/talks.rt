@@ -19,6 +19,8 @@ pub enum Talk {
     Held,
     /// One connection with several requests.
     Connection,
+    /// Clients who close within a request.
+    Cut,
 }
 
 impl Talk {
@@ -161,7 +163,7 @@ fn ask_beside<R>(rt: &R, doors: Doors, watch: &Watch) -> bool
 where
     R: AllocGlobal + Net<Listener = TcpListener, Stream = TcpStream>,
 {
-    watch.wait_for_write();
+    watch.wait_for_barrier();
     let oldest = send(rt, doors.callers, [OLDEST, "", ""]);
     for _turn in 0..10_000 {
         thread::yield_now();
@@ -219,6 +221,24 @@ where
     expect(rt, call(rt, doors, STOP, "202"), "the broker stops");
 }
 
+const HALF_A_BODY: &str =
+    "POST /2015-03-31/functions/my-function/invocations HTTP/1.1\r\nhost: h\r\nx-amz-invocation-type: Event\r\ncontent-length: 9\r\n\r\n{}";
+
+const HALF_A_HEAD: &str =
+    "POST /2015-03-31/functions/my-function/invocations HTTP/1.1\r\nhost: h\r\nx-amz-inv";
+
+// The disk has made the opening's barrier alone: no command was issued.
+fn cut_requests<R>(rt: &R, doors: Doors, watch: &Watch)
+where
+    R: Abort + AllocGlobal + Net<Listener = TcpListener, Stream = TcpStream>,
+{
+    drop(send(rt, doors.callers, [HALF_A_BODY, "", ""]));
+    drop(send(rt, doors.callers, [HALF_A_HEAD, "", ""]));
+    expect(rt, call(rt, doors, OLDEST, "204"), "there is no record");
+    expect(rt, call(rt, doors, STOP, "202"), "the broker stops");
+    expect(rt, watch.barriers() == 1, "no command was issued");
+}
+
 /// Talks to a front, and stops it.
 pub fn talk_at<R>(rt: &R, doors: Doors, watch: &Watch, talk: Talk)
 where
@@ -229,5 +249,6 @@ where
         Talk::Extension => an_extension(rt, doors),
         Talk::Held => a_held_commit(rt, doors, watch),
         Talk::Connection => a_connection(rt, doors),
+        Talk::Cut => cut_requests(rt, doors, watch),
     }
 }
