@@ -158,7 +158,8 @@ IsNextAt s rows now ready (Some move) =
 abbrev pub IsNextMove : Settings → List Command → ℕ → Option ℕ → Option Move → Type 0
 IsNextMove s history now ready None = All (λ event. move_of s history now (is_some ready) event.1 ≡ None) (held history)
 IsNextMove s history now ready (Some move) =
-    (event : ℕ × List ℕ) × (move.id ≡ event.1) × (move.environment ≡ environment_for ready move.kind) × IsNext s history now (is_some ready) event move.kind
+    (event : ℕ × List ℕ) × (move.id ≡ event.1) × (move.environment ≡ environment_for ready move.kind)
+    × IsNext s history now (is_some ready) event move.kind
 
 -- an environment of the settings that runs nothing, if one is given
 abbrev pub IsFree : Settings → List Command → Option ℕ → Type 0
@@ -192,7 +193,9 @@ IsFirstHeld test key view history (Some x) =
 -- of the events that run and were accepted by a later command than this one, the one that was accepted first
 abbrev pub IsFirstRunning : Settings → List Command → ℕ → Option (ℕ × List ℕ) → Type 0
 IsFirstRunning s history after result =
-    IsFirstHeld (λ event. is_running (standing_in s history event.1) && nat_lt after event.0) (λ event. event.0) (λ event. event) history result
+    IsFirstHeld
+    (λ event. is_running (standing_in s history event.1) && nat_lt after event.0)
+    (λ event. event.0) (λ event. event) history result
 
 -- the event that ended first of those that ended on this side
 abbrev pub IsOldestEnded : Settings → List Command → Side → Option (List ℕ) → Type 0

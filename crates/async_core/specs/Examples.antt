@@ -10,7 +10,20 @@ use Rattle.invoke_records.specs.declared.command.Cause.TheVariants.{Reported}
 
 -- two retries, six hours, three seconds, and room for four events
 abbrev pub usual : Settings
-usual = record { retries = 2; age = 21600; timeout = 3; concurrency = 10; environments = 1; events = 4; payload = 1024; response = 1024; name = []; handler = []; arn = [] }
+usual =
+    record {
+      retries = 2;
+      age = 21600;
+      timeout = 3;
+      concurrency = 10;
+      environments = 1;
+      events = 4;
+      payload = 1024;
+      response = 1024;
+      name = [];
+      handler = [];
+      arn = [];
+    }
 
 abbrev pub no_retries : Settings
 no_retries = record usual { retries = 0 }

@@ -19,7 +19,8 @@ ForEachLegalHistory t holds =
 -- this holds of each legal history that the table stands for, if each field of its settings is within its range
 abbrev pub ForEachGoodHistory : State → (Settings → List Command → Type 0) → Type 0
 ForEachGoodHistory t holds =
-    (history : List Command) → bad_field t.settings ≡ None → IsLegal t.settings history → t.table ≡ table_of t.settings history → holds t.settings history
+    (history : List Command) → bad_field t.settings ≡ None → IsLegal t.settings history
+    → t.table ≡ table_of t.settings history → holds t.settings history
 
 -- the command is legal after the history, and this is the table of the history with that command
 abbrev pub StandsForMore : Settings → List Command → Command → Snapshot → Type 0

@@ -48,7 +48,8 @@ TakesRow old place new =
 -- the row at a place is this one now
 abbrev pub SetsRow : BTreeMap ℕ EventRow → ℕ → EventRow → BTreeMap ℕ EventRow → Type 0
 SetsRow old place row new =
-    (new.entries ≡ set_value (is_at (nat_cmp place)) old.entries row) × tree.Updates nat_cmp old new place (Some row) × tree.IsOrdered nat_cmp new
+    (new.entries ≡ set_value (is_at (nat_cmp place)) old.entries row) × tree.Updates nat_cmp old new place (Some row)
+    × tree.IsOrdered nat_cmp new
 
 -- of the row at a place, if there is one, this holds
 abbrev pub ForRowAt : BTreeMap ℕ EventRow → ℕ → (EventRow → Type 0) → Type 0

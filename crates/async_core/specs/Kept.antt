@@ -28,19 +28,22 @@ abbrev pub facts_in : BTreeMap ℕ EventRow → ℕ → Option Facts
 facts_in rows place = option_map facts_of (tree.get nat_cmp rows place)
 
 -- the ids, the turns and the count are those of the rows
-pub record IsIndexed (age : ℕ) (rows : BTreeMap ℕ EventRow) (ids : BTreeSet (List ℕ × ℕ)) (turns : BTreeSet Turn) (running next : ℕ) : Type 0 where
+pub record IsIndexed (age : ℕ) (rows : BTreeMap ℕ EventRow) (ids : BTreeSet (List ℕ × ℕ))
+    (turns : BTreeSet Turn) (running next : ℕ) : Type 0 where
   pub held : IsHeld rows ids next
   pub turned : AreTurns age (facts_in rows) turns
   pub counted : running ≡ running_at (values_of rows.entries)
 
 -- an id comes to a place, with its turns
 abbrev pub Enters : ℕ → ℕ → List ℕ → Facts → BTreeSet (List ℕ × ℕ) → BTreeSet (List ℕ × ℕ) → BTreeSet Turn → BTreeSet Turn → Type 0
-Enters age place id facts ids named turns turned = sorted.Updates by_id ids named (id, place) true × Switches age place None (Some facts) turns turned
+Enters age place id facts ids named turns turned =
+    sorted.Updates by_id ids named (id, place) true × Switches age place None (Some facts) turns turned
 
 -- where there was nothing at the place, all is as it was
 abbrev pub StaysOut : ℕ → ℕ → BTreeSet (List ℕ × ℕ) → BTreeSet (List ℕ × ℕ) → BTreeSet Turn → BTreeSet Turn → Type 0
 StaysOut age place ids named turns turned =
-    (((id : List ℕ) → is_named ids id place ≡ false) → (id : List ℕ) (q : ℕ) → is_named named id q ≡ is_named ids id q) × StaysAt age place None turns turned
+    (((id : List ℕ) → is_named ids id place ≡ false) → (id : List ℕ) (q : ℕ) → is_named named id q ≡ is_named ids id q)
+    × StaysAt age place None turns turned
 
 -- no event that waits for an attempt is too old
 abbrev pub NoneExpired : ℕ → Kept → Type 0
@@ -49,7 +52,8 @@ NoneExpired now kept = All (λ (r : EventRow). is_some (idle_turn (facts_of r) r
 -- the rows with a turn in this index, up to this number, are among these rows
 abbrev pub HasTurned : BTreeMap ℕ EventRow → BTreeSet Turn → Index → ℕ → List EventRow → Type 0
 HasTurned rows turns i last more =
-    (a b q : ℕ) (r : EventRow) → contains by_turn turns (index_rank i, a, b, q) ≡ true → a ≤ last → tree.get nat_cmp rows q ≡ Some r → Contains more r
+    (a b q : ℕ) (r : EventRow) → contains by_turn turns (index_rank i, a, b, q) ≡ true → a ≤ last
+    → tree.get nat_cmp rows q ≡ Some r → Contains more r
 
 abbrev pub ChoosesByTurns : Order → BTreeMap ℕ EventRow → BTreeSet Turn → Index → ℕ → Option EventRow → Option EventRow → Type 0
 ChoosesByTurns order rows turns i last best chosen = ChoosesAmong order (values_of rows.entries) (HasTurned rows turns i last) best chosen

@@ -9,7 +9,8 @@ use Rattle.invoke_records.specs.declared.snapshot.Snapshot.{Snapshot}
 -- the row is within the settings' limits
 abbrev pub is_row_within : Settings → EventRow → Bool
 is_row_within s row =
-    nat_le (length row.payload) s.payload && nat_le (length (answer_bytes row.answer)) s.response && nat_le (environment_in row.standing) s.environments
+    nat_le (length row.payload) s.payload && nat_le (length (answer_bytes row.answer)) s.response
+    && nat_le (environment_in row.standing) s.environments
 
 -- there are no more rows than events, and each is within the settings' limits
 abbrev pub is_within : Settings → Snapshot → Bool

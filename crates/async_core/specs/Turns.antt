@@ -97,7 +97,8 @@ put_facts place facts at q = if place == q then facts else at q
 
 -- where the event at a place had these facts, the turns are those of the events with the new ones there
 abbrev pub Switches : ℕ → ℕ → Option Facts → Option Facts → BTreeSet Turn → BTreeSet Turn → Type 0
-Switches age place old new turns changed = (at : ℕ → Option Facts) → AreTurns age at turns → at place ≡ old → AreTurns age (put_facts place new at) changed
+Switches age place old new turns changed =
+    (at : ℕ → Option Facts) → AreTurns age at turns → at place ≡ old → AreTurns age (put_facts place new at) changed
 
 -- where the event at a place had these facts, the turns stay those of the events
 abbrev pub StaysAt : ℕ → ℕ → Option Facts → BTreeSet Turn → BTreeSet Turn → Type 0
@@ -138,7 +139,8 @@ is_among indexes i = list_any (λ j. index_rank j == index_rank i) indexes
 -- the turns of an event in these indexes come
 abbrev pub AddsTurns : ℕ → ℕ → Option Facts → List Index → BTreeSet Turn → BTreeSet Turn → Type 0
 AddsTurns age place facts indexes old new =
-    (i : Index) (a b q : ℕ) → contains by_turn new (index_rank i, a, b, q) ≡ (contains by_turn old (index_rank i, a, b, q) || (is_among indexes i && (place == q) && has_turn age facts i a b))
+    (i : Index) (a b q : ℕ) → contains by_turn new (index_rank i, a, b, q)
+    ≡ (contains by_turn old (index_rank i, a, b, q) || (is_among indexes i && (place == q) && has_turn age facts i a b))
 
 -- those in some indexes come
 abbrev pub AddsSome : ℕ → ℕ → Option Facts → BTreeSet Turn → BTreeSet Turn → Type 0
@@ -148,7 +150,8 @@ AddsSome age place facts old new = (indexes : List Index) × AddsTurns age place
 abbrev pub DropsTurns : ℕ → ℕ → Option Facts → Option Facts → List Index → BTreeSet Turn → BTreeSet Turn → Type 0
 DropsTurns age place gone kept indexes old new =
     (i : Index) (a b q : ℕ) → contains by_turn new (index_rank i, a, b, q)
-    ≡ (contains by_turn old (index_rank i, a, b, q) && not (is_among indexes i && (place == q) && has_turn age gone i a b && not (has_turn age kept i a b)))
+    ≡ (contains by_turn old (index_rank i, a, b, q)
+    && not (is_among indexes i && (place == q) && has_turn age gone i a b && not (has_turn age kept i a b)))
 
 abbrev pub every_index : List Index
 every_index = Ripe ∷ Deadline ∷ Running ∷ Environment ∷ Idle ∷ Success ∷ Failure ∷ []

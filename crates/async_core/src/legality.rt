@@ -6,10 +6,8 @@ ghost use Rattle.async_core.specs.Checks.{first_failed, clock_check, shape_by, s
 use crate::Illegal;
 use crate::situation::Situation;
 use crate::standings::{is_due, is_ended, is_past_deadline, is_running, is_unknown};
-use invoke_records::{Cause, Command, Kind};
+use invoke_records::{Cause, Command, GREATEST_MOMENT, Kind};
 use retry_rules::Settings;
-
-const GREATEST_MOMENT: u64 = 253402300799999;
 
 fn check_shape_by(
     command: &Command,

@@ -34,7 +34,9 @@ IsOldButForGates old second image = (earlier : List ℕ) × old.may_leave earlie
 
 -- while a disk is formatted: the old image but for its gates, no formatted disk, or one that recovers to the empty table
 abbrev pub IsFormatting : DiskView → Settings → List ℕ → Type 0
-IsFormatting old s image = IsOldButForGates old (old.sectors / 2) image ⊎ ((recovered image ≡ Err NotFormatted) ⊎ RecoversTo s empty_table image)
+IsFormatting old s image =
+    IsOldButForGates old (old.sectors / 2) image
+    ⊎ ((recovered image ≡ Err NotFormatted) ⊎ RecoversTo s empty_table image)
 
 -- what a stop leaves at any moment while an honest disk is formatted
 abbrev pub LeavesFormatting : DiskView → DiskView → Settings → Type 0

@@ -58,7 +58,11 @@ header_with sectors bytes (Err e) = None
 header_with sectors bytes (Ok (s, rest)) =
     if (from_be_bytes w32 (take 4 (drop 24 bytes)) + length rest == 484) && are_zeros rest
     && nat_le (from_be_bytes w64 (take 8 (drop 16 bytes))) (most_snapshot s) && nat_le (segment_sectors s) sectors
-    then Some (record { generation = from_be_bytes w64 (take 8 (drop 8 bytes)); size = from_be_bytes w64 (take 8 (drop 16 bytes)); settings = s })
+    then Some (record {
+      generation = from_be_bytes w64 (take 8 (drop 8 bytes));
+      size = from_be_bytes w64 (take 8 (drop 16 bytes));
+      settings = s;
+    })
     else None
 
 -- the header that this sector is, in a segment of so many sectors, if it is one
@@ -85,7 +89,8 @@ snapshot_of header bytes = whole_snapshot header.settings (snapshot_at (take hea
 
 -- a segment behind its gate, without frames: its header, its snapshot, a closed gate
 abbrev pub segment_text : ℕ → Settings → Snapshot → List ℕ
-segment_text generation s snapshot = header_text generation (length (snapshot_text snapshot)) s ++ (padded (snapshot_text snapshot) ++ replicate 512 0)
+segment_text generation s snapshot =
+    header_text generation (length (snapshot_text snapshot)) s ++ (padded (snapshot_text snapshot) ++ replicate 512 0)
 
 -- a value, or damage at this sector
 abbrev pub or_damaged : {A B : Type 0} → ℕ → Option A → (A → Result B OpenError) → Result B OpenError

@@ -96,7 +96,9 @@ LeavesBeforeOrSnapshot old new was snapshot =
     → LeavesOnly old new (RecoversToEither (settings_of was) before snapshot)
 
 -- each image of such a disk recovers to its table
-pub live_recovers : (disk : DiskView) (opened : Opened) (table : Snapshot) → IsLive disk opened table → (image : List ℕ) → disk.may_leave image → RecoversTo (settings_of opened) table image
+pub live_recovers :
+    (disk : DiskView) (opened : Opened) (table : Snapshot) → IsLive disk opened table → (image : List ℕ)
+    → disk.may_leave image → RecoversTo (settings_of opened) table image
 unfolding recovered
 live_recovers disk opened table live image left =
     ap recovered (live.settled image left)

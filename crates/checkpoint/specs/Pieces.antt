@@ -20,7 +20,9 @@ IsWithin first last was disk = (image : List ℕ) → disk.may_leave image → D
 
 -- where an honest disk differed from an image in those sectors alone, it still does, and so does what a stop leaves at any moment
 abbrev pub LeavesWithin : DiskView → DiskView → ℕ → ℕ → Type 0
-LeavesWithin old new first last = old.honest → (was : List ℕ) → IsWithin first last was old → LeavesOnly old new (DiffersWithin first last was) × IsWithin first last was new
+LeavesWithin old new first last =
+    old.honest → (was : List ℕ) → IsWithin first last was old
+    → LeavesOnly old new (DiffersWithin first last was) × IsWithin first last was new
 
 -- how far the bytes have come: a place of the disk
 abbrev pub reached : Pieces → ℕ

@@ -3,6 +3,7 @@ ghost use Rattle.std.specs.Prelude.{◌≡◌, ◌*◌, ◌+◌, ◌<◌, ◌≤
 ghost use Rattle.std.specs.Int.{w32, w64, from_be_bytes};
 ghost use Rattle.gate_journal.specs.Frames.{head_of, is_head, body_sectors};
 
+use invoke_records::GREATEST_NUMBER;
 use sector_disk::SECTOR_SIZE;
 
 // What a body's first bytes say of it.
@@ -16,7 +17,7 @@ pub(crate) struct Head {
 }
 
 // The number after the greatest that a command may have.
-const END_OF_NUMBERS: u64 = (1 << 62) + 1;
+const END_OF_NUMBERS: u64 = GREATEST_NUMBER + 1;
 
 impl Head {
     ghost use Rattle.gate_journal.specs.Steps.{head_fields};

@@ -11,6 +11,9 @@ use invoke_records::Command;
 use sector_disk::{Disk, SECTOR_SIZE};
 use std::alloc::Global;
 
+/// How many commands one frame may hold.
+pub const MOST_IN_FRAME: usize = 256;
+
 /// The journal of a segment, at the closed gate after its last frame.
 #[derive(Debug, Drop)]
 pub struct Journal {

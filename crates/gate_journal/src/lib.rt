@@ -15,5 +15,5 @@ mod writing;
 
 pub use area::Area;
 pub use error::{AppendError, ReadError};
-pub use journal::Journal;
+pub use journal::{Journal, MOST_IN_FRAME};
 pub use laws::what_is_read_is_what_was_written;

@@ -108,5 +108,6 @@ abbrev pub IsReason : {D : Type 0} {g : Ghosts D} → Broker D g → Command →
 IsReason broker command issue_error.Broken = is_broken broker ≡ true
 IsReason broker command issue_error.WornOut = 2 ^ 62 ≤ issued_of broker
 IsReason broker command (issue_error.Illegal why) = refusal_at (settings_of broker) (table_in broker) command ≡ Some why
-IsReason broker command issue_error.Backlog = (refusal_at (settings_of broker) (table_in broker) command ≡ None) × (length (pending_of broker) ≡ 256)
+IsReason broker command issue_error.Backlog =
+    (refusal_at (settings_of broker) (table_in broker) command ≡ None) × (length (pending_of broker) ≡ 256)
 IsReason broker command issue_error.OutOfMemory = refusal_at (settings_of broker) (table_in broker) command ≡ None

@@ -28,7 +28,8 @@ abbrev pub IsRefused : Settings → Log → Command → IssueError → Type 0
 IsRefused s log c issue_error.Broken = log.broken ≡ true
 IsRefused s log c issue_error.WornOut = (log.broken ≡ false) × (2 ^ 62 ≤ length log.history)
 IsRefused s log c (issue_error.Illegal why) = (log.broken ≡ false) × (refusal_of s log.history c ≡ Some why)
-IsRefused s log c issue_error.Backlog = (log.broken ≡ false) × (refusal_of s log.history c ≡ None) × (length log.history ≡ log.durable + 256)
+IsRefused s log c issue_error.Backlog =
+    (log.broken ≡ false) × (refusal_of s log.history c ≡ None) × (length log.history ≡ log.durable + 256)
 IsRefused s log c issue_error.OutOfMemory = (log.broken ≡ false) × (refusal_of s log.history c ≡ None)
 
 -- what a commit or a switch that was refused leaves: a fault breaks the broker, and then it answers that until the next stop
@@ -48,7 +49,8 @@ answer_to (Err why) = answer.IssueRefused why
 abbrev pub IsStep : Settings → Log → Step → StepAnswer → Log → Type 0
 -- a legal command is the history's next
 IsStep s log (step.Issue c) (answer.Number n) next =
-    (log.broken ≡ false) × (refusal_of s log.history c ≡ None) × (n ≡ length log.history + 1) × (next ≡ record log { history = log.history ++ c ∷ [] })
+    (log.broken ≡ false) × (refusal_of s log.history c ≡ None) × (n ≡ length log.history + 1)
+    × (next ≡ record log { history = log.history ++ c ∷ [] })
 IsStep s log (step.Issue c) (answer.IssueRefused why) next = IsRefused s log c why × (next ≡ log)
 -- a commit makes the whole history durable
 IsStep s log step.Commit (answer.Number n) next = (log.broken ≡ false) × (n ≡ length log.history) × (next ≡ record log { durable = n })
@@ -58,7 +60,8 @@ IsStep s log step.Switch (answer.Number n) next = (log.broken ≡ false) × (n �
 IsStep s log step.Switch (answer.CommitRefused why) next = IsNotCommitted log why next
 -- a resumption marks the running event that was accepted first, if one runs
 IsStep s log (step.Resume now) answer next =
-    (result : Result (Option ℕ) IssueError) × (answer ≡ answer_to result) × IsResumed s log.history (min now 253402300799999) result next.history
+    (result : Result (Option ℕ) IssueError) × (answer ≡ answer_to result)
+    × IsResumed s log.history (min now 253402300799999) result next.history
     × ((result ≡ Err issue_error.Broken) ↔ (log.broken ≡ true)) × (next.durable ≡ log.durable) × (next.broken ≡ log.broken)
 -- a stop leaves a prefix that has the durable commands
 IsStep s log (step.Stop choice) (answer.Number n) next =

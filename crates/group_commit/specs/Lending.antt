@@ -62,7 +62,8 @@ pub record Settles (old new : IssueHalf) (last durable : ℕ) : Type 0 where
 
 -- what a settlement that answers so many durable commands did
 abbrev pub SettlesBy : IssueHalf → IssueHalf → Result Written Failed → ℕ → Type 0
-SettlesBy old new (Ok written) durable = IsOut old (first_in (Ok written)) (last_in (Ok written)) × Settles old new (last_written written) durable
+SettlesBy old new (Ok written) durable =
+    IsOut old (first_in (Ok written)) (last_in (Ok written)) × Settles old new (last_written written) durable
 SettlesBy old new (Err failed) durable = ⊥
 
 -- the batch is no longer out, and all that was pending stays so; a device that failed breaks the half

@@ -37,7 +37,9 @@ IsResumed s history now (Ok (Some number)) next =
 IsResumed s history now (Err why) next = IsOwn why × (next ≡ history)
 
 -- what the broker stands for after a resumption that answered so
-abbrev pub Resumes : {D : Type 0} {g : Ghosts D} → (D → DiskView) → Broker D g → List Command → ℕ → Result (Option ℕ) IssueError → Broker D g → Type 0
+abbrev pub Resumes :
+    {D : Type 0} {g : Ghosts D} → (D → DiskView) → Broker D g → List Command → ℕ → Result (Option ℕ) IssueError
+    → Broker D g → Type 0
 Resumes view old history now result new =
     (next : List Command) × IsResumed (settings_of old) history now result next × Stands view new next
 

@@ -28,7 +28,15 @@ pub record SplitLog : Type 0 where
 
 -- this list, recovered
 abbrev pub recovered : List Command → SplitLog
-recovered history = record { history = history; durable = length history; written = length history; lent = length history; has_batch = false; has_result = false }
+recovered history =
+    record {
+      history = history;
+      durable = length history;
+      written = length history;
+      lent = length history;
+      has_batch = false;
+      has_result = false;
+    }
 
 -- why a command is refused; that the half is broken is not the list's to say
 abbrev pub IsSplitRefusal : Settings → SplitLog → Command → IssueError → Type 0
@@ -45,14 +53,16 @@ IsSplitStep s log (step.Issue c) (answer.Number n) next =
     (refusal_of s log.history c ≡ None) × (n ≡ length log.history + 1) × (next ≡ record log { history = log.history ++ c ∷ [] })
 IsSplitStep s log (step.Issue c) (answer.IssueRefused why) next = IsSplitRefusal s log c why × (next ≡ log)
 -- a lend goes up to the list's end
-IsSplitStep s log step.Lend (answer.Number n) next = (n ≡ length log.history) × (next ≡ record log { lent = n; has_batch = true; has_result = false })
+IsSplitStep s log step.Lend (answer.Number n) next =
+    (n ≡ length log.history) × (next ≡ record log { lent = n; has_batch = true; has_result = false })
 IsSplitStep s log step.Lend answer.Idle next = (length log.history ≡ log.durable) × (next ≡ log)
 IsSplitStep s log step.Lend (answer.LendRefused why) next = next ≡ log
 -- a write goes up to what was lent
 IsSplitStep s log step.Write (answer.Number n) next =
     (log.has_batch ≡ true) × (n ≡ log.lent) × (next ≡ record log { written = n; has_batch = false; has_result = true })
 IsSplitStep s log step.Write answer.Idle next = (log.has_batch ≡ false) × (next ≡ log)
-IsSplitStep s log step.Write (answer.WriteRefused why) next = (log.has_batch ≡ true) × (next ≡ record log { has_batch = false; has_result = true })
+IsSplitStep s log step.Write (answer.WriteRefused why) next =
+    (log.has_batch ≡ true) × (next ≡ record log { has_batch = false; has_result = true })
 -- and what was written is durable when it is settled
 IsSplitStep s log step.Settle (answer.Number n) next =
     (log.has_result ≡ true) × (n ≡ log.written) × (next ≡ record log { durable = n; has_result = false })
@@ -66,7 +76,8 @@ IsSplitStep s log step answer next = ⊥
 -- one step after another
 abbrev pub IsSplitRun : Settings → SplitLog → List SplitStep → List SplitAnswer → SplitLog → Type 0
 IsSplitRun s log [] [] end = end ≡ log
-IsSplitRun s log (step ∷ steps) (answer ∷ answers) end = (next : SplitLog) × IsSplitStep s log step answer next × IsSplitRun s next steps answers end
+IsSplitRun s log (step ∷ steps) (answer ∷ answers) end =
+    (next : SplitLog) × IsSplitStep s log step answer next × IsSplitRun s next steps answers end
 IsSplitRun s log steps answers end = ⊥
 
 -- a script was run on a disk of which each image was a legal stop: its answers are those of one list, which begins with what

@@ -24,7 +24,8 @@ IsHeld log held.Nothing = (log.has_batch ≡ false) × (log.has_result ≡ false
 IsHeld log (held.Lent batch) =
     (log.has_batch ≡ true) × (log.has_result ≡ false)
     × (first_of batch ≡ log.durable + 1) × (last_of batch ≡ log.lent) × (commands_of batch ≡ drop log.durable (take log.lent log.history))
-IsHeld log (held.Done outcome) = (log.has_batch ≡ false) × (log.has_result ≡ true) × IfOk outcome (λ written. last_written written ≡ log.written)
+IsHeld log (held.Done outcome) =
+    (log.has_batch ≡ false) × (log.has_result ≡ true) × IfOk outcome (λ written. last_written written ≡ log.written)
 
 -- the issue half stands for the list, and the half over the disk for a front of what was lent
 pub record Keeps (s : Settings) (log : SplitLog) (halves : Halves) : Type 0 where
@@ -55,7 +56,8 @@ IsBegun s history durable halves =
 -- the halves after a stop: they stand for a front of the list, from what was written to what was lent
 abbrev pub IsStopped : Settings → SplitLog → Halves → Type 0
 IsStopped s log new =
-    (log.written ≤ (half_view new.issue).durable) × ((half_view new.issue).durable ≤ log.lent) × ((half_view new.issue).durable ≤ length log.history)
+    (log.written ≤ (half_view new.issue).durable) × ((half_view new.issue).durable ≤ log.lent)
+    × ((half_view new.issue).durable ≤ length log.history)
     × Keeps s (recovered (take (half_view new.issue).durable log.history)) new
 
 -- what a step says of a write

@@ -91,7 +91,8 @@ Joins issue disk broker = JoinsWhole issue disk broker ⊎ JoinsBroken issue dis
 -- why two halves were not joined
 abbrev pub IsJoinReason : {D : Type 0} {g : Ghosts D} → IssueHalf → Broker D g → Broker D g → JoinError → Type 0
 IsJoinReason issue old new join_error.Lent = IsSome (lent_of issue)
-IsJoinReason issue old new join_error.Backlog = AreWhole issue old × (length (pending_of new) ≡ 256) × (256 < length (pending_of old) + length (ahead_of issue old))
+IsJoinReason issue old new join_error.Backlog =
+    AreWhole issue old × (length (pending_of new) ≡ 256) × (256 < length (pending_of old) + length (ahead_of issue old))
 IsJoinReason issue old new join_error.OutOfMemory = AreWhole issue old
 IsJoinReason issue old new join_error.Mismatch = AreWhole issue old × (Agree issue old → ⊥)
 

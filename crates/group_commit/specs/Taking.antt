@@ -23,7 +23,8 @@ use Rattle.group_commit.specs.Splitting.{Takes, Agree, ahead_of}
 
 -- the next of the commands is not legal
 abbrev pub IllegalNext : {D : Type 0} {g : Ghosts D} → Broker D g → Broker D g → List Command → Type 0
-IllegalNext old new commands = IfSome (slice_get commands (issued_of new - issued_of old)) (λ command. IsSome (refusal_at (settings_of new) (table_in new) command))
+IllegalNext old new commands =
+    IfSome (slice_get commands (issued_of new - issued_of old)) (λ command. IsSome (refusal_at (settings_of new) (table_in new) command))
 
 -- why not all of the commands were taken
 abbrev pub IsStop : {D : Type 0} {g : Ghosts D} → Broker D g → Broker D g → List Command → TakeError → Type 0
@@ -68,7 +69,8 @@ commit_cause commit_error.Fault = write_error.Fault
 -- why two halves that are whole were not joined
 abbrev pub IsJoinStop : {D : Type 0} {g : Ghosts D} → IssueHalf → Broker D g → Broker D g → JoinError → Type 0
 IsJoinStop issue old new join_error.Lent = ⊥
-IsJoinStop issue old new join_error.Backlog = (length (pending_of new) ≡ 256) × (256 < length (pending_of old) + length (ahead_of issue old))
+IsJoinStop issue old new join_error.Backlog =
+    (length (pending_of new) ≡ 256) × (256 < length (pending_of old) + length (ahead_of issue old))
 IsJoinStop issue old new join_error.OutOfMemory = Unit {0}
 IsJoinStop issue old new join_error.Mismatch = Agree issue old → ⊥
 

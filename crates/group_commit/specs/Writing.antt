@@ -87,4 +87,5 @@ abbrev pub LeavesStopsWith : {D : Type 0} {g : Ghosts D} → (D → DiskView) �
 LeavesStopsWith view old new batch =
     (view (disk_of old)).honest
     → ForEachHistory view old (λ history.
-    LeavesOnly (view (disk_of old)) (view (disk_of new)) (IsLegalStop (settings_of old) (history ++ taken_from old new batch) (durable_of old)))
+    LeavesOnly (view (disk_of old)) (view (disk_of new))
+    (IsLegalStop (settings_of old) (history ++ taken_from old new batch) (durable_of old)))

@@ -9,15 +9,16 @@ use crate::recovery::recover;
 use crate::{Durable, OpenFailure, Receipt, Ticket};
 use async_core::Table;
 use checkpoint::Opened;
-use invoke_records::Command;
+use gate_journal::MOST_IN_FRAME;
+use invoke_records::{Command, GREATEST_NUMBER};
 use sector_disk::Disk;
 use std::alloc::Global;
 
 /// How many commands may be pending.
-pub const MOST_PENDING: usize = 256;
+pub const MOST_PENDING: usize = MOST_IN_FRAME;
 
 /// How many commands may be issued since the disk was formatted.
-pub const MOST_COMMANDS: u64 = 1 << 62;
+pub const MOST_COMMANDS: u64 = GREATEST_NUMBER;
 
 /// The greatest generation of a segment: the disk is then worn out for switches.
 pub const MOST_GENERATIONS: u64 = 1 << 62;

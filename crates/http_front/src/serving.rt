@@ -34,7 +34,7 @@ pub enum Ending {
 }
 
 impl Ending {
-    // How a front whose threads have ended did.
+    // How a front has ended, once its threads have.
     fn of<L: Ledger>(front: &Front<L>) -> Ending {
         if front.bell.has_broken() {
             Ending::Broken

@@ -55,7 +55,9 @@ abbrev pub bytes_at : ℕ → List ℕ → Result (List ℕ × List ℕ) RecordE
 bytes_at n bytes = if nat_lt (length bytes) n then Err fault.Truncated else Ok (take n bytes, drop n bytes)
 
 abbrev pub number_at : Width → List ℕ → Result (ℕ × List ℕ) RecordError
-number_at w bytes = if nat_lt (length bytes) (byte_len w) then Err fault.Truncated else Ok (from_be_bytes w (take (byte_len w) bytes), drop (byte_len w) bytes)
+number_at w bytes =
+    if nat_lt (length bytes) (byte_len w) then Err fault.Truncated
+    else Ok (from_be_bytes w (take (byte_len w) bytes), drop (byte_len w) bytes)
 
 -- ## Commands
 
@@ -157,7 +159,19 @@ text_at most is_good bytes = do
 
 abbrev pub with_texts : Limits → List ℕ → List ℕ → List ℕ → Settings
 with_texts l name handler arn =
-    record { retries = l.retries; age = l.age; timeout = l.timeout; concurrency = l.concurrency; environments = l.environments; events = l.events; payload = l.payload; response = l.response; name = name; handler = handler; arn = arn }
+    record {
+      retries = l.retries;
+      age = l.age;
+      timeout = l.timeout;
+      concurrency = l.concurrency;
+      environments = l.environments;
+      events = l.events;
+      payload = l.payload;
+      response = l.response;
+      name = name;
+      handler = handler;
+      arn = arn;
+    }
 
 unfoldable pub limits_at : List ℕ → Result (Limits × List ℕ) RecordError
 limits_at bytes = do
@@ -169,7 +183,19 @@ limits_at bytes = do
   events ← limit_at w16 1 1024 environments.1
   payload ← limit_at w32 2 262144 events.1
   response ← limit_at w32 2 262144 payload.1
-  Ok (record { retries = retries.0; age = age.0; timeout = timeout.0; concurrency = concurrency.0; environments = environments.0; events = events.0; payload = payload.0; response = response.0 }, response.1)
+  Ok (
+    record {
+      retries = retries.0;
+      age = age.0;
+      timeout = timeout.0;
+      concurrency = concurrency.0;
+      environments = environments.0;
+      events = events.0;
+      payload = payload.0;
+      response = response.0;
+    },
+    response.1,
+  )
 
 -- the settings at the front of these bytes, and the bytes behind them: the first bad field decides
 unfoldable pub settings_at : List ℕ → Result (Settings × List ℕ) RecordError
@@ -200,7 +226,19 @@ life_at bytes = do
   outcome ← small_at 0 3 standing.1
   environment ← limit_at w16 0 16 outcome.1
   moment ← number_at w64 environment.1
-  Ok (record { id = id.0; accepted = accepted.0; number = number.0; last_number = last_number.0; standing = standing.0; outcome = outcome.0; environment = environment.0; moment = moment.0 }, moment.1)
+  Ok (
+    record {
+      id = id.0;
+      accepted = accepted.0;
+      number = number.0;
+      last_number = last_number.0;
+      standing = standing.0;
+      outcome = outcome.0;
+      environment = environment.0;
+      moment = moment.0;
+    },
+    moment.1,
+  )
 
 -- and the others in front of its texts
 unfoldable pub counts_at : List ℕ → Result (Counts × List ℕ) RecordError
@@ -211,7 +249,17 @@ counts_at bytes = do
   given ← small_at 0 2 push_backs.1
   payload_size ← sized_at 1 262144 given.1
   answer_size ← sized_at 0 262144 payload_size.1
-  Ok (record { starts = starts.0; failures = failures.0; push_backs = push_backs.0; answer = given.0; payload_size = payload_size.0; answer_size = answer_size.0 }, answer_size.1)
+  Ok (
+    record {
+      starts = starts.0;
+      failures = failures.0;
+      push_backs = push_backs.0;
+      answer = given.0;
+      payload_size = payload_size.0;
+      answer_size = answer_size.0;
+    },
+    answer_size.1,
+  )
 
 abbrev pub outcome_at : ℕ → Result Outcome RecordError
 outcome_at byte =
@@ -225,8 +273,10 @@ unfoldable pub standing_of : Life → Result Standing RecordError
 standing_of l =
     if l.standing == 1 then unless (nat_lt 0 l.outcome || nat_lt 0 l.environment) fault.BadKind (standing.Waiting l.moment)
     else if l.standing == 2 then unless (nat_lt 0 l.outcome || nat_lt 0 l.environment) fault.BadKind (standing.DueAgain l.moment)
-    else if l.standing == 3 then unless (nat_lt 0 l.outcome || nat_lt l.environment 1) fault.BadKind (standing.Running l.environment l.moment)
-    else outcome_at l.outcome >>= λ outcome. unless (nat_lt 0 l.environment || nat_lt greatest_moment l.moment) fault.BadKind (standing.Ended outcome l.moment)
+    else if l.standing == 3
+    then unless (nat_lt 0 l.outcome || nat_lt l.environment 1) fault.BadKind (standing.Running l.environment l.moment)
+    else outcome_at l.outcome >>= λ outcome.
+    unless (nat_lt 0 l.environment || nat_lt greatest_moment l.moment) fault.BadKind (standing.Ended outcome l.moment)
 
 -- no answer has no bytes
 abbrev pub answer_of : ℕ → List ℕ → Result Answer RecordError
@@ -244,7 +294,21 @@ row_at bytes = do
   text ← bytes_at counts.0.answer_size payload.1
   standing ← standing_of life.0
   given ← answer_of counts.0.answer text.0
-  Ok (record { id = life.0.id; accepted = life.0.accepted; number = life.0.number; last_number = life.0.last_number; standing = standing; starts = counts.0.starts; failures = counts.0.failures; push_backs = counts.0.push_backs; payload = payload.0; answer = given }, text.1)
+  Ok (
+    record {
+      id = life.0.id;
+      accepted = life.0.accepted;
+      number = life.0.number;
+      last_number = life.0.last_number;
+      standing = standing;
+      starts = counts.0.starts;
+      failures = counts.0.failures;
+      push_backs = counts.0.push_backs;
+      payload = payload.0;
+      answer = given;
+    },
+    text.1,
+  )
 
 -- ## Snapshots
 

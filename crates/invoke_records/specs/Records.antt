@@ -14,7 +14,8 @@ AreSettings s = bad_field s ≡ None
 -- where the spelling of a sound value stands in front of the bytes, reading finds that value and leaves what stands behind it, unless memory runs out
 abbrev pub Finds : {X Y : Type 0} → (X → Y) → (Y → Type 0) → (Y → List ℕ) → List ℕ → Result (X × ℕ) RecordError → Type 0
 Finds {X} {Y} view IsSound text bytes result =
-    (value : Y) (rest : List ℕ) → IsSound value → bytes ≡ text value ++ rest → MatchResult result (λ x. (view x.0 ≡ value) × (drop x.1 bytes ≡ rest)) (λ e. e ≡ OutOfMemory)
+    (value : Y) (rest : List ℕ) → IsSound value → bytes ≡ text value ++ rest
+    → MatchResult result (λ x. (view x.0 ≡ value) × (drop x.1 bytes ≡ rest)) (λ e. e ≡ OutOfMemory)
 
 -- no spelling of a sound value begins another, and each is the spelling of one value
 abbrev pub AreApart : {A : Type 0} → (A → Type 0) → (A → List ℕ) → Type 0

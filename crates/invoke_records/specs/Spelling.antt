@@ -102,7 +102,11 @@ short_text text = (length text ∷ []) ++ text
 -- retries 1, age 4, timeout 2, concurrency 1, environments 1, events 2, payload 4, response 4
 abbrev pub limits_text : Settings → List ℕ
 limits_text s =
-    (s.retries ∷ []) ++ (to_be_bytes w32 s.age ++ (to_be_bytes w16 s.timeout ++ ((s.concurrency ∷ []) ++ ((s.environments ∷ []) ++ (to_be_bytes w16 s.events ++ (to_be_bytes w32 s.payload ++ to_be_bytes w32 s.response))))))
+    (s.retries ∷ []) ++ (to_be_bytes w32 s.age
+    ++ (to_be_bytes w16 s.timeout
+    ++ ((s.concurrency ∷ [])
+    ++ ((s.environments ∷ [])
+    ++ (to_be_bytes w16 s.events ++ (to_be_bytes w32 s.payload ++ to_be_bytes w32 s.response))))))
 
 -- the limits, then the name, the handler and the ARN
 unfoldable pub settings_text : Settings → List ℕ
@@ -165,12 +169,21 @@ answer_bytes (answer.Error bytes) = bytes
 -- id 16, accepted 8, acceptance number 8, number of the last command 8, standing 1, outcome 1, environment 2, moment 8
 abbrev pub life_text : EventRow → List ℕ
 life_text r =
-    r.id ++ (to_be_bytes w64 r.accepted ++ (to_be_bytes w64 r.number ++ (to_be_bytes w64 r.last_number ++ ((standing_byte r.standing ∷ []) ++ ((ended_byte r.standing ∷ []) ++ (to_be_bytes w16 (environment_in r.standing) ++ to_be_bytes w64 (moment_in r.standing)))))))
+    r.id ++ (to_be_bytes w64 r.accepted
+    ++ (to_be_bytes w64 r.number
+    ++ (to_be_bytes w64 r.last_number
+    ++ ((standing_byte r.standing ∷ [])
+    ++ ((ended_byte r.standing ∷ [])
+    ++ (to_be_bytes w16 (environment_in r.standing) ++ to_be_bytes w64 (moment_in r.standing)))))))
 
 -- starts 4, failures 4, push-backs 4, answer 1, payload length 4, answer length 4
 abbrev pub counts_text : EventRow → List ℕ
 counts_text r =
-    to_be_bytes w32 r.starts ++ (to_be_bytes w32 r.failures ++ (to_be_bytes w32 r.push_backs ++ ((answer_byte r.answer ∷ []) ++ (to_be_bytes w32 (length r.payload) ++ to_be_bytes w32 (length (answer_bytes r.answer))))))
+    to_be_bytes w32 r.starts
+    ++ (to_be_bytes w32 r.failures
+    ++ (to_be_bytes w32 r.push_backs
+    ++ ((answer_byte r.answer ∷ [])
+    ++ (to_be_bytes w32 (length r.payload) ++ to_be_bytes w32 (length (answer_bytes r.answer))))))
 
 -- 73 bytes, then the payload and the answer
 unfoldable pub row_text : EventRow → List ℕ
@@ -222,7 +235,9 @@ greatest_number = 2 ^ 62
 
 -- number 8, last moment 8, count of rows 4, and the rows
 unfoldable pub snapshot_text : Snapshot → List ℕ
-snapshot_text s = to_be_bytes w64 s.number ++ (to_be_bytes w64 s.last_moment ++ (to_be_bytes w32 (length s.rows) ++ flat_map row_text s.rows))
+snapshot_text s =
+    to_be_bytes w64 s.number
+    ++ (to_be_bytes w64 s.last_moment ++ (to_be_bytes w32 (length s.rows) ++ flat_map row_text s.rows))
 
 -- a row was accepted before another, and has another id
 abbrev pub is_before : EventRow → EventRow → Bool

@@ -53,7 +53,18 @@ unfoldable pub row_of : Life → Counts → List ℕ → List ℕ → Result Eve
 row_of life counts payload text = do
   standing ← standing_of life
   given ← answer_of counts.answer text
-  Ok (record { id = life.id; accepted = life.accepted; number = life.number; last_number = life.last_number; standing = standing; starts = counts.starts; failures = counts.failures; push_backs = counts.push_backs; payload = payload; answer = given })
+  Ok (record {
+    id = life.id;
+    accepted = life.accepted;
+    number = life.number;
+    last_number = life.last_number;
+    standing = standing;
+    starts = counts.starts;
+    failures = counts.failures;
+    push_backs = counts.push_backs;
+    payload = payload;
+    answer = given;
+  })
 
 -- ## Writing
 

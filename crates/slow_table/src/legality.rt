@@ -3,10 +3,8 @@
 use crate::situation::Situation;
 use crate::standings::{is_due, is_ended, is_past_deadline, is_running, is_unknown};
 use async_core::Illegal;
-use invoke_records::{Cause, Command, Kind};
+use invoke_records::{Cause, Command, GREATEST_MOMENT, Kind};
 use retry_rules::Settings;
-
-const GREATEST_MOMENT: u64 = 253402300799999;
 
 fn check_shape_by(
     command: &Command,

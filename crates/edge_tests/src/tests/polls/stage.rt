@@ -153,17 +153,18 @@ fn port<L: Ledger>(
     Arc::new(alloc, Port::new(office, bell, board, desk, seat)).ok()
 }
 
-// A port of an office and its board.
+// A port of an office, its board, and where its replies are noted.
 fn placed<L: Ledger>(
     alloc: Global,
     office: Office<L>,
     desk: Desk<L>,
     durable: Durable,
-) -> Option<(Arc<Port<L>>, Seats)> {
+) -> Option<(Arc<Port<L>>, Seats, Arc<Mutex<Heard>>)> {
+    let told = Arc::new(alloc, Mutex::new(NOTHING)).ok()?;
     let (seats, seat) = seats_of(alloc, durable)?;
     let board = Arc::try_clone(&seats.board).ok()?;
     let port = port(alloc, office, board, desk, seat)?;
-    Some((port, seats))
+    Some((port, seats, told))
 }
 
 /// A stage in a house. None where there is no memory for it.
@@ -181,18 +182,18 @@ where
         durable,
         ..
     } = house;
-    let alloc = rt.alloc();
-    let (port, seats) = placed(alloc, office, one, durable)?;
-    let told = Arc::new(alloc, Mutex::new(NOTHING)).ok()?;
-    Some(Stage {
-        rt,
-        port,
-        desk: two,
-        half,
-        durable,
-        seats,
-        told,
-    })
+    match placed(rt.alloc(), office, one, durable) {
+        Some((port, seats, told)) => Some(Stage {
+            rt,
+            port,
+            desk: two,
+            half,
+            durable,
+            seats,
+            told,
+        }),
+        None => None,
+    }
 }
 
 impl<R, L, D> Stage<R, L, D>
