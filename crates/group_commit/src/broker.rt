@@ -1,5 +1,5 @@
 // The broker over one disk.
-ghost use Rattle.std.specs.Prelude.{◌≡◌, ◌+◌, ◌<◌, ◌≤◌, ◌^◌, [], length, false, All, None, Some, Ok, Err, IfOk, IfErr, MatchOption};
+ghost use Rattle.std.specs.Prelude.{◌≡◌, ◌+◌, ◌<◌, ◌≤◌, ◌^◌, [], length, false, All, None, Some, Ok, Err, IfOk, IfErr, MatchOption, is_ok};
 ghost use Rattle.sector_disk.specs.Disk.{IsSameDisk};
 ghost use Rattle.invoke_records.specs.Spelling.{command_fault};
 ghost use Rattle.checkpoint.specs.Live as live;
@@ -8,7 +8,7 @@ ghost use Rattle.group_commit.specs.History.{AreGood};
 use crate::recovery::recover;
 use crate::{Durable, OpenFailure, Receipt, Ticket};
 use async_core::Table;
-use checkpoint::Opened;
+use checkpoint::{OpenError, Opened};
 use gate_journal::MOST_IN_FRAME;
 use invoke_records::{Command, GREATEST_NUMBER};
 use sector_disk::Disk;
@@ -146,5 +146,19 @@ impl<D: Disk> Broker<D> {
     {
         let Broker { disk, .. } = self;
         disk
+    }
+}
+
+/// A broker that was opened, or why it was not. The disk of one that was not is given up.
+pub fn without_disk<D: Disk + Drop>(
+    opened: Result<Broker<D>, OpenFailure<D>>,
+) -> Result<Broker<D>, OpenError>
+    ensures ok { IfOk result (λ broker. opened ≡ Ok broker) }
+    ensures err { IfErr result (λ cause. IfErr opened (λ failure. failure.cause ≡ cause)) }
+    ensures same { is_ok result ≡ is_ok opened }
+{
+    match opened {
+        Ok(broker) => Ok(broker),
+        Err(OpenFailure { cause, .. }) => Err(cause),
     }
 }

@@ -1,5 +1,5 @@
 // Scripts of steps, stops among them, on a disk in memory.
-ghost use Rattle.std.specs.Prelude.{◌≡◌, ◌≤◌, [], length, Ok, IfOk, IfErr, is_ok};
+ghost use Rattle.std.specs.Prelude.{◌≡◌, ◌≤◌, [], length, IfOk, IfErr};
 ghost use Rattle.sector_disk.specs.Memory.{memory_view};
 ghost use Rattle.group_commit.specs.Broker.{settings_of, pending_of, durable_of};
 ghost use Rattle.group_commit.specs.Promises.{ForEachHistory, ForEachHistoryOn};
@@ -8,26 +8,13 @@ ghost use Rattle.group_commit.specs.declared.script.Step.TheVariants as step;
 ghost use Rattle.group_commit.specs.Drill.{answer_to, MayBeCutOff, IsDrillFailure};
 ghost use Rattle.group_commit.specs.DrillBroker.{Leads, IsStarted, IsDrillOf};
 
+use crate::broker::without_disk;
 use crate::copying::copy_command;
-use crate::{Broker, Drill, DrillFailure, IssueError, OpenFailure, Step, StepAnswer, Ticket};
+use crate::{Broker, Drill, DrillFailure, IssueError, Step, StepAnswer, Ticket};
 use checkpoint::OpenError;
 use invoke_records::{Command, GREATEST_MOMENT};
 use sector_disk::MemDisk;
 use std::alloc::{AllocError, Global};
-
-// The broker, or why its disk was not opened.
-fn opened(
-    outcome: Result<Broker<MemDisk>, OpenFailure<MemDisk>>,
-) -> Result<Broker<MemDisk>, OpenError>
-    ensures ok { IfOk result (λ b. outcome ≡ Ok b) }
-    ensures err { IfErr result (λ e. IfErr outcome (λ failure. failure.cause ≡ e)) }
-    ensures same { is_ok result ≡ is_ok outcome }
-{
-    match outcome {
-        Ok(broker) => Ok(broker),
-        Err(OpenFailure { cause, .. }) => Err(cause),
-    }
-}
 
 // Opens a disk.
 pub(crate) fn start(alloc: Global, disk: MemDisk) -> Result<Broker<MemDisk>, OpenError>
@@ -35,7 +22,7 @@ pub(crate) fn start(alloc: Global, disk: MemDisk) -> Result<Broker<MemDisk>, Ope
     ensures refused { ForEachHistoryOn (memory_view disk) (λ s history durable. IfErr result IsCutOff) }
     ensures nothing { IfOk result (λ b. pending_of b ≡ []) }
 {
-    opened(Broker::open(alloc, disk))
+    without_disk(Broker::open(alloc, disk))
 }
 
 // Stops the disk and opens it again.

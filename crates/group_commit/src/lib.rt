@@ -26,7 +26,7 @@ mod taking;
 mod token;
 
 pub use batch::{Batch, Failed, Written};
-pub use broker::{Broker, MOST_COMMANDS, MOST_PENDING};
+pub use broker::{Broker, MOST_COMMANDS, MOST_PENDING, without_disk};
 pub use checkpoint::{FormatError, OpenError, format};
 pub use disk_half::DiskHalf;
 pub use drilling::drill;

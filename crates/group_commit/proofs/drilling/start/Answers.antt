@@ -7,7 +7,7 @@ use Rattle.group_commit.proofs.drilling.start.Goals as goal
 
 pub returns-clause-recovers : goal.returns-clause-recovers
 returns-clause-recovers c s history durable legal stops =
-    ok_from _ c.open.result c.opened.result c.opened.ensures.ok
+    ok_from _ c.open.result c.without_disk.result c.without_disk.ensures.ok
     (if_ok_both _ _ _ c.open.result
     (λ b fresh facts. (
       omega (arith, fresh.2, facts.0),
@@ -21,8 +21,8 @@ returns-clause-recovers c s history durable legal stops =
 
 pub returns-clause-refused : goal.returns-clause-refused
 returns-clause-refused c s history durable legal stops =
-    err_from (λ failure. failure.cause) _ c.open.result c.opened.result c.opened.ensures.err c.opened.ensures.same
+    err_from (λ failure. failure.cause) _ c.open.result c.without_disk.result c.without_disk.ensures.err c.without_disk.ensures.same
     (c.open.ensures.refused tt s history durable legal stops)
 
 pub returns-clause-nothing : goal.returns-clause-nothing
-returns-clause-nothing c = ok_from _ c.open.result c.opened.result c.opened.ensures.ok (if_ok _ _ c.open.result (λ b fresh. fresh.1) c.open.ensures.fresh)
+returns-clause-nothing c = ok_from _ c.open.result c.without_disk.result c.without_disk.ensures.ok (if_ok _ _ c.open.result (λ b fresh. fresh.1) c.open.ensures.fresh)
