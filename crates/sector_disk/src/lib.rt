@@ -10,10 +10,15 @@ mod fault_once;
 mod file;
 mod fuse;
 mod memory;
+mod memory_file;
+mod random_access;
 mod replay;
+mod std_file;
 
 pub use disk::{Disk, Fault, SECTOR_SIZE};
 pub use fault_once::{CallKind, FaultOnceDisk};
 pub use file::{FileDisk, FileError};
 pub use fuse::FuseDisk;
 pub use memory::MemDisk;
+pub use memory_file::MemFile;
+pub use random_access::RandomAccessFile;
