@@ -41,9 +41,9 @@ left_without : (x : ℕ) (ys : List ℕ) → 0 < times x ys → IsLeft x ys (wit
 left_without x [] there = absurd (omega arith)
 left_without x (y ∷ ys) there = elim (cases_Bool (x == y)) [
   | inl here ↦ subst (λ b. IsLeft x (y ∷ ys) (cond b ys (y ∷ without_first x ys))) (sym here) (record {
-      times_are = λ n. times_cons n y ys ∙ ap (λ k. one_if (n == k) + times n ys) (sym (eqb-true x y here));
-      one_less = omega arith;
-    })
+    times_are = λ n. times_cons n y ys ∙ ap (λ k. one_if (n == k) + times n ys) (sym (eqb-true x y here));
+    one_less = omega arith;
+  })
   | inr apart ↦
       let is : times x (y ∷ ys) ≡ one_if (x == y) + times x ys = times_cons x y ys in
       let none : one_if (x == y) ≡ 0 = ap one_if apart in
@@ -132,14 +132,14 @@ times_keys b n (e ∷ es) sorted =
           ∙ none_more (is_open_entry b e.1) (times n (open_keys b es))
           ∙ later ∙ sym (ap (λ o. one_if (is_open_at b o)) (lookup_tail (is_at (nat_cmp n)) e es other))
     ]
-    where
-      plus_none : (t : Bool) → cond t 1 0 + 0 ≡ one_if t
-      plus_none true = refl
-      plus_none false = refl
+  where
+    plus_none : (t : Bool) → cond t 1 0 + 0 ≡ one_if t
+    plus_none true = refl
+    plus_none false = refl
 
-      none_more : (t : Bool) (k : ℕ) → cond t 0 0 + k ≡ k
-      none_more true k = omega arith
-      none_more false k = omega arith
+    none_more : (t : Bool) (k : ℕ) → cond t 0 0 + k ≡ k
+    none_more true k = omega arith
+    none_more false k = omega arith
 
 -- ## How many they are
 

@@ -43,7 +43,7 @@ pub struct Hall<I: Issuer> {
 }
 
 impl<I: Issuer> Hall<I> {
-    ghost use Rattle.std.specs.Prelude.{◌&&◌, ◌||◌, ◌^◌, nat_le, length, false, IfOk, IfErr, IfSome, IfNone, OnOk, OnErr, OnSome};
+    ghost use Rattle.std.specs.Prelude.{◌&&◌, ◌||◌, ◌^◌, nat_le, length, false, true, IfOk, IfErr, IfSome, IfNone, OnOk, OnErr, OnSome};
     ghost use Rattle.hall_core.specs.declared.error.HallError.TheVariants as HallError;
     ghost use Rattle.hall_core.specs.OpenSlots.{has_open, unavailable_in, ForEachKept};
     ghost use Rattle.hall_core.specs.Changes.{IsWithin, Leads};

@@ -2,7 +2,7 @@ use Rattle.std.proofs.Common.{rules, ◌≡◌, ◌==◌, sym, ap, ◌∙◌}
 use Rattle.std.specs.List.{list_any}
 use Rattle.hall_core.specs.Slots.{is_open_in}
 use Rattle.hall_core.specs.laws.Statuses.{open_slots_are}
-use Rattle.hall_core.proofs.reporting.Hall.is_open.Goals as goal
+use Rattle.hall_core.proofs.hall.Hall.is_open.Goals as goal
 
 pub returns-clause-by_past : goal.returns-clause-by_past
 returns-clause-by_past g c = λ past stands.
