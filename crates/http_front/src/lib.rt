@@ -8,7 +8,6 @@
 mod committing;
 mod error;
 mod front;
-mod gate;
 mod moment;
 mod opening;
 mod place;
@@ -18,10 +17,10 @@ mod serving;
 mod ticking;
 mod wake;
 
+pub use commit_loop::{Gate, Turn, WhenPending};
 pub use committing::Committer;
 pub use error::ServeError;
 pub use front::Front;
-pub use gate::{Gate, Turn, WhenPending};
 pub use moment::now;
 pub use seated::Seated;
 pub use serving::{Ending, serve};

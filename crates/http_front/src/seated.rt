@@ -1,6 +1,6 @@
 // Seats with their board.
-ghost use Rattle.std.specs.Prelude.{All};
-ghost use Rattle.front_board.specs.Board.{SitsAt};
+ghost use Rattle.std.specs.Prelude.{◌≡◌, ◌≤◌, All};
+ghost use Rattle.front_board.specs.Board.{SitsAt, seen_from};
 
 use front_board::{Board, Seat};
 use group_commit::Durable;
@@ -19,12 +19,16 @@ impl Seated {
     /// A seat of this board.
     pub fn new(board: Arc<Board>, seat: Seat) -> Seated
         requires sits { SitsAt board.value seat }
+        ensures seat { result.seat ≡ seat }
     {
         Seated { board, seat }
     }
 
     /// Shows this number from the seat, unless the board shows a greater one.
-    pub(crate) fn raise(&mut self, durable: Durable) {
+    pub(crate) fn raise(&mut self, durable: Durable)
+        ensures raised { durable ≤ seen_from self.new.seat }
+        ensures rises { seen_from self.old.seat ≤ seen_from self.new.seat }
+    {
         let Seated { board, seat } = self;
         board.raise(seat, durable);
     }

@@ -1,15 +1,16 @@
 // A whole front, until its last thread has ended.
-ghost use Rattle.std.specs.Prelude.{◌≡◌, []};
+ghost use Rattle.std.specs.Prelude.{◌≡◌, ◌⊎◌, []};
+ghost use Rattle.commit_loop.specs.declared.gate.Turn.TheVariants as turn;
 ghost use Rattle.group_commit.specs.Broker.{pending_of, settings_of};
 ghost use Rattle.receipts.specs.Desks.{desk_count};
 
 use crate::committing::Committer;
 use crate::error::ServeError;
 use crate::front::Front;
-use crate::gate::{Gate, Turn};
 use crate::opening::{Opened, open};
 use crate::place::Place;
 use crate::ticking::tick_all;
+use commit_loop::{Gate, Turn};
 use group_commit::Broker;
 use hall_core::Hall;
 use long_poll::Port;
@@ -53,6 +54,8 @@ struct UntilOver<'a, R, L: Ledger, G> {
 }
 
 impl<R: Wait, L: Ledger, G: Gate> Gate for UntilOver<'_, R, L, G> {
+    ghost says = { λ gate pending said. (said ≡ turn.End) ⊎ G.says gate.inner.now pending said };
+
     fn turn(&self, pending: usize) -> Turn {
         if self.front.ending.is_cancelled() || self.front.is_over(self.rt) {
             Turn::End
@@ -69,6 +72,8 @@ struct UntilEnding<'a, L: Ledger> {
 }
 
 impl<L: Ledger> Gate for UntilEnding<'_, L> {
+    ghost says = { λ _ _ said. (said ≡ turn.End) ⊎ (said ≡ turn.Commit) };
+
     fn turn(&self, _pending: usize) -> Turn {
         if self.front.ending.is_cancelled() {
             Turn::End
