@@ -22,7 +22,9 @@ standing_text (Ended EventAgeExceeded at) = codes "ended EventAgeExceeded"
 -- where it stands, when it was accepted, and the moment of its standing: when it is due, times out, or ended
 abbrev pub event_text : Standing → ℕ → List ℕ
 event_text standing accepted =
-    codes " " ++ (standing_text standing ++ (codes " accepted " ++ (decimal accepted ++ (codes " moment " ++ decimal (moment_in standing)))))
+    codes " "
+    ++ (standing_text standing
+    ++ (codes " accepted " ++ (decimal accepted ++ (codes " moment " ++ decimal (moment_in standing)))))
 
 -- its starts, its failures, and the push-backs since the last one
 abbrev pub counts_text : ℕ × ℕ × ℕ → List ℕ

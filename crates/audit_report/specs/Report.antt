@@ -61,7 +61,9 @@ number_line report = codes "generation " ++ (decimal report.generation ++ (codes
 
 abbrev pub standing_text : Report → List ℕ
 standing_text report =
-    codes "held " ++ (decimal report.held ++ (codes " waiting " ++ (decimal report.waiting ++ (codes " running " ++ decimal report.running))))
+    codes "held "
+    ++ (decimal report.held
+    ++ (codes " waiting " ++ (decimal report.waiting ++ (codes " running " ++ decimal report.running))))
 
 abbrev pub ended_line : Report → List ℕ
 ended_line report = codes " success " ++ (decimal report.success ++ (codes " failure " ++ (decimal report.failure ++ codes "\n")))

@@ -11,13 +11,14 @@ ghost use Rattle.audit_report.specs.Comparison.{table_in, Compares, TellsOlder};
 use crate::Older;
 use async_core::{ApplyError, Table};
 use checkpoint::{OpenError, Opened, read_older};
+use gate_journal::MOST_IN_FRAME;
 use invoke_records::{Command, Snapshot};
 use retry_rules::Settings;
 use sector_disk::Disk;
 use std::alloc::{AllocError, Global};
 
 /// How many commands a switch may carry that no frame holds.
-const MOST_CARRIED: u64 = 256;
+const MOST_CARRIED: u64 = MOST_IN_FRAME as u64;
 
 /// The table of a snapshot under these settings.
 pub(crate) fn table_from(
