@@ -6,18 +6,18 @@ use std::sync::ledger::Ledger;
 
 /// How many desks an office has.
 #[derive(Drop)]
-pub(crate) struct Seats<L: Ledger> {
+pub(crate) struct DeskCount<L: Ledger> {
     count: u64,
     of: PhantomData<L>,
     ghost parts: { count ≡ L.parts },
 }
 
-impl<L: Ledger> Seats<L> {
+impl<L: Ledger> DeskCount<L> {
     /// As many as the ledger has parts.
-    pub(crate) fn new(count: u64) -> Seats<L>
+    pub(crate) fn new(count: u64) -> DeskCount<L>
         requires { count ≡ L.parts }
     {
-        Seats {
+        DeskCount {
             count,
             of: PhantomData,
         }
