@@ -38,21 +38,25 @@ fn settings(alloc: Global) -> Result<Settings, AllocError> {
     })
 }
 
-// Formats a disk with good settings.
-fn format_disk(alloc: Global, disk: &mut MemDisk, settings: &Settings) -> Result<(), Fail> {
+/// How many sectors a disk of the tests has.
+pub const SECTORS: u64 = 64;
+
+/// Formats a disk with the settings of all tests.
+pub fn format_disk<D: Disk>(alloc: Global, disk: &mut D) -> Result<(), Fail> {
+    let settings = settings(alloc)?;
     if settings.check().is_err() {
         return Err(Fail::new("the settings are not good"));
     }
-    match format(alloc, disk, settings) {
+    match format(alloc, disk, &settings) {
         Ok(()) => Ok(()),
         Err(_) => Err(Fail::new("the disk is not formatted")),
     }
 }
 
-// A formatted disk of 64 sectors.
+// A formatted disk in memory.
 fn formatted(alloc: Global) -> Result<MemDisk, Fail> {
-    let mut disk = MemDisk::new(alloc, 64)?;
-    format_disk(alloc, &mut disk, &settings(alloc)?)?;
+    let mut disk = MemDisk::new(alloc, SECTORS)?;
+    format_disk(alloc, &mut disk)?;
     Ok(disk)
 }
 
@@ -182,8 +186,8 @@ pub fn hall(alloc: Global, watch: &Arc<Watch>) -> Result<Hall<Broker<TestDisk>>,
     hall_over(alloc, WatchedDisk { inner, watch })
 }
 
-// A hall over a formatted disk.
-fn hall_over<D: Disk + Drop>(alloc: Global, disk: D) -> Result<Hall<Broker<D>>, Fail>
+/// A hall over a formatted disk.
+pub fn hall_over<D: Disk + Drop>(alloc: Global, disk: D) -> Result<Hall<Broker<D>>, Fail>
     ensures { IfOk result (λ hall. pending_of hall.issuer ≡ []) }
 {
     let Ok(broker) = Broker::open(alloc, disk) else {

@@ -6,8 +6,8 @@ use std::rt::Files;
 use std::test::Fail;
 use std::{env, fs, process};
 
-// The path of a file that no other test uses.
-fn path_of(rt: &HostRuntime, test: &str) -> Result<String, Fail> {
+/// The path of a file that no other test uses.
+pub fn path_of(rt: &HostRuntime, test: &str) -> Result<String, Fail> {
     let folder = env::temp_dir(rt)?;
     let id = process::id(rt.process());
     Ok(format!(in rt.alloc(); "{}/sector_disk_{test}_{id}", folder.as_str())?)
