@@ -1,6 +1,8 @@
 // Serving a disk on the ports of this machine.
 ghost use Rattle.std.specs.Prelude.{◌≡◌, [], IfOk, OnOk};
-ghost use Rattle.group_commit.specs.Broker.{pending_of};
+ghost use Rattle.group_commit.specs.Broker.{pending_of, settings_of};
+ghost use Rattle.group_commit.specs.Promises.{ForEachHistory};
+ghost use Rattle.lambda_broker.specs.Serving.{ComesToRest};
 
 use group_commit::{Broker, CommitError, IssueError, OpenError, without_disk};
 use hall_core::{Hall, HallFailure};
@@ -91,7 +93,10 @@ where
 fn mark_attempts<R: Clock + Wait, D: Disk>(
     rt: &R,
     broker: &mut Broker<D>,
-) -> Result<(), ServingError> {
+) -> Result<(), ServingError>
+    ensures settings { settings_of broker.new ≡ settings_of broker.old }
+    ensures rest { ForEachHistory D.view broker.old (λ history. OnOk result (ComesToRest D.view history broker.new)) }
+{
     let now = now(rt)?;
     for _ in rt.forever() {
         if broker.resume(now)?.is_none() {
@@ -101,9 +106,10 @@ fn mark_attempts<R: Clock + Wait, D: Disk>(
     Ok(())
 }
 
-// Marks the attempts that the last stop cut off, and makes that durable.
+// Marks the attempts that the last stop cut off, and makes that durable: nothing runs then.
 fn resume<R: Clock + Wait, D: Disk>(rt: &R, broker: &mut Broker<D>) -> Result<(), ServingError>
-    ensures { OnOk result (pending_of broker.new ≡ []) }
+    ensures durable { OnOk result (pending_of broker.new ≡ []) }
+    ensures rest { ForEachHistory D.view broker.old (λ history. OnOk result (ComesToRest D.view history broker.new)) }
 {
     mark_attempts(rt, broker)?;
     match broker.commit() {

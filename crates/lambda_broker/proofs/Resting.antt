@@ -1,0 +1,44 @@
+-- Marks after marks, until nothing runs.
+use Rattle.std.proofs.Common.{◌≡◌, ℕ, List, [], ◌∷◌, ◌++◌, Option, Some, None, Ok, refl, sym, ◌∙◌, ap, subst, append_nil, append_assoc}
+use Rattle.std.proofs.lemmas.List.Elements.{All-append, All-cons, All-nil}
+use Rattle.sector_disk.specs.Disk.{DiskView}
+use Rattle.sector_disk.specs.declared.disk.Disk.{Ghosts}
+use Rattle.invoke_records.specs.declared.command.Command.{Command}
+use Rattle.group_commit.specs.declared.broker.Broker.{Broker}
+use Rattle.group_commit.specs.Broker.{settings_of, Stands}
+use Rattle.group_commit.specs.Resume.{interrupt_of, Resumes, TellsRest, AllAtRest}
+use Rattle.lambda_broker.specs.Serving.{IsMark, IsMarked, ComesToRest}
+
+-- before the first mark
+pub unmarked : {D : Type 0} {g : Ghosts D} (view : D → DiskView) (history : List Command) (broker : Broker D g)
+    → Stands view broker history → IsMarked view history broker
+unmarked view history broker stands = record {
+  marks = [];
+  are_marks = All-nil IsMark;
+  stands = subst (λ (h : List Command). Stands view broker h) (sym (append_nil history)) stands;
+}
+
+-- one more mark
+pub one_mark_more : {D : Type 0} {g : Ghosts D} (view : D → DiskView) (history : List Command) (old new : Broker D g) (now ticket : ℕ)
+    (marked : IsMarked view history old) → Resumes view old (history ++ marked.marks) now (Ok (Some ticket)) new → IsMarked view history new
+one_mark_more view history old new now ticket marked resumed =
+    let mark : Command = interrupt_of (history ++ marked.marks) now resumed.1.0 in
+    let next : resumed.0 ≡ (history ++ marked.marks) ++ mark ∷ [] = resumed.1.1.2.2.2 in record {
+      marks = marked.marks ++ mark ∷ [];
+      are_marks = All-append IsMark marked.marks (mark ∷ []) marked.are_marks (All-cons IsMark mark [] refl (All-nil IsMark));
+      stands = subst (λ (h : List Command). Stands view new h) (next ∙ append_assoc history marked.marks (mark ∷ [])) resumed.2;
+    }
+
+-- nothing is left to mark
+pub at_rest : {D : Type 0} {g : Ghosts D} (view : D → DiskView) (history : List Command) (old new : Broker D g) (now : ℕ)
+    → settings_of new ≡ settings_of old → (marked : IsMarked view history old)
+    → Resumes view old (history ++ marked.marks) now (Ok None) new → AllAtRest (settings_of old) (history ++ marked.marks)
+    → ComesToRest view history new
+at_rest view history old new now same marked resumed rests = record {
+  marked = record {
+    marks = marked.marks;
+    are_marks = marked.are_marks;
+    stands = subst (λ (h : List Command). Stands view new h) resumed.1.1 resumed.2;
+  };
+  rests = subst (λ s. AllAtRest s (history ++ marked.marks)) (sym same) rests;
+}
