@@ -34,7 +34,7 @@ use Rattle.hall_core.specs.Answering.{polls_told}
 use Rattle.hall_core.specs.Changes.{Leads, answered_to, IsUncalled}
 use Rattle.hall_core.specs.Settling.{replies_told, replied_at, own_at}
 use Rattle.hall_core.specs.Issuing.{HasPlaceFor, Continues, IsAnswered, IsWanting, told_of}
-use Rattle.hall_core.specs.Hall.{HallView, StandsFor, settings_in, pending_in, is_slot_open, open_slot_count, refusal_of_arrival, request}
+use Rattle.hall_core.specs.Hall.{HallView, StandsFor, settings_in, pending_in, is_slot_open, open_slot_count, refusal_of_arrival, Passes, request}
 use Rattle.hall_core.proofs.OpenCount.{all_are_open}
 use Rattle.std.specs.Prelude.{slice_index}
 use Rattle.api_core.specs.declared.reply.Reply.{Reply}
@@ -209,6 +209,24 @@ pub refused_by : (old : HallView) (past : Past) (slot : ℕ) (call : Call) (now 
 refused_by old past slot call now words effect laws stands plans =
     let is : effect ≡ effect_of (settings_in old) past (request slot call now words) = plans past stands.environments ∙ effect_is (settings_in old) past slot call now words in
     refusal_is old past slot call now (slice_index words 0, slice_index words 1) laws stands ∙ ap (λ e. refusal_of_arrival old (is_some e.command)) (sym is)
+
+-- what is told is a command where there is one
+pub told_some : (n : ℕ) (command : Option Command) → is_some (option_map (told_of n) command) ≡ is_some command
+told_some n None = refl
+told_some n (Some c) = refl
+
+-- a request that is answered passed each check
+pub arrival_passes : (old : HallView) (slot : ℕ) (call : Call) (now : ℕ) (words : List ℕ) (effect : Effect) (command : Option Command) (issued : Option Issued)
+    → IsIssuer old.issuer → PlansRequest (state_in old.issuer) old.environments slot call now words effect → refusal_of_arrival old (is_some effect.command) ≡ None
+    → command ≡ effect.command → IsAnswered old.issuer command issued → Passes old (request slot call now words) issued
+arrival_passes old slot call now words effect command issued laws plans none is answered = record {
+  by_parts =
+      ap (λ (o : Option Issued). refusal_of_arrival old (is_some o)) answered
+      ∙ ap (refusal_of_arrival old) (told_some (issued_in old.issuer) command)
+      ∙ ap (λ (o : Option Command). refusal_of_arrival old (is_some o)) is
+      ∙ none;
+  by_past = λ past stands. refused_by old past slot call now words effect laws stands plans ∙ none;
+}
 
 -- a request that passes is not refused
 pub planned_unrefused : (old : HallView) (past : Past) (slot : ℕ) (call : Call) (now : ℕ) (words : List ℕ) (effect : Effect)

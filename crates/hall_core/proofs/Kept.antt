@@ -24,7 +24,7 @@ mapped_len : {A B : Type 0} (f : A → B) (o : Option A) → option_len (option_
 mapped_len f None = refl
 mapped_len f (Some x) = refl
 
-nothing_there : {A : Type 0} (o : Option A) → is_some o ≡ false → o ≡ None
+pub nothing_there : {A : Type 0} (o : Option A) → is_some o ≡ false → o ≡ None
 nothing_there None none = refl
 nothing_there (Some x) none = absurd (true≢false none)
 

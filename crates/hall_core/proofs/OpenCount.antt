@@ -1,5 +1,5 @@
 -- Lemmas: how many of the slots that are kept are open.
-use Rattle.std.proofs.Common.{◌≡◌, ℕ, ◌+◌, ◌<◌, List, [], ◌∷◌, length, Bool, true, false, cond, refl, sym, ap, subst, ◌∙◌, inl, inr, arith, Option, Some, None, ◌==◌}
+use Rattle.std.proofs.Common.{◌≡◌, ℕ, ◌+◌, ◌<◌, List, [], ◌∷◌, length, Bool, true, false, cond, refl, sym, ap, subst, ◌∙◌, inl, inr, arith, None, ◌==◌}
 use Rattle.std.specs.List.{count_by, AllByRecursion}
 use Rattle.std.specs.List.Sorted.{IsStrictlySortedBy}
 use Rattle.std.specs.Map.{lookup, keys_of, values_of}
@@ -8,7 +8,7 @@ use Rattle.std.specs.declared.cmp.Ordering.{Ordering}
 use Rattle.std.specs.declared.cmp.Ordering.TheVariants.{Less, Equal, Greater}
 use Rattle.std.specs.Ordering.{nat_cmp, is_eq}
 use Rattle.std.specs.Cmp.{nat_cmp_is}
-use Rattle.std.proofs.lemmas.Bool.{false≢true, true≢false, cases_Bool, eqb-true, eqb-false, eq-eqb, ne_eqb}
+use Rattle.std.proofs.lemmas.Bool.{false≢true, true≢false, cases_Bool, eqb-true, eq-eqb, ne_eqb}
 use Rattle.std.proofs.lemmas.Map.{NonePasses, lookup-none}
 use Rattle.std.proofs.lemmas.Map.Entries.{lookup_head, lookup_tail, length-values_of}
 use Rattle.std.proofs.lemmas.Map.Keys.{sorted_head, sorted_tail}
@@ -17,15 +17,15 @@ use Rattle.async_core.specs.laws.Lives.{count_by-cons}
 use Rattle.retry_rules.specs.declared.settings.Settings.{Settings}
 use Rattle.hall_core.specs.declared.open_slot.OpenSlot.{OpenSlot}
 use Rattle.hall_core.specs.Past.{SlotEvent}
-use Rattle.hall_core.specs.Slots.{open_among, is_open_in}
-use Rattle.hall_core.specs.OpenSlots.{Entries, entry_at, is_open_entry, is_open_at, has_open, open_count, KeepFor}
+use Rattle.hall_core.specs.Slots.{open_among}
+use Rattle.hall_core.specs.OpenSlots.{Entries, is_open_entry, is_open_at, has_open, open_count, KeepFor}
 use Rattle.hall_core.specs.laws.Counts.{one_if, times, times_open}
 use Rattle.hall_core.proofs.Kept.{open_kept}
 
 -- ## Lists in which each number stands as often
 
 -- without the first such number
-without_first : ℕ → List ℕ → List ℕ
+abbrev without_first : ℕ → List ℕ → List ℕ
 without_first x [] = []
 without_first x (y ∷ ys) = cond (x == y) ys (y ∷ without_first x ys)
 
@@ -80,7 +80,7 @@ same_length (x ∷ xs) ys same =
 
 -- ## The numbers of the slots that are open
 
-open_keys : Bool → Entries → List ℕ
+abbrev open_keys : Bool → Entries → List ℕ
 open_keys b [] = []
 open_keys b (e ∷ es) = cond (is_open_entry b e.1) (e.0 ∷ open_keys b es) (open_keys b es)
 

@@ -30,8 +30,8 @@ use Rattle.hall_core.specs.Changes.{Leads, answered_to}
 use Rattle.hall_core.specs.Settling.{replied_at}
 use Rattle.hall_core.specs.Issuing.{HasPlaceFor, Continues, IsAnswered}
 use Rattle.hall_core.specs.Doing.{KeepTick}
-use Rattle.hall_core.specs.Hall.{HallView, StandsFor, settings_in, pending_in, refusal_of_moving, IssuesAtMostOne, released_to}
-use Rattle.hall_core.proofs.Arriving.{told_to_polls, made_told, polls_are_told, told_with, none_asks, or_false, below, stands_after}
+use Rattle.hall_core.specs.Hall.{HallView, StandsFor, settings_in, pending_in, refusal_of_moving, Passes, IssuesAtMostOne, released_to}
+use Rattle.hall_core.proofs.Arriving.{told_to_polls, made_told, polls_are_told, told_some, told_with, none_asks, or_false, below, stands_after}
 
 -- ## Refusals
 
@@ -81,6 +81,19 @@ tick_unrefused old past now effect before stands fit passes is = record {
   broken = old.issuer.broken;
   durable = old.issuer.durable;
   unrefused = tick_refusal_is old past now before stands ∙ ap (λ (e : Effect). refusal_of_moving old (is_some e.command)) (sym is) ∙ passes;
+}
+
+-- a tick that is answered passed each check
+pub tick_passes : (old : HallView) (now : ℕ) (effect : Effect) (command : Option Command) (issued : Option Issued)
+    → IsIssuer old.issuer → PlansTick (state_in old.issuer) old.environments old.stops now effect → refusal_of_moving old (is_some effect.command) ≡ None
+    → command ≡ effect.command → IsAnswered old.issuer command issued → Passes old (tick now) issued
+tick_passes old now effect command issued laws plans none is answered = record {
+  by_parts =
+      ap (λ (o : Option Issued). refusal_of_moving old (is_some o)) answered
+      ∙ ap (refusal_of_moving old) (told_some (issued_in old.issuer) command)
+      ∙ ap (λ (o : Option Command). refusal_of_moving old (is_some o)) is
+      ∙ none;
+  by_past = λ past stands. tick_refused_by old past now effect laws stands plans ∙ none;
 }
 
 pub ticked : (old new : HallView) (past : Past) (now : ℕ) (effect : Effect) (p : Prepared) (issued : Option Issued)
@@ -134,7 +147,7 @@ module _ (x : Scene) (ready : Option ℕ) where
 tick_is_quiet : (x : Scene) → (effect_of_tick x).command ≡ None → effect_of_tick x ≡ nothing
 tick_is_quiet x quiet = either (is_stopping x.past) refl
   where
-    goes_on : (b : Bool) → Effect
+    abbrev goes_on : Bool → Effect
     goes_on b = cond b nothing (interrupts_or_moves x (ready_in x.settings x.past) (first_unheld x.settings x.past))
 
     either : (b : Bool) → is_stopping x.past ≡ b → effect_of_tick x ≡ nothing

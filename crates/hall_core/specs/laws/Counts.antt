@@ -1,5 +1,5 @@
 -- Laws: how many slots are open after one event more, where each request came with a slot that was not open.
-use Rattle.std.proofs.Common.{◌≡◌, ℕ, ◌+◌, ◌<◌, ◌≤◌, List, [], ◌∷◌, ◌++◌, length, take, Bool, true, false, ◌||◌, cond, refl, sym, subst, ap, ◌∙◌, ◌⊎◌, inl, inr, arith, zero-add, Option, Some, None, is_some, append_assoc, length-append, ◌==◌}
+use Rattle.std.proofs.Common.{◌≡◌, ℕ, ◌+◌, ◌<◌, ◌≤◌, List, [], ◌∷◌, ◌++◌, length, take, Bool, true, false, ◌&&◌, ◌||◌, cond, refl, sym, subst, ap, ◌∙◌, ◌⊎◌, inl, inr, arith, zero-add, Option, Some, None, is_some, append_assoc, length-append, ◌==◌}
 use Rattle.std.specs.Prelude.{slice_get}
 use Rattle.std.specs.List.{list_any, count_by}
 use Rattle.std.specs.Option.{option_len}

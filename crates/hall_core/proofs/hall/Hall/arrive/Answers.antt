@@ -5,7 +5,7 @@ use Rattle.hall_core.specs.Prepared.{IsPreparedFor}
 use Rattle.hall_core.specs.Issuing.{HasPlaceFor}
 use Rattle.hall_core.specs.Effects.{Effect}
 use Rattle.hall_core.specs.Hall.{view_of, settings_in, request, refusal_of_arrival}
-use Rattle.hall_core.proofs.Arriving.{arrived, refused_by, finds_place, is_free, effect_is, planned_unrefused, called_but_for_memory, issued_but_for_memory}
+use Rattle.hall_core.proofs.Arriving.{arrived, refused_by, finds_place, is_free, effect_is, arrival_passes, planned_unrefused, called_but_for_memory, issued_but_for_memory}
 use Rattle.hall_core.proofs.Reasons.{arrival_reason, uncalled_reason, wanting_reason, request_would, told_asked}
 use Rattle.hall_core.proofs.hall.Hall.arrive.Goals as goal
 
@@ -123,3 +123,12 @@ do_for-requires-free g c =
 pub returns-in-Ok-do_for-clause-asked : goal.returns-in-Ok-do_for-clause-asked
 returns-in-Ok-do_for-clause-asked g c =
     rw (c.in-Ok-do_for.ensures.issued, c.in-Ok-prepare.ensures.ok.command) (told_asked _ _ _ _ c.plan_request-plan.ensures.asked)
+
+pub returns-in-Ok-do_for-clause-passes : goal.returns-in-Ok-do_for-clause-passes
+returns-in-Ok-do_for-clause-passes g c =
+    let old = view_of g.I.Issuer.view c.args.self.now in
+    let effect = c.plan_request-plan.result.effect in
+    let plans = subst (λ t. PlansRequest t c.args.self.now.environments c.args.slot c.args.call c.args.now c.args.words effect) c.table.ensures c.plan_request-plan.ensures.effect in
+    let none : refusal_of_arrival old (is_some effect.command) ≡ None = search rules in
+    arrival_passes old c.args.slot c.args.call c.args.now c.args.words effect c.in-Ok-prepare.prepared.command c.in-Ok-do_for.issued
+    (g.met.I.Issuer.laws c.args.self.now.issuer) plans none c.in-Ok-prepare.ensures.ok.command c.in-Ok-do_for.ensures.issued
