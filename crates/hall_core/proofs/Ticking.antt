@@ -144,17 +144,18 @@ module _ (x : Scene) (ready : Option ℕ) where
   interrupt_is_quiet None quiet = move_is_quiet (first_moving x.settings x.past.history x.now (is_some ready)) quiet
   interrupt_is_quiet (Some event) quiet = absurd (none-some _ (sym quiet))
 
+-- a tick of a broker that stops, or of one that does not
+abbrev tick_by : Scene → Bool → Effect
+tick_by x stopping = cond stopping nothing (interrupts_or_moves x (ready_in x.settings x.past) (first_unheld x.settings x.past))
+
 tick_is_quiet : (x : Scene) → (effect_of_tick x).command ≡ None → effect_of_tick x ≡ nothing
 tick_is_quiet x quiet = either (is_stopping x.past) refl
   where
-    abbrev goes_on : Bool → Effect
-    goes_on b = cond b nothing (interrupts_or_moves x (ready_in x.settings x.past) (first_unheld x.settings x.past))
-
     either : (b : Bool) → is_stopping x.past ≡ b → effect_of_tick x ≡ nothing
-    either true stopping = ap goes_on stopping
+    either true stopping = ap (tick_by x) stopping
     either false moving =
-        ap goes_on moving
-        ∙ interrupt_is_quiet x (ready_in x.settings x.past) (first_unheld x.settings x.past) (sym (ap (λ b. (goes_on b).command) moving) ∙ quiet)
+        ap (tick_by x) moving
+        ∙ interrupt_is_quiet x (ready_in x.settings x.past) (first_unheld x.settings x.past) (sym (ap (λ b. (tick_by x b).command) moving) ∙ quiet)
 
 pub idle : (old : HallView) (past : Past) (now : ℕ) (effect : Effect) → IsIssuer old.issuer → StandsFor old past → IsFit (settings_in old) (tick now)
     → refusal_of_moving old (is_some effect.command) ≡ None → PlansTick (state_in old.issuer) old.environments old.stops now effect → effect.command ≡ None
