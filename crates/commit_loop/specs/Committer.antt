@@ -1,10 +1,8 @@
 -- What a committer does, step by step and turn by turn.
-use Rattle.std.specs.Prelude.{◌≡◌, ℕ, List, [], ◌∷◌, ◌++◌, All, Result, Ok, Err, ◌==◌, if◌then◌else◌}
+use Rattle.std.specs.Prelude.{◌≡◌, ℕ, Bool, true, false, List, [], ◌∷◌, ◌++◌, All, Result, Ok, Err, ◌==◌, if◌then◌else◌}
 use Rattle.std.specs.List.{flat_map}
 use Rattle.commit_loop.specs.declared.gate.Turn.{Turn}
 use Rattle.commit_loop.specs.declared.gate.Turn.TheVariants as turn
-use Rattle.commit_loop.specs.declared.committer.CommitFailure.{CommitFailure}
-use Rattle.commit_loop.specs.declared.committer.CommitFailure.TheVariants as failure
 
 -- a step
 pub data Step : Type 0 where
@@ -12,8 +10,8 @@ pub data Step : Type 0 where
   counted : (pending : ℕ) → Step
   -- it committed, after which so many were durable
   committed : (durable : ℕ) → Step
-  -- it tried to commit, and that failed
-  failed : (why : CommitFailure) → Step
+  -- it tried to commit, and that failed; it may have found the hall broken
+  failed : (broke : Bool) → Step
   -- it raised the board to so many
   raised : (durable : ℕ) → Step
   said_broken : Step
@@ -23,19 +21,19 @@ pub data Step : Type 0 where
 -- ## A turn
 
 -- a commit with this outcome
-abbrev pub commit_step : {D : Type 0} → (D → ℕ) → Result D CommitFailure → Step
-commit_step number (Ok durable) = committed (number durable)
-commit_step number (Err why) = failed why
+abbrev pub commit_step : {D F : Type 0} → (D → ℕ) → (F → Bool) → Result D F → Step
+commit_step number breaks (Ok durable) = committed (number durable)
+commit_step number breaks (Err why) = failed (breaks why)
 
 -- what is said of one that failed
-abbrev pub said_of : CommitFailure → List Step
-said_of failure.Broken = said_broken ∷ []
-said_of failure.Refused = []
+abbrev pub said_of : Bool → List Step
+said_of true = said_broken ∷ []
+said_of false = []
 
--- a commit after which so many are durable, or that failed, and what follows it
-abbrev pub steps_of_commit : Result ℕ CommitFailure → List Step
+-- a commit after which so many are durable, or that failed and may have found the hall broken; and what follows it
+abbrev pub steps_of_commit : Result ℕ Bool → List Step
 steps_of_commit (Ok durable) = committed durable ∷ raised durable ∷ rang ∷ []
-steps_of_commit (Err why) = failed why ∷ (said_of why ++ rang ∷ slept ∷ [])
+steps_of_commit (Err broke) = failed broke ∷ (said_of broke ++ rang ∷ slept ∷ [])
 
 -- nothing is done about so many commands
 abbrev pub steps_of_skip : ℕ → List Step
@@ -43,7 +41,7 @@ steps_of_skip pending = if pending == 0 then slept ∷ [] else []
 
 -- what is done in a turn that does not end the loop
 pub data Deed : Type 0 where
-  commits : (outcome : Result ℕ CommitFailure) → Deed
+  commits : (outcome : Result ℕ Bool) → Deed
   skips : Deed
 
 -- what the gate said

@@ -1,5 +1,5 @@
 // The committer's loop.
-ghost use Rattle.std.specs.Prelude.{◌≡◌, ℕ, List, [], ◌∷◌, ◌++◌};
+ghost use Rattle.std.specs.Prelude.{◌≡◌, ℕ, Bool, List, [], ◌∷◌, ◌++◌};
 ghost use Rattle.std.specs.Bool.{OnTrue, OnFalse};
 ghost use Rattle.commit_loop.specs.Committer.{Step, counted, commit_step, raised, said_broken, rang, slept};
 ghost use Rattle.commit_loop.specs.Committer.{said_of, steps_of_commit, steps_of_skip, Acts, IsTurn, IsEnd, IsRun};
@@ -9,22 +9,19 @@ use crate::gate::{Gate, Turn};
 use std::sync::Wait;
 use std::thread;
 
-/// Why a commit failed.
-#[derive(Clone, Copy, Debug, PartialEq, Eq)]
-pub enum CommitFailure {
-    /// The hall is broken: nothing more becomes durable.
-    Broken,
-    /// It was refused. A later one may succeed.
-    Refused,
-}
-
 /// What a committer works on, by the steps that it makes.
 pub trait Committing {
     /// What a commit made durable.
     type Durable;
 
-    /// How many commands that is.
+    /// Why a commit failed.
+    type Failure: Drop;
+
+    /// How many commands are durable.
     ghost number: { Self.Durable → ℕ };
+
+    /// Whether nothing more becomes durable. Where it does not hold, a later commit may succeed.
+    ghost breaks: { Self.Failure → Bool };
 
     /// These steps, in this order, lead from the first value to the second.
     ghost leads: { Self → List Step → Self → Type 0 };
@@ -34,8 +31,12 @@ pub trait Committing {
         ensures { leads self.old (counted result ∷ []) self.new };
 
     /// Makes all that is pending durable.
-    fn commit(&mut self) -> Result<Self::Durable, CommitFailure>
-        ensures { leads self.old (commit_step number result ∷ []) self.new };
+    fn commit(&mut self) -> Result<Self::Durable, Self::Failure>
+        ensures { leads self.old (commit_step number breaks result ∷ []) self.new };
+
+    /// Whether nothing more becomes durable after this failure.
+    fn is_broken_by(&self, why: &Self::Failure) -> bool
+        ensures { result ≡ breaks why.now };
 
     /// Shows on the board how much is durable.
     fn raise(&mut self, durable: Self::Durable)
@@ -69,18 +70,17 @@ fn show<C: Committing>(committer: &mut C, durable: C::Durable)
 }
 
 // Says that the hall is broken, if it is.
-fn say<C: Committing>(committer: &mut C, why: CommitFailure)
-    ensures { C.leads committer.old (said_of why) committer.new }
+fn say<C: Committing>(committer: &mut C, why: &C::Failure)
+    ensures { C.leads committer.old (said_of (C.breaks why.now)) committer.new }
 {
-    match why {
-        CommitFailure::Broken => committer.say_broken(),
-        CommitFailure::Refused => {}
+    if committer.is_broken_by(why) {
+        committer.say_broken();
     }
 }
 
 // Tells of a commit that failed, and sleeps.
-fn tell<C: Committing>(committer: &mut C, why: CommitFailure)
-    ensures { C.leads committer.old (said_of why ++ rang ∷ slept ∷ []) committer.new }
+fn tell<C: Committing>(committer: &mut C, why: &C::Failure)
+    ensures { C.leads committer.old (said_of (C.breaks why.now) ++ rang ∷ slept ∷ []) committer.new }
 {
     say(committer, why);
     committer.ring();
@@ -93,7 +93,7 @@ fn commit<C: Committing>(committer: &mut C)
 {
     match committer.commit() {
         Ok(durable) => show(committer, durable),
-        Err(why) => tell(committer, why),
+        Err(why) => tell(committer, &why),
     }
 }
 

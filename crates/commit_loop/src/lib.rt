@@ -9,6 +9,6 @@ mod committer;
 mod gate;
 mod ticker;
 
-pub use committer::{CommitFailure, Committing, commit_all};
+pub use committer::{Committing, commit_all};
 pub use gate::{Gate, Turn, WhenPending};
 pub use ticker::{Ticking, tick_all};

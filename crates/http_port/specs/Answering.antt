@@ -1,5 +1,5 @@
 -- The status of what a port answers with.
-use Rattle.std.specs.Prelude.{◌≡◌, ◌⊎◌, ◌≤◌, ℕ}
+use Rattle.std.specs.Prelude.{◌≡◌, ◌⊎◌, ◌≤◌, ℕ, Result, IfOk}
 use Rattle.http.specs.declared.response.Response.{Response}
 use Rattle.http.specs.Response.{head_of}
 
@@ -14,3 +14,7 @@ IsStatusOf status told sent = (sent ≡ status told) ⊎ (sent ≡ 503)
 -- the status of something that was told, or of a refusal
 abbrev pub IsAnswer : {T : Type 0} → (T → ℕ) → ℕ → Type 0
 IsAnswer {T} status sent = ((told : T) × (sent ≡ status told)) ⊎ (400 ≤ sent)
+
+-- what is sent has such a status
+abbrev pub SendsAnswer : {T B E : Type 0} → (T → ℕ) → Result (Response B) E → Type 0
+SendsAnswer status sent = IfOk sent (λ response. IsAnswer status (status_of response))

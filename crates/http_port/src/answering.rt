@@ -1,5 +1,5 @@
 // What a port answers with.
-ghost use Rattle.std.specs.Prelude.{◌≡◌, ◌⊎◌, ◌≤◌, ℕ, IfSome};
+ghost use Rattle.std.specs.Prelude.{◌≡◌, ◌≤◌, ℕ, IfSome};
 ghost use Rattle.http_port.specs.Answering.{status_of, IsStatusOf};
 
 use bytes::Bytes;
@@ -39,7 +39,7 @@ impl Model for Refused {
 }
 
 impl Refused {
-    /// A refusal with this response, of which no other status is asked than one that refuses.
+    /// A refusal with this response, whose status is one that refuses.
     pub fn new(response: Answered) -> Refused
         requires { 400 ≤ status_of response }
         ensures { result ≡ status_of response }
@@ -59,7 +59,7 @@ impl Refused {
 
     /// Its response.
     pub fn into_response(self) -> Answered
-        ensures is { status_of result ≡ self }
+        ensures same { status_of result ≡ self }
         ensures refuses { 400 ≤ status_of result }
     {
         let Refused { response } = self;
@@ -68,7 +68,7 @@ impl Refused {
 }
 
 /// The response of what is told, with its status. Where memory is wanting, 503 alone.
-pub fn tell<T: Told>(alloc: Global, told: T) -> Answered
+pub(crate) fn tell<T: Told>(alloc: Global, told: T) -> Answered
     ensures { IsStatusOf T.status told (status_of result) }
 {
     match told.into_response(alloc) {

@@ -13,7 +13,7 @@ mod reading;
 mod requests;
 mod served;
 
-pub use answering::{Answered, Body, Refused, Told, tell};
+pub use answering::{Answered, Body, Refused, Told};
 pub use application::Application;
 pub use port::serve;
 pub use reading::ReadError;

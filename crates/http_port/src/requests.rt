@@ -2,7 +2,7 @@
 ghost use Rattle.std.specs.Prelude.{◌≡◌, IfOk, IfSome, None};
 ghost use Rattle.futures.specs.Task.{IsArmed, Keeps};
 ghost use Rattle.futures.specs.Poll.{IfReady, OnPending};
-ghost use Rattle.http_port.specs.Answering.{status_of, IsAnswer};
+ghost use Rattle.http_port.specs.Answering.{SendsAnswer};
 
 use crate::answering::{Answered, Refused, tell};
 use crate::application::Application;
@@ -68,7 +68,7 @@ impl<A: Application, I: Drop> Serving<A, I> {
         cx: &mut Context<'_>,
     ) -> Poll<Result<Answered, Infallible>>
         requires { A.Reply.can_poll reply }
-        ensures status { IfReady result (λ answered. IfOk answered (λ response. IsAnswer A.Given.status (status_of response))) }
+        ensures status { IfReady result (SendsAnswer A.Given.status) }
         ensures waits { OnPending result (IfSome self.new.reply A.Reply.can_poll) }
         ensures armed { OnPending result (IsArmed cx.new) }
         ensures kept { Keeps cx.old cx.new }
@@ -88,7 +88,7 @@ impl<A: Application, I: Drop> Future for Serving<A, I> {
 
     ghost can_poll = { λ s. IfSome s.reply A.Reply.can_poll };
 
-    ghost gives = { λ _ answered. IfOk answered (λ response. IsAnswer A.Given.status (status_of response)) };
+    ghost gives = { λ _ sent. SendsAnswer A.Given.status sent };
 
     fn poll(&mut self, cx: &mut Context<'_>) -> Poll<Result<Answered, Infallible>> {
         match self.poll_body(cx) {

@@ -9,5 +9,5 @@ returns-in-Ok g c =
 
 pub returns-in-Err : goal.returns-in-Err
 returns-in-Err g c =
-    let why = c.in-Err.why in
-    (Err why, g.met.C.Committing.goes_on _ _ _ (failed why ∷ []) (said_of why ++ rang ∷ slept ∷ []) (c.in-Err.ensures) c.tell.ensures)
+    let broke = g.C.Committing.breaks c.in-Err.why in
+    (Err broke, g.met.C.Committing.goes_on _ _ _ (failed broke ∷ []) (said_of broke ++ rang ∷ slept ∷ []) (c.in-Err.ensures) c.tell.ensures)
