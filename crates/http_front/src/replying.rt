@@ -53,7 +53,7 @@ impl Told for Telling {
 
     fn into_response(self, alloc: Global) -> Option<Answered> {
         let Telling { released } = self;
-        response_of(alloc, released.reply)
+        response_of(alloc, released.into_reply())
     }
 }
 
