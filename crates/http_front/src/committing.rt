@@ -50,8 +50,12 @@ impl<R: Wait, L: Ledger, D: Disk> Committing for AtFront<'_, R, L, D> {
     }
 
     fn commit(&mut self) -> Result<Durable, NotCommitted> {
-        let Committer { desk, half, .. } = &mut self.committer;
-        ask(self.rt, &self.front.office, desk, half)
+        ask(
+            self.rt,
+            &self.front.office,
+            &mut self.committer.desk,
+            &mut self.committer.half,
+        )
     }
 
     fn is_broken_by(&self, why: &NotCommitted) -> bool {
