@@ -62,26 +62,26 @@ fn shared<L: Ledger>(
     Ok(Arc::new(alloc, front)?)
 }
 
-// A front with these desks and seats. None where there are too few.
+// A front with these desks and seats.
 fn furnish<L: Ledger, D: Disk + Drop>(
     alloc: Global,
     front: Arc<Front<L>>,
     desks: Vec<Desk<L>>,
     seats: Vec<Seated>,
     half: DiskHalf<D>,
-) -> Result<Option<Opened<L, D>>, AllocError> {
+) -> Result<Opened<L, D>, ServeError> {
     let mut desks = desks;
     let mut seats = seats;
     let (Some(desk), Some(ticker), Some(seated)) = (desks.pop(), desks.pop(), seats.pop()) else {
-        return Ok(None);
+        return Err(ServeError::TooManyPorts);
     };
     let ports = ports(alloc, &front, desks, seats)?;
-    Ok(Some(Opened {
+    Ok(Opened {
         front,
         ports,
         committer: Committer::new(desk, half, seated),
         ticker,
-    }))
+    })
 }
 
 /// Opens a front over a hall: its office, its board, and the ports.
@@ -89,7 +89,7 @@ pub(crate) fn open<L: Ledger, D: Disk + Drop>(
     alloc: Global,
     hall: Hall<Broker<D>>,
     blank: Blank,
-) -> Result<Option<Opened<L, D>>, ServeError>
+) -> Result<Opened<L, D>, ServeError>
     requires nothing { pending_of hall.issuer ≡ [] }
     requires name { blank.name ≡ L.name }
     requires parts { blank.parts ≡ L.parts }
@@ -101,7 +101,7 @@ pub(crate) fn open<L: Ledger, D: Disk + Drop>(
         Ok((office, desks, half)) => {
             let seats = Seated::open(alloc, durable, desks.len())?;
             let front = shared(alloc, office, settings)?;
-            Ok(furnish(alloc, front, desks, seats, half)?)
+            furnish(alloc, front, desks, seats, half)
         }
         Err(failure) => Err(ServeError::Office(failure.cause)),
     }

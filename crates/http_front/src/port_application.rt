@@ -1,33 +1,36 @@
 // A port of the front, whose requests become calls.
+ghost use Rattle.std.specs.Prelude.{◌≡◌};
+ghost use Rattle.hall_core.specs.Hall.{slot_told};
+
 use crate::front::Front;
-use crate::replying::{refuse, respond};
+use crate::replying::{Telling, refuse};
 use api_core::{Refusal, RequestError, read_request};
 use futures::Future;
 use futures::task::{Context, Poll};
 use http::request::Parts;
-use http_port::{Answered, Application, ReadError, bare};
+use http_port::{Application, ReadError, Refused};
 use hyper::StatusCode;
 use long_poll::{Port, Waiting};
-use std::alloc::Global;
 use std::random::RandomSource;
 use std::sync::ledger::Ledger;
 use std::sync::{Arc, Wait};
 use std::time::Clock;
 
-/// The reply of a call, as a response.
+/// The reply of a call, which is told once it is released.
 #[derive(Drop)]
 pub(crate) struct Replying<R: Wait, L: Ledger> {
-    alloc: Global,
     waiting: Waiting<R, L>,
 }
 
 impl<R: Wait + Drop, L: Ledger> Future for Replying<R, L> {
-    type Output = Answered;
+    type Output = Telling;
 
-    fn poll(&mut self, cx: &mut Context<'_>) -> Poll<Answered> {
+    ghost gives = { λ replying telling. slot_told telling.released ≡ replying.waiting.slot };
+
+    fn poll(&mut self, cx: &mut Context<'_>) -> Poll<Telling> {
         match self.waiting.poll(cx) {
             Poll::Pending => Poll::Pending,
-            Poll::Ready(released) => Poll::Ready(respond(self.alloc, released.reply)),
+            Poll::Ready(released) => Poll::Ready(Telling::new(released)),
         }
     }
 }
@@ -74,6 +77,8 @@ impl<R: Wait + Clock + RandomSource + Copy, L: Ledger> PortApplication<R, L> {
 
 impl<R: Wait + Clock + RandomSource + Drop + Copy, L: Ledger> Application
     for PortApplication<R, L> {
+    type Given = Telling;
+
     type Reply = Replying<R, L>;
 
     fn most(&self) -> usize {
@@ -84,15 +89,15 @@ impl<R: Wait + Clock + RandomSource + Drop + Copy, L: Ledger> Application
         &self,
         head: &Parts,
         body: Result<Vec<u8>, ReadError>,
-    ) -> Result<Replying<R, L>, Answered> {
+    ) -> Result<Replying<R, L>, Refused> {
         let alloc = self.front.alloc;
         let arrived = match body {
             Ok(body) => self.arrive(head, body),
             Err(ReadError::OutOfMemory) => Err(Refusal::Unavailable),
-            Err(ReadError::CutOff) => return Err(bare(alloc, StatusCode::BAD_REQUEST)),
+            Err(ReadError::CutOff) => return Err(Refused::bare(alloc, StatusCode::BAD_REQUEST)),
         };
         match arrived {
-            Ok(waiting) => Ok(Replying { alloc, waiting }),
+            Ok(waiting) => Ok(Replying { waiting }),
             Err(why) => Err(refuse(alloc, &self.front.settings, why)),
         }
     }

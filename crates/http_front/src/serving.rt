@@ -1,19 +1,21 @@
 // A whole front, until its last thread has ended.
-ghost use Rattle.std.specs.Prelude.{◌≡◌, []};
+ghost use Rattle.std.specs.Prelude.{◌≡◌, ◌⊎◌, ◌≤◌, ◌+◌, [], vec_len, OnOk};
+ghost use Rattle.commit_loop.specs.declared.gate.Turn.TheVariants as turn;
 ghost use Rattle.group_commit.specs.Broker.{pending_of, settings_of};
 ghost use Rattle.receipts.specs.Desks.{desk_count};
 
 use crate::committing::Committer;
 use crate::error::ServeError;
 use crate::front::Front;
-use crate::gate::{Gate, Turn};
 use crate::opening::{Opened, open};
 use crate::port_application::PortApplication;
 use crate::ticking::tick_all;
+use commit_loop::{Gate, Turn};
 use group_commit::Broker;
 use hall_core::Hall;
 use long_poll::Port;
-use receipts::Desk;
+use receipts::{Desk, desks};
+use retry_rules::Settings;
 use sector_disk::Disk;
 use std::alloc::AllocGlobal;
 use std::net::{Net, TcpListener, TcpStream};
@@ -53,6 +55,8 @@ struct UntilOver<'a, R, L: Ledger, G> {
 }
 
 impl<R: Wait, L: Ledger, G: Gate> Gate for UntilOver<'_, R, L, G> {
+    ghost says = { λ gate pending said. (said ≡ turn.End) ⊎ G.says gate.inner.now pending said };
+
     fn turn(&self, pending: usize) -> Turn {
         if self.front.ending.is_cancelled() || self.front.is_over(self.rt) {
             Turn::End
@@ -69,6 +73,8 @@ struct UntilEnding<'a, L: Ledger> {
 }
 
 impl<L: Ledger> Gate for UntilEnding<'_, L> {
+    ghost says = { λ _ _ said. (said ≡ turn.End) ⊎ (said ≡ turn.Commit) };
+
     fn turn(&self, _pending: usize) -> Turn {
         if self.front.ending.is_cancelled() {
             Turn::End
@@ -195,7 +201,7 @@ where
         front,
         inner: gate,
     };
-    let (_desk, _half) = committer.run(&rt, front, &until);
+    let _committer = committer.run(&rt, front, &until);
     front.ending.cancel();
     let _desk = ticking.join(&rt);
     Ok(())
@@ -241,10 +247,20 @@ where
     Ok(Ending::of(&front))
 }
 
+// How many ports there are: the committer and the ticker have a desk too.
+fn port_count(settings: &Settings) -> u64
+    ensures { result + 2 ≡ desk_count settings.now }
+{
+    desks(settings) - 2
+}
+
 /// Serves a hall, in which nothing has come yet and nothing is pending, with a ledger of as many parts as there are desks:
 /// the callers' port at the first listener, that of environment n at the listener n behind it. It returns once the broker
 /// was stopped or its device failed and every open request was answered or its client has gone. The committer, on the
 /// calling thread, is asked by the gate beside that.
+///
+/// It is refused: `TooManyPorts` (more listeners than ports), `Office` (no office was opened over the hall), `OutOfMemory`,
+/// and `System`, where the system gave no thread or no sockets.
 pub fn serve<R, L, D, G>(
     rt: R,
     hall: Hall<Broker<D>>,
@@ -270,9 +286,11 @@ where
     requires name { blank.name ≡ L.name }
     requires parts { blank.parts ≡ L.parts }
     requires seats { L.parts ≡ desk_count (settings_of hall.issuer) }
+    ensures { OnOk result (vec_len listeners + 2 ≤ desk_count (settings_of hall.issuer)) }
 {
-    match open::<L, D>(rt.alloc(), hall, blank)? {
-        Some(opened) => Ok(run(rt, opened, listeners, gate)?),
-        None => Ok(Ending::Stopped),
+    if listeners.len() as u64 > port_count(hall.table().settings()) {
+        return Err(ServeError::TooManyPorts);
     }
+    let opened = open::<L, D>(rt.alloc(), hall, blank)?;
+    Ok(run(rt, opened, listeners, gate)?)
 }

@@ -2,6 +2,7 @@
 ghost use Rattle.std.specs.Prelude.{◌≡◌, ◌≤◌, IfOk, IfErr, IfSome};
 ghost use Rattle.invoke_records.specs.Spelling.{greatest_moment};
 ghost use Rattle.hall_core.specs.Hall.{slot_told};
+ghost use Rattle.long_poll.specs.Port.{IsSlot, IsRequestRefusal, IsMoveRefusal};
 
 use crate::bell::Bell;
 use api_core::Call;
@@ -56,7 +57,10 @@ impl<L: Ledger> Port<L> {
         call: Call,
         now: u64,
         words: [u64; 2],
-    ) -> Result<(Ticket, u64), HallError> {
+    ) -> Result<(Ticket, u64), HallError>
+        ensures slot { IfOk result (λ r. IsSlot r.1) }
+        ensures refused { IfErr result IsRequestRefusal }
+    {
         let mut desk = self.desk.lock(rt);
         self.office.arrive(rt, &mut desk, call, now, words)
     }
@@ -64,6 +68,7 @@ impl<L: Ledger> Port<L> {
     /// Makes one move that is due, as `Office::tick` says, from the port's desk. A moment is at most the end of the year 9999.
     pub fn tick<R: Wait>(&self, rt: &R, now: u64) -> Result<Option<u64>, HallError>
         requires { now ≤ greatest_moment }
+        ensures { IfErr result IsMoveRefusal }
     {
         let mut desk = self.desk.lock(rt);
         self.office.tick(rt, &mut desk, now)

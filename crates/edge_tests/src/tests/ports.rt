@@ -4,6 +4,7 @@ ghost use Rattle.group_commit.specs.Broker.{pending_of, settings_of};
 ghost use Rattle.receipts.specs.Desks.{desk_count};
 
 mod clients;
+mod crowd;
 mod talks;
 
 use crate::tests::disks::{NO_TROUBLE, SECTORS, Trouble, Watch, format_disk, hall, hall_over};

@@ -75,7 +75,7 @@ impl<R: Wait + Drop, L: Ledger> Future for Noted<R, L> {
             Poll::Pending => return Poll::Pending,
             Poll::Ready(released) => released,
         };
-        let reply = (released.slot(), released.reply.status);
+        let reply = (released.slot(), released.into_reply().status);
         let mut heard = self.told.lock(&self.rt);
         if heard.count == 0 {
             heard.first = reply;

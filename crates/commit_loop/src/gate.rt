@@ -1,6 +1,7 @@
-// What the loops of the committer and of the ticker do next.
-ghost use Rattle.std.specs.Prelude.{◌≡◌, nat_lt, if◌then◌else◌};
-ghost use Rattle.http_front.specs.declared.gate.Turn.TheVariants as Turn;
+// What a loop does next.
+ghost use Rattle.std.specs.Prelude.{◌≡◌, ℕ, nat_lt, if◌then◌else◌};
+ghost use Rattle.commit_loop.specs.declared.gate.Turn.{Turn};
+ghost use Rattle.commit_loop.specs.declared.gate.Turn.TheVariants as turn;
 
 /// What a loop does next.
 #[derive(Clone, Copy, Debug, PartialEq, Eq)]
@@ -15,8 +16,12 @@ pub enum Turn {
 
 /// Is asked at each turn of a loop.
 pub trait Gate {
+    /// With so many commands pending it may say this.
+    ghost says: { Self → ℕ → Turn → Type 0 } = { λ _ _ _. Unit {0} };
+
     /// What the loop does next, with so many commands issued and not durable.
-    fn turn(&self, pending: usize) -> Turn;
+    fn turn(&self, pending: usize) -> Turn
+        ensures { says self.now pending result };
 }
 
 /// Commits whatever is pending.
@@ -24,9 +29,9 @@ pub trait Gate {
 pub struct WhenPending;
 
 impl Gate for WhenPending {
-    fn turn(&self, pending: usize) -> Turn
-        ensures { result ≡ (if nat_lt 0 pending then Turn.Commit else Turn.Skip) }
-    {
+    ghost says = { λ _ pending said. said ≡ (if nat_lt 0 pending then turn.Commit else turn.Skip) };
+
+    fn turn(&self, pending: usize) -> Turn {
         if pending > 0 {
             Turn::Commit
         } else {
