@@ -2,3 +2,4 @@ pub mod Followed
 pub mod AllThere
 pub mod Settled
 pub mod Refused
+pub mod UnderLock

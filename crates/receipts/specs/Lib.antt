@@ -3,3 +3,6 @@ pub mod Following
 pub mod Answers
 pub mod Desks
 pub mod Kept
+pub mod UnderLock
+pub mod Serving
+pub mod laws
