@@ -10,6 +10,7 @@ mod fault_once;
 mod file;
 mod fuse;
 mod memory;
+mod replay;
 
 pub use disk::{Disk, Fault, SECTOR_SIZE};
 pub use fault_once::{CallKind, FaultOnceDisk};
