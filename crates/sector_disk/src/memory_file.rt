@@ -7,7 +7,7 @@ use crate::replay::{Call, overwrite, record, record_write};
 use crate::{Fault, RandomAccessFile};
 use std::alloc::{AllocError, Global};
 
-/// How many bytes a call reads or writes at most. It is no number of sectors, so that a longer call is cut within one.
+/// How many bytes a call reads or writes at most: no whole number of sectors, so that a longer call is cut within one.
 const MOST_AT_ONCE: usize = 1000;
 
 /// A file in memory, which is honest. Its size stays: what lies behind its end is neither read nor written. A call reads or
