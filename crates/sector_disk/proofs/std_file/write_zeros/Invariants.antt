@@ -1,5 +1,5 @@
 use Rattle.std.proofs.Common.{◌-◌, ◌≤◌}
-use Rattle.sector_disk.proofs.file.write_zeros.Given as goal
+use Rattle.sector_disk.proofs.std_file.write_zeros.Given as goal
 
 abbrev pub invariant-loop-done : goal.invariant-loop-done
 invariant-loop-done l = l.done ≤ l.size
