@@ -1,6 +1,8 @@
 // Asking the office to commit.
 ghost use Rattle.std.specs.Prelude.{◌≡◌, IfOk, IfErr, OnErr};
+ghost use Rattle.group_commit.specs.Splitting.{broker_of};
 ghost use Rattle.receipts.specs.Answers.{IsToldMore, IsCommitRefusal};
+ghost use Rattle.receipts.specs.Serving.{HasServed};
 
 use group_commit::{DiskHalf, Durable};
 use hall_core::HallError;
@@ -36,6 +38,7 @@ pub(crate) fn ask<D: Disk, L: Ledger, R: Wait>(
     ensures told { IfOk result (IsToldMore desk.old.told desk.new.told) }
     ensures err { OnErr result (desk.new.told ≡ desk.old.told) }
     ensures refused { IfErr result (λ refused. IsCommitRefusal desk.old.told refused.why) }
+    ensures served { HasServed D.view D.fault_count (broker_of half.old) (broker_of half.new) }
 {
     match office.commit(rt, desk, half) {
         Ok(durable) => Ok(durable),

@@ -2,6 +2,9 @@
 ghost use Rattle.std.specs.Prelude.{◌≡◌, [], ◌∷◌, ◌++◌};
 ghost use Rattle.commit_loop.specs.Committer.{Step, IsRun};
 ghost use Rattle.front_board.specs.Seated.{seen_by};
+ghost use Rattle.group_commit.specs.Splitting.{broker_of};
+ghost use Rattle.receipts.specs.Serving.{HasServed};
+ghost use Rattle.receipts.specs.laws.Serving.{served_at_first, served_both};
 ghost use Rattle.http_front.specs.Learning.{known, HasLearned};
 ghost use Rattle.http_front.specs.Refusals.{is_last};
 ghost use Rattle.http_front.specs.laws.Learned.{learned_nothing, learned_more};
@@ -43,7 +46,8 @@ impl<R: Wait, L: Ledger, D: Disk> Committing for AtFront<'_, R, L, D> {
     ghost leads = { λ old steps new. HasLearned
         (known old.committer.desk.told (seen_by old.committer.seated))
         steps
-        (known new.committer.desk.told (seen_by new.committer.seated)) };
+        (known new.committer.desk.told (seen_by new.committer.seated))
+        × HasServed D.view D.fault_count (broker_of old.committer.half) (broker_of new.committer.half) };
 
     fn pending(&mut self) -> usize {
         self.front.pending(self.rt)
@@ -78,13 +82,18 @@ impl<R: Wait, L: Ledger, D: Disk> Committing for AtFront<'_, R, L, D> {
         self.front.wake.wait(self.rt);
     }
 
-    ghost stays = { λ value. learned_nothing (known value.committer.desk.told (seen_by value.committer.seated)) };
+    ghost stays = { λ value. (
+        learned_nothing (known value.committer.desk.told (seen_by value.committer.seated)),
+        served_at_first D.view D.laws D.fault_count (broker_of value.committer.half)) };
 
-    ghost goes_on = { λ first second third before after. learned_more
+    ghost goes_on = { λ first second third before after one two. (
+        learned_more
         (known first.committer.desk.told (seen_by first.committer.seated))
         (known second.committer.desk.told (seen_by second.committer.seated))
         (known third.committer.desk.told (seen_by third.committer.seated))
-        before after };
+        before after one.0 two.0,
+        served_both D.view D.fault_count
+        (broker_of first.committer.half) (broker_of second.committer.half) (broker_of third.committer.half) one.1 two.1) };
 }
 
 impl<L: Ledger, D: Disk> Committer<L, D> {
@@ -100,10 +109,13 @@ impl<L: Ledger, D: Disk> Committer<L, D> {
     /// Commits as the gate says, until it ends the loop, and gives the committer back: all that is pending at a turn
     /// becomes durable by one commit. Where nothing is pending, or a commit was refused, it sleeps until the next request
     /// or the ticker's next turn; where the gate skips what is pending, it is asked again.
+    ///
+    /// At each moment a stop leaves a legal stop of the half's list with what it took.
     pub fn run<R: Wait, G: Gate>(self, rt: &R, front: &Front<L>, gate: &G) -> Committer<L, D>
-        ensures { IsRun HasLearned (G.says gate.now)
+        ensures learned { IsRun HasLearned (G.says gate.now)
             (known self.desk.told (seen_by self.seated))
             (known result.desk.told (seen_by result.seated)) }
+        ensures served { HasServed D.view D.fault_count (broker_of self.half) (broker_of result.half) }
     {
         let mut at = AtFront {
             rt,

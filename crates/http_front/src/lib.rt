@@ -23,5 +23,5 @@ pub use committing::Committer;
 pub use error::ServeError;
 pub use front::Front;
 pub use moment::now;
-pub use serving::{Ending, serve};
+pub use serving::{Ending, Served, serve};
 pub use ticking::tick_all;

@@ -1,6 +1,7 @@
 // Opening a front over a hall.
-ghost use Rattle.std.specs.Prelude.{◌≡◌, []};
+ghost use Rattle.std.specs.Prelude.{◌≡◌, [], IfOk};
 ghost use Rattle.group_commit.specs.Broker.{pending_of, settings_of};
+ghost use Rattle.group_commit.specs.Splitting.{broker_of};
 ghost use Rattle.receipts.specs.Desks.{desk_count};
 
 use crate::committing::Committer;
@@ -69,7 +70,9 @@ fn furnish<L: Ledger, D: Disk + Drop>(
     desks: Vec<Desk<L>>,
     seats: Vec<Seated>,
     half: DiskHalf<D>,
-) -> Result<Opened<L, D>, ServeError> {
+) -> Result<Opened<L, D>, ServeError>
+    ensures half { IfOk result (λ opened. opened.committer.half ≡ half) }
+{
     let mut desks = desks;
     let mut seats = seats;
     let (Some(desk), Some(ticker), Some(seated)) = (desks.pop(), desks.pop(), seats.pop()) else {
@@ -84,7 +87,7 @@ fn furnish<L: Ledger, D: Disk + Drop>(
     })
 }
 
-/// Opens a front over a hall: its office, its board, and the ports.
+/// Opens a front over a hall: its office, its board, and the ports. The committer has the half of the hall's broker.
 pub(crate) fn open<L: Ledger, D: Disk + Drop>(
     alloc: Global,
     hall: Hall<Broker<D>>,
@@ -94,6 +97,7 @@ pub(crate) fn open<L: Ledger, D: Disk + Drop>(
     requires name { blank.name ≡ L.name }
     requires parts { blank.parts ≡ L.parts }
     requires seats { L.parts ≡ desk_count (settings_of hall.issuer) }
+    ensures half { IfOk result (λ opened. broker_of opened.committer.half ≡ hall.issuer) }
 {
     let settings = hall.table().settings().copy()?;
     let durable = hall.durable();

@@ -1,8 +1,10 @@
 // A whole front, until its last thread has ended.
-ghost use Rattle.std.specs.Prelude.{◌≡◌, ◌⊎◌, ◌≤◌, ◌+◌, [], vec_len, OnOk};
+ghost use Rattle.std.specs.Prelude.{◌≡◌, ◌⊎◌, ◌≤◌, ◌+◌, [], vec_len, OnOk, IfOk};
 ghost use Rattle.commit_loop.specs.declared.gate.Turn.TheVariants as turn;
 ghost use Rattle.group_commit.specs.Broker.{pending_of, settings_of};
+ghost use Rattle.group_commit.specs.Splitting.{broker_of};
 ghost use Rattle.receipts.specs.Desks.{desk_count};
+ghost use Rattle.receipts.specs.Serving.{HasServed};
 
 use crate::committing::Committer;
 use crate::error::ServeError;
@@ -11,7 +13,7 @@ use crate::opening::{Opened, open};
 use crate::port_application::PortApplication;
 use crate::ticking::tick_all;
 use commit_loop::{Gate, Turn};
-use group_commit::Broker;
+use group_commit::{Broker, DiskHalf};
 use hall_core::Hall;
 use long_poll::Port;
 use receipts::{Desk, desks};
@@ -44,6 +46,14 @@ impl Ending {
             Ending::Stopped
         }
     }
+}
+
+/// What a front that was served leaves.
+#[derive(Drop)]
+pub struct Served<D: Disk> {
+    pub ending: Ending,
+    /// The half of the broker over the disk.
+    pub half: DiskHalf<D>,
 }
 
 // The gate of a front's committer: its owner's, until all is done.
@@ -177,19 +187,21 @@ fn join_all<R: Threads>(rt: &R, threads: Vec<JoinHandle<io::Result<()>>>) -> io:
     outcome
 }
 
-// Runs the ticker on a thread of its own and the committer on this one, until the gate or the front ends.
+// Runs the ticker on a thread of its own and the committer on this one, until the gate or the front ends: the half over the
+// disk.
 fn commit_and_tick<R, L, D, G>(
     rt: R,
     front: &Arc<Front<L>>,
     committer: Committer<L, D>,
     ticker: Desk<L>,
     gate: &G,
-) -> io::Result<()>
+) -> io::Result<DiskHalf<D>>
 where
     R: Threads + Wait + Clock + Copy + Drop + Send + 'static,
     L: Ledger + Send + Sync + 'static,
     D: Disk + Drop,
     G: Gate,
+    ensures { IfOk result (λ half. HasServed D.view D.fault_count (broker_of committer.half) (broker_of half)) }
 {
     let theirs = Arc::try_clone(front)?;
     let ticking = thread::spawn(&rt, move || {
@@ -201,10 +213,10 @@ where
         front,
         inner: gate,
     };
-    let _committer = committer.run(&rt, front, &until);
+    let (_desk, half) = committer.run(&rt, front, &until).into_parts();
     front.ending.cancel();
     let _desk = ticking.join(&rt);
-    Ok(())
+    Ok(half)
 }
 
 // Serves an opened front to its end, and waits for its threads.
@@ -213,7 +225,7 @@ fn run<R, L, D, G>(
     opened: Opened<L, D>,
     listeners: Vec<TcpListener>,
     gate: &G,
-) -> io::Result<Ending>
+) -> io::Result<Served<D>>
 where
     R: Threads
         + Wait
@@ -228,6 +240,7 @@ where
     L: Ledger + Send + Sync + 'static,
     D: Disk + Drop,
     G: Gate,
+    ensures { IfOk result (λ served. HasServed D.view D.fault_count (broker_of opened.committer.half) (broker_of served.half)) }
 {
     let Opened {
         front,
@@ -242,9 +255,10 @@ where
     };
     front.ending.cancel();
     let joined = join_all(&rt, threads);
-    outcome?;
+    let half = outcome?;
     joined?;
-    Ok(Ending::of(&front))
+    let ending = Ending::of(&front);
+    Ok(Served { ending, half })
 }
 
 // How many ports there are: the committer and the ticker have a desk too.
@@ -259,6 +273,9 @@ fn port_count(settings: &Settings) -> u64
 /// was stopped or its device failed and every open request was answered or its client has gone. The committer, on the
 /// calling thread, is asked by the gate beside that.
 ///
+/// The half over the disk is handed back: it is the hall's broker with what was committed since. At each moment of the serving
+/// a stop leaves a legal stop of its list.
+///
 /// It is refused: `TooManyPorts` (more listeners than ports), `Office` (no office was opened over the hall), `OutOfMemory`,
 /// and `System`, where the system gave no thread or no sockets.
 pub fn serve<R, L, D, G>(
@@ -267,7 +284,7 @@ pub fn serve<R, L, D, G>(
     blank: Blank,
     listeners: Vec<TcpListener>,
     gate: &G,
-) -> Result<Ending, ServeError>
+) -> Result<Served<D>, ServeError>
 where
     R: Threads
         + Wait
@@ -286,7 +303,8 @@ where
     requires name { blank.name ≡ L.name }
     requires parts { blank.parts ≡ L.parts }
     requires seats { L.parts ≡ desk_count (settings_of hall.issuer) }
-    ensures { OnOk result (vec_len listeners + 2 ≤ desk_count (settings_of hall.issuer)) }
+    ensures ports { OnOk result (vec_len listeners + 2 ≤ desk_count (settings_of hall.issuer)) }
+    ensures served { IfOk result (λ served. HasServed D.view D.fault_count hall.issuer (broker_of served.half)) }
 {
     if listeners.len() as u64 > port_count(hall.table().settings()) {
         return Err(ServeError::TooManyPorts);

@@ -176,7 +176,8 @@ where
     requires { pending_of hall.issuer ≡ [] }
 {
     let blank = Blank::new(desks(hall.table().settings()));
-    match serve::<_, Brand, _, _>(rt, hall, blank, listeners, &WhenPending)? {
+    let served = serve::<_, Brand, _, _>(rt, hall, blank, listeners, &WhenPending)?;
+    match served.ending {
         Ending::Stopped => Ok(()),
         Ending::Broken => Err(ServingError::Broken),
     }

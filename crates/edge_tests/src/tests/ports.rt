@@ -83,9 +83,9 @@ where
     let (listeners, doors) = doors(&rt, rt.alloc()).ok()?;
     let clients = thread::spawn(&rt, move || talk_at(&rt, doors, &watch, talk)).ok()?;
     let gate = AtLeast::new(talk.pending());
-    let ending = serve::<R, L, D, AtLeast>(rt, hall, blank, listeners, &gate).ok();
+    let served = serve::<R, L, D, AtLeast>(rt, hall, blank, listeners, &gate).ok();
     let told = clients.join(&rt);
-    if ending == Some(talk.ending()) {
+    if served?.ending == talk.ending() {
         Some(told)
     } else {
         None
