@@ -1,4 +1,7 @@
 // Steps on what issues commands: a broker, or the half of one.
+ghost use Rattle.std.specs.Prelude.{◌≡◌, [], IfOk};
+ghost use Rattle.group_commit.specs.Broker.{pending_of};
+
 use crate::refusals;
 use case_runner::{Order, Reply, Text, Words, read_order};
 use group_commit::{Broker, Issuer, OpenFailure, Ticket};
@@ -11,7 +14,9 @@ pub fn open_broker<D: Disk>(
     alloc: Global,
     disk: D,
     answer: &mut Text,
-) -> Result<Broker<D>, (D, Reply)> {
+) -> Result<Broker<D>, (D, Reply)>
+    ensures { IfOk result (λ broker. pending_of broker ≡ []) }
+{
     match Broker::open(alloc, disk) {
         Ok(broker) => Ok(broker),
         Err(OpenFailure { cause, disk }) => Err((disk, refusals::open(cause, answer))),
