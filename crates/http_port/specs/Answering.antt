@@ -18,3 +18,7 @@ IsAnswer {T} status sent = ((told : T) × (sent ≡ status told)) ⊎ (400 ≤ s
 -- what is sent has such a status
 abbrev pub SendsAnswer : {T B E : Type 0} → (T → ℕ) → Result (Response B) E → Type 0
 SendsAnswer status sent = IfOk sent (λ response. IsAnswer status (status_of response))
+
+-- what is sent has the status of one of those that are given, or is 503
+abbrev pub SendsGiven : {T B E : Type 0} → (T → Type 0) → (T → ℕ) → Result (Response B) E → Type 0
+SendsGiven {T} given status sent = IfOk sent (λ response. (told : T) × given told × IsStatusOf status told (status_of response))

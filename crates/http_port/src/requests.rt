@@ -2,7 +2,7 @@
 ghost use Rattle.std.specs.Prelude.{◌≡◌, IfOk, IfSome, None};
 ghost use Rattle.futures.specs.Task.{IsArmed, Keeps};
 ghost use Rattle.futures.specs.Poll.{IfReady, OnPending};
-ghost use Rattle.http_port.specs.Answering.{SendsAnswer};
+ghost use Rattle.http_port.specs.Answering.{SendsAnswer, SendsGiven};
 
 use crate::answering::{Answered, Refused, tell};
 use crate::application::Application;
@@ -68,6 +68,7 @@ impl<A: Application, I: Drop> Serving<A, I> {
         cx: &mut Context<'_>,
     ) -> Poll<Result<Answered, Infallible>>
         requires { A.Reply.can_poll reply }
+        ensures given { IfReady result (SendsGiven (A.Reply.gives reply) A.Given.status) }
         ensures status { IfReady result (SendsAnswer A.Given.status) }
         ensures waits { OnPending result (IfSome self.new.reply A.Reply.can_poll) }
         ensures armed { OnPending result (IsArmed cx.new) }

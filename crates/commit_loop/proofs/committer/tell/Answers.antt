@@ -1,4 +1,4 @@
-use Rattle.std.proofs.Common.{[], ◌∷◌, ◌++◌}
+use Rattle.std.proofs.Common.{[], ◌∷◌}
 use Rattle.commit_loop.specs.Committer.{said_of, rang, slept}
 use Rattle.commit_loop.proofs.committer.tell.Goals as goal
 

@@ -1,4 +1,4 @@
-use Rattle.std.proofs.Common.{[], ◌∷◌, ◌++◌, sym}
+use Rattle.std.proofs.Common.{[], ◌∷◌, sym}
 use Rattle.commit_loop.specs.Ticker.{called, slept, moves, skips, steps_of_moves}
 use Rattle.commit_loop.proofs.ticker.act.Goals as goal
 

@@ -1,4 +1,4 @@
-use Rattle.std.proofs.Common.{◌≡◌, ◌+◌, List, [], ◌∷◌, subst, true}
+use Rattle.std.proofs.Common.{◌+◌, List, [], ◌∷◌, subst, true}
 use Rattle.std.proofs.Math.ListN.{replicate}
 use Rattle.std.proofs.lemmas.List.{replicate_more}
 use Rattle.commit_loop.specs.Ticker.{Step, ticked}
