@@ -28,6 +28,7 @@ pub struct Committer<L: Ledger, D: Disk> {
 }
 
 // A committer at a front.
+#[derive(Drop)]
 struct AtFront<'a, R, L: Ledger, D: Disk> {
     rt: &'a R,
     front: &'a Front<L>,
