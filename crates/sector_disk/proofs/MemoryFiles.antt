@@ -1,15 +1,15 @@
 -- What a file in memory gives and records.
-use Rattle.std.proofs.Common.{◌≡◌, ℕ, ◌+◌, ◌-◌, ◌≤◌, min, List, [], ◌∷◌, ◌++◌, length, take, drop, Ok, inl, inr, refl, sym, ◌∙◌, ap, subst, arith, length-drop}
+use Rattle.std.proofs.Common.{◌≡◌, ℕ, ◌+◌, ◌-◌, ◌≤◌, min, List, [], ◌∷◌, ◌++◌, length, take, drop, Result, Ok, Err, OnOk, OnErr, inl, inr, sym, ◌∙◌, ap, subst, arith, length-drop}
 use Rattle.std.proofs.lemmas.Bool.{cases_lt}
 use Rattle.std.proofs.lemmas.List.{drop-drop, length-take-le}
 use Rattle.sector_disk.specs.declared.replay.Call.{Call}
-use Rattle.sector_disk.specs.declared.replay.Call.TheVariants.{Write}
+use Rattle.sector_disk.specs.declared.replay.Call.TheVariants.{Write, Barrier}
 use Rattle.sector_disk.specs.Disk.{Holds, MayDiffer}
-use Rattle.sector_disk.specs.Replay.{IsImage, LeftSince}
+use Rattle.sector_disk.specs.Replay.{content_after, IsImage, LeftSince}
 use Rattle.sector_disk.specs.RandomAccess.{FileView, IsReadAt, IsWriteAt}
 use Rattle.sector_disk.specs.laws.Written.{written_size, written_here}
-use Rattle.sector_disk.proofs.Calls.{images-write, written-image, no_shorter, left_before, left_after}
-use Rattle.sector_disk.proofs.Parts.{unchanged_at_first, differs_not}
+use Rattle.sector_disk.proofs.Calls.{content-barrier, images-write, images-keep, no_shorter, left_before, left_after}
+use Rattle.sector_disk.proofs.Parts.{unchanged_at_first}
 
 -- a file of this content, which had that at first, after these calls
 abbrev pub seen : List ℕ → List Call → List ℕ → FileView
@@ -67,7 +67,7 @@ write_is first calls later content new bytes part at from count copy fits here e
       (was.0, was.1, differs_longer at (length copy.items) (length bytes) was.0 image (omega (arith, enough, size, ap length copied)) placed);
   keeps = λ image may.
       subst (λ (cs : List Call). IsImage first cs image) (sym adds)
-      (written-image calls first (λ (l : List ℕ). l ≡ first) from copy image image may (differs_not from (length copy.items) image));
+      (images-keep calls first (λ (l : List ℕ). l ≡ first) from copy image may);
   time = λ sectors. record {
     later = no_shorter first calls later (Write from copy) adds;
     nothing_else = λ t image le left. left_after first calls later (Write from copy) adds t image left;
@@ -77,3 +77,10 @@ write_is first calls later content new bytes part at from count copy fits here e
   where
     size : length part ≡ count
     size = ap length is ∙ length-take-le count bytes enough
+
+-- a sync leaves the content, whether there was memory to record it or not
+pub sync_is : {E : Type 0} (result : Result (Unit {0}) E) (first bytes : List ℕ) (calls later : List Call) → OnOk result (later ≡ calls ++ Barrier ∷ []) → OnErr result (later ≡ calls)
+    → bytes ≡ content_after calls first → bytes ≡ content_after later first
+sync_is (Ok done) first bytes calls later adds same was =
+    was ∙ sym (content-barrier calls first) ∙ ap (λ (cs : List Call). content_after cs first) (sym adds)
+sync_is (Err why) first bytes calls later adds same was = was ∙ ap (λ (cs : List Call). content_after cs first) (sym same)

@@ -2,7 +2,7 @@
 use Rattle.std.proofs.Common.{◌≡◌, ℕ, ◌+◌, ◌-◌, ◌≤◌, List, [], ◌++◌, length, take, drop, Result, Ok, Err, inl, inr, ⊎_elim, refl, sym, ◌∙◌, ap, subst, arith, append_assoc, append-nil, take-add, take-append-drop, length-append, length-drop}
 use borrow.Rule.Slice.PartMut.{put_mid, post_of}
 use Rattle.std.proofs.Math.Seq.{take-append-add}
-use Rattle.std.proofs.lemmas.List.{take_all, take_at, drop_at, take-take, drop-drop, take-append-le, take_rest, length-take-le}
+use Rattle.std.proofs.lemmas.List.{take_all, take_at, take-take, drop-drop, take-append-le, take_rest, length-take-le}
 use Rattle.sector_disk.specs.declared.disk.Fault.{Fault}
 use Rattle.sector_disk.specs.Disk.{Holds, MayDiffer, Elapses}
 use Rattle.sector_disk.specs.RandomAccess.{FileView, seen_as, IsUnchanged, IsReadAt, IsWriteAt}
@@ -56,7 +56,7 @@ pub record MayWrite (old new : FileView) (at n : ℕ) : Type 0 where
 pub may_write : {old new : FileView} {at : ℕ} {bytes : List ℕ} {result : Result ℕ Fault} → IsWriteAt old new at bytes result → MayWrite old new at (length bytes)
 may_write call = record { size = call.size; images = call.images; keeps = call.keeps; time = call.time }
 
-pub differs_not : (at n : ℕ) (image : List ℕ) → MayDiffer at n image image
+differs_not : (at n : ℕ) (image : List ℕ) → MayDiffer at n image image
 differs_not at n image = record { size = refl; before = refl; after = refl }
 
 differs_more : (at n done : ℕ) (a b c : List ℕ) → done ≤ n → MayDiffer at n a b → MayDiffer (at + done) (n - done) b c → MayDiffer at n a c

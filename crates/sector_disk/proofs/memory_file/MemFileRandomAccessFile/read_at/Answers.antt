@@ -1,4 +1,4 @@
-use Rattle.std.proofs.Common.{◌≡◌, ℕ, ◌+◌, ◌-◌, take, drop, arith}
+use Rattle.std.proofs.Common.{◌≡◌, ◌+◌, ◌-◌, take, drop, arith}
 use Rattle.sector_disk.specs.MemoryFile.{memory_view}
 use Rattle.sector_disk.proofs.MemoryFiles.{read_is}
 use Rattle.sector_disk.proofs.memory_file.MemFileRandomAccessFile.read_at.Goals as goal

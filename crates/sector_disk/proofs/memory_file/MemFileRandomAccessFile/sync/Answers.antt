@@ -1,15 +1,17 @@
-use Rattle.std.proofs.Common.{refl, List, sym, ◌∙◌, ap, subst}
+use Rattle.std.proofs.Common.{refl, List, sym, ◌∙◌, subst}
 use Rattle.sector_disk.specs.declared.replay.Call.{Call}
 use Rattle.sector_disk.specs.declared.replay.Call.TheVariants.{Barrier}
-use Rattle.sector_disk.specs.Replay.{content_after, IsImage}
-use Rattle.sector_disk.proofs.Calls.{content-barrier, images-barrier, no_shorter, left_before, left_after}
+use Rattle.sector_disk.specs.Replay.{IsImage}
+use Rattle.sector_disk.proofs.Calls.{images-barrier, no_shorter, left_before, left_after}
+use Rattle.sector_disk.proofs.MemoryFiles.{sync_is}
 use Rattle.sector_disk.proofs.memory_file.MemFileRandomAccessFile.sync.Goals as goal
 
-pub invariant_of-self-clause-replayed : goal.invariant_of-self-clause-replayed
-invariant_of-self-clause-replayed c =
+pub invariant_of-self : goal.invariant_of-self
+invariant_of-self c =
     let file = c.args.self.now in
-    file.replayed ∙ sym (content-barrier file.calls.items file.first.items)
-    ∙ ap (λ (cs : List Call). content_after cs file.first.items) (sym c.in-Ok.ensures.ok)
+    record {
+      replayed = sync_is c.record.result file.first.items file.bytes.items file.calls.items c.record.new.calls.items c.record.ensures.ok c.record.ensures.err file.replayed;
+    }
 
 pub returns-in-Ok-clause-honest : goal.returns-in-Ok-clause-honest
 returns-in-Ok-clause-honest c honest sectors =
