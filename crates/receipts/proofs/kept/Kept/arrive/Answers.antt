@@ -3,7 +3,7 @@ use Rattle.receipts.specs.Marks.{marks_by}
 use Rattle.receipts.proofs.Followed.{numbered_by, reached_by, follows_by, adds_by, adds_asked}
 use Rattle.receipts.proofs.Refused.{refused_arrival}
 use Rattle.group_commit.specs.IssuerHalf.{half_view}
-use Rattle.hall_core.specs.Hall.{view_of}
+use Rattle.hall_core.specs.Hall.{view_of, request}
 use Rattle.receipts.proofs.kept.Kept.arrive.Goals as goal
 
 pub invariant_of-self-in-Ok : goal.invariant_of-self-in-Ok
@@ -29,4 +29,5 @@ returns-in-Ok-clause-asked g c =
     adds_asked _ _ _ _ _ c.in-Ok.issued added c.in-Ok.ensures.asked
 
 pub returns-in-Err-clause-refused : goal.returns-in-Err-clause-refused
-returns-in-Err-clause-refused g c = refused_arrival _ (view_of half_view c.args.self.now.hall) _ c.in-Err.why c.in-Err.ensures.reason
+returns-in-Err-clause-refused g c =
+    refused_arrival _ (view_of half_view c.args.self.now.hall) (request c.in_ok-slot.slot c.args.call c.args.now c.args.words) c.in-Err.why c.in-Err.ensures.reason
