@@ -25,6 +25,7 @@ pub struct Committer<L: Ledger, D: Disk> {
 }
 
 // A committer at a front.
+#[derive(Drop)]
 struct AtFront<'a, R, L: Ledger, D: Disk> {
     rt: &'a R,
     front: &'a Front<L>,
@@ -87,7 +88,7 @@ impl<R: Wait, L: Ledger, D: Disk> Committing for AtFront<'_, R, L, D> {
         before after };
 }
 
-impl<L: Ledger, D: Disk> Committer<L, D> {
+impl<L: Ledger, D: Disk + Drop> Committer<L, D> {
     /// A committer that raises the board from this seat.
     pub fn new(desk: Desk<L>, half: DiskHalf<D>, seated: Seated) -> Committer<L, D>
         ensures desk { result.desk ≡ desk }

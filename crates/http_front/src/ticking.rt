@@ -17,6 +17,7 @@ use std::time::{Clock, Duration};
 const PAUSE: u64 = 100;
 
 // A ticker at a front.
+#[derive(Drop)]
 struct AtFront<'a, R, L: Ledger> {
     rt: &'a R,
     front: &'a Front<L>,
