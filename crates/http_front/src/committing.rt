@@ -97,7 +97,7 @@ impl<R: Wait, L: Ledger, D: Disk> Committing for AtFront<'_, R, L, D> {
         (broker_of first.committer.half) (broker_of second.committer.half) (broker_of third.committer.half) one.1 two.1) };
 }
 
-impl<L: Ledger, D: Disk> Committer<L, D> {
+impl<L: Ledger, D: Disk + Drop> Committer<L, D> {
     /// A committer that raises the board from this seat.
     pub fn new(desk: Desk<L>, half: DiskHalf<D>, seated: Seated) -> Committer<L, D>
         ensures desk { result.desk ≡ desk }
