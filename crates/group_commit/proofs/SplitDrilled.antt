@@ -35,7 +35,7 @@ use Rattle.group_commit.specs.declared.split_script.SplitAnswer.TheVariants as a
 use Rattle.group_commit.specs.declared.split_drilling.Halves.{Halves}
 use Rattle.group_commit.specs.declared.split_drilling.Held.{Held}
 use Rattle.group_commit.specs.declared.split_drilling.Held.TheVariants as held
-use Rattle.group_commit.specs.Broker.{settings_of, table_in, issued_of, pending_of, durable_of, is_broken, Stands}
+use Rattle.group_commit.specs.Broker.{settings_of, table_in, issued_of, durable_of, is_broken, Stands}
 use Rattle.group_commit.specs.DrillBroker.{IsStarted}
 use Rattle.group_commit.specs.Issuer.{issued_in, IsSameIssuer, IsReason}
 use Rattle.group_commit.specs.laws.Issuer.{refusal_is}
@@ -43,7 +43,7 @@ use Rattle.group_commit.specs.IssuerHalf.{half_view, half_laws, lent_of}
 use Rattle.group_commit.specs.Batch.{first_of, last_of, commands_of, cause_of, last_written, first_in, last_in, is_lasting}
 use Rattle.group_commit.specs.Lending.{CanLend, Lends, IsLendReason, IsOut, SettlesBy, IsNotSettled}
 use Rattle.group_commit.specs.Splitting.{broker_of}
-use Rattle.group_commit.specs.Writing.{taken_from, missing_in, EndsWith, IsApart, IsFrontOf, IsRefusedAs, IsWriteReason, NextIsIllegal, StaysInFront, Writes, IsNotWritten}
+use Rattle.group_commit.specs.Writing.{taken_from, missing_in, EndsWith, IsFrontOf, IsRefusedAs, IsWriteReason, NextIsIllegal, StaysInFront, Writes, IsNotWritten}
 use Rattle.group_commit.specs.Drill.{IsRefused}
 use Rattle.group_commit.specs.SplitDrill.{SplitLog, IsSplitStep, IsSplitRun, MayBeCutOff, MayLend, HasLent, IsNotLent, IsWriteFailure, IsSplitCutOffAt, issue_log, recovered}
 use Rattle.group_commit.specs.SplitSteps.{IsHeld, Keeps, IsBegun, IsStopped, Leads, IsSplitDrilledOn, is_disk_broken, told, write_answer}
