@@ -25,7 +25,7 @@ impl Environments {
         match self.called(environment, call) {
             Ok((env, answers)) => Ok((Changes::One(env), answers)),
             Err(EnvError::OutOfMemory) => Err(HallError::OutOfMemory),
-            Err(EnvError::Refused(_)) => Err(HallError::BadKind),
+            Err(EnvError::Refused(_)) => Err(HallError::NoHistory),
         }
     }
 
@@ -43,7 +43,7 @@ impl Environments {
 
     /// What becomes of the environments by these calls, and the polls that are answered.
     ///
-    /// It is refused by `OutOfMemory`, or by `BadKind` where the environment refuses a call.
+    /// It is refused by `OutOfMemory`, or by `NoHistory` where the environment refuses a call.
     pub(crate) fn call(&self, alloc: Global, made: Made) -> Result<(Changes, Answered), HallError>
         requires { AreCallable self.now made }
         ensures within { IfOk result (λ done. IsWithin self.now done.0) }

@@ -1,5 +1,5 @@
 // What a tick does.
-ghost use Rattle.std.specs.Prelude.{◌≡◌, ◌+◌, ◌*◌};
+ghost use Rattle.std.specs.Prelude.{◌≡◌, ◌+◌, ◌*◌, is_some, true, false};
 ghost use Rattle.env_phase.specs.Calls.{IsMoment};
 ghost use Rattle.invoke_records.specs.declared.command.Cause.{Cause};
 ghost use Rattle.invoke_records.specs.declared.command.Kind.TheVariants.{Start, Fail};
@@ -118,6 +118,7 @@ pub(crate) fn plan_tick<'a>(
 ) -> Plan<'a>
     requires { IsMoment now }
     ensures effect { PlansTick table.now environments.now is_stopping now result.effect }
+    ensures moving { is_some result.effect.command ≡ true → is_stopping ≡ false }
     ensures within { AreCallable environments.now result.called }
 {
     if is_stopping {

@@ -1,18 +1,29 @@
 // What a hall says of itself to those that end it.
 ghost use Rattle.std.specs.Prelude.{◌≡◌, ◌↔◌, [], IsTrue, length};
 ghost use Rattle.group_commit.specs.Broker.{pending_of};
-ghost use Rattle.hall_core.specs.Hall.{view_of, pending_in};
+ghost use Rattle.hall_core.specs.Slots.{open_slots, is_open};
+ghost use Rattle.hall_core.specs.Hall.{view_of, pending_in, is_slot_open, open_slot_count, ForEachPast};
 
 use crate::hall::Hall;
 use group_commit::{Broker, Issuer};
 use sector_disk::Disk;
 
 impl<I: Issuer> Hall<I> {
-    /// How many slots are open.
+    /// How many slots are open: a request came with them, and their reply was not taken. A slot whose reply is not wanted is
+    /// open until that is computed, or until the hall breaks.
     pub fn open_slots(&self) -> usize
-        ensures { result ≡ length self.now.slots }
+        ensures by_parts { result ≡ open_slot_count (view_of I.view self.now) }
+        ensures by_past { ForEachPast (view_of I.view self.now) (λ past. result ≡ length (open_slots (I.view self.now.issuer).broken past)) }
     {
-        self.slots.len()
+        self.slots.open_count(self.broken)
+    }
+
+    /// Whether a slot is open.
+    pub fn is_open(&self, slot: u64) -> bool
+        ensures by_parts { result ≡ is_slot_open (view_of I.view self.now) slot }
+        ensures by_past { ForEachPast (view_of I.view self.now) (λ past. result ≡ is_open (I.view self.now.issuer).broken past slot) }
+    {
+        self.slots.is_open(slot, self.broken)
     }
 
     /// Whether a request asked it to stop.

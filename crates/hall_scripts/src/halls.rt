@@ -17,6 +17,7 @@ pub fn refusal(why: HallError) -> &'static str {
         HallError::WornOut => "worn out",
         HallError::Backlog => "backlog",
         HallError::BadKind => "bad kind",
+        HallError::NoHistory => "no history",
         HallError::OutOfMemory => "out of memory",
         HallError::Fault => "fault",
         HallError::Lent => "lent",

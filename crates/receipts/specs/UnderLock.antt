@@ -82,7 +82,7 @@ IsTurnedAway hall slots asking why = IsMismatch asking.told (issued_in hall.issu
 -- the hall refuses the call so, as it says of it
 pub record HallRefuses (hall : HallView) (call : HallCall) (why : HallError) : Type 0 where
   pub first : Refuses hall call why
-  pub reason : KeepsReason hall why
+  pub reason : KeepsReason hall call why
 
 -- there is no memory for a mark, or else the hall refuses the call so
 abbrev pub IsRefusedWithin : HallView → HallCall → HallError → Type 0

@@ -10,7 +10,9 @@ ghost use Rattle.receipts.specs.Serving.{IsToldOf};
 ghost use Rattle.invoke_records.specs.Spelling.{greatest_moment};
 ghost use Rattle.group_commit.specs.Batch.{last_in};
 ghost use Rattle.hall_core.specs.Past.{tick, take_slot, forget_slot};
-ghost use Rattle.hall_core.specs.Hall.{StandsFor, ForEachPast, IsSameHall, IsAsDurable, request, pending_in, slot_told, Gives, IsDone};
+ghost use Rattle.hall_core.specs.OpenSlots.{ForEachKept};
+ghost use Rattle.hall_core.specs.Slots.{open_slots};
+ghost use Rattle.hall_core.specs.Hall.{StandsFor, ForEachPast, IsSameHall, IsAsDurable, request, pending_in, open_slot_count, slot_told, Gives, GivesFor, IsDone};
 ghost use Rattle.hall_core.specs.Halves.{HasSameParts, IsNotDurable};
 ghost use Rattle.hall_core.specs.Plans.{drawn_by};
 ghost use Rattle.hall_core.specs.declared.error.HallError.TheVariants.{WornOut};
@@ -264,6 +266,7 @@ impl<L: Ledger> Kept<L> {
     pub(crate) fn take(&mut self, slot: u64) -> Option<Released>
         ensures slot { IfSome result (λ released. slot_told released ≡ slot) }
         ensures gives { Gives (hall_in self.old.hall) slot result }
+        ensures by_events { ForEachKept self.old.hall.slots (GivesFor (hall_in self.old.hall) slot result) }
         ensures done { OnSome result (IsDone (hall_in self.old.hall) (hall_in self.new.hall) (take_slot slot)) }
         ensures none { IfNone result (IsSameHall (hall_in self.old.hall) (hall_in self.new.hall)) }
         ensures issuer { self.new.hall.issuer ≡ self.old.hall.issuer }
@@ -295,7 +298,8 @@ impl<L: Ledger> Kept<L> {
 
     /// How many slots are open.
     pub(crate) fn open_slots(&self) -> usize
-        ensures { result ≡ length self.now.hall.slots }
+        ensures by_parts { result ≡ open_slot_count (hall_in self.now.hall) }
+        ensures by_past { ForEachPast (hall_in self.now.hall) (λ past. result ≡ length (open_slots (issuer_in self.now.hall).broken past)) }
     {
         self.hall.open_slots()
     }

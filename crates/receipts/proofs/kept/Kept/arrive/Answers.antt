@@ -29,4 +29,4 @@ returns-in-Ok-clause-asked g c =
     adds_asked _ _ _ _ _ c.in-Ok.issued added c.in-Ok.ensures.asked
 
 pub returns-in-Err-clause-refused : goal.returns-in-Err-clause-refused
-returns-in-Err-clause-refused g c = refused_arrival _ (view_of half_view c.args.self.now.hall) c.in-Err.why c.in-Err.ensures.reason
+returns-in-Err-clause-refused g c = refused_arrival _ (view_of half_view c.args.self.now.hall) _ c.in-Err.why c.in-Err.ensures.reason

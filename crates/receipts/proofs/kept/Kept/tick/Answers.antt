@@ -23,4 +23,4 @@ returns-in-Ok-clause-marks g c =
     adds_answered _ _ _ c.in-Ok.issued added _ c.told_by.ensures.number
 
 pub returns-in-Err-clause-refused : goal.returns-in-Err-clause-refused
-returns-in-Err-clause-refused g c = refused_tick _ (view_of half_view c.args.self.now.hall) c.in-Err.why c.in-Err.ensures.reason
+returns-in-Err-clause-refused g c = refused_tick _ (view_of half_view c.args.self.now.hall) c.args.now c.in-Err.why c.in-Err.ensures.reason
