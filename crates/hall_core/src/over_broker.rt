@@ -8,6 +8,7 @@ ghost use Rattle.group_commit.specs.IssuerBroker.{issuer_of};
 ghost use Rattle.hall_core.specs.declared.error.HallError.TheVariants as HallError;
 ghost use Rattle.hall_core.specs.Past.{opening};
 ghost use Rattle.hall_core.specs.Hall.{view_of, StandsFor, ForEachPast, IsAllDurable, commit_error_of};
+ghost use Rattle.hall_core.specs.Fresh.{IsFresh};
 ghost use Rattle.hall_core.specs.Halves.{HasSameParts};
 ghost use Rattle.hall_core.specs.Committing.{HasToWrite, IsNotCommitted};
 
@@ -44,6 +45,7 @@ impl<D: Disk> Hall<Broker<D>> {
     pub fn new(alloc: Global, broker: Broker<D>) -> Result<Hall<Broker<D>>, HallFailure<D>>
         ensures stands { (history : List Command) → Stands D.view broker history
             → IfOk result (λ hall. StandsFor (view_of (issuer_of D.view) hall) (opening history)) }
+        ensures fresh { IfOk result (λ hall. IsFresh (view_of (issuer_of D.view) hall)) }
         ensures same { IfOk result (λ hall. hall.issuer ≡ broker) }
         ensures err { IfErr result (λ failure. failure.broker ≡ broker) }
     {

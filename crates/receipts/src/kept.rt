@@ -6,6 +6,7 @@ ghost use Rattle.receipts.specs.Following.{Follows};
 ghost use Rattle.receipts.specs.Answers.{AddsAtMostOne, AddsAnswered, IsToldMore, IsToldIfAny, IsSlotOf, AddsAsked, IsMismatch, IsArrivalRefusal, IsTickRefusal};
 ghost use Rattle.receipts.specs.Kept.{hall_in, issuer_in, IsToldByLoan, IsNotLentTo, number_of, either_number};
 ghost use Rattle.receipts.specs.UnderLock.{DoesAt, AnswersItsNumber, AddBoth, LendsAs, Counts, next_slot, IsNotMade, IsNotMoved, IsSameUnderLock, IsNoFault};
+ghost use Rattle.receipts.specs.Running.{HasRuns};
 ghost use Rattle.receipts.specs.Serving.{IsToldOf};
 ghost use Rattle.invoke_records.specs.Spelling.{greatest_moment};
 ghost use Rattle.group_commit.specs.Batch.{last_in};
@@ -58,6 +59,7 @@ pub(crate) struct Kept<L: Ledger> {
     ghost numbered: { AreNumbered opening.number marks.all.items },
     ghost reached: { issued_in (issuer_in hall) ≡ opening.number + length marks.all.items },
     ghost followed: { Follows (issuer_in hall).settings opening marks.all.items (issuer_in hall).table },
+    ghost runs: { ∥ HasRuns (hall_in hall) opening ∥₁ },
 }
 
 // Marks what a call issued, if it did, where there is room for a mark.
