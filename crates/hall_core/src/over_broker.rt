@@ -1,7 +1,7 @@
 // A hall over a broker: opening it, committing, and closing it.
 ghost use Rattle.std.specs.Prelude.{◌≡◌, ◌↔◌, List, false, true, Err, IfOk, IfErr, OnOk};
 ghost use Rattle.invoke_records.specs.declared.command.Command.{Command};
-ghost use Rattle.group_commit.specs.Broker.{disk_of, is_broken, Stands, Commits};
+ghost use Rattle.group_commit.specs.Broker.{disk_of, settings_of, is_broken, Stands, Commits};
 ghost use Rattle.group_commit.specs.Promises.{LeavesLegalStops};
 ghost use Rattle.group_commit.specs.Refusals.{FaultsHaveRisen, IsWornOut, NeedsSwitch};
 ghost use Rattle.group_commit.specs.IssuerBroker.{issuer_of};
@@ -45,7 +45,7 @@ impl<D: Disk> Hall<Broker<D>> {
     pub fn new(alloc: Global, broker: Broker<D>) -> Result<Hall<Broker<D>>, HallFailure<D>>
         ensures stands { (history : List Command) → Stands D.view broker history
             → IfOk result (λ hall. StandsFor (view_of (issuer_of D.view) hall) (opening history)) }
-        ensures fresh { IfOk result (λ hall. IsFresh (view_of (issuer_of D.view) hall)) }
+        ensures fresh { IfOk result (λ hall. IsFresh (settings_of broker) hall) }
         ensures same { IfOk result (λ hall. hall.issuer ≡ broker) }
         ensures err { IfErr result (λ failure. failure.broker ≡ broker) }
     {

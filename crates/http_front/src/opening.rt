@@ -1,6 +1,7 @@
 // Opening a front over a hall.
 ghost use Rattle.std.specs.Prelude.{◌≡◌, []};
 ghost use Rattle.group_commit.specs.Broker.{pending_of, settings_of};
+ghost use Rattle.hall_core.specs.Fresh.{IsFresh};
 ghost use Rattle.receipts.specs.Desks.{desk_count};
 
 use crate::committing::Committer;
@@ -91,6 +92,7 @@ pub(crate) fn open<L: Ledger, D: Disk + Drop>(
     blank: Blank,
 ) -> Result<Option<Opened<L, D>>, ServeError>
     requires nothing { pending_of hall.issuer ≡ [] }
+    requires fresh { IsFresh (settings_of hall.issuer) hall }
     requires name { blank.name ≡ L.name }
     requires parts { blank.parts ≡ L.parts }
     requires seats { L.parts ≡ desk_count (settings_of hall.issuer) }

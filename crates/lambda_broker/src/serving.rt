@@ -1,6 +1,7 @@
 // Serving a disk on the ports of this machine.
 ghost use Rattle.std.specs.Prelude.{◌≡◌, [], IfOk, OnOk};
-ghost use Rattle.group_commit.specs.Broker.{pending_of};
+ghost use Rattle.group_commit.specs.Broker.{pending_of, settings_of};
+ghost use Rattle.hall_core.specs.Fresh.{IsFresh};
 
 use group_commit::{Broker, CommitError, IssueError, OpenError, without_disk};
 use hall_core::{Hall, HallFailure};
@@ -132,7 +133,8 @@ fn hall_over<D: Disk + Drop>(
     broker: Broker<D>,
 ) -> Result<Hall<Broker<D>>, ServingError>
     requires { pending_of broker ≡ [] }
-    ensures { IfOk result (λ hall. pending_of hall.issuer ≡ []) }
+    ensures nothing { IfOk result (λ hall. pending_of hall.issuer ≡ []) }
+    ensures fresh { IfOk result (λ hall. IsFresh (settings_of hall.issuer) hall) }
 {
     if broker.is_broken() {
         return Err(ServingError::Broken);
@@ -167,7 +169,8 @@ where
         + Send
         + 'static,
     D: Disk + Drop,
-    requires { pending_of hall.issuer ≡ [] }
+    requires nothing { pending_of hall.issuer ≡ [] }
+    requires fresh { IsFresh (settings_of hall.issuer) hall }
 {
     let blank = Blank::new(desks(hall.table().settings()));
     match serve::<_, Brand, _, _>(rt, hall, blank, listeners, &WhenPending)? {

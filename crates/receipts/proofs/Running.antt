@@ -6,7 +6,7 @@ use Rattle.retry_rules.specs.declared.settings.Settings.{Settings}
 use Rattle.invoke_records.specs.declared.snapshot.Snapshot.{Snapshot}
 use Rattle.invoke_records.specs.declared.command.Command.{Command}
 use Rattle.async_core.specs.laws.Tables.{number-table_of}
-use Rattle.group_commit.specs.Issuer.{issued_in}
+use Rattle.group_commit.specs.Issuer.{IssuerView, issued_in}
 use Rattle.group_commit.specs.declared.issuer.Issuer.{Ghosts}
 use Rattle.group_commit.specs.declared.issue_half.IssueHalf.{IssueHalf}
 use Rattle.env_phase.specs.State.{EnvState}
@@ -22,7 +22,7 @@ use Rattle.hall_core.specs.Refusals.{why_refused}
 use Rattle.hall_core.specs.Agreement.{IsFit, IsUnrefused, IsRun}
 use Rattle.hall_core.specs.laws.Adding.{runs_join}
 use Rattle.hall_core.specs.laws.Sound.{kept_at_opening}
-use Rattle.hall_core.specs.Hall.{HallView, StandsFor, ForEachPast, IsSameHall, IsDone, settings_in}
+use Rattle.hall_core.specs.Hall.{HallView, StandsFor, ForEachPast, IsSameHall, IsDone, view_of, settings_in}
 use Rattle.hall_core.specs.Fresh.{IsFresh}
 use Rattle.hall_core.specs.Halves.{HasSameParts}
 use Rattle.receipts.specs.Running.{LeavesTable, HasRun, HasRuns}
@@ -46,11 +46,10 @@ half_stands half none history leaves =
     }
 
 -- a hall over it in which nothing has come stands for the empty run
-pub runs_at_first : {g : Ghosts IssueHalf} (old : HallView) (hall : Hall IssueHalf g) (opened : Snapshot) → IsFresh old → HasSameParts old (hall_in hall)
-    → (issuer_in hall).settings ≡ settings_in old → (issuer_in hall).table ≡ opened → (issuer_in hall).pending ≡ [] → HasRuns (hall_in hall) opened
-runs_at_first old hall opened fresh parts settings table none history leaves =
-    let s = (issuer_in hall).settings in
-    let there : LeavesTable s history (issuer_in hall).table = record { legal = leaves.legal; table_is = table ∙ leaves.table_is } in
+pub runs_at_first : {I : Type 0} {i : Ghosts I} {g : Ghosts IssueHalf} (view : I → IssuerView) (s : Settings) (old : Hall I i) (hall : Hall IssueHalf g) (opened : Snapshot)
+    → IsFresh s old → HasSameParts (view_of view old) (hall_in hall) → (issuer_in hall).settings ≡ s → (issuer_in hall).table ≡ opened → (issuer_in hall).pending ≡ [] → HasRuns (hall_in hall) opened
+runs_at_first view s old hall opened fresh parts settings table none history leaves =
+    let there : LeavesTable (issuer_in hall).settings history (issuer_in hall).table = record { legal = leaves.legal; table_is = table ∙ leaves.table_is } in
     record {
       calls = [];
       run = tt;
@@ -61,9 +60,9 @@ runs_at_first old hall opened fresh parts settings table none history leaves =
           table_is = there.table_is;
           count = ap length parts.environments ∙ fresh.count ∙ ap (λ (x : Settings). x.environments) (sym settings);
           hold = subst (λ (l : List EnvState). HoldFor l []) (sym parts.environments) fresh.hold;
-          kept = kept_at_opening s history leaves.legal;
+          kept = kept_at_opening (issuer_in hall).settings history leaves.legal;
         };
-        slots = subst (λ (x : Settings). KeepFor x hall.slots []) (sym settings) (subst (λ (l : Entries). KeepFor (settings_in old) l []) (sym parts.slots) fresh.slots);
+        slots = subst (λ (x : Settings). KeepFor x hall.slots []) (sym settings) (subst (λ (l : Entries). KeepFor s l []) (sym parts.slots) fresh.slots);
         stopping = parts.stops ∙ fresh.stops;
       };
     }

@@ -108,7 +108,7 @@ impl<L: Ledger> Office<L> {
         blank: Blank,
     ) -> Result<(Office<L>, Vec<Desk<L>>, DiskHalf<D>), OfficeFailure<Hall<Broker<D>>>>
         requires nothing { pending_of hall.issuer ≡ [] }
-        requires fresh { IsFresh (view_of (issuer_of D.view) hall) }
+        requires fresh { IsFresh (settings_of hall.issuer) hall }
         requires name { blank.name ≡ L.name }
         requires parts { blank.parts ≡ L.parts }
         requires seats { L.parts ≡ desk_count (settings_of hall.issuer) }
