@@ -1,9 +1,12 @@
-use Rattle.std.proofs.Common.{rules, ◌≡◌, ◌++◌, ◌∙◌}
+use Rattle.std.proofs.Common.{rules, ◌≡◌, ◌++◌, ◌∙◌, ◌<◌, ◌≤◌, ◌^◌, refl}
 use Rattle.receipts.specs.Marks.{marks_by}
+use Rattle.receipts.specs.UnderLock.{Asking, next_slot}
 use Rattle.receipts.proofs.Followed.{numbered_by, reached_by, follows_by, adds_by, adds_asked}
 use Rattle.receipts.proofs.Refused.{refused_arrival}
+use Rattle.receipts.proofs.UnderLock.{does_at, not_made_by_check, not_made_by_slots, not_made_by_fit, not_made_by_memory, not_made_by_hall}
+use Rattle.group_commit.specs.Issuer.{issued_in}
 use Rattle.group_commit.specs.IssuerHalf.{half_view}
-use Rattle.hall_core.specs.Hall.{view_of}
+use Rattle.hall_core.specs.Hall.{view_of, CanBeAsked}
 use Rattle.receipts.proofs.kept.Kept.arrive.Goals as goal
 
 pub invariant_of-self-in-Ok : goal.invariant_of-self-in-Ok
@@ -28,5 +31,51 @@ returns-in-Ok-clause-asked g c =
     let added : c.note.new.desk.own.items ≡ c.args.desk.now.own.items ++ marks_by c.args.desk.now.number c.in-Ok.issued = search rules in
     adds_asked _ _ _ _ _ c.in-Ok.issued added c.in-Ok.ensures.asked
 
+pub returns-in-Ok-clause-done : goal.returns-in-Ok-clause-done
+returns-in-Ok-clause-done g c =
+    let added : c.note.new.desk.own.items ≡ c.args.desk.now.own.items ++ marks_by c.args.desk.now.number c.in-Ok.issued = search rules in
+    does_at _ _ _ c.in-Ok.issued c.in-Ok.ensures.ok _ _ _ added
+
+pub returns-in-Ok-clause-both : goal.returns-in-Ok-clause-both
+returns-in-Ok-clause-both g c =
+    let own : c.note.new.desk.own.items ≡ c.args.desk.now.own.items ++ marks_by c.args.desk.now.number c.in-Ok.issued = search rules in
+    let all : c.note.new.marks.all.items ≡ c.args.self.now.marks.all.items ++ marks_by c.args.desk.now.number c.in-Ok.issued = search rules in
+    (marks_by c.args.desk.now.number c.in-Ok.issued, own, all)
+
 pub returns-in-Err-clause-refused : goal.returns-in-Err-clause-refused
 returns-in-Err-clause-refused g c = refused_arrival _ (view_of half_view c.args.self.now.hall) _ c.in-Err.why c.in-Err.ensures.reason
+
+-- ## Refusals
+
+pub returns-in_err-check-clause-reason : goal.returns-in_err-check-clause-reason
+returns-in_err-check-clause-reason g c =
+    let asking : Asking = record { told = c.args.desk.now.told; desk = c.args.desk.now.number; call = c.args.call; now = c.args.now; words = c.args.words } in
+    not_made_by_check (view_of half_view c.args.self.now.hall) c.args.self.now.slots asking c.in_err-check.field-0 c.in_err-check.ensures.err
+
+pub returns-in_err-slot-clause-reason : goal.returns-in_err-slot-clause-reason
+returns-in_err-slot-clause-reason g c =
+    let asking : Asking = record { told = c.args.desk.now.told; desk = c.args.desk.now.number; call = c.args.call; now = c.args.now; words = c.args.words } in
+    not_made_by_slots (view_of half_view c.args.self.now.hall) c.args.self.now.slots asking (search rules) c.in_err-slot.field-0
+    c.in_err-slot.ensures.err.0 c.in_err-slot.ensures.err.1
+
+pub returns-then-not-fits-clause-reason : goal.returns-then-not-fits-clause-reason
+returns-then-not-fits-clause-reason g c =
+    let asking : Asking = record { told = c.args.desk.now.told; desk = c.args.desk.now.number; call = c.args.call; now = c.args.now; words = c.args.words } in
+    not_made_by_fit (view_of half_view c.args.self.now.hall) c.args.self.now.slots asking (search rules) (search rules) c.in_ok-slot.slot c.in_ok-slot.ensures.next
+    c.fits.result c.fits.ensures.all (search rules)
+
+pub returns-in_err-reserve-clause-reason : goal.returns-in_err-reserve-clause-reason
+returns-in_err-reserve-clause-reason g c =
+    let asking : Asking = record { told = c.args.desk.now.told; desk = c.args.desk.now.number; call = c.args.call; now = c.args.now; words = c.args.words } in
+    let can : CanBeAsked (view_of half_view c.args.self.now.hall) c.in_ok-slot.slot c.args.call c.args.now c.args.words
+    = record { free = search rules; environment = search rules; fit = search rules } in
+    not_made_by_memory (view_of half_view c.args.self.now.hall) c.args.self.now.slots asking (search rules) (search rules) c.in_ok-slot.slot c.in_ok-slot.ensures.next
+    can _ refl
+
+pub returns-in-Err-clause-reason : goal.returns-in-Err-clause-reason
+returns-in-Err-clause-reason g c =
+    let asking : Asking = record { told = c.args.desk.now.told; desk = c.args.desk.now.number; call = c.args.call; now = c.args.now; words = c.args.words } in
+    let can : CanBeAsked (view_of half_view c.args.self.now.hall) c.in_ok-slot.slot c.args.call c.args.now c.args.words
+    = record { free = search rules; environment = search rules; fit = search rules } in
+    not_made_by_hall (view_of half_view c.args.self.now.hall) c.args.self.now.slots asking (search rules) (search rules) c.in_ok-slot.slot c.in_ok-slot.ensures.next
+    can c.in-Err.why (record { first = c.in-Err.ensures.refused; reason = c.in-Err.ensures.reason })

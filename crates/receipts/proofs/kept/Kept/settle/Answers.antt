@@ -1,5 +1,6 @@
 use Rattle.std.proofs.Common.{rules}
 use Rattle.receipts.proofs.Settled.{settle_same, settled_number, follows_still, reached_still}
+use Rattle.receipts.proofs.UnderLock.{told_of}
 use Rattle.receipts.proofs.kept.Kept.settle.Goals as goal
 
 pub invariant_of-self : goal.invariant_of-self
@@ -17,3 +18,9 @@ returns-in-Ok-clause-told g c =
     let number = settled_number _ _ _ _ c.in-Ok.ensures.ok in
     let told = c.requires in
     search (rules, number, told)
+
+pub returns-in-Ok-clause-tells : goal.returns-in-Ok-clause-tells
+returns-in-Ok-clause-tells g c = told_of _ _ _ _ c.settle.ensures.ok c.settle.ensures.err
+
+pub returns-in-Err-clause-tells : goal.returns-in-Err-clause-tells
+returns-in-Err-clause-tells g c = told_of _ _ _ _ c.settle.ensures.ok c.settle.ensures.err

@@ -1,7 +1,8 @@
-use Rattle.std.proofs.Common.{rules, ◌≡◌, ◌++◌}
+use Rattle.std.proofs.Common.{rules, ◌≡◌, ◌++◌, inl, inr, refl}
 use Rattle.receipts.specs.Marks.{marks_by}
 use Rattle.receipts.proofs.Followed.{numbered_by, reached_by, follows_by, adds_answered}
 use Rattle.receipts.proofs.Refused.{refused_tick}
+use Rattle.receipts.proofs.UnderLock.{does_at, answers_number}
 use Rattle.group_commit.specs.IssuerHalf.{half_view}
 use Rattle.hall_core.specs.Hall.{view_of}
 use Rattle.receipts.proofs.kept.Kept.tick.Goals as goal
@@ -22,5 +23,28 @@ returns-in-Ok-clause-marks g c =
     let added : c.told_by.new.desk.own.items ≡ c.args.desk.now.own.items ++ marks_by c.args.desk.now.number c.in-Ok.issued = search rules in
     adds_answered _ _ _ c.in-Ok.issued added _ c.told_by.ensures.number
 
+pub returns-in-Ok-clause-done : goal.returns-in-Ok-clause-done
+returns-in-Ok-clause-done g c =
+    let added : c.told_by.new.desk.own.items ≡ c.args.desk.now.own.items ++ marks_by c.args.desk.now.number c.in-Ok.issued = search rules in
+    does_at _ _ _ c.in-Ok.issued c.in-Ok.ensures.ok _ _ _ added
+
+pub returns-in-Ok-clause-answer : goal.returns-in-Ok-clause-answer
+returns-in-Ok-clause-answer g c = answers_number _ _ _ c.in-Ok.issued c.in-Ok.ensures.ok _ c.told_by.ensures.number
+
+pub returns-in-Ok-clause-both : goal.returns-in-Ok-clause-both
+returns-in-Ok-clause-both g c =
+    let own : c.told_by.new.desk.own.items ≡ c.args.desk.now.own.items ++ marks_by c.args.desk.now.number c.in-Ok.issued = search rules in
+    let all : c.note.new.marks.all.items ≡ c.args.self.now.marks.all.items ++ marks_by c.args.desk.now.number c.in-Ok.issued = search rules in
+    (marks_by c.args.desk.now.number c.in-Ok.issued, own, all)
+
 pub returns-in-Err-clause-refused : goal.returns-in-Err-clause-refused
 returns-in-Err-clause-refused g c = refused_tick _ (view_of half_view c.args.self.now.hall) c.args.now c.in-Err.why c.in-Err.ensures.reason
+
+pub returns-in_err-check-clause-reason : goal.returns-in_err-check-clause-reason
+returns-in_err-check-clause-reason g c = inl c.in_err-check.ensures.err
+
+pub returns-in_err-reserve-clause-reason : goal.returns-in_err-reserve-clause-reason
+returns-in_err-reserve-clause-reason g c = inr (search rules, inl refl)
+
+pub returns-in-Err-clause-reason : goal.returns-in-Err-clause-reason
+returns-in-Err-clause-reason g c = inr (search rules, inr (record { first = c.in-Err.ensures.refused; reason = c.in-Err.ensures.reason }))
