@@ -1,7 +1,9 @@
 use Rattle.std.proofs.Common.{rules, ◌≡◌, ◌++◌, ◌∙◌, ◌<◌, ◌≤◌, ◌^◌, refl}
+use Rattle.std.proofs.Math.Logic.{∥∥₁_map}
 use Rattle.receipts.specs.Marks.{marks_by}
 use Rattle.receipts.specs.UnderLock.{Asking, next_slot}
 use Rattle.receipts.proofs.Followed.{numbered_by, reached_by, follows_by, adds_by, adds_asked}
+use Rattle.receipts.proofs.Running.{runs_by, runs_same}
 use Rattle.receipts.proofs.Refused.{refused_arrival}
 use Rattle.receipts.proofs.UnderLock.{does_at, not_made_by_check, not_made_by_slots, not_made_by_fit, not_made_by_memory, not_made_by_hall}
 use Rattle.group_commit.specs.Issuer.{issued_in}
@@ -18,7 +20,18 @@ invariant_of-self-in-Ok g c =
       numbered = numbered_by _ _ _ _ e.command _ added e.answered _ reached c.args.self.now.numbered;
       reached = reached_by _ _ _ _ e.command _ added e.answered _ _ reached e.continues.issued;
       followed = follows_by _ _ _ _ e.command _ added e.answered _ _ _ _ _ e.continues.settings e.continues.table c.args.self.now.followed;
+      runs = ∥∥₁_map c.args.self.now.runs
+          (runs_by (view_of half_view c.args.self.now.hall) (view_of half_view c.arrive.new.self) _ _ e.continues.settings (search rules)
+          c.in-Ok.ensures.passes.by_past (λ past stands. (c.in-Ok.ensures.ok past stands).1));
     }
+
+pub invariant_of-self-in-Err : goal.invariant_of-self-in-Err
+invariant_of-self-in-Err g c = record {
+  numbered = search rules;
+  reached = search rules;
+  followed = search rules;
+  runs = ∥∥₁_map c.args.self.now.runs (runs_same (view_of half_view c.args.self.now.hall) (view_of half_view c.arrive.new.self) _ c.in-Err.ensures.err);
+}
 
 pub returns-in-Ok-clause-marks : goal.returns-in-Ok-clause-marks
 returns-in-Ok-clause-marks g c =
