@@ -1,8 +1,5 @@
-use Rattle.receipts.proofs.UnderLock.{lent_no_fault, mismatch_no_fault}
+use Rattle.receipts.proofs.UnderLock.{lent_no_fault}
 use Rattle.receipts.proofs.kept.Kept.lend.Goals as goal
-
-pub returns-in_err-check-clause-no_fault : goal.returns-in_err-check-clause-no_fault
-returns-in_err-check-clause-no_fault g c = mismatch_no_fault _ _ c.in_err-check.field-0 c.in_err-check.ensures.err
 
 pub returns-in-Err-clause-no_fault : goal.returns-in-Err-clause-no_fault
 returns-in-Err-clause-no_fault g c = lent_no_fault _ c.in-Err.why c.in-Err.ensures.reason

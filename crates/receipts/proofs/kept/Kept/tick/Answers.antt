@@ -1,4 +1,4 @@
-use Rattle.std.proofs.Common.{rules, ◌≡◌, ◌++◌, inl, inr, refl}
+use Rattle.std.proofs.Common.{rules, ◌≡◌, ◌++◌, inr}
 use Rattle.receipts.specs.Marks.{marks_by}
 use Rattle.receipts.proofs.Followed.{numbered_by, reached_by, follows_by, adds_answered}
 use Rattle.receipts.proofs.Refused.{refused_tick}
@@ -39,12 +39,6 @@ returns-in-Ok-clause-both g c =
 
 pub returns-in-Err-clause-refused : goal.returns-in-Err-clause-refused
 returns-in-Err-clause-refused g c = refused_tick _ (view_of half_view c.args.self.now.hall) c.args.now c.in-Err.why c.in-Err.ensures.reason
-
-pub returns-in_err-check-clause-reason : goal.returns-in_err-check-clause-reason
-returns-in_err-check-clause-reason g c = inl c.in_err-check.ensures.err
-
-pub returns-in_err-reserve-clause-reason : goal.returns-in_err-reserve-clause-reason
-returns-in_err-reserve-clause-reason g c = inr (search rules, inl refl)
 
 pub returns-in-Err-clause-reason : goal.returns-in-Err-clause-reason
 returns-in-Err-clause-reason g c = inr (search rules, inr (record { first = c.in-Err.ensures.refused; reason = c.in-Err.ensures.reason }))
