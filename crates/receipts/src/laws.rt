@@ -21,5 +21,8 @@ pub fn a_serving_is_its_commits<D: Disk>(
         → HasServed D.view D.fault_count (broker_of then.now) (broker_of last.now)
         → HasServed D.view D.fault_count (broker_of first.now) (broker_of last.now) }
 {
-    let _ = (first, then, last, told);
+    let _ = first;
+    let _ = then;
+    let _ = last;
+    let _ = told;
 }

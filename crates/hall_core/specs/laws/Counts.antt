@@ -244,22 +244,19 @@ unclosed_too : (b : Bool) (slot : ℕ) (events : List SlotEvent) → closes b sl
 unclosed_too b slot events =
     closes_too (list_any (takes slot) events) (list_any (forgets slot) events) b (list_any (λ x. is_some {T = Reply} (reply_by slot x)) events)
 
+-- a request in front counts no more where it is closed wherever the other is
+no_more_in_front : (c d : Bool) (n : ℕ) → (c ≡ false → d ≡ false) → cond {A = ℕ} c 0 n ≤ cond {A = ℕ} d 0 n
+no_more_in_front true d n too = omega arith
+no_more_in_front false d n too = subst (λ x. n ≤ cond {A = ℕ} x 0 n) (sym (too refl)) (omega arith)
+
 no_more_open : (b : Bool) (slot : ℕ) (events : List SlotEvent) → times slot (open_among b events) ≤ times slot (open_among false events)
 no_more_open b slot [] = omega arith
 no_more_open b slot (asked other call ∷ later) =
     let more = no_more_open b slot later in
     let is = front_times slot (closes b other later) other (open_among b later) in
     let was = front_times slot (closes false other later) other (open_among false later) in
-    elim (cases_Bool (closes b other later)) [
-      | inl closed ↦
-          let none : cond (closes b other later) 0 (cond (slot == other) 1 0) ≡ 0 = ap (λ c. cond c 0 (cond (slot == other) 1 0)) closed in
-          omega arith
-      | inr unclosed ↦
-          let one : cond (closes b other later) 0 (cond (slot == other) 1 0) ≡ cond (slot == other) 1 0 = ap (λ c. cond c 0 (cond (slot == other) 1 0)) unclosed in
-          let too : cond (closes false other later) 0 (cond (slot == other) 1 0) ≡ cond (slot == other) 1 0
-          = ap (λ c. cond c 0 (cond (slot == other) 1 0)) (unclosed_too b other later unclosed) in
-          omega arith
-    ]
+    let front = no_more_in_front (closes b other later) (closes false other later) (cond (slot == other) 1 0) (unclosed_too b other later) in
+    omega arith
 no_more_open b slot (replied other answer point ∷ later) = no_more_open b slot later
 no_more_open b slot (taken other ∷ later) = no_more_open b slot later
 no_more_open b slot (forgotten other ∷ later) = no_more_open b slot later

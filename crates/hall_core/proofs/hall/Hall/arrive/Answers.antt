@@ -113,8 +113,8 @@ returns-in-Err-do_for-clause-reason g c =
     issued_but_for_memory old past req c.in-Ok-prepare.prepared.command c.in-Err-do_for.why stands made
     (prepared.command ∙ ap (λ (e : Effect). e.command) is) (c.in-Err-do_for.ensures.refused place)) (c.in-Err-do_for.ensures.refused place)
 
-pub do_for-requires-free : goal.do_for-requires-free
-do_for-requires-free g c =
+pub do_for-requires-clause-free : goal.do_for-requires-clause-free
+do_for-requires-clause-free g c =
     let old = view_of g.I.Issuer.view c.args.self.now in
     let effect = c.plan_request-plan.result.effect in
     let none : refusal_of_arrival old (is_some effect.command) ≡ None = search rules in

@@ -1,12 +1,11 @@
-use Rattle.std.proofs.Common.{rules, ◌≡◌, ◌++◌, ◌∙◌, ◌<◌, ◌≤◌, ◌^◌, refl}
-use Rattle.std.proofs.Math.Logic.{∥∥₁_map}
+use Rattle.std.proofs.Common.{rules, ◌≡◌, ◌++◌, ◌∙◌}
 use Rattle.receipts.specs.Marks.{marks_by}
-use Rattle.receipts.specs.UnderLock.{Asking, next_slot}
+use Rattle.receipts.specs.UnderLock.{Asking}
 use Rattle.receipts.proofs.Followed.{numbered_by, reached_by, follows_by, adds_by, adds_asked}
+use Rattle.std.proofs.Math.Logic.{∥∥₁_map}
 use Rattle.receipts.proofs.Running.{runs_by, runs_same}
 use Rattle.receipts.proofs.Refused.{refused_arrival}
-use Rattle.receipts.proofs.UnderLock.{does_at, not_made_by_check, not_made_by_slots, not_made_by_fit, not_made_by_memory, not_made_by_hall}
-use Rattle.group_commit.specs.Issuer.{issued_in}
+use Rattle.receipts.proofs.UnderLock.{does_at, not_made_by_fit, not_made_by_hall}
 use Rattle.group_commit.specs.IssuerHalf.{half_view}
 use Rattle.hall_core.specs.Hall.{view_of, CanBeAsked}
 use Rattle.receipts.proofs.kept.Kept.arrive.Goals as goal
@@ -25,8 +24,8 @@ invariant_of-self-in-Ok g c =
           c.in-Ok.ensures.passes.by_past (λ past stands. (c.in-Ok.ensures.ok past stands).1));
     }
 
-pub invariant_of-self-in-Err : goal.invariant_of-self-in-Err
-invariant_of-self-in-Err g c = record {
+pub invariant_of-self-in-Err-1 : goal.invariant_of-self-in-Err-1
+invariant_of-self-in-Err-1 g c = record {
   numbered = search rules;
   reached = search rules;
   followed = search rules;
@@ -60,30 +59,11 @@ returns-in-Err-clause-refused g c = refused_arrival _ (view_of half_view c.args.
 
 -- ## Refusals
 
-pub returns-in_err-check-clause-reason : goal.returns-in_err-check-clause-reason
-returns-in_err-check-clause-reason g c =
-    let asking : Asking = record { told = c.args.desk.now.told; desk = c.args.desk.now.number; call = c.args.call; now = c.args.now; words = c.args.words } in
-    not_made_by_check (view_of half_view c.args.self.now.hall) c.args.self.now.slots asking c.in_err-check.field-0 c.in_err-check.ensures.err
-
-pub returns-in_err-slot-clause-reason : goal.returns-in_err-slot-clause-reason
-returns-in_err-slot-clause-reason g c =
-    let asking : Asking = record { told = c.args.desk.now.told; desk = c.args.desk.now.number; call = c.args.call; now = c.args.now; words = c.args.words } in
-    not_made_by_slots (view_of half_view c.args.self.now.hall) c.args.self.now.slots asking (search rules) c.in_err-slot.field-0
-    c.in_err-slot.ensures.err.0 c.in_err-slot.ensures.err.1
-
 pub returns-then-not-fits-clause-reason : goal.returns-then-not-fits-clause-reason
 returns-then-not-fits-clause-reason g c =
     let asking : Asking = record { told = c.args.desk.now.told; desk = c.args.desk.now.number; call = c.args.call; now = c.args.now; words = c.args.words } in
     not_made_by_fit (view_of half_view c.args.self.now.hall) c.args.self.now.slots asking (search rules) (search rules) c.in_ok-slot.slot c.in_ok-slot.ensures.next
     c.fits.result c.fits.ensures.all (search rules)
-
-pub returns-in_err-reserve-clause-reason : goal.returns-in_err-reserve-clause-reason
-returns-in_err-reserve-clause-reason g c =
-    let asking : Asking = record { told = c.args.desk.now.told; desk = c.args.desk.now.number; call = c.args.call; now = c.args.now; words = c.args.words } in
-    let can : CanBeAsked (view_of half_view c.args.self.now.hall) c.in_ok-slot.slot c.args.call c.args.now c.args.words
-    = record { free = search rules; environment = search rules; fit = search rules } in
-    not_made_by_memory (view_of half_view c.args.self.now.hall) c.args.self.now.slots asking (search rules) (search rules) c.in_ok-slot.slot c.in_ok-slot.ensures.next
-    can _ refl
 
 pub returns-in-Err-clause-reason : goal.returns-in-Err-clause-reason
 returns-in-Err-clause-reason g c =

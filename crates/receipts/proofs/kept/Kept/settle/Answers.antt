@@ -1,4 +1,4 @@
-use Rattle.std.proofs.Common.{rules}
+use Rattle.std.proofs.Common.{rules, Ok, Err}
 use Rattle.receipts.proofs.Settled.{settle_same, settled_number, follows_still, reached_still}
 use Rattle.std.proofs.Math.Logic.{∥∥₁_map}
 use Rattle.group_commit.specs.IssuerHalf.{half_view}
@@ -25,7 +25,7 @@ returns-in-Ok-clause-told g c =
     search (rules, number, told)
 
 pub returns-in-Ok-clause-tells : goal.returns-in-Ok-clause-tells
-returns-in-Ok-clause-tells g c = told_of _ _ _ _ c.settle.ensures.ok c.settle.ensures.err
+returns-in-Ok-clause-tells g c = told_of _ _ c.args.outcome (Ok c.in-Ok.durable) c.in-Ok.ensures.ok tt
 
 pub returns-in-Err-clause-tells : goal.returns-in-Err-clause-tells
-returns-in-Err-clause-tells g c = told_of _ _ _ _ c.settle.ensures.ok c.settle.ensures.err
+returns-in-Err-clause-tells g c = told_of _ _ c.args.outcome (Err c.in-Err.why) tt c.in-Err.ensures.err

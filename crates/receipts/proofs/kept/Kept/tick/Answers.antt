@@ -1,7 +1,7 @@
-use Rattle.std.proofs.Common.{rules, ◌≡◌, ◌++◌, inl, inr, refl}
-use Rattle.std.proofs.Math.Logic.{∥∥₁_map}
+use Rattle.std.proofs.Common.{rules, ◌≡◌, ◌++◌, inr}
 use Rattle.receipts.specs.Marks.{marks_by}
 use Rattle.receipts.proofs.Followed.{numbered_by, reached_by, follows_by, adds_answered}
+use Rattle.std.proofs.Math.Logic.{∥∥₁_map}
 use Rattle.receipts.proofs.Running.{runs_by, runs_same}
 use Rattle.receipts.proofs.Refused.{refused_tick}
 use Rattle.receipts.proofs.UnderLock.{does_at, answers_number}
@@ -23,8 +23,8 @@ invariant_of-self-in-Ok g c =
           c.in-Ok.ensures.passes.by_past (λ past stands. (c.in-Ok.ensures.ok past stands).1));
     }
 
-pub invariant_of-self-in-Err : goal.invariant_of-self-in-Err
-invariant_of-self-in-Err g c = record {
+pub invariant_of-self-in-Err-1 : goal.invariant_of-self-in-Err-1
+invariant_of-self-in-Err-1 g c = record {
   numbered = search rules;
   reached = search rules;
   followed = search rules;
@@ -52,12 +52,6 @@ returns-in-Ok-clause-both g c =
 
 pub returns-in-Err-clause-refused : goal.returns-in-Err-clause-refused
 returns-in-Err-clause-refused g c = refused_tick _ (view_of half_view c.args.self.now.hall) c.args.now c.in-Err.why c.in-Err.ensures.reason
-
-pub returns-in_err-check-clause-reason : goal.returns-in_err-check-clause-reason
-returns-in_err-check-clause-reason g c = inl c.in_err-check.ensures.err
-
-pub returns-in_err-reserve-clause-reason : goal.returns-in_err-reserve-clause-reason
-returns-in_err-reserve-clause-reason g c = inr (search rules, inl refl)
 
 pub returns-in-Err-clause-reason : goal.returns-in-Err-clause-reason
 returns-in-Err-clause-reason g c = inr (search rules, inr (record { first = c.in-Err.ensures.refused; reason = c.in-Err.ensures.reason }))

@@ -1,12 +1,9 @@
 use Rattle.std.proofs.Common.{inl, inr, refl}
-use Rattle.receipts.proofs.UnderLock.{fault_told, never_told}
+use Rattle.receipts.proofs.UnderLock.{fault_told}
 use Rattle.receipts.proofs.office.Office.commit.Goals as goal
 
 pub returns-in_err-loan-clause-disk : goal.returns-in_err-loan-clause-disk
 returns-in_err-loan-clause-disk g c = inl refl
-
-pub returns-in_err-loan-clause-fault : goal.returns-in_err-loan-clause-fault
-returns-in_err-loan-clause-fault g c is = absurd (never_told c.in_err-loan.field-0 _ refl c.in_err-loan.ensures.no_fault is)
 
 pub returns-in-Nothing-clause-disk : goal.returns-in-Nothing-clause-disk
 returns-in-Nothing-clause-disk g c = inl refl
