@@ -7,7 +7,7 @@ use Rattle.receipts.proofs.Running.{runs_by, runs_same}
 use Rattle.receipts.proofs.Refused.{refused_arrival}
 use Rattle.receipts.proofs.UnderLock.{does_at, not_made_by_fit, not_made_by_hall}
 use Rattle.group_commit.specs.IssuerHalf.{half_view}
-use Rattle.hall_core.specs.Hall.{view_of, CanBeAsked}
+use Rattle.hall_core.specs.Hall.{view_of, request, CanBeAsked}
 use Rattle.receipts.proofs.kept.Kept.arrive.Goals as goal
 
 pub invariant_of-self-in-Ok : goal.invariant_of-self-in-Ok
@@ -55,7 +55,8 @@ returns-in-Ok-clause-both g c =
     (marks_by c.args.desk.now.number c.in-Ok.issued, own, all)
 
 pub returns-in-Err-clause-refused : goal.returns-in-Err-clause-refused
-returns-in-Err-clause-refused g c = refused_arrival _ (view_of half_view c.args.self.now.hall) _ c.in-Err.why c.in-Err.ensures.reason
+returns-in-Err-clause-refused g c =
+    refused_arrival _ (view_of half_view c.args.self.now.hall) (request c.in_ok-slot.slot c.args.call c.args.now c.args.words) c.in-Err.why c.in-Err.ensures.reason
 
 -- ## Refusals
 
