@@ -1,13 +1,14 @@
 // A hall over a broker: opening it, committing, and closing it.
 ghost use Rattle.std.specs.Prelude.{◌≡◌, ◌↔◌, List, false, true, Err, IfOk, IfErr, OnOk};
 ghost use Rattle.invoke_records.specs.declared.command.Command.{Command};
-ghost use Rattle.group_commit.specs.Broker.{disk_of, is_broken, Stands, Commits};
+ghost use Rattle.group_commit.specs.Broker.{disk_of, settings_of, is_broken, Stands, Commits};
 ghost use Rattle.group_commit.specs.Promises.{LeavesLegalStops};
 ghost use Rattle.group_commit.specs.Refusals.{FaultsHaveRisen, IsWornOut, NeedsSwitch};
 ghost use Rattle.group_commit.specs.IssuerBroker.{issuer_of};
 ghost use Rattle.hall_core.specs.declared.error.HallError.TheVariants as HallError;
 ghost use Rattle.hall_core.specs.Past.{opening};
 ghost use Rattle.hall_core.specs.Hall.{view_of, StandsFor, ForEachPast, IsAllDurable, commit_error_of};
+ghost use Rattle.hall_core.specs.Fresh.{IsFresh};
 ghost use Rattle.hall_core.specs.Halves.{HasSameParts};
 ghost use Rattle.hall_core.specs.Committing.{HasToWrite, IsNotCommitted};
 
@@ -44,6 +45,7 @@ impl<D: Disk> Hall<Broker<D>> {
     pub fn new(alloc: Global, broker: Broker<D>) -> Result<Hall<Broker<D>>, HallFailure<D>>
         ensures stands { (history : List Command) → Stands D.view broker history
             → IfOk result (λ hall. StandsFor (view_of (issuer_of D.view) hall) (opening history)) }
+        ensures fresh { IfOk result (λ hall. IsFresh (settings_of broker) hall) }
         ensures same { IfOk result (λ hall. hall.issuer ≡ broker) }
         ensures err { IfErr result (λ failure. failure.broker ≡ broker) }
     {

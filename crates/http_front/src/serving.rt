@@ -3,6 +3,7 @@ ghost use Rattle.std.specs.Prelude.{◌≡◌, ◌⊎◌, ◌≤◌, ◌+◌, []
 ghost use Rattle.commit_loop.specs.declared.gate.Turn.TheVariants as turn;
 ghost use Rattle.group_commit.specs.Broker.{pending_of, settings_of};
 ghost use Rattle.group_commit.specs.Splitting.{broker_of};
+ghost use Rattle.hall_core.specs.Fresh.{IsFresh};
 ghost use Rattle.receipts.specs.Desks.{desk_count};
 ghost use Rattle.receipts.specs.Serving.{HasServed};
 
@@ -300,6 +301,7 @@ where
     D: Disk + Drop,
     G: Gate,
     requires nothing { pending_of hall.issuer ≡ [] }
+    requires fresh { IsFresh (settings_of hall.issuer) hall }
     requires name { blank.name ≡ L.name }
     requires parts { blank.parts ≡ L.parts }
     requires seats { L.parts ≡ desk_count (settings_of hall.issuer) }

@@ -3,6 +3,7 @@ ghost use Rattle.std.specs.Prelude.{◌≡◌, [], IfOk, OnOk};
 ghost use Rattle.group_commit.specs.Broker.{pending_of, settings_of};
 ghost use Rattle.group_commit.specs.Promises.{ForEachHistory};
 ghost use Rattle.lambda_broker.specs.Serving.{ComesToRest};
+ghost use Rattle.hall_core.specs.Fresh.{IsFresh};
 
 use group_commit::{Broker, CommitError, IssueError, OpenError, without_disk};
 use hall_core::{Hall, HallFailure};
@@ -138,7 +139,8 @@ fn hall_over<D: Disk + Drop>(
     broker: Broker<D>,
 ) -> Result<Hall<Broker<D>>, ServingError>
     requires { pending_of broker ≡ [] }
-    ensures { IfOk result (λ hall. pending_of hall.issuer ≡ []) }
+    ensures nothing { IfOk result (λ hall. pending_of hall.issuer ≡ []) }
+    ensures fresh { IfOk result (λ hall. IsFresh (settings_of hall.issuer) hall) }
 {
     if broker.is_broken() {
         return Err(ServingError::Broken);
@@ -173,7 +175,8 @@ where
         + Send
         + 'static,
     D: Disk + Drop,
-    requires { pending_of hall.issuer ≡ [] }
+    requires nothing { pending_of hall.issuer ≡ [] }
+    requires fresh { IsFresh (settings_of hall.issuer) hall }
 {
     let blank = Blank::new(desks(hall.table().settings()));
     let served = serve::<_, Brand, _, _>(rt, hall, blank, listeners, &WhenPending)?;

@@ -3,3 +3,4 @@ pub mod AllThere
 pub mod Settled
 pub mod Refused
 pub mod UnderLock
+pub mod Running

@@ -1,5 +1,5 @@
 -- Why a desk's commit is refused, and how much can be pending.
-use Rattle.std.proofs.Common.{◌≡◌, ◌⊎◌, inl, inr, ℕ, ◌+◌, ◌-◌, ◌<◌, ◌≤◌, length, sym, subst, arith}
+use Rattle.std.proofs.Common.{inl, inr, ℕ, ◌≤◌, sym, subst, arith}
 use Rattle.std.specs.Prelude.{Result}
 use Rattle.group_commit.specs.declared.issue_half.IssueHalf.{IssueHalf}
 use Rattle.group_commit.specs.declared.batch.Written.{Written}

@@ -118,6 +118,7 @@ mismatch_no_fault told found error.Stopping is = absurd is
 mismatch_no_fault told found error.WornOut is = absurd is
 mismatch_no_fault told found error.Backlog is = absurd is
 mismatch_no_fault told found error.BadKind is = absurd is
+mismatch_no_fault told found error.NoHistory is = absurd is
 mismatch_no_fault told found error.OutOfMemory is = absurd is
 mismatch_no_fault told found error.Fault is = absurd is
 mismatch_no_fault told found error.Lent is = absurd is
@@ -134,6 +135,7 @@ module _ (hall : HallView) (slots : ℕ) (asking : Asking) where
   turned_by_check error.WornOut is = absurd is
   turned_by_check error.Backlog is = absurd is
   turned_by_check error.BadKind is = absurd is
+  turned_by_check error.NoHistory is = absurd is
   turned_by_check error.OutOfMemory is = absurd is
   turned_by_check error.Fault is = absurd is
   turned_by_check error.Lent is = absurd is

@@ -4,5 +4,6 @@ pub mod Answers
 pub mod Desks
 pub mod Kept
 pub mod UnderLock
+pub mod Running
 pub mod Serving
 pub mod laws

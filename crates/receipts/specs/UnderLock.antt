@@ -1,6 +1,5 @@
 -- What the calls under the lock make of the hall and of the marks, and why they are refused.
 use Rattle.std.specs.Prelude.{◌≡◌, ◌⊎◌, ℕ, ◌+◌, ◌*◌, ◌<◌, ◌≤◌, ◌^◌, List, ◌++◌, Option, Some, None, option_map}
-use Rattle.invoke_records.specs.declared.snapshot.Snapshot.{Snapshot}
 use Rattle.api_core.specs.declared.call.Call.{Call}
 use Rattle.group_commit.specs.declared.issue_half.IssueHalf.{IssueHalf}
 use Rattle.group_commit.specs.Issuer.{issued_in}
@@ -82,7 +81,7 @@ IsTurnedAway hall slots asking why = IsMismatch asking.told (issued_in hall.issu
 -- the hall refuses the call so, as it says of it
 pub record HallRefuses (hall : HallView) (call : HallCall) (why : HallError) : Type 0 where
   pub first : Refuses hall call why
-  pub reason : KeepsReason hall why
+  pub reason : KeepsReason hall call why
 
 -- there is no memory for a mark, or else the hall refuses the call so
 abbrev pub IsRefusedWithin : HallView → HallCall → HallError → Type 0
@@ -102,10 +101,10 @@ IsNotMoved hall told now why =
 -- ## What is refused changes nothing
 
 -- the hall did nothing in between, and the marks and the count of slots are the same
-pub record IsSameUnderLock (old new : HallView) (all all' : List Mark) (slots slots' : ℕ) : Type 0 where
+pub record IsSameUnderLock (old new : HallView) (all all' : List Mark) (counted counted' : ℕ) : Type 0 where
   pub hall : IsSameHall old new
   pub marks : all' ≡ all
-  pub slots : slots' ≡ slots
+  pub slots : counted' ≡ counted
 
 -- why nothing is lent is never that the device failed
 abbrev pub IsNoFault : HallError → Type 0

@@ -6,11 +6,14 @@ ghost use Rattle.receipts.specs.Following.{Follows};
 ghost use Rattle.receipts.specs.Answers.{AddsAtMostOne, AddsAnswered, IsToldMore, IsToldIfAny, IsSlotOf, AddsAsked, IsMismatch, IsArrivalRefusal, IsTickRefusal};
 ghost use Rattle.receipts.specs.Kept.{hall_in, issuer_in, IsToldByLoan, IsNotLentTo, number_of, either_number};
 ghost use Rattle.receipts.specs.UnderLock.{DoesAt, AnswersItsNumber, AddBoth, LendsAs, Counts, next_slot, IsNotMade, IsNotMoved, IsSameUnderLock, IsNoFault};
+ghost use Rattle.receipts.specs.Running.{HasRuns};
 ghost use Rattle.receipts.specs.Serving.{IsToldOf};
 ghost use Rattle.invoke_records.specs.Spelling.{greatest_moment};
 ghost use Rattle.group_commit.specs.Batch.{last_in};
 ghost use Rattle.hall_core.specs.Past.{tick, take_slot, forget_slot};
-ghost use Rattle.hall_core.specs.Hall.{StandsFor, ForEachPast, IsSameHall, IsAsDurable, request, pending_in, slot_told, Gives, IsDone};
+ghost use Rattle.hall_core.specs.OpenSlots.{ForEachKept};
+ghost use Rattle.hall_core.specs.Slots.{open_slots};
+ghost use Rattle.hall_core.specs.Hall.{StandsFor, ForEachPast, IsSameHall, IsAsDurable, request, pending_in, open_slot_count, slot_told, Gives, GivesFor, IsDone};
 ghost use Rattle.hall_core.specs.Halves.{HasSameParts, IsNotDurable};
 ghost use Rattle.hall_core.specs.Plans.{drawn_by};
 ghost use Rattle.hall_core.specs.declared.error.HallError.TheVariants.{WornOut};
@@ -56,6 +59,7 @@ pub(crate) struct Kept<L: Ledger> {
     ghost numbered: { AreNumbered opening.number marks.all.items },
     ghost reached: { issued_in (issuer_in hall) ≡ opening.number + length marks.all.items },
     ghost followed: { Follows (issuer_in hall).settings opening marks.all.items (issuer_in hall).table },
+    ghost runs: { ∥ HasRuns (hall_in hall) opening ∥₁ },
 }
 
 // Marks what a call issued, if it did, where there is room for a mark.
@@ -264,6 +268,7 @@ impl<L: Ledger> Kept<L> {
     pub(crate) fn take(&mut self, slot: u64) -> Option<Released>
         ensures slot { IfSome result (λ released. slot_told released ≡ slot) }
         ensures gives { Gives (hall_in self.old.hall) slot result }
+        ensures by_events { ForEachKept self.old.hall.slots (GivesFor (hall_in self.old.hall) slot result) }
         ensures done { OnSome result (IsDone (hall_in self.old.hall) (hall_in self.new.hall) (take_slot slot)) }
         ensures none { IfNone result (IsSameHall (hall_in self.old.hall) (hall_in self.new.hall)) }
         ensures issuer { self.new.hall.issuer ≡ self.old.hall.issuer }
@@ -295,7 +300,8 @@ impl<L: Ledger> Kept<L> {
 
     /// How many slots are open.
     pub(crate) fn open_slots(&self) -> usize
-        ensures { result ≡ length self.now.hall.slots }
+        ensures by_parts { result ≡ open_slot_count (hall_in self.now.hall) }
+        ensures by_past { ForEachPast (hall_in self.now.hall) (λ past. result ≡ length (open_slots (issuer_in self.now.hall).broken past)) }
     {
         self.hall.open_slots()
     }

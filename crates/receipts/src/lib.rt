@@ -11,6 +11,7 @@ mod desk_count;
 mod error;
 mod finishing;
 mod kept;
+pub mod laws;
 mod mark;
 mod marks;
 mod office;

@@ -8,6 +8,7 @@ ghost use Rattle.group_commit.specs.Refusals.{FaultsHaveRisen};
 ghost use Rattle.group_commit.specs.Splitting.{broker_of, IsSplitReason};
 ghost use Rattle.hall_core.specs.declared.error.HallError.TheVariants as HallError;
 ghost use Rattle.hall_core.specs.Hall.{view_of, slot_told};
+ghost use Rattle.hall_core.specs.Fresh.{IsFresh};
 ghost use Rattle.hall_core.specs.Halves.{HasSameParts};
 ghost use Rattle.receipts.specs.Desks.{desk_count};
 ghost use Rattle.receipts.specs.Answers.{AddsAtMostOne, AddsAnswered, IsToldMore, IsToldIfAny, IsSlotOf};
@@ -96,7 +97,7 @@ fn seat<L: Ledger>(alloc: Global, room: Vec<Desk<L>>, share: Share<L>, count: u6
 }
 
 impl<L: Ledger> Office<L> {
-    /// Opens an office over a hall in which nothing is pending: the hall goes on over the half of its broker that issues,
+    /// Opens an office over a new hall in which nothing is pending: the hall goes on over the half of its broker that issues,
     /// under the lock, and the half over the disk, which is the hall's broker, is for whoever commits. There are as many desks
     /// as `desks` says of the settings, which is the number of parts of the blank ledger.
     ///
@@ -107,6 +108,7 @@ impl<L: Ledger> Office<L> {
         blank: Blank,
     ) -> Result<(Office<L>, Vec<Desk<L>>, DiskHalf<D>), OfficeFailure<Hall<Broker<D>>>>
         requires nothing { pending_of hall.issuer ≡ [] }
+        requires fresh { IsFresh (settings_of hall.issuer) hall }
         requires name { blank.name ≡ L.name }
         requires parts { blank.parts ≡ L.parts }
         requires seats { L.parts ≡ desk_count (settings_of hall.issuer) }

@@ -1,6 +1,7 @@
 // A disk in memory that tells what it does, and halls over it.
 ghost use Rattle.std.specs.Prelude.{◌≡◌, [], IfOk};
-ghost use Rattle.group_commit.specs.Broker.{pending_of};
+ghost use Rattle.group_commit.specs.Broker.{pending_of, settings_of};
+ghost use Rattle.hall_core.specs.Fresh.{IsFresh};
 
 use group_commit::{Broker, format};
 use hall_core::Hall;
@@ -178,7 +179,8 @@ impl<D: Disk> Disk for WatchedDisk<D> {
 
 /// A hall over a new disk that is watched.
 pub fn hall(alloc: Global, watch: &Arc<Watch>) -> Result<Hall<Broker<TestDisk>>, Fail>
-    ensures { IfOk result (λ hall. pending_of hall.issuer ≡ []) }
+    ensures nothing { IfOk result (λ hall. pending_of hall.issuer ≡ []) }
+    ensures fresh { IfOk result (λ hall. IsFresh (settings_of hall.issuer) hall) }
 {
     let watch = Arc::try_clone(watch)?;
     let fault = watch.trouble.fault;
@@ -188,7 +190,8 @@ pub fn hall(alloc: Global, watch: &Arc<Watch>) -> Result<Hall<Broker<TestDisk>>,
 
 /// A hall over a formatted disk.
 pub fn hall_over<D: Disk + Drop>(alloc: Global, disk: D) -> Result<Hall<Broker<D>>, Fail>
-    ensures { IfOk result (λ hall. pending_of hall.issuer ≡ []) }
+    ensures nothing { IfOk result (λ hall. pending_of hall.issuer ≡ []) }
+    ensures fresh { IfOk result (λ hall. IsFresh (settings_of hall.issuer) hall) }
 {
     let Ok(broker) = Broker::open(alloc, disk) else {
         return Err(Fail::new("the disk is not opened"));

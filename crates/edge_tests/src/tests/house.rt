@@ -1,6 +1,7 @@
 // An office over a hall, for what happens in it.
 ghost use Rattle.std.specs.Prelude.{◌≡◌, []};
 ghost use Rattle.group_commit.specs.Broker.{pending_of, settings_of};
+ghost use Rattle.hall_core.specs.Fresh.{IsFresh};
 ghost use Rattle.receipts.specs.Desks.{desk_count};
 
 use crate::tests::disks::{TestDisk, Watch, hall};
@@ -71,6 +72,7 @@ fn house_over<L: Ledger, D: Disk + Drop>(
     blank: Blank,
 ) -> Option<House<L, D>>
     requires nothing { pending_of hall.issuer ≡ [] }
+    requires fresh { IsFresh (settings_of hall.issuer) hall }
     requires name { blank.name ≡ L.name }
     requires parts { blank.parts ≡ L.parts }
     requires seats { L.parts ≡ desk_count (settings_of hall.issuer) }
@@ -101,6 +103,7 @@ where
     R: Abort + Threads + Wait + RandomSource + AllocGlobal + Copy + Drop + Send + Sync,
     D: Disk + Drop + Send,
     requires nothing { pending_of hall.issuer ≡ [] }
+    requires fresh { IsFresh (settings_of hall.issuer) hall }
     requires name { blank.name ≡ L.name }
     requires parts { blank.parts ≡ L.parts }
     requires seats { L.parts ≡ desk_count (settings_of hall.issuer) }

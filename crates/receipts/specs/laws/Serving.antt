@@ -1,16 +1,13 @@
 -- A serving is any number of commits: none at first, and one more after others.
-use Rattle.std.proofs.Common.{◌≡◌, ◌⊎◌, ℕ, ◌+◌, ◌<◌, ◌≤◌, true, false, List, [], ◌++◌, length, Result, Ok, Err, inl, inr, ⊎_elim, refl, sym, subst, ◌∙◌, arith, append_assoc, length-append}
+use Rattle.std.proofs.Common.{◌≡◌, ℕ, ◌+◌, ◌≤◌, true, false, List, [], ◌++◌, length, Result, Ok, Err, inl, inr, ⊎_elim, refl, sym, subst, ◌∙◌, arith, append_assoc, length-append}
 use Rattle.std.specs.Prelude.{OnOk, IfErr}
 use Rattle.std.proofs.lemmas.Bool.{true≢false, cases_Bool}
 use Rattle.std.proofs.lemmas.List.{append-nil, take-append-le}
-use Rattle.sector_disk.specs.Disk.{DiskView, IsDisk, HasRisen}
-use Rattle.sector_disk.specs.Moments.{LeavesOnly}
+use Rattle.sector_disk.specs.Disk.{DiskView, IsDisk}
 use Rattle.sector_disk.specs.laws.Moments.{joined, started}
 use Rattle.sector_disk.specs.declared.disk.Disk.{Ghosts}
 use Rattle.retry_rules.specs.declared.settings.Settings.{Settings}
 use Rattle.invoke_records.specs.declared.command.Command.{Command}
-use Rattle.async_core.specs.History.{table_of}
-use Rattle.checkpoint.specs.Live.{RecoversTo}
 use Rattle.group_commit.specs.declared.broker.Broker.{Broker}
 use Rattle.group_commit.specs.declared.batch.Batch.{Batch}
 use Rattle.group_commit.specs.declared.batch.Written.{Written}
@@ -20,7 +17,6 @@ use Rattle.group_commit.specs.declared.error.WriteError.TheVariants as write_err
 use Rattle.group_commit.specs.History.{IsLegalStop}
 use Rattle.group_commit.specs.Broker.{disk_of, settings_of, issued_of, pending_of, durable_of, is_broken, Stands}
 use Rattle.group_commit.specs.IssuerBroker.{issuer_laws}
-use Rattle.group_commit.specs.Promises.{ForEachHistory}
 use Rattle.group_commit.specs.Refusals.{FaultsHaveRisen}
 use Rattle.group_commit.specs.Batch.{cause_of, is_lasting}
 use Rattle.group_commit.specs.Writing.{taken_from, IsWriteReason, IsRefusedAs, IsNotWritten, Writes}
@@ -36,7 +32,7 @@ stop_longer s history later least durable image fewer stop = record {
   size = stop.size;
   least = omega (arith, fewer, stop.least);
   most = omega (arith, stop.most, length-append history later);
-  recovers = subst (λ (h : List Command). RecoversTo s (table_of s h) image) (sym (take-append-le stop.size history later stop.most)) stop.recovers;
+  recovers = rw (take-append-le stop.size history later stop.most) stop.recovers;
 }
 
 -- and one of the same history
