@@ -115,7 +115,8 @@ where
         + Sync
         + 'static,
     D: Disk + Drop,
-    requires { pending_of hall.issuer ≡ [] }
+    requires nothing { pending_of hall.issuer ≡ [] }
+    requires fresh { IsFresh (settings_of hall.issuer) hall }
 {
     let blank = Blank::new(desks(hall.table().settings()));
     match serve_talk::<R, Brand, D>(rt, hall, blank, watch, talk) {

@@ -1,6 +1,7 @@
 // A front that is given more listeners than it has ports.
 ghost use Rattle.std.specs.Prelude.{◌≡◌, []};
 ghost use Rattle.group_commit.specs.Broker.{pending_of, settings_of};
+ghost use Rattle.hall_core.specs.Fresh.{IsFresh};
 ghost use Rattle.receipts.specs.Desks.{desk_count};
 
 use crate::tests::disks::{NO_TROUBLE, TestDisk, Watch, hall};
@@ -53,6 +54,7 @@ where
     L: Ledger + Send + Sync + 'static,
     D: Disk + Drop,
     requires nothing { pending_of hall.issuer ≡ [] }
+    requires fresh { IsFresh (settings_of hall.issuer) hall }
     requires name { blank.name ≡ L.name }
     requires parts { blank.parts ≡ L.parts }
     requires seats { L.parts ≡ desk_count (settings_of hall.issuer) }
