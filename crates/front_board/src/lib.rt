@@ -8,8 +8,6 @@
 mod board;
 mod numbers;
 mod rule;
-mod seated;
 
 pub use board::{Board, Seat};
 pub use numbers::{AnyNumber, Numbers};
-pub use seated::Seated;

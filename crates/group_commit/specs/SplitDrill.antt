@@ -82,8 +82,7 @@ IsSplitRun s log steps answers end = ⊥
 
 -- a script was run on a disk of which each image was a legal stop: its answers are those of one list, which begins with what
 -- the opening recovered, and the issue half stands for what that list came to
-pub record IsSplitDrilled (s : Settings) (history : List Command) (durable : ℕ)
-    (steps : List SplitStep) (answers : List SplitAnswer) (issue : IssueHalf) : Type 0 where
+pub record IsSplitDrilled (s : Settings) (history : List Command) (durable : ℕ) (steps : List SplitStep) (answers : List SplitAnswer) (issue : IssueHalf) : Type 0 where
   pub opened : ℕ
   pub least : durable ≤ opened
   pub most : opened ≤ length history
@@ -107,8 +106,7 @@ abbrev pub MayBeCutOff : SplitStep → OpenError → Type 0
 MayBeCutOff step cause = IsStop step ⊎ (cause ≡ open_error.OutOfMemory)
 
 -- a script was cut off at a step: those before it have a run, and it can be cut off so
-pub record IsSplitCutOffAt (s : Settings) (history : List Command) (durable : ℕ)
-    (steps : List SplitStep) (failure : DrillFailure) : Type 0 where
+pub record IsSplitCutOffAt (s : Settings) (history : List Command) (durable : ℕ) (steps : List SplitStep) (failure : DrillFailure) : Type 0 where
   pub opened : ℕ
   pub least : durable ≤ opened
   pub most : opened ≤ length history

@@ -67,8 +67,7 @@ write_answer (Err failed) = answer.WriteRefused (cause_of failed)
 
 -- a script was run so far: its answers are those of one list, which begins with what the opening recovered, and the halves
 -- stand for what that list came to
-pub record IsSplitDrilledOn (s : Settings) (history : List Command) (durable : ℕ)
-    (steps : List SplitStep) (answers : List SplitAnswer) (halves : Halves) : Type 0 where
+pub record IsSplitDrilledOn (s : Settings) (history : List Command) (durable : ℕ) (steps : List SplitStep) (answers : List SplitAnswer) (halves : Halves) : Type 0 where
   pub opened : ℕ
   pub least : durable ≤ opened
   pub most : opened ≤ length history

@@ -58,6 +58,4 @@ KeepMore s slots events event = KeepFor s slots (events ++ event ∷ [])
 
 -- whichever events they kept before a request came with this slot, they keep them again
 abbrev pub IsUndone : Entries → Entries → ℕ → Type 0
-IsUndone old new slot =
-    (s : Settings) (events : List SlotEvent) (call : Call) → KeepMore s old events (asked slot call)
-    → KeepFor s new events
+IsUndone old new slot = (s : Settings) (events : List SlotEvent) (call : Call) → KeepMore s old events (asked slot call) → KeepFor s new events

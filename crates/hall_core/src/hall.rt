@@ -5,18 +5,24 @@ ghost use Rattle.hall_core.specs.Past.{call_stops};
 use crate::environments::Environments;
 use crate::error::HallError;
 use crate::issuing::{Issued, issue};
-use crate::planner::plan_request;
-use crate::planning_ticks::plan_tick;
+use crate::planning::plan_request;
 use crate::preparing::{Prepared, prepare};
 use crate::released::Released;
 use crate::slots::Slots;
+use crate::ticks::plan_tick;
 use api_core::{Answer, Call, Refusal, Reply, reply_text};
 use async_core::Table;
-use group_commit::{Durable, Issuer, MOST_COMMANDS, MOST_PENDING, Receipt, Ticket};
+use group_commit::{Durable, Issuer, Receipt, Ticket};
 use std::alloc::{AllocError, Global};
 
 /// How many slots may be open.
 const MOST_OPEN: usize = 1024;
+
+/// How many commands may be issued since the disk was formatted.
+const MOST_COMMANDS: u64 = 1 << 62;
+
+/// How many commands may be pending.
+const MOST_PENDING: u64 = 256;
 
 // Whether a request asks the broker to stop.
 fn is_stop(call: &Call) -> bool
@@ -70,7 +76,7 @@ impl<I: Issuer> Hall<I> {
     {
         let issued = self.issuer.issued();
         let durable = self.issuer.durable().number();
-        has_command && issued.saturating_sub(durable) >= MOST_PENDING as u64
+        has_command && issued.saturating_sub(durable) >= MOST_PENDING
     }
 
     // Why a request is refused that comes now, if it is.

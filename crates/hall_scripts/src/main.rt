@@ -4,7 +4,7 @@
 #![tactic(auto)]
 
 mod halls;
-mod open_hall;
+mod places;
 mod splits;
 mod stage;
 

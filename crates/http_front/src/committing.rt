@@ -1,7 +1,7 @@
 // The committer's loop.
 use crate::front::Front;
 use crate::gate::{Gate, Turn};
-use front_board::Seated;
+use crate::seated::Seated;
 use group_commit::DiskHalf;
 use hall_core::HallError;
 use receipts::Desk;

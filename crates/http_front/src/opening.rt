@@ -6,7 +6,7 @@ ghost use Rattle.receipts.specs.Desks.{desk_count};
 use crate::committing::Committer;
 use crate::error::ServeError;
 use crate::front::Front;
-use front_board::Seated;
+use crate::seated::{Seated, seats};
 use group_commit::{Broker, DiskHalf};
 use hall_core::Hall;
 use long_poll::Port;
@@ -30,7 +30,8 @@ pub(crate) struct Opened<L: Ledger, D: Disk> {
 fn port<L: Ledger>(front: &Front<L>, desk: Desk<L>, seated: Seated) -> Result<Port<L>, AllocError> {
     let office = Arc::try_clone(&front.office)?;
     let bell = Arc::try_clone(&front.bell)?;
-    Ok(Port::new(office, bell, desk, seated))
+    let Seated { board, seat } = seated;
+    Ok(Port::new(office, bell, board, desk, seat))
 }
 
 // A port for each desk, as far as there are seats.
@@ -99,7 +100,7 @@ pub(crate) fn open<L: Ledger, D: Disk + Drop>(
     let durable = hall.durable();
     match Office::<L>::new(alloc, hall, blank) {
         Ok((office, desks, half)) => {
-            let seats = Seated::open(alloc, durable, desks.len())?;
+            let seats = seats(alloc, durable, desks.len())?;
             let front = shared(alloc, office, settings)?;
             Ok(furnish(alloc, front, desks, seats, half)?)
         }

@@ -8,7 +8,7 @@ use crate::error::ServeError;
 use crate::front::Front;
 use crate::gate::{Gate, Turn};
 use crate::opening::{Opened, open};
-use crate::port_application::PortApplication;
+use crate::place::Place;
 use crate::ticking::tick_all;
 use group_commit::Broker;
 use hall_core::Hall;
@@ -34,7 +34,7 @@ pub enum Ending {
 }
 
 impl Ending {
-    // How a front has ended, once its threads have.
+    // How a front whose threads have ended did.
     fn of<L: Ledger>(front: &Front<L>) -> Ending {
         if front.bell.has_broken() {
             Ending::Broken
@@ -79,7 +79,7 @@ impl<L: Ledger> Gate for UntilEnding<'_, L> {
 }
 
 // Serves a place to its end. Where it fails, the front ends.
-fn serve_place<R, L>(rt: R, place: PortApplication<R, L>, listener: TcpListener) -> io::Result<()>
+fn serve_place<R, L>(rt: R, place: Place<R, L>, listener: TcpListener) -> io::Result<()>
 where
     R: Wait
         + Clock
@@ -120,7 +120,7 @@ where
 {
     let port = Arc::new(rt.alloc(), port)?;
     let front = Arc::try_clone(front)?;
-    let place = PortApplication {
+    let place = Place {
         rt,
         number,
         front,

@@ -2,7 +2,7 @@
 ghost use Rattle.std.specs.Prelude.{◌≡◌, [], IfOk, OnOk};
 ghost use Rattle.group_commit.specs.Broker.{pending_of};
 
-use group_commit::{Broker, CommitError, IssueError, OpenError, without_disk};
+use group_commit::{Broker, CommitError, IssueError, OpenError, OpenFailure};
 use hall_core::{Hall, HallFailure};
 use http_front::{Ending, ServeError, WhenPending, now, serve};
 use receipts::desks;
@@ -69,9 +69,12 @@ impl ServingError {
     }
 }
 
-// The broker on a disk, which is given up where it is not opened.
+// The broker on a disk, or why it was not opened; the disk is then given up.
 fn open<D: Disk + Drop>(alloc: Global, disk: D) -> Result<Broker<D>, OpenError> {
-    without_disk(Broker::open(alloc, disk))
+    match Broker::open(alloc, disk) {
+        Ok(broker) => Ok(broker),
+        Err(OpenFailure { cause, .. }) => Err(cause),
+    }
 }
 
 // Binds the port of the callers and one for each environment behind it.

@@ -1,16 +1,36 @@
 // What the futures of one port share.
 ghost use Rattle.std.specs.Prelude.{◌≡◌, ◌≤◌, IfOk, IfErr, IfSome};
+ghost use Rattle.front_board.specs.Board.{SitsAt};
 ghost use Rattle.invoke_records.specs.Spelling.{greatest_moment};
 ghost use Rattle.hall_core.specs.Hall.{slot_told};
 
 use crate::bell::Bell;
 use api_core::Call;
-use front_board::Seated;
+use front_board::{AnyNumber, Board, Seat};
 use group_commit::{Receipt, Ticket};
 use hall_core::{HallError, Released};
 use receipts::{Desk, Office};
 use std::sync::ledger::Ledger;
 use std::sync::{Arc, Mutex, Wait};
+
+// A seat, beside the board that it is one of.
+#[derive(Drop)]
+struct Place {
+    board: Arc<Board<AnyNumber>>,
+    seat: Seat,
+    ghost sits: { SitsAt board.value seat },
+}
+
+impl Place {
+    // A receipt exactly where the board shows at least the ticket's number.
+    fn check(&mut self, ticket: Ticket) -> Result<Receipt, Ticket>
+        ensures receipt { IfOk result (λ receipt. receipt ≡ ticket) }
+        ensures kept { IfErr result (λ kept. kept ≡ ticket) }
+    {
+        let Place { board, seat } = self;
+        board.check(seat, ticket)
+    }
+}
 
 /// One port of the front: a desk of the office and a seat of the board, each behind a lock, for all futures of the port.
 #[derive(Drop)]
@@ -18,20 +38,28 @@ pub struct Port<L: Ledger> {
     office: Arc<Office<L>>,
     bell: Arc<Bell>,
     desk: Mutex<Desk<L>>,
-    seated: Mutex<Seated>,
+    place: Mutex<Place>,
 }
 
 impl<L: Ledger> Port<L> {
-    /// A port with a desk of this office and a seat of its board.
-    pub fn new(office: Arc<Office<L>>, bell: Arc<Bell>, desk: Desk<L>, seated: Seated) -> Port<L>
+    /// A port with a desk of this office and a seat of this board.
+    pub fn new(
+        office: Arc<Office<L>>,
+        bell: Arc<Bell>,
+        board: Arc<Board<AnyNumber>>,
+        desk: Desk<L>,
+        seat: Seat,
+    ) -> Port<L>
+        requires sits { SitsAt board.value seat }
         ensures office { result.office ≡ office }
         ensures bell { result.bell ≡ bell }
     {
+        let place = Place { board, seat };
         Port {
             office,
             bell,
             desk: Mutex::new(desk),
-            seated: Mutex::new(seated),
+            place: Mutex::new(place),
         }
     }
 
@@ -47,6 +75,12 @@ impl<L: Ledger> Port<L> {
         ensures { result.now ≡ self.now.bell.value }
     {
         &self.bell
+    }
+
+    /// The desk, when the port is closed.
+    pub fn into_desk(self) -> Desk<L> {
+        let Port { desk, .. } = self;
+        desk.into_inner()
     }
 
     /// A request comes, as `Office::arrive` says, from the port's desk.
@@ -88,6 +122,6 @@ impl<L: Ledger> Port<L> {
         ensures receipt { IfOk result (λ receipt. receipt ≡ ticket) }
         ensures kept { IfErr result (λ kept. kept ≡ ticket) }
     {
-        self.seated.lock(rt).check(ticket)
+        self.place.lock(rt).check(ticket)
     }
 }

@@ -99,7 +99,7 @@ impl<L: Ledger> Kept<L> {
     fn has_all(&self, desks: &[Desk<L>]) -> bool
         ensures { IsTrue result ↔ AreAll (λ d. d.number) (λ d. d.own.items) L.parts self.now.marks.all.items desks.now }
     {
-        have_each_number(desks, self.desk_count.count()) && are_histories(&self.marks.all, desks)
+        have_each_number(desks, self.seats.count()) && are_histories(&self.marks.all, desks)
     }
 
     // Joins the hall with the disk half.
@@ -119,7 +119,7 @@ impl<L: Ledger> Kept<L> {
             opening,
             marks,
             slots,
-            desk_count,
+            seats,
         } = self;
         match hall.join(disk) {
             Ok(hall) => Ok((hall, marks.all)),
@@ -129,7 +129,7 @@ impl<L: Ledger> Kept<L> {
                     opening,
                     marks,
                     slots,
-                    desk_count,
+                    seats,
                 };
                 let cause = FinishError::NotJoined(failure.cause);
                 let disk = failure.disk;

@@ -15,9 +15,9 @@ ghost use Rattle.hall_core.specs.declared.error.HallError.TheVariants.{WornOut};
 ghost use Rattle.group_commit.specs.IssuerHalf.{half_view};
 
 use crate::desk::Desk;
-use crate::desk_count::DeskCount;
 use crate::mark::Mark;
 use crate::marks::Marks;
+use crate::seats::Seats;
 use api_core::Call;
 use group_commit::{Batch, Durable, Failed, IssueHalf, Ticket, Written};
 use hall_core::{Hall, HallError, Issued, Released};
@@ -49,7 +49,7 @@ pub(crate) struct Kept<L: Ledger> {
     /// How many slots were counted.
     pub(crate) slots: u64,
     /// How many desks there are.
-    pub(crate) desk_count: DeskCount<L>,
+    pub(crate) seats: Seats<L>,
     ghost numbered: { AreNumbered opening.number marks.all.items },
     ghost reached: { issued_in (issuer_in hall) ≡ opening.number + length marks.all.items },
     ghost followed: { Follows (issuer_in hall).settings opening marks.all.items (issuer_in hall).table },

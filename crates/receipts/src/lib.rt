@@ -7,13 +7,13 @@
 #![tactic(auto)]
 
 mod desk;
-mod desk_count;
 mod error;
 mod finishing;
 mod kept;
 mod mark;
 mod marks;
 mod office;
+mod seats;
 mod unlocked;
 
 pub use desk::{Desk, desks};

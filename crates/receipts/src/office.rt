@@ -12,10 +12,10 @@ ghost use Rattle.receipts.specs.Answers.{AddsAsked, IsArrivalRefusal, IsTickRefu
 ghost use Rattle.hall_core.specs.Plans.{drawn_by};
 
 use crate::desk::{Desk, desks};
-use crate::desk_count::DeskCount;
 use crate::error::OfficeFailure;
 use crate::kept::{Kept, Loan};
 use crate::marks::Marks;
+use crate::seats::Seats;
 use api_core::Call;
 use group_commit::{Broker, DiskHalf, Durable, SplitError, Ticket};
 use hall_core::{Hall, HallError, Released};
@@ -108,7 +108,7 @@ impl<L: Ledger> Office<L> {
                     opening,
                     marks: Marks::new(alloc, book),
                     slots: 0,
-                    desk_count: DeskCount::new(count),
+                    seats: Seats::new(count),
                 };
                 let office = Office {
                     kept: Mutex::new(kept),

@@ -2,18 +2,17 @@
 use crate::drilling::drill_step;
 use crate::events::whole_broker_step;
 use case_runner::{Reply, Text, Words};
-use disk_steps::{Base, CaseDisk, Stage, disk_step, open_broker};
+use disk_steps::{Base, CaseDisk, Stage, disk_step, refusals};
 use env_phase::Env;
-use group_commit::{Broker, Ticket};
+use group_commit::{Broker, OpenFailure, Ticket};
 use request_steps::{environment_step, reply_step, request_step};
 use sector_disk::MemDisk;
 use std::alloc::Global;
 use std::mem;
 use table_steps::{record_step, tell_member, tell_record};
 
-// What is open on a disk.
 #[derive(Drop)]
-enum OpenBroker {
+enum Place {
     Nothing,
     Closed(CaseDisk),
     Open(Broker<CaseDisk>),
@@ -22,7 +21,7 @@ enum OpenBroker {
 /// The disk of a case, or the broker that is open on it.
 #[derive(Drop)]
 pub struct BrokerStage {
-    place: OpenBroker,
+    place: Place,
     // The tickets of the broker that is open.
     tickets: Vec<Ticket>,
     // The destination record that was told last.
@@ -35,7 +34,7 @@ impl BrokerStage {
     // `ID`: the record of an event that has ended.
     fn tell_record(&mut self, alloc: Global, words: &mut Words, answer: &mut Text) -> Reply {
         match &self.place {
-            OpenBroker::Open(broker) => {
+            Place::Open(broker) => {
                 tell_record(alloc, broker.table(), &mut self.record, words, answer)
             }
             _ => Reply::NoStep,
@@ -51,9 +50,9 @@ impl BrokerStage {
         answer: &mut Text,
     ) -> Reply {
         match &mut self.place {
-            OpenBroker::Nothing => Reply::NoStep,
-            OpenBroker::Closed(disk) => disk_step(alloc, disk, word, words, answer),
-            OpenBroker::Open(broker) => {
+            Place::Nothing => Reply::NoStep,
+            Place::Closed(disk) => disk_step(alloc, disk, word, words, answer),
+            Place::Open(broker) => {
                 whole_broker_step(alloc, broker, &mut self.tickets, word, words, answer)
             }
         }
@@ -63,7 +62,7 @@ impl BrokerStage {
 impl Stage for BrokerStage {
     fn nothing(alloc: Global) -> BrokerStage {
         BrokerStage {
-            place: OpenBroker::Nothing,
+            place: Place::Nothing,
             tickets: Vec::new(alloc),
             record: Vec::new(alloc),
             environment: None,
@@ -71,14 +70,14 @@ impl Stage for BrokerStage {
     }
 
     fn put(&mut self, disk: CaseDisk) {
-        self.place = OpenBroker::Closed(disk);
+        self.place = Place::Closed(disk);
     }
 
     fn take(&mut self, base: &mut Base) -> Option<CaseDisk> {
-        match mem::replace(&mut self.place, OpenBroker::Nothing) {
-            OpenBroker::Nothing => None,
-            OpenBroker::Closed(disk) => Some(disk),
-            OpenBroker::Open(broker) => {
+        match mem::replace(&mut self.place, Place::Nothing) {
+            Place::Nothing => None,
+            Place::Closed(disk) => Some(disk),
+            Place::Open(broker) => {
                 base.durable = broker.durable().number();
                 base.issued = broker.issued();
                 self.tickets.clear();
@@ -88,15 +87,15 @@ impl Stage for BrokerStage {
     }
 
     fn open(&mut self, alloc: Global, base: &Base, disk: CaseDisk, answer: &mut Text) -> Reply {
-        match open_broker(alloc, disk, answer) {
+        match Broker::open(alloc, disk) {
             Ok(broker) => {
                 let number = broker.issued();
-                self.place = OpenBroker::Open(broker);
+                self.place = Place::Open(broker);
                 base.recovered(number)
             }
-            Err((disk, reply)) => {
-                self.place = OpenBroker::Closed(disk);
-                reply
+            Err(OpenFailure { cause, disk }) => {
+                self.place = Place::Closed(disk);
+                refusals::open(cause, answer)
             }
         }
     }

@@ -1,5 +1,4 @@
--- A disk in a file as contracts see it: its size and its faults alone.
--- Nothing says that a device is honest, so no clause on bytes has its premise.
+-- A disk in a file as contracts see it: its size and its faults alone. Nothing says that a device is honest, so no clause on bytes has its premise.
 use Rattle.std.specs.Prelude.{ℕ, []}
 use Rattle.sector_disk.specs.Disk.{DiskView}
 use Rattle.sector_disk.specs.declared.file.FileDisk.{FileDisk}

@@ -56,14 +56,6 @@ pub enum Story {
     Polls(Poll),
 }
 
-// The last three of some desks. None where there are fewer.
-fn pop_three<L: Ledger>(desks: &mut Vec<Desk<L>>) -> Option<(Desk<L>, Desk<L>, Desk<L>)> {
-    match (desks.pop(), desks.pop(), desks.pop()) {
-        (Some(one), Some(two), Some(three)) => Some((one, two, three)),
-        _ => None,
-    }
-}
-
 // A house over a hall. None where there is no memory for it.
 fn house_over<L: Ledger, D: Disk + Drop>(
     alloc: Global,
@@ -80,8 +72,8 @@ fn house_over<L: Ledger, D: Disk + Drop>(
         return None;
     };
     let mut others: Vec<Desk<L>> = desks;
-    match pop_three(&mut others) {
-        Some((one, two, three)) => Some(House {
+    match (others.pop(), others.pop(), others.pop()) {
+        (Some(one), Some(two), Some(three)) => Some(House {
             office,
             one,
             two,
@@ -90,7 +82,7 @@ fn house_over<L: Ledger, D: Disk + Drop>(
             half,
             durable,
         }),
-        None => None,
+        _ => None,
     }
 }
 
@@ -124,6 +116,6 @@ where
     if tell_in::<Brand, R, TestDisk>(rt, hall, blank, watch, story) {
         Ok(())
     } else {
-        Err(Fail::new("the house was not opened, or its story not ended"))
+        Err(Fail::new("the house is not opened"))
     }
 }

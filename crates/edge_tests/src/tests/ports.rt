@@ -80,7 +80,7 @@ where
     let Ok(clients) = thread::spawn(&rt, move || talk_at(&rt, doors, &watch, talk)) else {
         return false;
     };
-    let gate = AtLeast::new(talk.pending());
+    let gate = AtLeast::new(talk.pending(), u64::MAX);
     let ending = serve::<R, L, D, AtLeast>(rt, hall, blank, listeners, &gate);
     clients.join(&rt);
     matches!(ending, Ok(Ending::Stopped))
@@ -103,9 +103,9 @@ where
         + 'static,
 {
     let watch = Arc::new(rt.alloc(), Watch::new(trouble))?;
-    let theirs = Arc::try_clone(&watch)?;
     let hall: Hall<Broker<TestDisk>> = hall(rt.alloc(), &watch)?;
     let blank = Blank::new(desks(hall.table().settings()));
+    let theirs = Arc::try_clone(&watch)?;
     if !serve_talk::<R, Brand, TestDisk>(rt, hall, blank, theirs, talk) {
         return Err(Fail::new("the front was not served until it was stopped"));
     }

@@ -1,7 +1,7 @@
 use Rattle.std.proofs.Common.{◌≡◌, ◌∙◌, refl}
 use Rattle.hall_core.specs.Past.{moment}
 use Rattle.hall_core.proofs.Moments.{moment_is}
-use Rattle.hall_core.proofs.planner.plan_request.Goals as goal
+use Rattle.hall_core.proofs.planning.plan_request.Goals as goal
 
 pub returns-clause-effect : goal.returns-clause-effect
 returns-clause-effect c past meets =

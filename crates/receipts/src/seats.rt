@@ -6,18 +6,18 @@ use std::sync::ledger::Ledger;
 
 /// How many desks an office has.
 #[derive(Drop)]
-pub(crate) struct DeskCount<L: Ledger> {
+pub(crate) struct Seats<L: Ledger> {
     count: u64,
     of: PhantomData<L>,
     ghost parts: { count ≡ L.parts },
 }
 
-impl<L: Ledger> DeskCount<L> {
+impl<L: Ledger> Seats<L> {
     /// As many as the ledger has parts.
-    pub(crate) fn new(count: u64) -> DeskCount<L>
+    pub(crate) fn new(count: u64) -> Seats<L>
         requires { count ≡ L.parts }
     {
-        DeskCount {
+        Seats {
             count,
             of: PhantomData,
         }

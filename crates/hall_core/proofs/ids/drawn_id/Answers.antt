@@ -1,7 +1,7 @@
 use Rattle.std.proofs.Common.{arith, ◌∙◌}
 use Rattle.hall_core.specs.Plans.{drawn_by}
 use Rattle.hall_core.proofs.Drawn.{two_words}
-use Rattle.hall_core.proofs.drawing.drawn_id.Goals as goal
+use Rattle.hall_core.proofs.ids.drawn_id.Goals as goal
 
 pub returns : goal.returns
 unfolding drawn_by

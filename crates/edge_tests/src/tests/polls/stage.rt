@@ -1,8 +1,11 @@
 // A port of an office, a committer and a board, and the futures of replies, on one thread.
+ghost use Rattle.std.specs.Prelude.{◌≡◌, IfSome};
+ghost use Rattle.front_board.specs.Board.{SitsAt};
+
 use crate::tests::house::{House, NOW, invoke};
 use api_core::Call;
 use async_core::Side;
-use front_board::Seated;
+use front_board::{AnyNumber, Board, Seat};
 use futures::Future;
 use futures::executor::LocalPool;
 use futures::task::{Context, Poll};
@@ -97,28 +100,40 @@ const NOTHING: Heard = Heard {
 };
 
 #[derive(Drop)]
-pub struct Scene<R: Wait + Drop, L: Ledger, D: Disk + Drop> {
+pub struct Stage<R: Wait + Drop, L: Ledger, D: Disk + Drop> {
     rt: R,
     port: Arc<Port<L>>,
     desk: Desk<L>,
     half: DiskHalf<D>,
     durable: Durable,
-    props: Props,
-}
-
-// What a scene needs beside its port: the seats of the committer and of one who looks, and where replies are noted.
-#[derive(Drop)]
-struct Props {
-    committer: Seated,
-    looker: Seated,
+    seats: Seats,
     told: Arc<Mutex<Heard>>,
 }
 
-// Three seats of a board at this number: the committer's, that of one who looks, and a port's.
-fn seats(alloc: Global, durable: Durable) -> Option<(Seated, Seated, Seated)> {
-    let mut seats = Seated::open(alloc, durable, 3).ok()?;
+// The seats of the committer and of one who looks, beside their board.
+#[derive(Drop)]
+struct Seats {
+    board: Arc<Board<AnyNumber>>,
+    committer: Seat,
+    looker: Seat,
+    ghost sits: { SitsAt board.value committer × SitsAt board.value looker },
+}
+
+// A board at this number with two seats, and a third one, for a port.
+fn seats_of(alloc: Global, durable: Durable) -> Option<(Seats, Seat)>
+    ensures { IfSome result (λ made. SitsAt made.0.board.value made.1) }
+{
+    let (board, mut seats) = Board::new(alloc, durable, 3).ok()?;
+    let board = Arc::new(alloc, board).ok()?;
     match (seats.pop(), seats.pop(), seats.pop()) {
-        (Some(committer), Some(looker), Some(port)) => Some((committer, looker, port)),
+        (Some(committer), Some(looker), Some(seat)) => Some((
+            Seats {
+                board,
+                committer,
+                looker,
+            },
+            seat,
+        )),
         _ => None,
     }
 }
@@ -127,34 +142,32 @@ fn seats(alloc: Global, durable: Durable) -> Option<(Seated, Seated, Seated)> {
 fn port<L: Ledger>(
     alloc: Global,
     office: Office<L>,
+    board: Arc<Board<AnyNumber>>,
     desk: Desk<L>,
-    seated: Seated,
-) -> Option<Arc<Port<L>>> {
+    seat: Seat,
+) -> Option<Arc<Port<L>>>
+    requires { SitsAt board.value seat }
+{
     let office = Arc::new(alloc, office).ok()?;
     let bell = Arc::new(alloc, Bell::new(alloc)).ok()?;
-    Arc::new(alloc, Port::new(office, bell, desk, seated)).ok()
+    Arc::new(alloc, Port::new(office, bell, board, desk, seat)).ok()
 }
 
-// A port of an office, and what its scene needs beside it.
+// A port of an office and its board.
 fn placed<L: Ledger>(
     alloc: Global,
     office: Office<L>,
     desk: Desk<L>,
     durable: Durable,
-) -> Option<(Arc<Port<L>>, Props)> {
-    let told = Arc::new(alloc, Mutex::new(NOTHING)).ok()?;
-    let (committer, looker, seated) = seats(alloc, durable)?;
-    let port = port(alloc, office, desk, seated)?;
-    let props = Props {
-        committer,
-        looker,
-        told,
-    };
-    Some((port, props))
+) -> Option<(Arc<Port<L>>, Seats)> {
+    let (seats, seat) = seats_of(alloc, durable)?;
+    let board = Arc::try_clone(&seats.board).ok()?;
+    let port = port(alloc, office, board, desk, seat)?;
+    Some((port, seats))
 }
 
-/// A scene in a house. None where there is no memory for it.
-pub fn scene_in<R, L, D>(rt: R, house: House<L, D>) -> Option<Scene<R, L, D>>
+/// A stage in a house. None where there is no memory for it.
+pub fn stage_in<R, L, D>(rt: R, house: House<L, D>) -> Option<Stage<R, L, D>>
 where
     R: Wait + AllocGlobal + Copy + Drop,
     L: Ledger,
@@ -168,20 +181,21 @@ where
         durable,
         ..
     } = house;
-    match placed(rt.alloc(), office, one, durable) {
-        Some((port, props)) => Some(Scene {
-            rt,
-            port,
-            desk: two,
-            half,
-            durable,
-            props,
-        }),
-        None => None,
-    }
+    let alloc = rt.alloc();
+    let (port, seats) = placed(alloc, office, one, durable)?;
+    let told = Arc::new(alloc, Mutex::new(NOTHING)).ok()?;
+    Some(Stage {
+        rt,
+        port,
+        desk: two,
+        half,
+        durable,
+        seats,
+        told,
+    })
 }
 
-impl<R, L, D> Scene<R, L, D>
+impl<R, L, D> Stage<R, L, D>
 where
     R: Wait + RandomSource + AllocGlobal + Copy + Drop,
     L: Ledger,
@@ -209,7 +223,7 @@ where
 
     // Lets the pool poll a future: whether it does.
     fn spawn(&self, pool: &Pool<R, L>, waiting: Waiting<R, L>) -> bool {
-        let (Ok(told), Ok(spawner)) = (Arc::try_clone(&self.props.told), pool.spawner()) else {
+        let (Ok(told), Ok(spawner)) = (Arc::try_clone(&self.told), pool.spawner()) else {
             return false;
         };
         let rt = self.rt;
@@ -257,7 +271,7 @@ where
     /// What was told since the last time, once all that were woken have been polled.
     pub fn heard(&self, pool: &mut Pool<R, L>) -> Heard {
         pool.run_until_stalled(POLLS);
-        let mut told = self.props.told.lock(&self.rt);
+        let mut told = self.told.lock(&self.rt);
         let heard = *told;
         *told = NOTHING;
         heard
@@ -281,7 +295,12 @@ where
 
     /// Shows on the board what is durable.
     pub fn raise(&mut self) {
-        self.props.committer.raise(self.durable);
+        let Seats {
+            board,
+            committer,
+            ..
+        } = &mut self.seats;
+        board.raise(committer, self.durable);
     }
 
     /// Wakes those that wait for this number or one below.
@@ -309,7 +328,8 @@ where
 
     /// A receipt where the board shows the number of this ticket.
     pub fn check(&mut self, ticket: Ticket) -> Result<Receipt, Ticket> {
-        self.props.looker.check(ticket)
+        let Seats { board, looker, .. } = &mut self.seats;
+        board.check(looker, ticket)
     }
 
     /// Whether the board shows the number of this ticket.

@@ -1,7 +1,7 @@
 use Rattle.std.proofs.Common.{◌≡◌, ◌∙◌, sym, refl, false}
 use Rattle.hall_core.specs.Past.{moment, is_stopping}
 use Rattle.hall_core.proofs.Moments.{moment_is}
-use Rattle.hall_core.proofs.planning_ticks.plan_tick.Goals as goal
+use Rattle.hall_core.proofs.ticks.plan_tick.Goals as goal
 
 pub returns-clause-effect : goal.returns-clause-effect
 returns-clause-effect c past meets stopping =

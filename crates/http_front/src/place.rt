@@ -34,14 +34,14 @@ impl<R: Wait + Drop, L: Ledger> Future for Replying<R, L> {
 
 /// A port: its number, the desk and the seat of its requests, and what it shares with the others.
 #[derive(Drop)]
-pub(crate) struct PortApplication<R, L: Ledger> {
+pub(crate) struct Place<R, L: Ledger> {
     pub(crate) rt: R,
     pub(crate) number: u16,
     pub(crate) front: Arc<Front<L>>,
     pub(crate) port: Arc<Port<L>>,
 }
 
-impl<R: Wait + Clock + RandomSource + Copy, L: Ledger> PortApplication<R, L> {
+impl<R: Wait + Clock + RandomSource + Copy, L: Ledger> Place<R, L> {
     // The call of a request comes; its reply then waits. What is refused is answered at once.
     fn arrive(&self, head: &Parts, body: Vec<u8>) -> Result<Waiting<R, L>, Refusal> {
         let front = &self.front;
@@ -72,8 +72,7 @@ impl<R: Wait + Clock + RandomSource + Copy, L: Ledger> PortApplication<R, L> {
     }
 }
 
-impl<R: Wait + Clock + RandomSource + Drop + Copy, L: Ledger> Application
-    for PortApplication<R, L> {
+impl<R: Wait + Clock + RandomSource + Drop + Copy, L: Ledger> Application for Place<R, L> {
     type Reply = Replying<R, L>;
 
     fn most(&self) -> usize {
