@@ -50,6 +50,7 @@ impl<R: Wait, L: Ledger, D: Disk> Committing for AtFront<'_, R, L, D> {
         (known new.committer.desk.told (seen_by new.committer.seated))
         × HasServed D.view D.fault_count (broker_of old.committer.half) (broker_of new.committer.half) };
 
+    #[tactic(auto, using(receipts::specs::laws::Serving::served_at_first))]
     fn pending(&mut self) -> usize {
         self.front.pending(self.rt)
     }
@@ -67,34 +68,40 @@ impl<R: Wait, L: Ledger, D: Disk> Committing for AtFront<'_, R, L, D> {
         why.is_last()
     }
 
+    #[tactic(auto, using(receipts::specs::laws::Serving::served_at_first))]
     fn raise(&mut self, durable: Durable) {
         self.committer.seated.raise(durable);
     }
 
+    #[tactic(auto, using(receipts::specs::laws::Serving::served_at_first))]
     fn say_broken(&mut self) {
         self.front.bell.say_broken();
     }
 
+    #[tactic(auto, using(receipts::specs::laws::Serving::served_at_first))]
     fn ring(&mut self) {
         self.front.bell.ring(self.rt);
     }
 
+    #[tactic(auto, using(receipts::specs::laws::Serving::served_at_first))]
     fn sleep(&mut self) {
         self.front.wake.wait(self.rt);
     }
 
     ghost stays = { λ value. (
-        learned_nothing (known value.committer.desk.told (seen_by value.committer.seated)),
-        served_at_first D.view D.laws D.fault_count (broker_of value.committer.half)) };
+      learned_nothing (known value.committer.desk.told (seen_by value.committer.seated)),
+      served_at_first D.view D.laws D.fault_count (broker_of value.committer.half),
+    ) };
 
     ghost goes_on = { λ first second third before after one two. (
-        learned_more
-        (known first.committer.desk.told (seen_by first.committer.seated))
-        (known second.committer.desk.told (seen_by second.committer.seated))
-        (known third.committer.desk.told (seen_by third.committer.seated))
-        before after one.0 two.0,
-        served_both D.view D.fault_count
-        (broker_of first.committer.half) (broker_of second.committer.half) (broker_of third.committer.half) one.1 two.1) };
+      learned_more
+          (known first.committer.desk.told (seen_by first.committer.seated))
+          (known second.committer.desk.told (seen_by second.committer.seated))
+          (known third.committer.desk.told (seen_by third.committer.seated))
+          before after one.0 two.0,
+      served_both D.view D.fault_count
+          (broker_of first.committer.half) (broker_of second.committer.half) (broker_of third.committer.half) one.1 two.1,
+    ) };
 }
 
 impl<L: Ledger, D: Disk + Drop> Committer<L, D> {

@@ -1,5 +1,5 @@
 // How many desks there are: as many as the ledger has parts.
-ghost use Rattle.std.specs.Prelude.{◌≡◌};
+ghost use Rattle.std.specs.Prelude.{◌≡◌, ◌<◌};
 
 use std::marker::PhantomData;
 use std::sync::ledger::Ledger;
@@ -10,12 +10,14 @@ pub(crate) struct DeskCount<L: Ledger> {
     count: u64,
     of: PhantomData<L>,
     ghost parts: { count ≡ L.parts },
+    ghost some: { 0 < L.parts },
 }
 
 impl<L: Ledger> DeskCount<L> {
     /// As many as the ledger has parts.
     pub(crate) fn new(count: u64) -> DeskCount<L>
-        requires { count ≡ L.parts }
+        requires parts { count ≡ L.parts }
+        requires some { 0 < count }
     {
         DeskCount {
             count,
@@ -25,7 +27,8 @@ impl<L: Ledger> DeskCount<L> {
 
     /// How many.
     pub(crate) fn count(&self) -> u64
-        ensures { result ≡ L.parts }
+        ensures is { result ≡ L.parts }
+        ensures some { 0 < result }
     {
         self.count
     }

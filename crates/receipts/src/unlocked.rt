@@ -5,7 +5,7 @@ ghost use Rattle.group_commit.specs.Splitting.{broker_of, Joins, IsNotJoined};
 ghost use Rattle.receipts.specs.Desks.{AreAll, IsReason, IsWhyNotJoined};
 ghost use Rattle.receipts.specs.Following.{Follows};
 ghost use Rattle.receipts.specs.Kept.{hall_in, issuer_in};
-ghost use Rattle.receipts.specs.Marks.{AreNumbered};
+ghost use Rattle.receipts.specs.Marks.{AreNumbered, sum_of_lists};
 ghost use Rattle.receipts.specs.Running.{HasRuns};
 
 use crate::desk::Desk;
@@ -86,6 +86,7 @@ impl<L: Ledger> Unlocked<L> {
     ) -> Result<(Hall<Broker<D>>, Vec<Mark>), UnlockedFailure<D, L>>
         ensures all { OnOk result (AreAll (λ d. d.number) (λ d. d.own.items) L.parts self.kept.marks.all.items desks.items) }
         ensures marks { IfOk result (λ r. r.1.items ≡ self.kept.marks.all.items) }
+        ensures sum { OnOk result (sum_of_lists (λ d. d.own.items) desks.items ≡ length self.kept.marks.all.items) }
         ensures joined { IfOk result (λ r. Joins self.kept.hall.issuer (broker_of disk) r.0.issuer) }
         ensures refused { IfErr result (λ failure.
             IsReason (AreAll (λ d. d.number) (λ d. d.own.items) L.parts self.kept.marks.all.items desks.items) failure.cause) }
@@ -96,7 +97,7 @@ impl<L: Ledger> Unlocked<L> {
     {
         let Unlocked { kept } = self;
         match kept.close(&desks, disk) {
-            Ok(closed) => Ok(closed),
+            Ok((hall, marks)) => Ok((hall, marks.into_list(desks))),
             Err(failure) => {
                 let NotClosed { cause, kept, disk } = failure;
                 let office = Unlocked { kept };
