@@ -50,7 +50,6 @@ impl<R: Wait, L: Ledger, D: Disk> Committing for AtFront<'_, R, L, D> {
         (known new.committer.desk.told (seen_by new.committer.seated))
         × HasServed D.view D.fault_count (broker_of old.committer.half) (broker_of new.committer.half) };
 
-    #[tactic(auto, using(receipts::specs::laws::Serving::served_at_first))]
     fn pending(&mut self) -> usize {
         self.front.pending(self.rt)
     }
@@ -68,22 +67,18 @@ impl<R: Wait, L: Ledger, D: Disk> Committing for AtFront<'_, R, L, D> {
         why.is_last()
     }
 
-    #[tactic(auto, using(receipts::specs::laws::Serving::served_at_first))]
     fn raise(&mut self, durable: Durable) {
         self.committer.seated.raise(durable);
     }
 
-    #[tactic(auto, using(receipts::specs::laws::Serving::served_at_first))]
     fn say_broken(&mut self) {
         self.front.bell.say_broken();
     }
 
-    #[tactic(auto, using(receipts::specs::laws::Serving::served_at_first))]
     fn ring(&mut self) {
         self.front.bell.ring(self.rt);
     }
 
-    #[tactic(auto, using(receipts::specs::laws::Serving::served_at_first))]
     fn sleep(&mut self) {
         self.front.wake.wait(self.rt);
     }

@@ -1,9 +1,10 @@
 -- Laws: what a committer has learned is known later too.
-use Rattle.std.specs.Prelude.{ℕ, ◌≤◌, List, [], ◌∷◌, ◌++◌, All}
+use Rattle.std.specs.Prelude.{◌≡◌, ℕ, ◌≤◌, Bool, List, [], ◌∷◌, ◌++◌, All, Result, Ok, Err, IfOk, OnErr}
 use Rattle.std.proofs.Common.{arith, get_or}
 use Rattle.std.proofs.lemmas.List.Elements.{All-nil, All-cons, All-append}
-use Rattle.commit_loop.specs.Committer.{Step, counted, committed, failed, raised, said_broken, rang, slept}
-use Rattle.http_front.specs.Learning.{Known, IsKnown, HasLearned}
+use Rattle.receipts.specs.Answers.{IsToldMore}
+use Rattle.commit_loop.specs.Committer.{Step, counted, committed, failed, commit_step, raised, said_broken, rang, slept}
+use Rattle.http_front.specs.Learning.{Known, known, IsKnown, HasLearned}
 
 -- what was known is known later
 IsKnown-later : (old new : Known) (step : Step) → old.told ≤ new.told → old.seen ≤ new.seen → IsKnown old step → IsKnown new step
@@ -33,3 +34,9 @@ learned_more first second third before after one two =
       each =
           All-append (IsKnown third) before after (λ k d inside. IsKnown-later second third (get_or before k d) told_later seen_later (one.each k d inside)) two.each;
     }
+
+-- a commit, of which the desk was told
+pub learned_commit : {F : Type 0} (breaks : F → Bool) (old new seen : ℕ) (result : Result ℕ F) → IfOk result (IsToldMore old new) → OnErr result (new ≡ old)
+    → HasLearned (known old seen) (commit_step (λ durable. durable) breaks result ∷ []) (known new seen)
+learned_commit breaks old new seen (Ok durable) told same = learned_one (known old seen) (known new seen) (committed durable) (omega (arith, told)) (omega arith) (omega (arith, told))
+learned_commit breaks old new seen (Err why) told same = learned_one (known old seen) (known new seen) (failed (breaks why)) (omega (arith, same)) (omega arith) tt
