@@ -1,5 +1,5 @@
 -- Each refusal has a status of 400 or above.
-use Rattle.std.proofs.Common.{ℕ, ◌≤◌, lit≤}
+use Rattle.std.proofs.Common.{◌≤◌, lit≤}
 use Rattle.api_core.specs.declared.refusal.Refusal.{Refusal}
 use Rattle.api_core.specs.declared.refusal.Refusal.TheVariants.{UnsupportedInvocationType, InvalidRequestContent, InvalidRequestId, InvalidExtensionHeader, BadSubscription, UnknownExtension, RegistrationClosed, TooManyExtensions, WrongPhase, NotFound, UnknownEvent, MethodNotAllowed, Replaced, NotEnded, TooLarge, TooManyEvents, EnvironmentReset, IdInUse, Unavailable}
 use Rattle.api_core.specs.Refusals.{fault_of}

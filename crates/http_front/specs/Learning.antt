@@ -1,6 +1,6 @@
 -- What a committer has learned, beside the steps that it made.
 use Rattle.std.specs.Prelude.{ℕ, ◌≤◌, List, All}
-use Rattle.commit_loop.specs.Committer.{Step, counted, committed, failed, raised, said_broken, rang, slept}
+use Rattle.commit_loop.specs.Committer.{Step, committed, raised}
 
 -- how many commands are durable, as its desk was told and as was seen from its seat
 pub record Known : Type 0 where

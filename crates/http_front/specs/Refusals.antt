@@ -1,5 +1,5 @@
 -- Why the office and the front refuse.
-use Rattle.std.specs.Prelude.{ℕ, Bool, true, false}
+use Rattle.std.specs.Prelude.{Bool, true, false}
 use Rattle.hall_core.specs.declared.error.HallError.{HallError}
 use Rattle.hall_core.specs.declared.error.HallError.TheVariants as error
 use Rattle.http_front.specs.declared.error.ArrivalError.{ArrivalError}

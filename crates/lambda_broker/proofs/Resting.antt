@@ -68,3 +68,15 @@ rested view history old new now result None none is told nothing same marked res
     at_rest view history old new now same marked
     (subst (λ (r : Result (Option ℕ) IssueError). Resumes view old (history ++ marked.marks) now r new) is resumed)
     (subst (TellsRest (settings_of old) (history ++ marked.marks)) is tells refl)
+
+-- what keeps the settings and the history keeps it
+pub rest_kept : {D : Type 0} {g : Ghosts D} (view : D → DiskView) (history : List Command) (old new : Broker D g) → settings_of new ≡ settings_of old
+    → ((h : List Command) → Stands view old h → Stands view new h) → ComesToRest view history old → ComesToRest view history new
+rest_kept view history old new same kept rest = record {
+  marked = record {
+    marks = rest.marked.marks;
+    are_marks = rest.marked.are_marks;
+    stands = kept (history ++ rest.marked.marks) rest.marked.stands;
+  };
+  rests = subst (λ (s : Settings). AllAtRest s (history ++ rest.marked.marks)) (sym same) rest.rests;
+}

@@ -1,5 +1,5 @@
 -- Laws: the marks of a ticker add up.
-use Rattle.std.specs.Prelude.{◌≡◌, ℕ, ◌+◌, List, [], ◌++◌, sum_by}
+use Rattle.std.specs.Prelude.{ℕ, List, [], ◌++◌}
 use Rattle.std.proofs.Common.{arith}
 use Rattle.std.proofs.lemmas.List.Sums.{sum_by-append}
 use Rattle.commit_loop.specs.Ticker.{Step}
