@@ -90,7 +90,8 @@ abbrev pub rank : Order → EventRow → Option (ℕ × ℕ)
 rank (order.Ended side) r = if ended_on side r.standing then Some (r.last_number, 0) else None
 rank (order.Running above) r = if is_running r.standing && nat_lt above r.number then Some (r.number, 0) else None
 rank (order.Moving now has_ready is_full age) r =
-    option_map (λ (kind : Kind). (ripe_by (too_old_at age r) r.standing, r.number)) (move_by is_full has_ready (too_old_at age r) now r.standing)
+    option_map (λ (kind : Kind). (ripe_by (too_old_at age r) r.standing, r.number))
+    (move_by is_full has_ready (too_old_at age r) now r.standing)
 
 abbrev pub goes_before : ℕ × ℕ → ℕ × ℕ → Bool
 goes_before a b = nat_lt a.0 b.0 || ((a.0 == b.0) && nat_lt a.1 b.1)
@@ -200,4 +201,5 @@ IsFirstRunning s history after result =
 -- the event that ended first of those that ended on this side
 abbrev pub IsOldestEnded : Settings → List Command → Side → Option (List ℕ) → Type 0
 IsOldestEnded s history side result =
-    IsFirstHeld (λ event. ended_on side (standing_in s history event.1)) (λ event. last_number event.1 history) (λ event. event.1) history result
+    IsFirstHeld (λ event. ended_on side (standing_in s history event.1))
+    (λ event. last_number event.1 history) (λ event. event.1) history result

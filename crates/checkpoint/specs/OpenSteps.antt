@@ -67,7 +67,8 @@ pub record Opens (segment : Segment) (other_open : Bool) (opened : Opened) (snap
   pub folds : folded segment.settings segment.snapshot segment.behind.items ≡ Ok table
 
 -- what was found open in this image is this live segment, opened, with its snapshot and its commands
-pub record IsOpened (sectors : ℕ) (found : Found) (bytes : List ℕ) (other_open : Bool) (opened : Opened) (snapshot : Snapshot) (commands : List Command) : Type 0 where
+pub record IsOpened (sectors : ℕ) (found : Found) (bytes : List ℕ) (other_open : Bool)
+    (opened : Opened) (snapshot : Snapshot) (commands : List Command) : Type 0 where
   pub image : SegmentImage
   pub reads : found_in sectors found bytes ≡ Ok image
   pub base : image.base ≡ opened.base
@@ -79,13 +80,15 @@ pub record IsOpened (sectors : ℕ) (found : Found) (bytes : List ℕ) (other_op
   pub parts : parts_of image ≡ (snapshot, commands)
 
 -- the live segment was opened so, and the older one can be
-pub record AreBoth (sectors : ℕ) (live older : Found) (bytes : List ℕ) (opened : Opened) (snapshot : Snapshot) (commands : List Command) : Type 0 where
+pub record AreBoth (sectors : ℕ) (live older : Found) (bytes : List ℕ)
+    (opened : Opened) (snapshot : Snapshot) (commands : List Command) : Type 0 where
   pub first : IsOpened sectors live bytes true opened snapshot commands
   pub beside : SegmentImage
   pub beside_reads : found_in sectors older bytes ≡ Ok beside
 
 -- what was read so is this image, whose live segment was opened, with its snapshot and its commands
-pub record IsOpenedAs (read : Result DiskImage OpenError) (bytes : List ℕ) (opened : Opened) (snapshot : Snapshot) (commands : List Command) : Type 0 where
+pub record IsOpenedAs (read : Result DiskImage OpenError) (bytes : List ℕ)
+    (opened : Opened) (snapshot : Snapshot) (commands : List Command) : Type 0 where
   pub image : DiskImage
   pub reads : read ≡ Ok image
   pub base : image.live.base ≡ opened.base

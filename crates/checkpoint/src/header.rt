@@ -16,10 +16,13 @@ use std::alloc::{AllocError, Global};
 // `AINVOKE` and the version.
 pub(crate) const MAGIC: [u8; 8] = *b"AINVOKE\x01";
 
+/// The greatest generation of a segment: behind it the disk is worn out for switches.
+pub const MOST_GENERATIONS: u64 = 1 << 62;
+
 /// What the header of a segment says.
 #[derive(Debug, Drop)]
 pub(crate) struct Header {
-    /// The generation of the segment, from 1 to 2^62.
+    /// The generation of the segment, from 1 to `MOST_GENERATIONS`.
     pub(crate) generation: u64,
     /// How many bytes the snapshot has.
     pub(crate) size: u64,
@@ -64,7 +67,7 @@ pub(crate) fn read_header(
     ensures sound { IfOk result (λ found. IfSome found (IsSoundHeader sectors)) }
 {
     let generation = u64_at(bytes, 8);
-    if !bytes.starts_with(&MAGIC) || generation < 1 || generation > 1 << 62 {
+    if !bytes.starts_with(&MAGIC) || generation < 1 || generation > MOST_GENERATIONS {
         return Ok(None);
     }
     let (_, behind) = bytes.split_at(28);

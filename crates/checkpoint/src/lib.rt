@@ -25,6 +25,7 @@ mod writing;
 pub use error::{FormatError, OpenError, SwitchError};
 pub use formatting::format;
 pub use gate_journal::AppendError;
+pub use header::MOST_GENERATIONS;
 pub use laws::what_is_recovered_is_what_was_written;
 pub use older::read_older;
 pub use opened::Opened;

@@ -1,10 +1,27 @@
 // Steps on what issues commands: a broker, or the half of one.
+ghost use Rattle.std.specs.Prelude.{◌≡◌, [], IfOk};
+ghost use Rattle.group_commit.specs.Broker.{pending_of};
+
 use crate::refusals;
 use case_runner::{Order, Reply, Text, Words, read_order};
-use group_commit::{Broker, Issuer, Ticket};
+use group_commit::{Broker, Issuer, OpenFailure, Ticket};
 use sector_disk::Disk;
 use std::alloc::Global;
 use table_steps::{retaken_step, table_step};
+
+/// Opens the broker of a disk. Where that is refused, the disk comes back with the answer.
+pub fn open_broker<D: Disk>(
+    alloc: Global,
+    disk: D,
+    answer: &mut Text,
+) -> Result<Broker<D>, (D, Reply)>
+    ensures { IfOk result (λ broker. pending_of broker ≡ []) }
+{
+    match Broker::open(alloc, disk) {
+        Ok(broker) => Ok(broker),
+        Err(OpenFailure { cause, disk }) => Err((disk, refusals::open(cause, answer))),
+    }
+}
 
 /// Keeps a ticket: its number.
 pub fn keep(tickets: &mut Vec<Ticket>, ticket: Ticket) -> Reply {

@@ -13,6 +13,6 @@ mod world;
 
 pub use devices::{CaseDisk, SOUND, wrapped};
 pub use disks::{disk_step, read_choice};
-pub use issuing::{broker_step, issuer_step, keep};
+pub use issuing::{broker_step, issuer_step, keep, open_broker};
 pub use memory::format_disk;
 pub use world::{Base, Stage, World};

@@ -8,6 +8,8 @@
 mod board;
 mod numbers;
 mod rule;
+mod seated;
 
 pub use board::{Board, Seat};
 pub use numbers::{AnyNumber, Numbers};
+pub use seated::Seated;

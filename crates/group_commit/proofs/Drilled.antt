@@ -25,7 +25,7 @@ use Rattle.group_commit.specs.DrillBroker.{log_of, LeadsOn, IsDrilled}
 use Rattle.group_commit.proofs.Issued.{refusal_is}
 
 -- it is not broken, since it would answer so
-unbroken : (b : Bool) → (b ≡ true → ⊥) → b ≡ false
+pub unbroken : (b : Bool) → (b ≡ true → ⊥) → b ≡ false
 unbroken true never = absurd (never refl)
 unbroken false _ = refl
 
@@ -141,7 +141,7 @@ module _ {g : Ghosts MemDisk} (s : Settings) (history : List Command) (durable :
 -- a script cut off at its next step
 pub cut_off : {g : Ghosts MemDisk} (s : Settings) (history : List Command) (durable : ℕ) (steps : List Step) (index : ℕ) (answers : List StepAnswer) (broker : Broker MemDisk g)
     → IsDrilled s history durable (take index steps) answers broker → (step : Step) → index < length steps → step ≡ get_or steps index step → (cause : OpenError) → MayBeCutOff step cause
-    → IsCutOffAt s history durable steps (record { step = index; cause = cause })
+    → IsCutOffAt s history durable steps index cause
 cut_off s history durable steps index answers broker was step within is cause may = record {
   opened = was.opened;
   least = was.least;

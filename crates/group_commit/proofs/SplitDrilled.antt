@@ -1,16 +1,18 @@
 -- The steps of a script of two halves, one after another.
-use Rattle.std.proofs.Common.{◌≡◌, ℕ, ◌+◌, ◌<◌, ◌≤◌, true, false, List, [], ◌∷◌, ◌++◌, length, take, drop, get_or, Option, refl, sym, ap, subst, ◌∙◌, arith, length-append}
-use Rattle.std.specs.Prelude.{IfSome, IfErr, OnOk, Result, Ok, Err}
-use Rattle.std.proofs.lemmas.List.{length-take, take-take, take-append-le, take_all}
-use Rattle.std.proofs.lemmas.Option.{slice_get_read}
+use Rattle.std.proofs.Common.{◌≡◌, ◌⊎◌, inl, inr, ⊎_elim, ℕ, zero, suc, ◌+◌, ◌-◌, ◌<◌, ◌≤◌, Bool, true, false, List, [], ◌∷◌, ◌++◌, length, take, drop, get_or, Option, None, Some, refl, sym, ap, subst, ◌∙◌, arith, length-append, length-drop, get_or-drop, get_or-take}
+use Rattle.std.specs.Prelude.{IfSome, IfOk, IfErr, IsSome, OnOk, Result, Ok, Err, slice_get, is_some}
+use Rattle.std.proofs.lemmas.Bool.{false≢true}
+use Rattle.std.proofs.lemmas.List.{length-take, take-take, take-append-le, take_all, drop-drop}
+use Rattle.std.proofs.lemmas.Option.{slice_get_read, get_or_from_slice_get, none-some}
 use Rattle.sector_disk.specs.declared.disk.Disk.{Ghosts}
 use Rattle.sector_disk.specs.declared.memory.MemDisk.{MemDisk}
 use Rattle.sector_disk.specs.Memory.{memory_view}
 use Rattle.retry_rules.specs.declared.settings.Settings.{Settings}
 use Rattle.invoke_records.specs.declared.snapshot.Snapshot.{Snapshot}
 use Rattle.invoke_records.specs.declared.command.Command.{Command}
+use Rattle.async_core.specs.declared.illegal.Illegal.{Illegal}
 use Rattle.async_core.specs.Rules.{refusal_at}
-use Rattle.async_core.specs.History.{refusal_of}
+use Rattle.async_core.specs.History.{IsLegal, refusal_of}
 use Rattle.async_core.specs.laws.Tables.{number-table_of}
 use Rattle.checkpoint.specs.declared.error.OpenError.{OpenError}
 use Rattle.group_commit.specs.declared.broker.Broker.{Broker}
@@ -20,25 +22,33 @@ use Rattle.group_commit.specs.declared.batch.Failed.{Failed}
 use Rattle.group_commit.specs.declared.issue_half.IssueHalf.{IssueHalf}
 use Rattle.group_commit.specs.declared.error.IssueError.{IssueError}
 use Rattle.group_commit.specs.declared.error.IssueError.TheVariants as issue_error
+use Rattle.group_commit.specs.declared.error.LendError.{LendError}
+use Rattle.group_commit.specs.declared.error.LendError.TheVariants as lend_error
+use Rattle.group_commit.specs.declared.error.WriteError.{WriteError}
+use Rattle.group_commit.specs.declared.error.WriteError.TheVariants as write_error
 use Rattle.group_commit.specs.declared.error.SettleError.{SettleError}
 use Rattle.group_commit.specs.declared.error.SettleError.TheVariants as settle_error
 use Rattle.group_commit.specs.declared.split_script.SplitStep.{SplitStep}
 use Rattle.group_commit.specs.declared.split_script.SplitStep.TheVariants as step
 use Rattle.group_commit.specs.declared.split_script.SplitAnswer.{SplitAnswer}
+use Rattle.group_commit.specs.declared.split_script.SplitAnswer.TheVariants as answer
 use Rattle.group_commit.specs.declared.split_drilling.Halves.{Halves}
 use Rattle.group_commit.specs.declared.split_drilling.Held.{Held}
 use Rattle.group_commit.specs.declared.split_drilling.Held.TheVariants as held
-use Rattle.group_commit.specs.Broker.{settings_of, issued_of, durable_of, Stands}
+use Rattle.group_commit.specs.Broker.{settings_of, table_in, issued_of, durable_of, is_broken, Stands}
 use Rattle.group_commit.specs.DrillBroker.{IsStarted}
 use Rattle.group_commit.specs.Issuer.{issued_in, IsSameIssuer, IsReason}
 use Rattle.group_commit.specs.laws.Issuer.{refusal_is}
-use Rattle.group_commit.specs.IssuerHalf.{half_view, half_laws}
-use Rattle.group_commit.specs.Batch.{first_of, last_of, commands_of, cause_of, last_written, last_in}
-use Rattle.group_commit.specs.Lending.{SettlesBy, IsNotSettled}
+use Rattle.group_commit.specs.IssuerHalf.{half_view, half_laws, lent_of}
+use Rattle.group_commit.specs.Batch.{first_of, last_of, commands_of, cause_of, last_written, first_in, last_in, is_lasting}
+use Rattle.group_commit.specs.Lending.{CanLend, Lends, IsLendReason, IsOut, SettlesBy, IsNotSettled}
 use Rattle.group_commit.specs.Splitting.{broker_of}
-use Rattle.group_commit.specs.Writing.{taken_from, EndsWith, IsFrontOf, StaysInFront, Writes, IsNotWritten}
-use Rattle.group_commit.specs.SplitDrill.{SplitLog, IsSplitStep, IsSplitRun, MayBeCutOff, IsSplitCutOffAt, IsSplitRefusal, recovered}
-use Rattle.group_commit.specs.SplitSteps.{IsHeld, Keeps, IsBegun, IsStopped, Leads, IsSplitDrilledOn, write_answer}
+use Rattle.group_commit.specs.Writing.{taken_from, missing_in, EndsWith, IsFrontOf, IsRefusedAs, IsWriteReason, NextIsIllegal, StaysInFront, Writes, IsNotWritten}
+use Rattle.group_commit.specs.Drill.{IsRefused}
+use Rattle.group_commit.specs.SplitDrill.{SplitLog, IsSplitStep, IsSplitRun, MayBeCutOff, MayLend, HasLent, IsNotLent, IsWriteFailure, IsSplitCutOffAt, issue_log, recovered}
+use Rattle.group_commit.specs.SplitSteps.{IsHeld, Keeps, IsBegun, IsStopped, Leads, IsSplitDrilledOn, is_disk_broken, told, write_answer}
+use Rattle.group_commit.proofs.Drilled.{unbroken}
+use Rattle.group_commit.proofs.Issued.{refusal_is as broker_refusal_is}
 
 -- how many commands a broker has that stands for a list
 pub number : {g : Ghosts MemDisk} (broker : Broker MemDisk g) (history : List Command) → Stands memory_view broker history → issued_of broker ≡ length history
@@ -48,8 +58,9 @@ number broker history stands = ap (λ (t : Snapshot). t.number) stands.table_is 
 
 pub begun : (s : Settings) (history : List Command) (durable : ℕ) (halves : Halves) → IsStarted s history durable (broker_of halves.disk) → halves.held ≡ held.Nothing
     → (half_view halves.issue).settings ≡ settings_of (broker_of halves.disk) → (half_view halves.issue).durable ≡ durable_of (broker_of halves.disk)
-    → (half_view halves.issue).stands (take (durable_of (broker_of halves.disk)) history) → IsBegun s history durable halves
-begun s history durable halves started nothing settings same stands =
+    → (half_view halves.issue).broken ≡ false → lent_of halves.issue ≡ None → (half_view halves.issue).stands (take (durable_of (broker_of halves.disk)) history)
+    → IsBegun s history durable halves
+begun s history durable halves started nothing settings same whole unlent stands =
     let broker = broker_of halves.disk in
     let d = durable_of broker in
     let l = take d history in
@@ -61,71 +72,180 @@ begun s history durable halves started nothing settings same stands =
     let keeps : Keeps s (recovered l) halves = record {
       settings = settings ∙ started.2;
       durable = same ∙ sym size;
+      broken = whole;
       stands = stands;
       disk_settings = started.2;
       disk_durable = sym size;
+      disk_broken = started.3;
       disk_most = omega (arith, issued, size);
       disk_stands = subst (λ (x : List Command). Stands memory_view broker x) (sym all) started.4;
+      settled = omega arith;
       lent = omega arith;
-      held_is = subst (IsHeld (recovered l)) (sym nothing) (refl, refl);
+      held_is = subst (IsHeld (recovered l) (lent_of halves.issue)) (sym nothing) (refl, refl, unlent);
     } in
     (omega (arith, same, started.0), omega (arith, same, started.1), subst (λ (x : List Command). Keeps s (recovered x) halves) (sym front) keeps)
 
 -- ## Issuing
 
-held_longer : (log : SplitLog) (c : Command) (held : Held) → log.lent ≤ length log.history → IsHeld log held → IsHeld (record log { history = log.history ++ c ∷ [] }) held
-held_longer log c held.Nothing within is = is
-held_longer log c (held.Lent batch) within is =
-    (is.0, is.1, is.2, is.3, is.4 ∙ ap (λ (l : List Command). drop log.durable l) (sym (take-append-le log.lent log.history (c ∷ []) within)))
-held_longer log c (held.Done outcome) within is = is
+held_longer : (log : SplitLog) (c : Command) (out : Option ℕ) (held : Held) → log.lent ≤ length log.history → IsHeld log out held → IsHeld (record log { history = log.history ++ c ∷ [] }) out held
+held_longer log c out held.Nothing within is = is
+held_longer log c out (held.Lent batch) within is =
+    (is.0, is.1, is.2, is.3, is.4, is.5 ∙ ap (λ (l : List Command). drop log.durable l) (sym (take-append-le log.lent log.history (c ∷ []) within)))
+held_longer log c out (held.Done outcome) within is = is
 
 pub keeps_issued : (s : Settings) (log : SplitLog) (old : Halves) (issue : IssueHalf) (c : Command) → Keeps s log old → (half_view issue).settings ≡ (half_view old.issue).settings
-    → (half_view issue).durable ≡ (half_view old.issue).durable → (half_view issue).stands (log.history ++ c ∷ [])
-    → Keeps s (record log { history = log.history ++ c ∷ [] }) (record old { issue = issue })
-keeps_issued s log old issue c keeps settings durable stands = record {
+    → (half_view issue).durable ≡ (half_view old.issue).durable → (half_view issue).broken ≡ (half_view old.issue).broken → lent_of issue ≡ lent_of old.issue
+    → (half_view issue).stands (log.history ++ c ∷ []) → Keeps s (record log { history = log.history ++ c ∷ [] }) (record old { issue = issue })
+keeps_issued s log old issue c keeps settings durable broken out stands = record {
   settings = settings ∙ keeps.settings;
   durable = durable ∙ keeps.durable;
+  broken = broken ∙ keeps.broken;
   stands = stands;
   disk_settings = keeps.disk_settings;
   disk_durable = keeps.disk_durable;
+  disk_broken = keeps.disk_broken;
   disk_most = keeps.disk_most;
   disk_stands =
       subst (λ (l : List Command). Stands memory_view (broker_of old.disk) l)
       (sym (take-append-le (issued_of (broker_of old.disk)) log.history (c ∷ []) (omega (arith, keeps.disk_most, keeps.lent)))) keeps.disk_stands;
+  settled = keeps.settled;
   lent = omega (arith, keeps.lent, length-append log.history (c ∷ []));
-  held_is = held_longer log c old.held keeps.lent keeps.held_is;
+  held_is =
+      subst (λ (o : Option ℕ). IsHeld (record log { history = log.history ++ c ∷ [] }) o old.held) (sym out)
+      (held_longer log c (lent_of old.issue) old.held keeps.lent keeps.held_is);
 }
 
 -- the issue half has changed in nothing that counts
-pub keeps_same : (s : Settings) (log : SplitLog) (old : Halves) (issue : IssueHalf) → Keeps s log old → IsSameIssuer (half_view old.issue) (half_view issue) → Keeps s log (record old { issue = issue })
-keeps_same s log old issue keeps same = record {
+pub keeps_same : (s : Settings) (log : SplitLog) (old : Halves) (issue : IssueHalf) → Keeps s log old → IsSameIssuer (half_view old.issue) (half_view issue) → lent_of issue ≡ lent_of old.issue
+    → Keeps s log (record old { issue = issue })
+keeps_same s log old issue keeps same out = record {
   settings = same.settings ∙ keeps.settings;
   durable = same.durable ∙ keeps.durable;
+  broken = same.broken ∙ keeps.broken;
   stands = (same.stands log.history).1 keeps.stands;
   disk_settings = keeps.disk_settings;
   disk_durable = keeps.disk_durable;
+  disk_broken = keeps.disk_broken;
   disk_most = keeps.disk_most;
   disk_stands = keeps.disk_stands;
+  settled = keeps.settled;
   lent = keeps.lent;
-  held_is = keeps.held_is;
+  held_is = subst (λ (o : Option ℕ). IsHeld log o old.held) (sym out) keeps.held_is;
 }
 
+-- another reason than that it is broken
+still_whole : (was is : Bool) (why : IssueError) → was ≡ is → (was ≡ true → why ≡ issue_error.Broken) → (why ≡ issue_error.Broken → ⊥) → is ≡ false
+still_whole was is why same first other = sym same ∙ unbroken was (λ broken. other (first broken))
+
 reason_by : (s : Settings) (log : SplitLog) (issue : IssueHalf) (c : Command) (why : IssueError) → refusal_at (half_view issue).settings (half_view issue).table c ≡ refusal_of s log.history c
-    → (half_view issue).durable ≡ log.durable → issued_in (half_view issue) ≡ length log.history → IsReason (half_view issue) c why → IsSplitRefusal s log c why
-reason_by s log issue c issue_error.Broken same durable number reason = tt
-reason_by s log issue c issue_error.WornOut same durable number reason = omega (arith, number, reason)
-reason_by s log issue c (issue_error.Illegal why) same durable number reason = sym same ∙ reason
-reason_by s log issue c issue_error.Backlog same durable number reason = (sym same ∙ reason.0, omega (arith, issue.counted, reason.1, number, durable))
-reason_by s log issue c issue_error.OutOfMemory same durable number reason = sym same ∙ reason
+    → (half_view issue).durable ≡ log.durable → (half_view issue).broken ≡ log.broken → ((half_view issue).broken ≡ true → why ≡ issue_error.Broken) → issued_in (half_view issue) ≡ length log.history
+    → IsReason (half_view issue) c why → IsRefused s (issue_log log) c why
+reason_by s log issue c issue_error.Broken same durable broken first number reason = sym broken ∙ reason
+reason_by s log issue c issue_error.WornOut same durable broken first number reason =
+    (still_whole (half_view issue).broken log.broken issue_error.WornOut broken first (λ wrong. cc), omega (arith, number, reason))
+reason_by s log issue c (issue_error.Illegal why) same durable broken first number reason =
+    (still_whole (half_view issue).broken log.broken (issue_error.Illegal why) broken first (λ wrong. cc), sym same ∙ reason)
+reason_by s log issue c issue_error.Backlog same durable broken first number reason = (
+  still_whole (half_view issue).broken log.broken issue_error.Backlog broken first (λ wrong. cc),
+  sym same ∙ reason.0,
+  omega (arith, issue.counted, reason.1, number, durable),
+)
+reason_by s log issue c issue_error.OutOfMemory same durable broken first number reason =
+    (still_whole (half_view issue).broken log.broken issue_error.OutOfMemory broken first (λ wrong. cc), sym same ∙ reason)
 
 -- why a half refuses, said of the list that it stands for
-pub reason_is : (s : Settings) (log : SplitLog) (issue : IssueHalf) (c : Command) (why : IssueError) → (half_view issue).settings ≡ s → (half_view issue).durable ≡ log.durable
-    → (half_view issue).stands log.history → IsReason (half_view issue) c why → IsSplitRefusal s log c why
-reason_is s log issue c why settings durable stands reason =
-    let whole = (half_laws issue).each log.history stands in
+pub reason_is : (s : Settings) (log : SplitLog) (halves : Halves) → Keeps s log halves → (c : Command) (why : IssueError) → ((half_view halves.issue).broken ≡ true → why ≡ issue_error.Broken)
+    → IsReason (half_view halves.issue) c why → IsRefused s (issue_log log) c why
+reason_is s log halves keeps c why first reason =
+    let issue = halves.issue in
+    let whole = (half_laws issue).each log.history keeps.stands in
     let same : refusal_at (half_view issue).settings (half_view issue).table c ≡ refusal_of s log.history c =
-    refusal_is (half_view issue) (half_laws issue) log.history stands c ∙ ap (λ (r : Settings). refusal_of r log.history c) settings in
-    reason_by s log issue c why same durable whole.issued_is reason
+    refusal_is (half_view issue) (half_laws issue) log.history keeps.stands c ∙ ap (λ (r : Settings). refusal_of r log.history c) keeps.settings in
+    reason_by s log issue c why same keeps.durable keeps.broken first whole.issued_is reason
+
+-- ## What is out
+
+-- a half of which a batch is out is whole
+whole_while : (issue : IssueHalf) (last : ℕ) → lent_of issue ≡ Some last → (half_view issue).broken ≡ false
+whole_while issue last out = issue.sound (ap (λ (o : Option ℕ). is_some o) out)
+
+-- where none is out, none is held
+none_held : (log : SplitLog) (out : Option ℕ) (held : Held) → out ≡ None → IsHeld log out held → (log.has_batch ≡ false) × (log.unsettled ≡ None)
+none_held log out held.Nothing none is = (is.0, is.1)
+none_held log out (held.Lent batch) none is = absurd (none-some log.lent (sym none ∙ is.2))
+none_held log out (held.Done outcome) none is = absurd (none-some log.lent (sym none ∙ is.2))
+
+-- and where one is, it is held, or its result is
+one_held : (log : SplitLog) (out : Option ℕ) (held : Held) → IsSome out → IsHeld log out held → HasLent log
+one_held log out held.Nothing some is = absurd (false≢true (sym (ap (λ (o : Option ℕ). is_some o) is.2) ∙ some))
+one_held log out (held.Lent batch) some is = inl is.0
+one_held log out (held.Done outcome) some is = inr (ap (λ (o : Option (Result ℕ WriteError)). is_some o) is.1)
+
+-- ## Lending
+
+module _ (s : Settings) (log : SplitLog) (old : Halves) (issue : IssueHalf) (keeps : Keeps s log old) where
+  may_lend : CanLend old.issue → MayLend log
+  may_lend can =
+      let none = none_held log (lent_of old.issue) old.held can.unlent keeps.held_is in
+      record { whole = sym keeps.broken ∙ can.whole; no_batch = none.0; no_result = none.1 }
+
+  -- the list ends where the half's does
+  end_is : issued_in (half_view old.issue) ≡ length log.history
+  end_is = ((half_laws old.issue).each log.history keeps.stands).issued_is
+
+  more : 1 ≤ length (half_view old.issue).pending → log.durable < length log.history
+  more some = omega (arith, some, end_is, keeps.durable, old.issue.counted)
+
+  pub lent_more : (batch : Batch) → IsSameIssuer (half_view old.issue) (half_view issue) → CanLend old.issue → Lends old.issue issue (Some batch)
+      → (next : SplitLog) × IsSplitStep s log step.Lend (answer.Number (last_of batch)) next × Keeps s next (record old { issue = issue; held = held.Lent batch })
+  lent_more batch same can lends =
+      let n = last_of batch in
+      let all = lends.1 in
+      let size : n ≡ length log.history = all.last ∙ end_is in
+      let pending = ((half_laws old.issue).each log.history keeps.stands).pending_is in
+      let may = may_lend can in (
+        record log { lent = n; has_batch = true },
+        (may, more lends.0, size, refl),
+        record {
+          settings = same.settings ∙ keeps.settings;
+          durable = same.durable ∙ keeps.durable;
+          broken = same.broken ∙ keeps.broken;
+          stands = (same.stands log.history).1 keeps.stands;
+          disk_settings = keeps.disk_settings;
+          disk_durable = keeps.disk_durable;
+          disk_broken = keeps.disk_broken;
+          disk_most = omega (arith, keeps.disk_most, keeps.lent, size);
+          disk_stands = keeps.disk_stands;
+          settled = keeps.settled;
+          lent = omega (arith, size);
+          held_is = (
+            refl,
+            may.no_result,
+            lends.2,
+            omega (arith, all.first, keeps.durable),
+            refl,
+            all.commands ∙ pending ∙ ap (λ (k : ℕ). drop k log.history) keeps.durable
+                ∙ ap (λ (l : List Command). drop log.durable l) (sym (take_all n log.history (omega (arith, size)))),
+          );
+        },
+      )
+
+  pub lent_none : IsSameIssuer (half_view old.issue) (half_view issue) → CanLend old.issue → Lends old.issue issue None
+      → (next : SplitLog) × IsSplitStep s log step.Lend answer.Idle next × Keeps s next (record old { issue = issue })
+  lent_none same can lends = (
+    log,
+    (may_lend can, omega (arith, ap length lends.0, end_is, keeps.durable, old.issue.counted), refl),
+    keeps_same s log old issue keeps same (lends.1 ∙ sym can.unlent),
+  )
+
+  not_lent : (why : LendError) → IsLendReason old.issue why → IsNotLent log why
+  not_lent lend_error.Broken reason = sym keeps.broken ∙ reason
+  not_lent lend_error.Lent reason = (sym keeps.broken ∙ reason.0, one_held log (lent_of old.issue) old.held reason.1 keeps.held_is)
+  not_lent lend_error.OutOfMemory reason = (may_lend reason.0, more reason.1)
+
+  pub lend_refused : (why : LendError) → IsSameIssuer (half_view old.issue) (half_view issue) → lent_of issue ≡ lent_of old.issue → IsLendReason old.issue why
+      → (next : SplitLog) × IsSplitStep s log step.Lend (answer.LendRefused why) next × Keeps s next (record old { issue = issue })
+  lend_refused why same out reason = (log, (not_lent why reason, refl), keeps_same s log old issue keeps same out)
 
 -- ## Writing
 
@@ -153,81 +273,183 @@ front_on old new batch history durable lent most within first last commands stan
     is ∙ ap (λ (k : ℕ). take k whole) (sym n) ∙ take-take (issued_of new) lent history (omega (arith, n, less)) in
     (omega (arith, n, less), subst (λ (l : List Command). Stands memory_view new l) same now)
 
--- the number of what was written
-pub keeps_written : (s : Settings) (log : SplitLog) (old new : Halves) (batch : Batch) → Keeps s log old → IsHeld log (held.Lent batch) → new.issue ≡ old.issue
-    → settings_of (broker_of new.disk) ≡ settings_of (broker_of old.disk)
-    → ((h : List Command) → Stands memory_view (broker_of old.disk) h → Stands memory_view (broker_of new.disk) (h ++ taken_from (broker_of old.disk) (broker_of new.disk) batch))
-    → StaysInFront memory_view (broker_of old.disk) (broker_of new.disk) batch
-    → (n : ℕ) → durable_of (broker_of new.disk) ≡ n → IsHeld (record log { written = n; has_batch = false; has_result = true }) new.held
-    → Keeps s (record log { written = n; has_batch = false; has_result = true }) new
-keeps_written s log old new batch keeps is issue settings goes front n durable held =
-    let there = front_on (broker_of old.disk) (broker_of new.disk) batch log.history log.durable log.lent keeps.disk_most keeps.lent is.2 is.3 is.4 keeps.disk_stands goes front in
+-- ### Why it is not written
+
+found_at : (xs : List Command) (n : ℕ) → n < length xs → (c : Command) × (slice_get xs n ≡ Some c)
+found_at [] n within = absurd (omega arith)
+found_at (c ∷ xs) zero within = (c, refl)
+found_at (c ∷ xs) (suc n) within = found_at xs n (omega arith)
+
+-- a command of a middle part of a list
+found_between : (xs : List Command) (from to n : ℕ) (c : Command) → from ≤ n → n < to → to ≤ length xs → slice_get xs n ≡ Some c → slice_get (drop from (take to xs)) (n - from) ≡ Some c
+found_between xs from to n c least most within found =
+    let size : length (drop from (take to xs)) ≡ to - from = length-drop from (take to xs) ∙ omega (arith, length-take to xs, within) in
+    let place : from + (n - from) ≡ n = omega arith in
+    let is : get_or (drop from (take to xs)) (n - from) c ≡ c =
+    get_or-drop from (take to xs) (n - from) c
+    ∙ ap (λ (k : ℕ). get_or (take to xs) k c) place
+    ∙ get_or-take to xs n c most
+    ∙ get_or_from_slice_get xs n c c found in
+    slice_get_read (drop from (take to xs)) (length (drop from (take to xs))) (n - from) c refl (omega (arith, size)) (sym is)
+
+-- a refusal of what is not refused
+refused_none : (refusal : Option Illegal) → refusal ≡ None → IsSome refusal → ⊥
+refused_none refusal none some = false≢true (sym (ap (λ (r : Option Illegal). is_some r) none) ∙ some)
+
+module _ {g : Ghosts MemDisk} (old new : Broker MemDisk g) (batch : Batch) (history : List Command) (durable lent : ℕ) (first : first_of batch ≡ durable + 1) (last : last_of batch ≡ lent)
+    (commands : commands_of batch ≡ drop durable (take lent history)) (least : durable ≤ issued_of old) (most : issued_of old ≤ lent) (within : lent ≤ length history) where
+  not_apart : (issued_of old + 1 < first_of batch) ⊎ (last_of batch < issued_of old) → ⊥
+  not_apart (inl gap) = omega (arith, gap, first, least)
+  not_apart (inr short) = omega (arith, short, last, most)
+
+  missing_is : missing_in old batch ≡ drop (issued_of old) (take lent history)
+  missing_is =
+      ap (drop (issued_of old + 1 - first_of batch)) commands
+      ∙ drop-drop (issued_of old + 1 - first_of batch) durable (take lent history)
+      ∙ ap (λ (n : ℕ). drop n (take lent history)) (omega (arith, first, least))
+
+  -- the next command is legal
+  not_illegal : IsLegal (settings_of new) history → Stands memory_view new (take (issued_of new) history) → issued_of old ≤ issued_of new → NextIsIllegal old new batch → ⊥
+  not_illegal legal stands longer illegal =
+      let n = issued_of new in
+      let below : n < lent = omega (arith, illegal.1, last) in
+      let found = found_at history n (omega (arith, below, within)) in
+      let c = found.0 in
+      let there : slice_get (missing_in old batch) (n - issued_of old) ≡ Some c =
+      ap (λ (l : List Command). slice_get l (n - issued_of old)) missing_is ∙ found_between history (issued_of old) lent n c longer below within found.1 in
+      let passes : refusal_at (settings_of new) (table_in new) c ≡ None =
+      broker_refusal_is _ _ _ _ _ _ _ (take n history) stands c ∙ legal.each n c found.1 in
+      refused_none (refusal_at (settings_of new) (table_in new) c) passes
+      (subst (λ (o : Option Command). IfSome o (λ command. IsSome (refusal_at (settings_of new) (table_in new) command))) there illegal.0)
+
+  pub failure_is : (why : WriteError) → IsWriteReason old batch new why → is_broken old ≡ false → IsLegal (settings_of new) history → Stands memory_view new (take (issued_of new) history)
+      → issued_of old ≤ issued_of new → (why ≡ write_error.BadKind → ⊥) → lent ≤ durable_of new + 256 → IsWriteFailure why
+  failure_is write_error.Broken reason whole legal stands longer good few = false≢true (sym whole ∙ reason)
+  failure_is write_error.Mismatch reason whole legal stands longer good few = ⊎_elim (λ apart. not_apart apart) (λ illegal. not_illegal legal stands longer illegal) reason
+  failure_is write_error.WornOut reason whole legal stands longer good few = tt
+  failure_is write_error.Backlog reason whole legal stands longer good few = omega (arith, reason.0, reason.1, last, few, new.counted)
+  failure_is write_error.BadKind reason whole legal stands longer good few = good refl
+  failure_is write_error.OutOfMemory reason whole legal stands longer good few = tt
+  failure_is write_error.Fault reason whole legal stands longer good few = tt
+
+-- ### What it leads to
+
+-- the number of what was written, and the result that is held
+pub keeps_written : (s : Settings) (log : SplitLog) (old new : Halves) (batch : Batch) (outcome : Result Written Failed) → Keeps s log old → IsHeld log (lent_of old.issue) (held.Lent batch)
+    → new.issue ≡ old.issue → new.held ≡ held.Done outcome → settings_of (broker_of new.disk) ≡ settings_of (broker_of old.disk) → first_in outcome ≡ first_of batch → last_in outcome ≡ last_of batch
+    → (issued_of (broker_of new.disk) ≤ log.lent) × Stands memory_view (broker_of new.disk) (take (issued_of (broker_of new.disk)) log.history)
+    → (n : ℕ) → durable_of (broker_of new.disk) ≡ n → log.durable ≤ n → IfOk outcome (λ written. last_written written ≡ n)
+    → is_broken (broker_of new.disk) ≡ is_disk_broken log.broken (Some (told outcome))
+    → Keeps s (record log { written = n; has_batch = false; unsettled = Some (told outcome) }) new
+keeps_written s log old new batch outcome keeps is issue held settings first last there n durable settled written broken =
     record {
       settings = ap (λ (i : IssueHalf). (half_view i).settings) issue ∙ keeps.settings;
       durable = ap (λ (i : IssueHalf). (half_view i).durable) issue ∙ keeps.durable;
+      broken = ap (λ (i : IssueHalf). (half_view i).broken) issue ∙ keeps.broken;
       stands = subst (λ (i : IssueHalf). (half_view i).stands log.history) (sym issue) keeps.stands;
       disk_settings = settings ∙ keeps.disk_settings;
       disk_durable = durable;
+      disk_broken = broken;
       disk_most = there.0;
       disk_stands = there.1;
+      settled = settled;
       lent = keeps.lent;
-      held_is = held;
+      held_is =
+          subst (IsHeld (record log { written = n; has_batch = false; unsettled = Some (told outcome) }) (lent_of new.issue)) (sym held)
+          (refl, refl, ap (λ (i : IssueHalf). lent_of i) issue ∙ is.2, first ∙ is.3, last ∙ is.4, written);
     }
 
 -- whatever the write answers
-pub write_leads : (s : Settings) (log : SplitLog) (old new : Halves) (batch : Batch) (outcome : Result Written Failed) → Keeps s log old → IsHeld log (held.Lent batch) → new.issue ≡ old.issue
-    → new.held ≡ held.Done outcome → settings_of (broker_of new.disk) ≡ settings_of (broker_of old.disk)
+pub write_leads : (s : Settings) (log : SplitLog) (old new : Halves) (batch : Batch) (outcome : Result Written Failed) → Keeps s log old → IsHeld log (lent_of old.issue) (held.Lent batch)
+    → new.issue ≡ old.issue → new.held ≡ held.Done outcome → settings_of (broker_of new.disk) ≡ settings_of (broker_of old.disk) → issued_of (broker_of old.disk) ≤ issued_of (broker_of new.disk)
     → ((h : List Command) → Stands memory_view (broker_of old.disk) h → Stands memory_view (broker_of new.disk) (h ++ taken_from (broker_of old.disk) (broker_of new.disk) batch))
-    → StaysInFront memory_view (broker_of old.disk) (broker_of new.disk) batch → last_in outcome ≡ last_of batch → OnOk outcome (Writes batch (broker_of new.disk))
+    → ((h : List Command) → Stands memory_view (broker_of old.disk) h → IsRefusedAs outcome write_error.BadKind → ⊥) → StaysInFront memory_view (broker_of old.disk) (broker_of new.disk) batch
+    → first_in outcome ≡ first_of batch → last_in outcome ≡ last_of batch → OnOk outcome (Writes batch (broker_of new.disk))
     → IfErr outcome (λ failed. IsNotWritten (broker_of old.disk) batch (broker_of new.disk) (cause_of failed))
     → (next : SplitLog) × IsSplitStep s log step.Write (write_answer outcome) next × Keeps s next new
-write_leads s log old new batch (Ok written) keeps is issue held settings goes front last ok err =
-    let n = last_written written in (
-      record log { written = n; has_batch = false; has_result = true },
-      (is.0, last ∙ is.3, refl),
-      keeps_written s log old new batch keeps is issue settings goes front n (ok.durable ∙ sym last) (subst (IsHeld (record log { written = n; has_batch = false; has_result = true })) (sym held) (refl, refl, refl)),
+write_leads s log old new batch (Ok written) keeps is issue held settings longer goes good front first last ok err =
+    let n = last_written written in
+    let there = front_on (broker_of old.disk) (broker_of new.disk) batch log.history log.durable log.lent keeps.disk_most keeps.lent is.3 is.4 is.5 keeps.disk_stands goes front in
+    let whole : log.broken ≡ false = sym keeps.broken ∙ whole_while old.issue log.lent is.2 in (
+      record log { written = n; has_batch = false; unsettled = Some (Ok n) },
+      (is.0, last ∙ is.4, refl),
+      keeps_written s log old new batch (Ok written) keeps is issue held settings first last there n (ok.durable ∙ sym last)
+          (omega (arith, last, is.4, keeps.settled, keeps.disk_durable, keeps.disk_most, (broker_of old.disk).counted)) refl (ok.whole ∙ sym whole),
     )
-write_leads s log old new batch (Err failed) keeps is issue held settings goes front last ok err = (
-  record log { has_batch = false; has_result = true },
-  (is.0, refl),
-  keeps_written s log old new batch keeps is issue settings goes front log.written (err.durable ∙ keeps.disk_durable)
-      (subst (IsHeld (record log { has_batch = false; has_result = true })) (sym held) (refl, refl, tt)),
-)
+write_leads s log old new batch (Err failed) keeps is issue held settings longer goes good front first last ok err =
+    let there = front_on (broker_of old.disk) (broker_of new.disk) batch log.history log.durable log.lent keeps.disk_most keeps.lent is.3 is.4 is.5 keeps.disk_stands goes front in
+    let whole : log.broken ≡ false = sym keeps.broken ∙ whole_while old.issue log.lent is.2 in
+    let disk_whole : is_broken (broker_of old.disk) ≡ false = keeps.disk_broken ∙ ap (is_disk_broken log.broken) is.1 ∙ whole in
+    let least : log.durable ≤ issued_of (broker_of old.disk) = omega (arith, keeps.settled, keeps.disk_durable, (broker_of old.disk).counted) in
+    let ends : issued_in (half_view old.issue) ≡ length log.history = ((half_laws old.issue).each log.history keeps.stands).issued_is in
+    let few : log.lent ≤ durable_of (broker_of new.disk) + 256 =
+    omega (arith, keeps.lent, ends, old.issue.counted, old.issue.few, keeps.durable, keeps.settled, keeps.disk_durable, err.durable) in
+    let same : (half_view old.issue).settings ≡ settings_of (broker_of new.disk) = keeps.settings ∙ sym (settings ∙ keeps.disk_settings) in
+    let legal : IsLegal (settings_of (broker_of new.disk)) log.history =
+    subst (λ (r : Settings). IsLegal r log.history) same ((half_laws old.issue).each log.history keeps.stands).legal in
+    let failure : IsWriteFailure (cause_of failed) =
+    failure_is (broker_of old.disk) (broker_of new.disk) batch log.history log.durable log.lent is.3 is.4 is.5 least keeps.disk_most keeps.lent (cause_of failed) err.reason disk_whole legal there.1
+    longer (λ bad. good (take (issued_of (broker_of old.disk)) log.history) keeps.disk_stands bad) few in (
+      record log { has_batch = false; unsettled = Some (Err (cause_of failed)) },
+      (is.0, failure, refl),
+      keeps_written s log old new batch (Err failed) keeps is issue held settings first last there log.written (err.durable ∙ keeps.disk_durable) keeps.settled tt err.broken,
+    )
 
 -- ## Settling
 
+-- up to which was written, or why not
+abbrev pub up_to : ℕ → Option (Result ℕ WriteError)
+up_to n = Some (Ok n)
+
+abbrev refused_for : WriteError → Option (Result ℕ WriteError)
+refused_for why = Some (Err why)
+
 module _ (s : Settings) (log : SplitLog) (old : Halves) (issue : IssueHalf) (keeps : Keeps s log old) where
   -- the issue half has changed, and nothing is held
-  keeps_settled : (n : ℕ) → log.has_batch ≡ false → (half_view issue).settings ≡ (half_view old.issue).settings → (half_view issue).durable ≡ n → (half_view issue).stands log.history
-      → Keeps s (record log { durable = n; has_result = false }) (record old { issue = issue; held = held.Nothing })
-  keeps_settled n unlent settings durable stands = record {
+  keeps_settled : (n : ℕ) (broken : Bool) → log.has_batch ≡ false → (half_view issue).settings ≡ (half_view old.issue).settings → (half_view issue).durable ≡ n → (half_view issue).broken ≡ broken
+      → lent_of issue ≡ None → (half_view issue).stands log.history → n ≤ log.written → is_broken (broker_of old.disk) ≡ broken
+      → Keeps s (record log { durable = n; broken = broken; unsettled = None }) (record old { issue = issue; held = held.Nothing })
+  keeps_settled n broken unlent settings durable is_whole out stands settled disk_broken = record {
     settings = settings ∙ keeps.settings;
     durable = durable;
+    broken = is_whole;
     stands = stands;
     disk_settings = keeps.disk_settings;
     disk_durable = keeps.disk_durable;
+    disk_broken = disk_broken;
     disk_most = keeps.disk_most;
     disk_stands = keeps.disk_stands;
+    settled = settled;
     lent = keeps.lent;
-    held_is = (unlent, refl);
+    held_is = (unlent, refl, out);
   }
 
-  pub settled : (outcome : Result Written Failed) (n : ℕ) → IsHeld log (held.Done outcome) → SettlesBy old.issue issue outcome n
-      → (n ≡ log.written) × Keeps s (record log { durable = n; has_result = false }) (record old { issue = issue; held = held.Nothing })
+  -- the result that is held is that of the batch that is out
+  is_out : (outcome : Result Written Failed) → IsHeld log (lent_of old.issue) (held.Done outcome) → IsOut old.issue (first_in outcome) (last_in outcome)
+  is_out outcome is = record { first_is = omega (arith, is.3, keeps.durable); last_is = is.2 ∙ ap (λ (k : ℕ). Some k) (sym is.4) }
+
+  pub settled : (outcome : Result Written Failed) (n : ℕ) → IsHeld log (lent_of old.issue) (held.Done outcome) → SettlesBy old.issue issue outcome n
+      → (log.unsettled ≡ Some (Ok n)) × Keeps s (record log { durable = n; unsettled = None }) (record old { issue = issue; held = held.Nothing })
   settled (Err failed) n is settles = absurd settles
   settled (Ok written) n is settles =
-      let facts = settles.1 in
-      (facts.number ∙ is.2, keeps_settled n is.0 facts.settings (facts.durable_is ∙ sym facts.number) (facts.stands log.history keeps.stands))
+      let facts = settles.1 in (
+        is.1 ∙ ap up_to (sym facts.number),
+        keeps_settled n log.broken is.0 facts.settings (facts.durable_is ∙ sym facts.number) (facts.whole ∙ sym facts.sound ∙ keeps.broken) facts.lent (facts.stands log.history keeps.stands)
+            (omega (arith, facts.number, is.5)) (keeps.disk_broken ∙ ap (is_disk_broken log.broken) is.1),
+      )
 
-  same_settled : log.has_batch ≡ false → (half_view issue).settings ≡ (half_view old.issue).settings → (half_view issue).durable ≡ (half_view old.issue).durable → (half_view issue).stands log.history
-      → Keeps s (record log { has_result = false }) (record old { issue = issue; held = held.Nothing })
-  same_settled unlent settings durable stands = keeps_settled log.durable unlent settings (durable ∙ keeps.durable) stands
-
-  pub not_settled : (outcome : Result Written Failed) (why : SettleError) → log.has_batch ≡ false → IsNotSettled old.issue issue outcome why → Keeps s (record log { has_result = false }) (record old { issue = issue; held = held.Nothing })
-  not_settled (Ok written) settle_error.Mismatch unlent is = let same = is.1 in same_settled unlent same.settings same.durable ((same.stands log.history).1 keeps.stands)
-  not_settled (Err failed) settle_error.Mismatch unlent is = let same = is.1 in same_settled unlent same.settings same.durable ((same.stands log.history).1 keeps.stands)
-  not_settled (Ok written) (settle_error.NotWritten why) unlent is = absurd is
-  not_settled (Err failed) (settle_error.NotWritten why) unlent is = let back = is.2 in same_settled unlent back.settings back.durable ((back.stands log.history).1 keeps.stands)
+  pub settle_refused : (outcome : Result Written Failed) (why : SettleError) → IsHeld log (lent_of old.issue) (held.Done outcome) → IsNotSettled old.issue issue outcome why
+      → (next : SplitLog) × IsSplitStep s log step.Settle (answer.SettleRefused why) next × Keeps s next (record old { issue = issue; held = held.Nothing })
+  settle_refused (Ok written) settle_error.Mismatch is refused = absurd (refused.0 (is_out (Ok written) is))
+  settle_refused (Err failed) settle_error.Mismatch is refused = absurd (refused.0 (is_out (Err failed) is))
+  settle_refused (Ok written) (settle_error.NotWritten why) is refused = absurd refused
+  settle_refused (Err failed) (settle_error.NotWritten why) is refused =
+      let back = refused.2 in (
+        record log { broken = is_lasting why; unsettled = None },
+        (is.1 ∙ ap refused_for (sym refused.1), refl),
+        keeps_settled log.durable (is_lasting why) is.0 back.settings (back.durable ∙ keeps.durable) back.broken back.lent ((back.stands log.history).1 keeps.stands) keeps.settled
+            (keeps.disk_broken ∙ ap (is_disk_broken log.broken) is.1 ∙ ap is_lasting (sym refused.1)),
+      )
 
 -- ## Stopping
 
@@ -286,7 +508,7 @@ module _ (s : Settings) (history : List Command) (durable : ℕ) where
 
   -- a script cut off at its next step
   pub cut_off : (steps : List SplitStep) (index : ℕ) (answers : List SplitAnswer) (halves : Halves) → IsSplitDrilledOn s history durable (take index steps) answers halves → (step : SplitStep)
-      → index < length steps → step ≡ get_or steps index step → (cause : OpenError) → MayBeCutOff step cause → IsSplitCutOffAt s history durable steps (record { step = index; cause = cause })
+      → index < length steps → step ≡ get_or steps index step → (cause : OpenError) → MayBeCutOff step cause → IsSplitCutOffAt s history durable steps index cause
   cut_off steps index answers halves was step within is cause may = record {
     opened = was.opened;
     least = was.least;

@@ -49,7 +49,8 @@ opened_of broker = broker.opened
 -- A broker with this disk, this live segment, these settings, this table, these pending commands and this durable number
 -- stands for a history: the table is the history's, what is pending is the end of it behind the durable commands, every
 -- image of an honest disk is a legal stop, and unless the broker is broken its disk is settled.
-pub record StandsBy (disk : DiskView) (opened : Opened) (s : Settings) (table : Snapshot) (pending : List Command) (durable : ℕ) (broken : Bool) (history : List Command) : Type 0 where
+pub record StandsBy (disk : DiskView) (opened : Opened) (s : Settings) (table : Snapshot)
+    (pending : List Command) (durable : ℕ) (broken : Bool) (history : List Command) : Type 0 where
   pub good : AreGood s
   pub legal : IsLegal s history
   pub table_is : table ≡ table_of s history
@@ -61,7 +62,8 @@ pub record StandsBy (disk : DiskView) (opened : Opened) (s : Settings) (table : 
 -- the broker stands for this history
 abbrev pub Stands : {D : Type 0} {g : Ghosts D} → (D → DiskView) → Broker D g → List Command → Type 0
 Stands view broker history =
-    StandsBy (view (disk_of broker)) (opened_of broker) (settings_of broker) (table_in broker) (pending_of broker) (durable_of broker) (is_broken broker) history
+    StandsBy (view (disk_of broker)) (opened_of broker) (settings_of broker) (table_in broker)
+    (pending_of broker) (durable_of broker) (is_broken broker) history
 
 -- two moments of a broker between which nothing was issued or committed
 pub record IsSameBroker {D : Type 0} {g : Ghosts D} (old new : Broker D g) : Type 0 where

@@ -1,5 +1,5 @@
 -- What the answers of a script say of one history and of how much of it is durable.
-use Rattle.std.specs.Prelude.{◌≡◌, ◌⊎◌, ◌↔◌, ℕ, ◌+◌, ◌^◌, ◌≤◌, Bool, true, false, List, [], ◌∷◌, ◌++◌, length, take, min, slice_get, IfSome, Option, Some, None, Result, Ok, Err}
+use Rattle.std.specs.Prelude.{◌≡◌, ◌⊎◌, ◌↔◌, ℕ, ◌+◌, ◌^◌, ◌<◌, ◌≤◌, Bool, true, false, List, [], ◌∷◌, ◌++◌, length, take, min, slice_get, IfSome, Option, Some, None, Result, Ok, Err, IsOk}
 use Rattle.retry_rules.specs.declared.settings.Settings.{Settings}
 use Rattle.invoke_records.specs.declared.command.Command.{Command}
 use Rattle.async_core.specs.History.{refusal_of}
@@ -10,7 +10,10 @@ use Rattle.group_commit.specs.declared.error.CommitError.{CommitError}
 use Rattle.group_commit.specs.declared.error.CommitError.TheVariants as commit_error
 use Rattle.checkpoint.specs.declared.error.OpenError.{OpenError}
 use Rattle.checkpoint.specs.declared.error.OpenError.TheVariants as open_error
+use Rattle.checkpoint.specs.Image.{recovered}
+use Rattle.group_commit.specs.Refusals.{IsCutOff, TellsNotFormatted, TellsDamage}
 use Rattle.group_commit.specs.declared.script.DrillFailure.{DrillFailure}
+use Rattle.group_commit.specs.declared.script.DrillFailure.TheVariants as drill_failure
 use Rattle.group_commit.specs.declared.script.Step.{Step}
 use Rattle.group_commit.specs.declared.script.Step.TheVariants as step
 use Rattle.group_commit.specs.declared.script.StepAnswer.{StepAnswer}
@@ -74,6 +77,28 @@ IsRun s log [] [] end = end ≡ log
 IsRun s log (step ∷ steps) (answer ∷ answers) end = (next : Log) × IsStep s log step answer next × IsRun s next steps answers end
 IsRun s log steps answers end = ⊥
 
+-- ## A script that was cut off
+
+-- why
+abbrev pub cause_in : DrillFailure → OpenError
+cause_in (drill_failure.AtOpening cause) = cause
+cause_in (drill_failure.AtStep step cause) = cause
+
+-- at its first opening, or at one of so many steps
+abbrev pub IsAtOneOf : ℕ → DrillFailure → Type 0
+IsAtOneOf count (drill_failure.AtOpening cause) = Unit {0}
+IsAtOneOf count (drill_failure.AtStep step cause) = step < count
+
+-- a disk with this content can be opened
+abbrev pub Recovers : List ℕ → Type 0
+Recovers content = IsOk (recovered content)
+
+-- the first opening tells a disk with this content that it is not formatted, or damaged at a sector, only where it is so; and a
+-- step is begun only where it can be opened
+abbrev pub TellsOpening : List ℕ → DrillFailure → Type 0
+TellsOpening content (drill_failure.AtOpening cause) = TellsNotFormatted content cause × TellsDamage content cause
+TellsOpening content (drill_failure.AtStep step cause) = Recovers content
+
 -- after the step the disk is opened again
 abbrev pub IsStop : Step → Type 0
 IsStop (step.Stop choice) = Unit {0}
@@ -83,16 +108,18 @@ IsStop other = ⊥
 abbrev pub MayBeCutOff : Step → OpenError → Type 0
 MayBeCutOff step cause = IsStop step ⊎ (cause ≡ open_error.OutOfMemory)
 
--- a script was cut off at a step: those before it have a run, and it can be cut off so
-pub record IsCutOffAt (s : Settings) (history : List Command) (durable : ℕ) (steps : List Step) (failure : DrillFailure) : Type 0 where
+-- a script was cut off at the step behind so many: those have a run, and it can be cut off so
+pub record IsCutOffAt (s : Settings) (history : List Command) (durable : ℕ)
+    (steps : List Step) (index : ℕ) (cause : OpenError) : Type 0 where
   pub opened : ℕ
   pub least : durable ≤ opened
   pub most : opened ≤ length history
   pub answers : List StepAnswer
   pub end : Log
-  pub run : IsRun s (record { history = take opened history; durable = opened; broken = false }) (take failure.step steps) answers end
-  pub needs : IfSome (slice_get steps failure.step) (λ step. MayBeCutOff step failure.cause)
+  pub run : IsRun s (record { history = take opened history; durable = opened; broken = false }) (take index steps) answers end
+  pub needs : IfSome (slice_get steps index) (λ step. MayBeCutOff step cause)
 
--- a script was cut off by its first opening, or at a step
+-- a script was cut off: the device or memory refused its first opening, or it came to a step
 abbrev pub IsDrillFailure : Settings → List Command → ℕ → List Step → DrillFailure → Type 0
-IsDrillFailure s history durable steps failure = (failure.step ≡ 0) ⊎ IsCutOffAt s history durable steps failure
+IsDrillFailure s history durable steps (drill_failure.AtOpening cause) = IsCutOff cause
+IsDrillFailure s history durable steps (drill_failure.AtStep index cause) = IsCutOffAt s history durable steps index cause

@@ -18,7 +18,8 @@ abbrev pub log_of : {g : Ghosts MemDisk} → Broker MemDisk g → List Command �
 log_of broker history = record { history = history; durable = durable_of broker; broken = is_broken broker }
 
 -- the step that answers so leads from a broker that stands for the history to one that stands for the next log
-pub record LeadsOn {g : Ghosts MemDisk} (old : Broker MemDisk g) (history : List Command) (step : Step) (answer : StepAnswer) (new : Broker MemDisk g) : Type 0 where
+pub record LeadsOn {g : Ghosts MemDisk} (old : Broker MemDisk g) (history : List Command)
+    (step : Step) (answer : StepAnswer) (new : Broker MemDisk g) : Type 0 where
   pub next : Log
   pub step_is : IsStep (settings_of old) (log_of old history) step answer next
   pub settings : settings_of new ≡ settings_of old
@@ -38,7 +39,8 @@ IsStarted s history durable broker =
 
 -- a script was run on a disk of which each image was a legal stop: its answers are those of one history, which begins with
 -- what the opening recovered, and the broker stands for what that history came to
-pub record IsDrilled {g : Ghosts MemDisk} (s : Settings) (history : List Command) (durable : ℕ) (steps : List Step) (answers : List StepAnswer) (broker : Broker MemDisk g) : Type 0 where
+pub record IsDrilled {g : Ghosts MemDisk} (s : Settings) (history : List Command) (durable : ℕ)
+    (steps : List Step) (answers : List StepAnswer) (broker : Broker MemDisk g) : Type 0 where
   pub opened : ℕ
   pub least : durable ≤ opened
   pub most : opened ≤ length history

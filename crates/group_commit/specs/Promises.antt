@@ -24,7 +24,8 @@ ForEachHistoryOn disk P =
 abbrev pub LeavesLegalStops : {D : Type 0} {g : Ghosts D} → (D → DiskView) → Broker D g → D → Type 0
 LeavesLegalStops view old disk =
     (view (disk_of old)).honest
-    → ForEachHistory view old (λ history. LeavesOnly (view (disk_of old)) (view disk) (IsLegalStop (settings_of old) history (durable_of old)))
+    → ForEachHistory view old
+    (λ history. LeavesOnly (view (disk_of old)) (view disk) (IsLegalStop (settings_of old) history (durable_of old)))
 
 -- at any moment in between, a stop leaves an image from before
 abbrev pub LeavesWhatWas : DiskView → DiskView → Type 0

@@ -1,30 +1,39 @@
 -- What the answers of a script of two halves say of one list of commands and of three numbers.
-use Rattle.std.specs.Prelude.{◌≡◌, ◌⊎◌, ℕ, ◌+◌, ◌^◌, ◌≤◌, Bool, true, false, List, [], ◌∷◌, ◌++◌, length, take, slice_get, IfSome, None, Some}
+use Rattle.std.specs.Prelude.{◌≡◌, ◌⊎◌, ℕ, ◌+◌, ◌<◌, ◌≤◌, Bool, true, false, List, [], ◌∷◌, ◌++◌, length, take, slice_get, IfSome, IsSome, Option, None, Some, Result, Ok, Err}
 use Rattle.retry_rules.specs.declared.settings.Settings.{Settings}
 use Rattle.invoke_records.specs.declared.command.Command.{Command}
 use Rattle.async_core.specs.History.{refusal_of}
-use Rattle.group_commit.specs.declared.error.IssueError.{IssueError}
-use Rattle.group_commit.specs.declared.error.IssueError.TheVariants as issue_error
 use Rattle.checkpoint.specs.declared.error.OpenError.{OpenError}
 use Rattle.checkpoint.specs.declared.error.OpenError.TheVariants as open_error
+use Rattle.group_commit.specs.declared.error.LendError.{LendError}
+use Rattle.group_commit.specs.declared.error.LendError.TheVariants as lend_error
+use Rattle.group_commit.specs.declared.error.WriteError.{WriteError}
+use Rattle.group_commit.specs.declared.error.WriteError.TheVariants as write_error
+use Rattle.group_commit.specs.declared.error.SettleError.TheVariants as settle_error
 use Rattle.group_commit.specs.declared.issue_half.IssueHalf.{IssueHalf}
 use Rattle.group_commit.specs.declared.script.DrillFailure.{DrillFailure}
+use Rattle.group_commit.specs.declared.script.DrillFailure.TheVariants as drill_failure
 use Rattle.group_commit.specs.declared.split_script.SplitStep.{SplitStep}
 use Rattle.group_commit.specs.declared.split_script.SplitStep.TheVariants as step
 use Rattle.group_commit.specs.declared.split_script.SplitAnswer.{SplitAnswer}
 use Rattle.group_commit.specs.declared.split_script.SplitAnswer.TheVariants as answer
 use Rattle.group_commit.specs.declared.split_script.SplitDrill.{SplitDrill}
+use Rattle.group_commit.specs.Batch.{is_lasting}
 use Rattle.group_commit.specs.IssuerHalf.{half_view}
+use Rattle.group_commit.specs.Refusals.{IsCutOff}
+use Rattle.group_commit.specs.Drill.{Log, IsRefused}
 
--- a list of commands, how many are durable, up to which the disk half has written, and up to which they were lent; and
--- whether a batch is held that was not written, or a result that was not settled
+-- a list of commands, how many are durable, up to which the disk half has written, and up to which they were lent; whether the
+-- issue half is broken, whether a batch is held that was not written, and the result that is held and not settled, if one is:
+-- up to which was written, or why not
 pub record SplitLog : Type 0 where
   pub history : List Command
   pub durable : ℕ
   pub written : ℕ
   pub lent : ℕ
+  pub broken : Bool
   pub has_batch : Bool
-  pub has_result : Bool
+  pub unsettled : Option (Result ℕ WriteError)
 
 -- this list, recovered
 abbrev pub recovered : List Command → SplitLog
@@ -34,41 +43,63 @@ recovered history =
       durable = length history;
       written = length history;
       lent = length history;
+      broken = false;
       has_batch = false;
-      has_result = false;
+      unsettled = None;
     }
 
--- why a command is refused; that the half is broken is not the list's to say
-abbrev pub IsSplitRefusal : Settings → SplitLog → Command → IssueError → Type 0
-IsSplitRefusal s log c issue_error.Broken = Unit {0}
-IsSplitRefusal s log c issue_error.WornOut = 2 ^ 62 ≤ length log.history
-IsSplitRefusal s log c (issue_error.Illegal why) = refusal_of s log.history c ≡ Some why
-IsSplitRefusal s log c issue_error.Backlog = (refusal_of s log.history c ≡ None) × (length log.history ≡ log.durable + 256)
-IsSplitRefusal s log c issue_error.OutOfMemory = refusal_of s log.history c ≡ None
+-- what of it the issue half has, as a broker has it
+abbrev pub issue_log : SplitLog → Log
+issue_log log = record { history = log.history; durable = log.durable; broken = log.broken }
+
+-- a batch is out, from its lend to its settlement: it is held, or its result is
+abbrev pub HasLent : SplitLog → Type 0
+HasLent log = (log.has_batch ≡ true) ⊎ IsSome log.unsettled
+
+-- no batch is out, and the issue half is not broken
+pub record MayLend (log : SplitLog) : Type 0 where
+  pub whole : log.broken ≡ false
+  pub no_batch : log.has_batch ≡ false
+  pub no_result : log.unsettled ≡ None
+
+-- why nothing is lent: the device has failed, a batch is out, or memory is wanting for what is pending
+abbrev pub IsNotLent : SplitLog → LendError → Type 0
+IsNotLent log lend_error.Broken = log.broken ≡ true
+IsNotLent log lend_error.Lent = (log.broken ≡ false) × HasLent log
+IsNotLent log lend_error.OutOfMemory = MayLend log × (log.durable < length log.history)
+
+-- why a batch is not written: the device fails, memory is wanting, or the disk is worn out. No other cause comes: a fault is
+-- settled before the next lend, each batch goes on from what the disk half has, and the table is that of a list
+abbrev pub IsWriteFailure : WriteError → Type 0
+IsWriteFailure write_error.Fault = Unit {0}
+IsWriteFailure write_error.OutOfMemory = Unit {0}
+IsWriteFailure write_error.WornOut = Unit {0}
+IsWriteFailure why = ⊥
 
 -- the step that answers so leads from one to the other
 abbrev pub IsSplitStep : Settings → SplitLog → SplitStep → SplitAnswer → SplitLog → Type 0
 -- a legal command is the list's next
 IsSplitStep s log (step.Issue c) (answer.Number n) next =
-    (refusal_of s log.history c ≡ None) × (n ≡ length log.history + 1) × (next ≡ record log { history = log.history ++ c ∷ [] })
-IsSplitStep s log (step.Issue c) (answer.IssueRefused why) next = IsSplitRefusal s log c why × (next ≡ log)
+    (log.broken ≡ false) × (refusal_of s log.history c ≡ None) × (n ≡ length log.history + 1)
+    × (next ≡ record log { history = log.history ++ c ∷ [] })
+IsSplitStep s log (step.Issue c) (answer.IssueRefused why) next = IsRefused s (issue_log log) c why × (next ≡ log)
 -- a lend goes up to the list's end
 IsSplitStep s log step.Lend (answer.Number n) next =
-    (n ≡ length log.history) × (next ≡ record log { lent = n; has_batch = true; has_result = false })
-IsSplitStep s log step.Lend answer.Idle next = (length log.history ≡ log.durable) × (next ≡ log)
-IsSplitStep s log step.Lend (answer.LendRefused why) next = next ≡ log
+    MayLend log × (log.durable < length log.history) × (n ≡ length log.history) × (next ≡ record log { lent = n; has_batch = true })
+IsSplitStep s log step.Lend answer.Idle next = MayLend log × (length log.history ≡ log.durable) × (next ≡ log)
+IsSplitStep s log step.Lend (answer.LendRefused why) next = IsNotLent log why × (next ≡ log)
 -- a write goes up to what was lent
 IsSplitStep s log step.Write (answer.Number n) next =
-    (log.has_batch ≡ true) × (n ≡ log.lent) × (next ≡ record log { written = n; has_batch = false; has_result = true })
+    (log.has_batch ≡ true) × (n ≡ log.lent) × (next ≡ record log { written = n; has_batch = false; unsettled = Some (Ok n) })
 IsSplitStep s log step.Write answer.Idle next = (log.has_batch ≡ false) × (next ≡ log)
 IsSplitStep s log step.Write (answer.WriteRefused why) next =
-    (log.has_batch ≡ true) × (next ≡ record log { has_batch = false; has_result = true })
--- and what was written is durable when it is settled
-IsSplitStep s log step.Settle (answer.Number n) next =
-    (log.has_result ≡ true) × (n ≡ log.written) × (next ≡ record log { durable = n; has_result = false })
-IsSplitStep s log step.Settle answer.Idle next = (log.has_result ≡ false) × (next ≡ log)
-IsSplitStep s log step.Settle (answer.SettleRefused why) next = (log.has_result ≡ true) × (next ≡ record log { has_result = false })
--- a stop leaves what was written, and not more than was lent
+    (log.has_batch ≡ true) × IsWriteFailure why × (next ≡ record log { has_batch = false; unsettled = Some (Err why) })
+-- and what was written is durable when it is settled; a fault that is settled breaks the issue half
+IsSplitStep s log step.Settle (answer.Number n) next = (log.unsettled ≡ Some (Ok n)) × (next ≡ record log { durable = n; unsettled = None })
+IsSplitStep s log step.Settle answer.Idle next = (log.unsettled ≡ None) × (next ≡ log)
+IsSplitStep s log step.Settle (answer.SettleRefused (settle_error.NotWritten why)) next =
+    (log.unsettled ≡ Some (Err why)) × (next ≡ record log { unsettled = None; broken = is_lasting why })
+-- a stop leaves what was written, and not more than was lent; no half is broken then
 IsSplitStep s log (step.Stop choice) (answer.Number n) next =
     (log.written ≤ n) × (n ≤ log.lent) × (n ≤ length log.history) × (next ≡ recovered (take n log.history))
 IsSplitStep s log step answer next = ⊥
@@ -82,7 +113,8 @@ IsSplitRun s log steps answers end = ⊥
 
 -- a script was run on a disk of which each image was a legal stop: its answers are those of one list, which begins with what
 -- the opening recovered, and the issue half stands for what that list came to
-pub record IsSplitDrilled (s : Settings) (history : List Command) (durable : ℕ) (steps : List SplitStep) (answers : List SplitAnswer) (issue : IssueHalf) : Type 0 where
+pub record IsSplitDrilled (s : Settings) (history : List Command) (durable : ℕ)
+    (steps : List SplitStep) (answers : List SplitAnswer) (issue : IssueHalf) : Type 0 where
   pub opened : ℕ
   pub least : durable ≤ opened
   pub most : opened ≤ length history
@@ -90,6 +122,7 @@ pub record IsSplitDrilled (s : Settings) (history : List Command) (durable : ℕ
   pub run : IsSplitRun s (recovered (take opened history)) steps answers end
   pub settings : (half_view issue).settings ≡ s
   pub durable_is : (half_view issue).durable ≡ end.durable
+  pub broken_is : (half_view issue).broken ≡ end.broken
   pub stands : (half_view issue).stands end.history
 
 -- the script was run so, and this is what came of it
@@ -105,16 +138,18 @@ IsStop other = ⊥
 abbrev pub MayBeCutOff : SplitStep → OpenError → Type 0
 MayBeCutOff step cause = IsStop step ⊎ (cause ≡ open_error.OutOfMemory)
 
--- a script was cut off at a step: those before it have a run, and it can be cut off so
-pub record IsSplitCutOffAt (s : Settings) (history : List Command) (durable : ℕ) (steps : List SplitStep) (failure : DrillFailure) : Type 0 where
+-- a script was cut off at the step behind so many: those have a run, and it can be cut off so
+pub record IsSplitCutOffAt (s : Settings) (history : List Command) (durable : ℕ)
+    (steps : List SplitStep) (index : ℕ) (cause : OpenError) : Type 0 where
   pub opened : ℕ
   pub least : durable ≤ opened
   pub most : opened ≤ length history
   pub answers : List SplitAnswer
   pub end : SplitLog
-  pub run : IsSplitRun s (recovered (take opened history)) (take failure.step steps) answers end
-  pub needs : IfSome (slice_get steps failure.step) (λ step. MayBeCutOff step failure.cause)
+  pub run : IsSplitRun s (recovered (take opened history)) (take index steps) answers end
+  pub needs : IfSome (slice_get steps index) (λ step. MayBeCutOff step cause)
 
--- a script was cut off by its first opening, or at a step
+-- a script was cut off: the device or memory refused its first opening, or it came to a step
 abbrev pub IsSplitDrillFailure : Settings → List Command → ℕ → List SplitStep → DrillFailure → Type 0
-IsSplitDrillFailure s history durable steps failure = (failure.step ≡ 0) ⊎ IsSplitCutOffAt s history durable steps failure
+IsSplitDrillFailure s history durable steps (drill_failure.AtOpening cause) = IsCutOff cause
+IsSplitDrillFailure s history durable steps (drill_failure.AtStep index cause) = IsSplitCutOffAt s history durable steps index cause

@@ -1,6 +1,6 @@
 -- The two halves of a script between its steps. Names only steps of private functions: a reader of the public contracts need
 -- not believe it.
-use Rattle.std.specs.Prelude.{◌≡◌, ℕ, ◌+◌, ◌≤◌, List, length, take, drop, true, false, IfOk, Result, Ok, Err}
+use Rattle.std.specs.Prelude.{◌≡◌, ℕ, ◌+◌, ◌≤◌, Bool, true, false, List, length, take, drop, Option, None, Some, IfOk, Result, Ok, Err}
 use Rattle.sector_disk.specs.Memory.{memory_view}
 use Rattle.retry_rules.specs.declared.settings.Settings.{Settings}
 use Rattle.invoke_records.specs.declared.command.Command.{Command}
@@ -9,37 +9,52 @@ use Rattle.group_commit.specs.declared.split_script.SplitAnswer.{SplitAnswer}
 use Rattle.group_commit.specs.declared.split_script.SplitAnswer.TheVariants as answer
 use Rattle.group_commit.specs.declared.batch.Written.{Written}
 use Rattle.group_commit.specs.declared.batch.Failed.{Failed}
+use Rattle.group_commit.specs.declared.error.WriteError.{WriteError}
 use Rattle.group_commit.specs.declared.split_drilling.Halves.{Halves}
 use Rattle.group_commit.specs.declared.split_drilling.Held.{Held}
 use Rattle.group_commit.specs.declared.split_drilling.Held.TheVariants as held
-use Rattle.group_commit.specs.Broker.{settings_of, issued_of, durable_of, Stands}
-use Rattle.group_commit.specs.IssuerHalf.{half_view}
-use Rattle.group_commit.specs.Batch.{first_of, last_of, commands_of, last_written, cause_of}
+use Rattle.group_commit.specs.Broker.{settings_of, issued_of, durable_of, is_broken, Stands}
+use Rattle.group_commit.specs.IssuerHalf.{half_view, lent_of}
+use Rattle.group_commit.specs.Batch.{first_of, last_of, commands_of, last_written, cause_of, first_in, last_in, is_lasting}
 use Rattle.group_commit.specs.Splitting.{broker_of}
 use Rattle.group_commit.specs.SplitDrill.{SplitLog, IsSplitStep, IsSplitRun, recovered}
 
--- a batch that is held has what was lent, and a write that was Ok is the last
-abbrev pub IsHeld : SplitLog → Held → Type 0
-IsHeld log held.Nothing = (log.has_batch ≡ false) × (log.has_result ≡ false)
-IsHeld log (held.Lent batch) =
-    (log.has_batch ≡ true) × (log.has_result ≡ false)
+-- what a result is told as
+abbrev pub told : Result Written Failed → Result ℕ WriteError
+told (Ok written) = Ok (last_written written)
+told (Err failed) = Err (cause_of failed)
+
+-- the half over the disk is broken: by the result that is not settled, or else where the issue half is
+abbrev pub is_disk_broken : Bool → Option (Result ℕ WriteError) → Bool
+is_disk_broken broken (Some (Err why)) = is_lasting why
+is_disk_broken broken other = broken
+
+-- a batch that is held has what was lent, a result that is held is that of what was lent, and only then is a batch out
+abbrev pub IsHeld : SplitLog → Option ℕ → Held → Type 0
+IsHeld log out held.Nothing = (log.has_batch ≡ false) × (log.unsettled ≡ None) × (out ≡ None)
+IsHeld log out (held.Lent batch) =
+    (log.has_batch ≡ true) × (log.unsettled ≡ None) × (out ≡ Some log.lent)
     × (first_of batch ≡ log.durable + 1) × (last_of batch ≡ log.lent) × (commands_of batch ≡ drop log.durable (take log.lent log.history))
-IsHeld log (held.Done outcome) =
-    (log.has_batch ≡ false) × (log.has_result ≡ true) × IfOk outcome (λ written. last_written written ≡ log.written)
+IsHeld log out (held.Done outcome) =
+    (log.has_batch ≡ false) × (log.unsettled ≡ Some (told outcome)) × (out ≡ Some log.lent)
+    × (first_in outcome ≡ log.durable + 1) × (last_in outcome ≡ log.lent) × IfOk outcome (λ written. last_written written ≡ log.written)
 
 -- the issue half stands for the list, and the half over the disk for a front of what was lent
 pub record Keeps (s : Settings) (log : SplitLog) (halves : Halves) : Type 0 where
   pub settings : (half_view halves.issue).settings ≡ s
   pub durable : (half_view halves.issue).durable ≡ log.durable
+  pub broken : (half_view halves.issue).broken ≡ log.broken
   pub stands : (half_view halves.issue).stands log.history
   pub disk_settings : settings_of (broker_of halves.disk) ≡ s
   pub disk_durable : durable_of (broker_of halves.disk) ≡ log.written
+  pub disk_broken : is_broken (broker_of halves.disk) ≡ is_disk_broken log.broken log.unsettled
   pub disk_most : issued_of (broker_of halves.disk) ≤ log.lent
   pub disk_stands : Stands memory_view (broker_of halves.disk) (take (issued_of (broker_of halves.disk)) log.history)
+  pub settled : log.durable ≤ log.written
   pub lent : log.lent ≤ length log.history
-  pub held_is : IsHeld log halves.held
+  pub held_is : IsHeld log (lent_of halves.issue) halves.held
 
--- this holds of each list and three numbers that the halves stand for
+-- this holds of each list and what else is said of the halves that stand for it
 abbrev pub ForEachLog : Halves → (Settings → SplitLog → Type 0) → Type 0
 ForEachLog halves P = (s : Settings) (log : SplitLog) → Keeps s log halves → P s log
 
@@ -67,7 +82,8 @@ write_answer (Err failed) = answer.WriteRefused (cause_of failed)
 
 -- a script was run so far: its answers are those of one list, which begins with what the opening recovered, and the halves
 -- stand for what that list came to
-pub record IsSplitDrilledOn (s : Settings) (history : List Command) (durable : ℕ) (steps : List SplitStep) (answers : List SplitAnswer) (halves : Halves) : Type 0 where
+pub record IsSplitDrilledOn (s : Settings) (history : List Command) (durable : ℕ)
+    (steps : List SplitStep) (answers : List SplitAnswer) (halves : Halves) : Type 0 where
   pub opened : ℕ
   pub least : durable ≤ opened
   pub most : opened ≤ length history

@@ -32,7 +32,8 @@ taken_from old new batch = take (issued_of new - issued_of old) (missing_in old 
 -- the next of them is not legal
 abbrev pub NextIsIllegal : {D : Type 0} {g : Ghosts D} → Broker D g → Broker D g → Batch → Type 0
 NextIsIllegal old new batch =
-    IfSome (slice_get (missing_in old batch) (issued_of new - issued_of old)) (λ command. IsSome (refusal_at (settings_of new) (table_in new) command))
+    IfSome (slice_get (missing_in old batch) (issued_of new - issued_of old))
+    (λ command. IsSome (refusal_at (settings_of new) (table_in new) command))
     × (issued_of new < last_of batch)
 
 -- the whole batch was taken

@@ -20,9 +20,6 @@ pub const MOST_PENDING: usize = MOST_IN_FRAME;
 /// How many commands may be issued since the disk was formatted.
 pub const MOST_COMMANDS: u64 = GREATEST_NUMBER;
 
-/// The greatest generation of a segment: the disk is then worn out for switches.
-pub const MOST_GENERATIONS: u64 = 1 << 62;
-
 /// The broker over one disk: its table after all that was issued, and what of that is not durable yet.
 #[derive(Drop)]
 pub struct Broker<D: Disk> {

@@ -8,9 +8,8 @@ ghost use Rattle.group_commit.specs.Promises.{ForEachHistory, LeavesLegalStops, 
 ghost use Rattle.group_commit.specs.Refusals.{FaultsHaveRisen, AnswersAtOnce, NeedsSwitch, NeedsNoSwitch, IsWornOut, HasBadTable, HasSwitched};
 ghost use Rattle.group_commit.specs.Steps.{ForBothTables, LeavesEither};
 
-use crate::broker::MOST_GENERATIONS;
 use crate::{Broker, CommitError, Durable};
-use checkpoint::{AppendError, SwitchError};
+use checkpoint::{AppendError, MOST_GENERATIONS, SwitchError};
 use sector_disk::Disk;
 
 impl<D: Disk> Broker<D> {

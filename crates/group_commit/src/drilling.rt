@@ -1,11 +1,11 @@
 // Scripts of steps, stops among them, on a disk in memory.
-ghost use Rattle.std.specs.Prelude.{◌≡◌, ◌≤◌, [], length, IfOk, IfErr};
+ghost use Rattle.std.specs.Prelude.{◌≡◌, [], length, OnOk, IfOk, IfErr};
 ghost use Rattle.sector_disk.specs.Memory.{memory_view};
 ghost use Rattle.group_commit.specs.Broker.{settings_of, pending_of, durable_of};
 ghost use Rattle.group_commit.specs.Promises.{ForEachHistory, ForEachHistoryOn};
-ghost use Rattle.group_commit.specs.Refusals.{IsCutOff};
+ghost use Rattle.group_commit.specs.Refusals.{TellsNotFormatted, TellsDamage, IsCutOff};
 ghost use Rattle.group_commit.specs.declared.script.Step.TheVariants as step;
-ghost use Rattle.group_commit.specs.Drill.{answer_to, MayBeCutOff, IsDrillFailure};
+ghost use Rattle.group_commit.specs.Drill.{answer_to, cause_in, IsAtOneOf, Recovers, TellsOpening, MayBeCutOff, IsDrillFailure};
 ghost use Rattle.group_commit.specs.DrillBroker.{Leads, IsStarted, IsDrillOf};
 
 use crate::broker::without_disk;
@@ -21,6 +21,9 @@ pub(crate) fn start(alloc: Global, disk: MemDisk) -> Result<Broker<MemDisk>, Ope
     ensures recovers { ForEachHistoryOn (memory_view disk) (λ s history durable. IfOk result (IsStarted s history durable)) }
     ensures refused { ForEachHistoryOn (memory_view disk) (λ s history durable. IfErr result IsCutOff) }
     ensures nothing { IfOk result (λ b. pending_of b ≡ []) }
+    ensures opened { OnOk result (Recovers (memory_view disk).content) }
+    ensures not_formatted { IfErr result (TellsNotFormatted (memory_view disk).content) }
+    ensures damaged { IfErr result (TellsDamage (memory_view disk).content) }
 {
     without_disk(Broker::open(alloc, disk))
 }
@@ -128,26 +131,31 @@ fn run_step(
 /// On a disk of which each image is a legal stop of a history, the answers are those of one history that goes on from
 /// what the opening recovered: a stop cuts it to a length from the durable number to its own, and after a fault nothing is
 /// issued or committed until the next stop. It fails only where memory runs out, also the disk's own, and gives the disk up
-/// then: the failure names the step, those before it have such answers, and it opened the disk again or wanted memory.
+/// then: where it failed at a step, those before it have such answers, and it opened the disk again or wanted memory.
+///
+/// Of any other disk it says this: the first opening fails for the causes of `Broker::open`, and only a disk that recovers
+/// comes to a step.
 pub fn drill(alloc: Global, disk: MemDisk, steps: &[Step]) -> Result<Drill, DrillFailure>
     ensures run { ForEachHistoryOn (memory_view disk) (λ s history durable. IfOk result (IsDrillOf s history durable steps.now)) }
-    ensures refused { ForEachHistoryOn (memory_view disk) (λ s history durable. IfErr result (λ failure. IsCutOff failure.cause)) }
+    ensures refused { ForEachHistoryOn (memory_view disk) (λ s history durable. IfErr result (λ failure. IsCutOff (cause_in failure))) }
     ensures failed { ForEachHistoryOn (memory_view disk) (λ s history durable. IfErr result (IsDrillFailure s history durable steps.now)) }
-    ensures place { IfErr result (λ failure. failure.step ≤ length steps.now) }
+    ensures place { IfErr result (IsAtOneOf (length steps.now)) }
+    ensures opened { OnOk result (Recovers (memory_view disk).content) }
+    ensures opening { IfErr result (TellsOpening (memory_view disk).content) }
 {
     let mut broker = match start(alloc, disk) {
         Ok(broker) => broker,
-        Err(cause) => return Err(DrillFailure { step: 0, cause }),
+        Err(cause) => return Err(DrillFailure::AtOpening(cause)),
     };
     let mut answers = Vec::new(alloc);
     for (index, step) in steps.iter().enumerate() {
         if answers.reserve(1).is_err() {
             let cause = OpenError::OutOfMemory;
-            return Err(DrillFailure { step: index, cause });
+            return Err(DrillFailure::AtStep { step: index, cause });
         }
         let (next, answer) = match run_step(alloc, broker, step) {
             Ok(done) => done,
-            Err(cause) => return Err(DrillFailure { step: index, cause }),
+            Err(cause) => return Err(DrillFailure::AtStep { step: index, cause }),
         };
         broker = next;
         answers.push_reserved(answer);

@@ -38,8 +38,9 @@ pub struct Drill {
 
 /// A script that was cut off, since a disk was not opened or memory ran out.
 #[derive(Clone, Copy, Debug, PartialEq, Eq)]
-pub struct DrillFailure {
-    /// How many steps were done before: 0 also for the first opening.
-    pub step: usize,
-    pub cause: OpenError,
+pub enum DrillFailure {
+    /// The disk was not opened at first, and no step was begun.
+    AtOpening(OpenError),
+    /// A step was cut off: how many were done before it.
+    AtStep { step: usize, cause: OpenError },
 }

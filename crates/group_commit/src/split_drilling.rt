@@ -1,8 +1,9 @@
 // Scripts of steps of two halves, stops among them, on a disk in memory.
-ghost use Rattle.std.specs.Prelude.{◌≡◌, ◌≤◌, length, IfOk, IfErr};
+ghost use Rattle.std.specs.Prelude.{◌≡◌, length, OnOk, IfOk, IfErr};
 ghost use Rattle.sector_disk.specs.Memory.{memory_view};
 ghost use Rattle.group_commit.specs.Promises.{ForEachHistoryOn};
-ghost use Rattle.group_commit.specs.Refusals.{IsCutOff};
+ghost use Rattle.group_commit.specs.Refusals.{TellsNotFormatted, TellsDamage, IsCutOff};
+ghost use Rattle.group_commit.specs.Drill.{cause_in, IsAtOneOf, Recovers, TellsOpening};
 ghost use Rattle.group_commit.specs.declared.split_script.SplitStep.TheVariants as split_step;
 ghost use Rattle.group_commit.specs.SplitDrill.{MayBeCutOff, IsSplitDrillOf, IsSplitDrillFailure};
 ghost use Rattle.group_commit.specs.SplitSteps.{ForEachLog, Leads, IsBegun, IsStopped, write_answer};
@@ -38,6 +39,9 @@ pub(crate) struct Halves {
 fn begin(alloc: Global, disk: MemDisk) -> Result<Halves, OpenError>
     ensures begins { ForEachHistoryOn (memory_view disk) (λ s history durable. IfOk result (IsBegun s history durable)) }
     ensures refused { ForEachHistoryOn (memory_view disk) (λ s history durable. IfErr result IsCutOff) }
+    ensures opened { OnOk result (Recovers (memory_view disk).content) }
+    ensures not_formatted { IfErr result (TellsNotFormatted (memory_view disk).content) }
+    ensures damaged { IfErr result (TellsDamage (memory_view disk).content) }
 {
     let broker = match start(alloc, disk) {
         Ok(broker) => broker,
@@ -200,32 +204,34 @@ fn run_step(
 ///
 /// On a disk of which each image is a legal stop of a history, the answers are those of one list and three numbers: how many
 /// commands are durable, up to which the disk half has written, and up to which they were lent. Each begins as the number of
-/// commands that the opening recovered; a stop cuts the list to a length from the second number to the third. It fails as
-/// `drill` does.
+/// commands that the opening recovered; a stop cuts the list to a length from the second number to the third. Once a fault
+/// of a write is settled, nothing is issued or lent until the next stop. It fails as `drill` does.
 pub fn drill_split(
     alloc: Global,
     disk: MemDisk,
     steps: &[SplitStep],
 ) -> Result<SplitDrill, DrillFailure>
     ensures run { ForEachHistoryOn (memory_view disk) (λ s history durable. IfOk result (IsSplitDrillOf s history durable steps.now)) }
-    ensures refused { ForEachHistoryOn (memory_view disk) (λ s history durable. IfErr result (λ failure. IsCutOff failure.cause)) }
+    ensures refused { ForEachHistoryOn (memory_view disk) (λ s history durable. IfErr result (λ failure. IsCutOff (cause_in failure))) }
     ensures failed { ForEachHistoryOn (memory_view disk) (λ s history durable.
         IfErr result (IsSplitDrillFailure s history durable steps.now)) }
-    ensures place { IfErr result (λ failure. failure.step ≤ length steps.now) }
+    ensures place { IfErr result (IsAtOneOf (length steps.now)) }
+    ensures opened { OnOk result (Recovers (memory_view disk).content) }
+    ensures opening { IfErr result (TellsOpening (memory_view disk).content) }
 {
     let mut halves = match begin(alloc, disk) {
         Ok(halves) => halves,
-        Err(cause) => return Err(DrillFailure { step: 0, cause }),
+        Err(cause) => return Err(DrillFailure::AtOpening(cause)),
     };
     let mut answers = Vec::new(alloc);
     for (index, step) in steps.iter().enumerate() {
         if answers.reserve(1).is_err() {
             let cause = OpenError::OutOfMemory;
-            return Err(DrillFailure { step: index, cause });
+            return Err(DrillFailure::AtStep { step: index, cause });
         }
         let (next, answer) = match run_step(alloc, halves, step) {
             Ok(done) => done,
-            Err(cause) => return Err(DrillFailure { step: index, cause }),
+            Err(cause) => return Err(DrillFailure::AtStep { step: index, cause }),
         };
         halves = next;
         answers.push_reserved(answer);

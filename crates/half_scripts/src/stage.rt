@@ -2,14 +2,15 @@
 use crate::halves::{Halves, halves_step};
 use crate::split_drilling::{drill_split_step, split_orders_step};
 use case_runner::{Reply, Text, Words};
-use disk_steps::{Base, CaseDisk, Stage, broker_step, disk_step, refusals};
-use group_commit::{Broker, JoinFailure, OpenFailure, Ticket};
+use disk_steps::{Base, CaseDisk, Stage, broker_step, disk_step, open_broker, refusals};
+use group_commit::{Broker, JoinFailure, Ticket};
 use sector_disk::{Disk, MemDisk};
 use std::alloc::Global;
 use std::mem;
 
+// What is open on a disk.
 #[derive(Drop)]
-enum Place<D: Disk> {
+enum OpenHalves<D: Disk> {
     Nothing,
     Closed(D),
     Open(Broker<D>),
@@ -19,40 +20,27 @@ enum Place<D: Disk> {
 /// The disk of a case, and the broker or the halves on it.
 #[derive(Drop)]
 pub struct HalvesStage {
-    place: Place<CaseDisk>,
+    place: OpenHalves<CaseDisk>,
     // The tickets of what is open.
     tickets: Vec<Ticket>,
 }
 
-// Opens a disk: where it stands then, and how many commands were recovered.
-fn opened<D: Disk>(alloc: Global, disk: D, answer: &mut Text) -> (Place<D>, Result<u64, Reply>) {
-    match Broker::open(alloc, disk) {
-        Ok(broker) => {
-            let number = broker.issued();
-            (Place::Open(broker), Ok(number))
-        }
-        Err(OpenFailure { cause, disk }) => {
-            (Place::Closed(disk), Err(refusals::open(cause, answer)))
-        }
-    }
-}
-
 // Opens a disk and splits its broker: where it stands then, and what is answered.
-fn opened_halves<D: Disk>(alloc: Global, disk: D, answer: &mut Text) -> (Place<D>, Reply) {
-    match Broker::open(alloc, disk) {
+fn opened_halves<D: Disk>(alloc: Global, disk: D, answer: &mut Text) -> (OpenHalves<D>, Reply) {
+    match open_broker(alloc, disk, answer) {
         Ok(broker) => match broker.split() {
-            Ok((issue, disk)) => (Place::Split(Halves::new(issue, disk)), Reply::Done),
+            Ok((issue, disk)) => (OpenHalves::Split(Halves::new(issue, disk)), Reply::Done),
             Err(failure) => (
-                Place::Closed(failure.broker.close()),
+                OpenHalves::Closed(failure.broker.close()),
                 Reply::Refused("out of memory"),
             ),
         },
-        Err(OpenFailure { cause, disk }) => (Place::Closed(disk), refusals::open(cause, answer)),
+        Err((disk, reply)) => (OpenHalves::Closed(disk), reply),
     }
 }
 
 // Joins two halves: where it stands then, and what is answered.
-fn joined<D: Disk>(halves: Halves<D>) -> (Place<D>, Reply) {
+fn joined<D: Disk>(halves: Halves<D>) -> (OpenHalves<D>, Reply) {
     let Halves {
         issue,
         disk,
@@ -60,7 +48,7 @@ fn joined<D: Disk>(halves: Halves<D>) -> (Place<D>, Reply) {
         lent,
     } = halves;
     match Broker::join(issue, disk) {
-        Ok(broker) => (Place::Open(broker), Reply::Done),
+        Ok(broker) => (OpenHalves::Open(broker), Reply::Done),
         Err(JoinFailure { cause, issue, disk }) => {
             let halves = Halves {
                 issue,
@@ -68,22 +56,25 @@ fn joined<D: Disk>(halves: Halves<D>) -> (Place<D>, Reply) {
                 held,
                 lent,
             };
-            (Place::Split(halves), Reply::Refused(refusals::join(cause)))
+            (
+                OpenHalves::Split(halves),
+                Reply::Refused(refusals::join(cause)),
+            )
         }
     }
 }
 
 // The disk of a place, and how many commands were durable and issued, where something was open on it.
-fn closed<D: Disk>(place: Place<D>, base: &mut Base) -> Option<D> {
+fn closed<D: Disk>(place: OpenHalves<D>, base: &mut Base) -> Option<D> {
     match place {
-        Place::Nothing => None,
-        Place::Closed(disk) => Some(disk),
-        Place::Open(broker) => {
+        OpenHalves::Nothing => None,
+        OpenHalves::Closed(disk) => Some(disk),
+        OpenHalves::Open(broker) => {
             base.durable = broker.durable().number();
             base.issued = broker.issued();
             Some(broker.close())
         }
-        Place::Split(halves) => {
+        OpenHalves::Split(halves) => {
             base.durable = halves.written();
             base.issued = halves.lent;
             Some(halves.disk.close())
@@ -94,46 +85,54 @@ fn closed<D: Disk>(place: Place<D>, base: &mut Base) -> Option<D> {
 // A step of what is open, or of the disk.
 fn step_on<D: Disk>(
     alloc: Global,
-    place: &mut Place<D>,
+    place: &mut OpenHalves<D>,
     tickets: &mut Vec<Ticket>,
     word: &str,
     words: &mut Words,
     answer: &mut Text,
 ) -> Reply {
     match place {
-        Place::Nothing => Reply::NoStep,
-        Place::Closed(disk) => disk_step(alloc, disk, word, words, answer),
-        Place::Open(broker) => broker_step(alloc, broker, tickets, word, words, answer),
-        Place::Split(halves) => halves_step(alloc, halves, tickets, word, words, answer),
+        OpenHalves::Nothing => Reply::NoStep,
+        OpenHalves::Closed(disk) => disk_step(alloc, disk, word, words, answer),
+        OpenHalves::Open(broker) => broker_step(alloc, broker, tickets, word, words, answer),
+        OpenHalves::Split(halves) => halves_step(alloc, halves, tickets, word, words, answer),
     }
 }
 
 // Takes a disk in place of what was there.
-fn put<D: Disk + Drop>(place: &mut Place<D>, disk: D) {
-    *place = Place::Closed(disk);
+fn put<D: Disk + Drop>(place: &mut OpenHalves<D>, disk: D) {
+    *place = OpenHalves::Closed(disk);
 }
 
 // Gives up what was there, and closes it.
-fn take<D: Disk>(place: &mut Place<D>, base: &mut Base) -> Option<D> {
-    closed(mem::replace(place, Place::Nothing), base)
+fn take<D: Disk>(place: &mut OpenHalves<D>, base: &mut Base) -> Option<D> {
+    closed(mem::replace(place, OpenHalves::Nothing), base)
 }
 
 // Opens a disk: how many commands were recovered.
 fn open<D: Disk + Drop>(
     alloc: Global,
-    place: &mut Place<D>,
+    place: &mut OpenHalves<D>,
     disk: D,
     answer: &mut Text,
 ) -> Result<u64, Reply> {
-    let (now, recovered) = opened(alloc, disk, answer);
-    *place = now;
-    recovered
+    match open_broker(alloc, disk, answer) {
+        Ok(broker) => {
+            let number = broker.issued();
+            *place = OpenHalves::Open(broker);
+            Ok(number)
+        }
+        Err((disk, reply)) => {
+            *place = OpenHalves::Closed(disk);
+            Err(reply)
+        }
+    }
 }
 
 // Closes what is open, opens the disk and splits its broker.
 fn split<D: Disk + Drop>(
     alloc: Global,
-    place: &mut Place<D>,
+    place: &mut OpenHalves<D>,
     base: &mut Base,
     answer: &mut Text,
 ) -> Reply {
@@ -146,9 +145,9 @@ fn split<D: Disk + Drop>(
 }
 
 // Joins the halves to a broker that is open.
-fn join<D: Disk + Drop>(place: &mut Place<D>) -> Reply {
-    match mem::replace(place, Place::Nothing) {
-        Place::Split(halves) => {
+fn join<D: Disk + Drop>(place: &mut OpenHalves<D>) -> Reply {
+    match mem::replace(place, OpenHalves::Nothing) {
+        OpenHalves::Split(halves) => {
             let (now, reply) = joined(halves);
             *place = now;
             reply
@@ -163,7 +162,7 @@ fn join<D: Disk + Drop>(place: &mut Place<D>) -> Reply {
 impl Stage for HalvesStage {
     fn nothing(alloc: Global) -> HalvesStage {
         HalvesStage {
-            place: Place::Nothing,
+            place: OpenHalves::Nothing,
             tickets: Vec::new(alloc),
         }
     }

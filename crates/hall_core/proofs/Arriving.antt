@@ -29,12 +29,13 @@ use Rattle.hall_core.specs.laws.Sound.{step, command_is_legal, call_is_accepted}
 use Rattle.hall_core.specs.laws.Statuses.{open_slots_are}
 use Rattle.hall_core.specs.Environments.{HoldFor}
 use Rattle.hall_core.specs.Plans.{PlansRequest, drawn_by}
-use Rattle.hall_core.specs.OpenSlots.{KeepFor, unavailable_in}
+use Rattle.hall_core.specs.OpenSlots.{KeepFor, has_open, open_count, unavailable_in}
 use Rattle.hall_core.specs.Answering.{polls_told}
 use Rattle.hall_core.specs.Changes.{Leads, answered_to, IsUncalled}
 use Rattle.hall_core.specs.Settling.{replies_told, replied_at, own_at}
 use Rattle.hall_core.specs.Issuing.{HasPlaceFor, Continues, IsAnswered, IsWanting, told_of}
-use Rattle.hall_core.specs.Hall.{HallView, StandsFor, settings_in, pending_in, refusal_of_arrival, request}
+use Rattle.hall_core.specs.Hall.{HallView, StandsFor, settings_in, pending_in, is_slot_open, open_slot_count, refusal_of_arrival, Passes, request}
+use Rattle.hall_core.proofs.OpenCount.{all_are_open}
 use Rattle.std.specs.Prelude.{slice_index}
 use Rattle.api_core.specs.declared.reply.Reply.{Reply}
 use Rattle.hall_core.specs.declared.preparing.Prepared.{Prepared}
@@ -60,11 +61,12 @@ refusal_is hall past slot call now words laws stands =
     let has = is_some (command_of (settings_in hall) past (arrive slot call now words)) in
     same_refusal hall.issuer.broken (is_stopping past) hall.stops
     (has && nat_le (2 ^ 62) (length past.history)) (has && nat_le (2 ^ 62) (issued_in hall.issuer))
-    (nat_le 1024 (length (open_slots hall.issuer.broken past))) (nat_le 1024 (length hall.slots))
+    (nat_le 1024 (length (open_slots hall.issuer.broken past))) (nat_le 1024 (open_slot_count hall))
     (has && nat_le 256 (length past.history - hall.issuer.durable)) (has && nat_le 256 (pending_in hall.issuer))
     (sym stands.stopping)
     (ap (λ n. has && nat_le (2 ^ 62) n) (sym issued))
-    (λ sound. ap (nat_le 1024) (ap length (open_slots_are hall.issuer.broken past) ∙ ap (λ b. length (open_among b past.slots)) sound ∙ sym stands.slots.count))
+    (λ sound. ap (nat_le 1024) (ap length (open_slots_are hall.issuer.broken past) ∙ ap (λ b. length (open_among b past.slots)) sound ∙ sym stands.slots.count
+    ∙ sym (all_are_open hall.slots) ∙ ap (λ b. open_count b hall.slots) (sym sound)))
     (ap (λ n. has && nat_le 256 (n - hall.issuer.durable)) (sym issued))
 
 -- a command that is not refused finds its place
@@ -79,6 +81,11 @@ passes_all false true w o p h = absurd (none-some error.Stopping (sym h))
 passes_all false false true o p h = absurd (none-some error.WornOut (sym h))
 passes_all false false false true p h = absurd (none-some error.Backlog (sym h))
 passes_all false false false false true h = absurd (none-some error.Backlog (sym h))
+
+-- a request that passes comes with a slot of which nothing is kept
+pub is_free : (hall : HallView) (has : Bool) (slot : ℕ) → refusal_of_arrival hall has ≡ None → is_slot_open hall slot ≡ false → has_open false hall.slots slot ≡ false
+is_free hall has slot passes free =
+    ap (λ b. has_open b hall.slots slot) (sym (passes_all hall.issuer.broken hall.stops _ _ _ passes).0) ∙ free
 
 pub finds_place : (hall : HallView) (command : Option Command) → IsIssuer hall.issuer → refusal_of_arrival hall (is_some command) ≡ None → HasPlaceFor hall.issuer command
 finds_place hall None laws h = tt
@@ -203,6 +210,24 @@ refused_by old past slot call now words effect laws stands plans =
     let is : effect ≡ effect_of (settings_in old) past (request slot call now words) = plans past stands.environments ∙ effect_is (settings_in old) past slot call now words in
     refusal_is old past slot call now (slice_index words 0, slice_index words 1) laws stands ∙ ap (λ e. refusal_of_arrival old (is_some e.command)) (sym is)
 
+-- what is told is a command where there is one
+pub told_some : (n : ℕ) (command : Option Command) → is_some (option_map (told_of n) command) ≡ is_some command
+told_some n None = refl
+told_some n (Some c) = refl
+
+-- a request that is answered passed each check
+pub arrival_passes : (old : HallView) (slot : ℕ) (call : Call) (now : ℕ) (words : List ℕ) (effect : Effect) (command : Option Command) (issued : Option Issued)
+    → IsIssuer old.issuer → PlansRequest (state_in old.issuer) old.environments slot call now words effect → refusal_of_arrival old (is_some effect.command) ≡ None
+    → command ≡ effect.command → IsAnswered old.issuer command issued → Passes old (request slot call now words) issued
+arrival_passes old slot call now words effect command issued laws plans none is answered = record {
+  by_parts =
+      ap (λ (o : Option Issued). refusal_of_arrival old (is_some o)) answered
+      ∙ ap (refusal_of_arrival old) (told_some (issued_in old.issuer) command)
+      ∙ ap (λ (o : Option Command). refusal_of_arrival old (is_some o)) is
+      ∙ none;
+  by_past = λ past stands. refused_by old past slot call now words effect laws stands plans ∙ none;
+}
+
 -- a request that passes is not refused
 pub planned_unrefused : (old : HallView) (past : Past) (slot : ℕ) (call : Call) (now : ℕ) (words : List ℕ) (effect : Effect)
     → IsIssuer old.issuer → StandsFor old past → IsFit (settings_in old) (request slot call now words)
@@ -225,7 +250,7 @@ pub called_but_for_memory : (old : HallView) (past : Past) (call : HallCall) (ef
     → why ≡ error.OutOfMemory
 unfolding calls_of
 called_but_for_memory old past call effect error.OutOfMemory stands is made uncalled = refl
-called_but_for_memory old past call effect error.BadKind stands is made uncalled =
+called_but_for_memory old past call effect error.NoHistory stands is made uncalled =
     let one = uncalled past.made stands.environments.hold in
     let accepted = call_is_accepted (settings_in old) past call one.environment one.call stands.environments.kept made (sym (ap (λ (e : Effect). e.made) is) ∙ one.only) in
     absurd (none-some one.why (sym accepted ∙ one.refused))
@@ -233,6 +258,7 @@ called_but_for_memory old past call effect error.Broken stands is made uncalled 
 called_but_for_memory old past call effect error.Stopping stands is made uncalled = absurd uncalled
 called_but_for_memory old past call effect error.WornOut stands is made uncalled = absurd uncalled
 called_but_for_memory old past call effect error.Backlog stands is made uncalled = absurd uncalled
+called_but_for_memory old past call effect error.BadKind stands is made uncalled = absurd uncalled
 called_but_for_memory old past call effect error.Fault stands is made uncalled = absurd uncalled
 called_but_for_memory old past call effect error.OtherHalf stands is made uncalled = absurd uncalled
 called_but_for_memory old past call effect (error.Mismatch told found) stands is made uncalled = absurd uncalled
@@ -253,12 +279,13 @@ pub issued_but_for_memory : (old : HallView) (past : Past) (call : HallCall) (co
     → IsUnrefused (settings_in old) past call → command ≡ command_of (settings_in old) past call → IsWanting old.issuer command why
     → why ≡ error.OutOfMemory
 issued_but_for_memory old past call command error.OutOfMemory stands made is wanting = refl
-issued_but_for_memory old past call None error.BadKind stands made is wanting = absurd wanting
-issued_but_for_memory old past call (Some c) error.BadKind stands made is wanting = absurd (not_illegal old past call c wanting.0 stands made is wanting.1)
+issued_but_for_memory old past call None error.NoHistory stands made is wanting = absurd wanting
+issued_but_for_memory old past call (Some c) error.NoHistory stands made is wanting = absurd (not_illegal old past call c wanting.0 stands made is wanting.1)
 issued_but_for_memory old past call command error.Broken stands made is wanting = absurd wanting
 issued_but_for_memory old past call command error.Stopping stands made is wanting = absurd wanting
 issued_but_for_memory old past call command error.WornOut stands made is wanting = absurd wanting
 issued_but_for_memory old past call command error.Backlog stands made is wanting = absurd wanting
+issued_but_for_memory old past call command error.BadKind stands made is wanting = absurd wanting
 issued_but_for_memory old past call command error.Fault stands made is wanting = absurd wanting
 issued_but_for_memory old past call command error.Lent stands made is wanting = absurd wanting
 issued_but_for_memory old past call command error.OtherHalf stands made is wanting = absurd wanting

@@ -5,8 +5,10 @@ use Rattle.invoke_records.specs.declared.command.Command.{Command}
 use Rattle.group_commit.specs.declared.broker.Broker.{Broker}
 use Rattle.group_commit.specs.declared.error.CommitError.{CommitError}
 use Rattle.group_commit.specs.declared.error.CommitError.TheVariants as commit_error
-use Rattle.group_commit.specs.Broker.{pending_of, is_broken, IsSameBroker, Breaks}
+use Rattle.group_commit.specs.Broker.{disk_of, pending_of, is_broken, IsSameBroker, Breaks}
 use Rattle.group_commit.specs.Refusals.{NeedsSwitch, IsWornOut, HasBadTable}
+use Rattle.hall_core.specs.declared.error.HallError.TheVariants as error
+use Rattle.hall_core.specs.Hall.{commit_error_of}
 use Rattle.hall_core.specs.Committing.{HasToWrite, IsCommitReason}
 
 unbroken : (b : Bool) → (b ≡ true → ⊥) → b ≡ false
@@ -16,6 +18,14 @@ unbroken true never = absurd (never refl)
 some : (pending : List Command) → (pending ≡ [] → ⊥) → 1 ≤ length pending
 some [] never = absurd (never refl)
 some (c ∷ rest) never = omega arith
+
+-- a commit is told to be one of a broken broker where it is
+pub told_broken : (why : CommitError) → commit_error_of why ≡ error.Broken → why ≡ commit_error.Broken
+told_broken commit_error.Broken is = refl
+told_broken commit_error.WornOut is = absurd (cc)
+told_broken commit_error.BadKind is = absurd (cc)
+told_broken commit_error.OutOfMemory is = absurd (cc)
+told_broken commit_error.Fault is = absurd (cc)
 
 module _ {D : Type 0} {g : Ghosts D} (old new : Broker D g) where
   same_of : (why : CommitError) → ((why ≡ commit_error.Fault) ⊎ IsSameBroker old new) → (why ≡ commit_error.Fault → ⊥) → IsSameBroker old new
@@ -27,6 +37,11 @@ module _ {D : Type 0} {g : Ghosts D} (old new : Broker D g) where
   has_to_write why never broken nothing =
       let whole : is_broken old ≡ false = unbroken (is_broken old) (λ is. never (broken is)) in
       record { whole = whole; some = some (pending_of old) (nothing whole) }
+
+  -- a commit of a broken broker leaves the disk alone
+  pub disk_is_left : (why : CommitError) → (is_broken old ≡ true → why ≡ commit_error.Broken) → ((why ≡ commit_error.Fault) ⊎ IsSameBroker old new)
+      → is_broken old ≡ true → disk_of new ≡ disk_of old
+  disk_is_left why broken kept is = (same_of why kept (λ fault. let told = broken is in cc)).disk
 
   pub not_committed : (why : CommitError) → (why ≡ commit_error.Broken → is_broken old ≡ true) → (is_broken old ≡ true → why ≡ commit_error.Broken)
       → (is_broken old ≡ false → pending_of old ≡ [] → ⊥) → (why ≡ commit_error.WornOut → IsWornOut old × NeedsSwitch old)

@@ -1,5 +1,5 @@
 -- Lemmas: a hall that moves from one issuer to another, or whose half settles, goes on with what was done.
-use Rattle.std.proofs.Common.{◌≡◌, List, false, true, sym, ◌∙◌, inl, inr}
+use Rattle.std.proofs.Common.{◌≡◌, List, false, sym, ◌∙◌, inl, inr}
 use Rattle.std.specs.Prelude.{Result, Ok, Err}
 use Rattle.std.proofs.lemmas.Bool.{true≢false}
 use Rattle.sector_disk.specs.declared.disk.Disk.{Ghosts}

@@ -1,5 +1,5 @@
 -- Lemmas: what open slots keep after each of their steps.
-use Rattle.std.proofs.Common.{◌≡◌, ℕ, List, [], ◌∷◌, ◌++◌, length, Bool, true, false, cond, refl, sym, ap, ◌∙◌, inl, inr, arith, Option, Some, None, is_some, option_map, nat_le, ◌==◌}
+use Rattle.std.proofs.Common.{◌≡◌, ℕ, List, [], ◌∷◌, ◌++◌, length, Bool, true, false, not, cond, refl, sym, ap, ◌∙◌, inl, inr, arith, Option, Some, None, is_some, option_map, nat_le, ◌==◌}
 use Rattle.std.specs.Prelude.{Result, Ok, Err, OnOk, OnSome}
 use Rattle.std.specs.Option.{option_len}
 use Rattle.std.proofs.lemmas.Bool.{true≢false, cases_Bool, eqb-true, eqb-false, ne_eqb, eq-eqb}
@@ -12,10 +12,10 @@ use Rattle.hall_core.specs.declared.open_slot.SlotStanding.{SlotStanding}
 use Rattle.hall_core.specs.declared.open_slot.SlotStanding.TheVariants.{Waiting, Forgotten, Replied}
 use Rattle.hall_core.specs.Past.{SlotEvent, asked, replied, taken, forgotten}
 use Rattle.hall_core.specs.Slots.{Reply, is_open_in, tell, unavailable, released_in}
-use Rattle.hall_core.specs.Status.{Status, status_of, slot_of, fresh, after_reply, after_forgetting, changed_by, status_after, released_by, ComesApart}
-use Rattle.hall_core.specs.OpenSlots.{Entries, entry_at, has_open, told_in, unavailable_in, kept, KeepFor, KeepMore}
+use Rattle.hall_core.specs.Status.{Status, status_of, slot_of, fresh, after_reply, after_forgetting, changed_by, status_after, is_open_by, released_by, ComesApart}
+use Rattle.hall_core.specs.OpenSlots.{Entries, entry_at, is_open_at, has_open, told_in, unavailable_in, kept, KeepFor, KeepMore}
 use Rattle.hall_core.specs.SlotSteps.{PutsEntry, fresh_entry, standing_of, with_reply, marked, released_at, tell_entry}
-use Rattle.hall_core.specs.laws.Statuses.{status_snoc, status_nil, open_by_status, released_by_status}
+use Rattle.hall_core.specs.laws.Statuses.{status_snoc, status_nil, open_by_status, open_by_standing, released_by_status}
 use Rattle.hall_core.specs.laws.Counts.{apart_nil, apart_front, apart_last, apart_more, count_snoc}
 
 -- ## Entries and statuses
@@ -24,17 +24,18 @@ mapped_len : {A B : Type 0} (f : A → B) (o : Option A) → option_len (option_
 mapped_len f None = refl
 mapped_len f (Some x) = refl
 
-mapped_some : {A B : Type 0} (f : A → B) (o : Option A) → is_some (option_map f o) ≡ is_some o
-mapped_some f None = refl
-mapped_some f (Some x) = refl
-
-nothing_there : {A : Type 0} (o : Option A) → is_some o ≡ false → o ≡ None
+pub nothing_there : {A : Type 0} (o : Option A) → is_some o ≡ false → o ≡ None
 nothing_there None none = refl
 nothing_there (Some x) none = absurd (true≢false none)
 
-pub open_kept : (s : Settings) (slots : Entries) (events : List SlotEvent) (slot : ℕ) → KeepFor s slots events → has_open slots slot ≡ is_open_in false events slot
-open_kept s slots events slot keeps =
-    ap is_some (keeps.each slot) ∙ mapped_some (kept s) (status_of events slot) ∙ sym (open_by_status events slot)
+open_where_kept : (b : Bool) (s : Settings) (status : Option Status) → is_open_at b (option_map (kept s) status) ≡ is_open_by b status
+open_where_kept b s None = refl
+open_where_kept b s (Some status) = refl
+
+pub open_kept : (b : Bool) (s : Settings) (slots : Entries) (events : List SlotEvent) (slot : ℕ) → KeepFor s slots events
+    → has_open b slots slot ≡ is_open_in b events slot
+open_kept b s slots events slot keeps =
+    ap (is_open_at b) (keeps.each slot) ∙ open_where_kept b s (status_of events slot) ∙ sym (open_by_standing b events slot)
 
 pub keeps_nothing : (s : Settings) (slots : Entries) → slots ≡ [] → KeepFor s slots []
 keeps_nothing s slots none = record {
@@ -94,10 +95,10 @@ keeps_still s slots events e keeps apart same =
 -- ## Opening a slot
 
 pub keeps_opened : (s : Settings) (old new : Entries) (events : List SlotEvent) (slot : ℕ) (unavailable : Text) (call : Call)
-    → KeepFor s old events → has_open old slot ≡ false → unavailable ≡ unavailable_in s → PutsEntry old new slot (Some (fresh_entry unavailable))
+    → KeepFor s old events → has_open false old slot ≡ false → unavailable ≡ unavailable_in s → PutsEntry old new slot (Some (fresh_entry unavailable))
     → KeepMore s new events (asked slot call)
 keeps_opened s old new events slot unavailable call keeps none is puts =
-    keeps_after s old new events (asked slot call) (Some (fresh_entry unavailable)) keeps (sym (open_kept s old events slot keeps) ∙ none) puts
+    keeps_after s old new events (asked slot call) (Some (fresh_entry unavailable)) keeps (sym (open_kept false s old events slot keeps) ∙ none) puts
     (ap (λ u. Some (fresh_entry u)) is)
 
 -- and taking that back
@@ -244,6 +245,41 @@ module _ (s : Settings) (old : Entries) (events : List SlotEvent) (slot : ℕ) w
 
   pub taken_is_closed : (new : Entries) → KeepFor s old events → PutsEntry old new slot None → KeepMore s new events (taken slot)
   taken_is_closed new keeps puts = keeps_after s old new events (taken slot) None keeps tt puts refl
+
+-- ## A slot whose reply is not wanted, in a broken hall
+
+own_entry : (old new : Entries) (slot : ℕ) (entry : Option OpenSlot) → PutsEntry old new slot entry → entry_at new slot ≡ entry
+own_entry old new slot entry puts = puts.each slot ∙ ap (λ b. cond b entry (entry_at old slot)) (eq-eqb slot slot refl)
+
+marked_is_closed : (o : Option OpenSlot) → is_open_at true (option_map marked o) ≡ false
+marked_is_closed None = refl
+marked_is_closed (Some entry) = refl
+
+pub closed_by_mark : (old new : Entries) (slot : ℕ) → PutsEntry old new slot (option_map marked (entry_at old slot)) → has_open true new slot ≡ false
+closed_by_mark old new slot puts =
+    ap (is_open_at true) (own_entry old new slot (option_map marked (entry_at old slot)) puts) ∙ marked_is_closed (entry_at old slot)
+
+pub closed_by_closing : (old new : Entries) (slot : ℕ) → PutsEntry old new slot None → has_open true new slot ≡ false
+closed_by_closing old new slot puts = ap (is_open_at true) (own_entry old new slot None puts)
+
+forgotten_entry : (is_forgotten has_reply : Bool) → Some (cond has_reply Replied (cond is_forgotten Forgotten Waiting)) ≡ Some Forgotten → not is_forgotten ≡ false
+forgotten_entry true has_reply is = refl
+forgotten_entry false true is = absurd (cc)
+forgotten_entry false false is = absurd (cc)
+
+forgotten_at : (o : Option OpenSlot) → option_map standing_of o ≡ Some Forgotten → is_open_at true o ≡ false
+forgotten_at None is = refl
+forgotten_at (Some entry) is = forgotten_entry entry.is_forgotten (is_some entry.reply) is
+
+pub forgotten_is_closed : (slots : Entries) (slot : ℕ) → option_map standing_of (entry_at slots slot) ≡ Some Forgotten → has_open true slots slot ≡ false
+forgotten_is_closed slots slot is = forgotten_at (entry_at slots slot) is
+
+none_at : (o : Option OpenSlot) → option_map standing_of o ≡ None → is_open_at true o ≡ false
+none_at None is = refl
+none_at (Some entry) is = absurd (cc)
+
+pub none_is_closed : (slots : Entries) (slot : ℕ) → option_map standing_of (entry_at slots slot) ≡ None → has_open true slots slot ≡ false
+none_is_closed slots slot is = none_at (entry_at slots slot) is
 
 -- ## What a take gives
 

@@ -5,6 +5,7 @@ mod Drawn
 mod Moments
 mod Oldest
 mod Kept
+mod OpenCount
 pub mod Settled
 mod Holders
 mod FirstUnheld

@@ -1,26 +1,31 @@
 -- Why a hall refuses a call, and which command a request has, whether a history is known or not.
-use Rattle.std.proofs.Common.{◌≡◌, ◌⊎◌, inl, inr, ℕ, ◌-◌, ◌≤◌, ◌^◌, List, [], ◌∷◌, length, Bool, true, false, ◌&&◌, refl, subst, Option, Some, None}
-use Rattle.std.specs.Prelude.{nat_le, option_map}
-use Rattle.std.proofs.lemmas.Bool.{leb-true}
+use Rattle.std.proofs.Common.{◌≡◌, inl, inr, ℕ, ◌≤◌, ◌^◌, List, [], ◌∷◌, Bool, true, false, ◌&&◌, refl, sym, ap, ◌∙◌, subst, Option, Some, None}
+use Rattle.std.specs.Prelude.{nat_le, option_map, is_some, slice_index}
+use Rattle.std.proofs.lemmas.Bool.{leb-true, false≢true}
 use Rattle.std.proofs.lemmas.Option.{none-some, same_Some}
 use Rattle.env_phase.specs.State.{EnvState}
 use Rattle.env_phase.specs.declared.call.EnvCall.{EnvCall}
 use Rattle.invoke_records.specs.declared.command.Command.{Command}
 use Rattle.api_core.specs.declared.call.Call.{Call}
-use Rattle.group_commit.specs.Issuer.{IssuerView, issued_in}
+use Rattle.group_commit.specs.Issuer.{IssuerView, issued_in, state_in}
 use Rattle.hall_core.specs.declared.error.HallError.{HallError}
 use Rattle.hall_core.specs.declared.error.HallError.TheVariants as error
 use Rattle.hall_core.specs.Refusals.{first_failed}
-use Rattle.hall_core.specs.Asked.{MayAsk, IsAsked}
+use Rattle.hall_core.specs.Asked.{AsksFor, MayAsk, IsAsked}
+use Rattle.hall_core.specs.Past.{HallCall, arrive, tick}
+use Rattle.hall_core.specs.Effects.{Effect, id_of}
+use Rattle.hall_core.specs.Plans.{drawn_by, PlansRequest, PlansTick}
 use Rattle.hall_core.specs.Changes.{IsUncalled}
 use Rattle.hall_core.specs.Issuing.{IsWanting, told_of}
-use Rattle.hall_core.specs.Hall.{HallView, pending_in, refusal_of_arrival, refusal_of_moving, KeepsReason}
+use Rattle.hall_core.specs.Hall.{HallView, ForEachPast, settings_in, pending_in, open_slot_count, request, refusal_of_arrival, refusal_of_moving, WouldIssue, NeedsMemory, KeepsReason}
+use Rattle.hall_core.proofs.Arriving.{effect_is}
+use Rattle.hall_core.proofs.Ticking.{tick_effect_is}
 
 -- ## Its own checks
 
-at_least : (has : Bool) (m n : ℕ) → (has && nat_le m n) ≡ true → m ≤ n
-at_least true m n is = leb-true m n is
-at_least false m n is = absurd (cc)
+at_least : (P : Type 0) (has : Bool) (m n : ℕ) → (has ≡ true → P) → (has && nat_le m n) ≡ true → P × (m ≤ n)
+at_least P true m n would is = (would refl, leb-true m n is)
+at_least P false m n would is = absurd (cc)
 
 module _ (P : HallError → Type 0) (why : HallError) where
   first_of_five : (b st w o p : Bool) → (b ≡ true → P error.Broken) → (st ≡ true → P error.Stopping) → (w ≡ true → P error.WornOut)
@@ -41,54 +46,69 @@ module _ (P : HallError → Type 0) (why : HallError) where
   first_of_three false false false hb hw hp is = absurd (none-some why is)
 
 module _ (hall : HallView) (has : Bool) (why : HallError) where
-  pub arrival_reason : refusal_of_arrival hall has ≡ Some why → KeepsReason hall why
-  arrival_reason is =
-      first_of_five (KeepsReason hall) why hall.issuer.broken hall.stops (has && nat_le (2 ^ 62) (issued_in hall.issuer))
-      (nat_le 1024 (length hall.slots)) (has && nat_le 256 (pending_in hall.issuer)) (λ e. e) (λ e. e) (at_least has (2 ^ 62) (issued_in hall.issuer))
-      (λ e. inl (leb-true 1024 (length hall.slots) e)) (λ e. inr (at_least has 256 (pending_in hall.issuer) e)) is
+  pub arrival_reason : (slot : ℕ) (call : Call) (now : ℕ) (words : ℕ × ℕ) → (has ≡ true → WouldIssue hall (arrive slot call now words))
+      → refusal_of_arrival hall has ≡ Some why → KeepsReason hall (arrive slot call now words) why
+  arrival_reason slot call now words would is =
+      let issues = WouldIssue hall (arrive slot call now words) in
+      first_of_five (KeepsReason hall (arrive slot call now words)) why hall.issuer.broken hall.stops (has && nat_le (2 ^ 62) (issued_in hall.issuer))
+      (nat_le 1024 (open_slot_count hall)) (has && nat_le 256 (pending_in hall.issuer))
+      (λ e. e) (λ e. (tt, e)) (at_least issues has (2 ^ 62) (issued_in hall.issuer) would)
+      (λ e. inl (tt, leb-true 1024 (open_slot_count hall) e)) (λ e. inr (at_least issues has 256 (pending_in hall.issuer) would e)) is
 
-  pub moving_reason : refusal_of_moving hall has ≡ Some why → KeepsReason hall why
-  moving_reason is =
-      first_of_three (KeepsReason hall) why hall.issuer.broken (has && nat_le (2 ^ 62) (issued_in hall.issuer))
-      (has && nat_le 256 (pending_in hall.issuer)) (λ e. e) (at_least has (2 ^ 62) (issued_in hall.issuer))
-      (λ e. inr (at_least has 256 (pending_in hall.issuer) e)) is
+  pub moving_reason : (now : ℕ) → (has ≡ true → WouldIssue hall (tick now)) → refusal_of_moving hall has ≡ Some why → KeepsReason hall (tick now) why
+  moving_reason now would is =
+      let issues = WouldIssue hall (tick now) in
+      first_of_three (KeepsReason hall (tick now)) why hall.issuer.broken (has && nat_le (2 ^ 62) (issued_in hall.issuer))
+      (has && nat_le 256 (pending_in hall.issuer)) (λ e. e) (at_least issues has (2 ^ 62) (issued_in hall.issuer) would)
+      (λ e. inr (at_least issues has 256 (pending_in hall.issuer) would e)) is
 
 -- ## Preparing and issuing
 
-pub uncalled_reason : (hall : HallView) (envs : List EnvState) (more : List (ℕ × EnvCall)) (why : HallError) → IsUncalled envs more why → KeepsReason hall why
-uncalled_reason hall envs more error.OutOfMemory is = tt
-uncalled_reason hall envs more error.BadKind is = tt
-uncalled_reason hall envs more error.Broken is = absurd is
-uncalled_reason hall envs more error.Stopping is = absurd is
-uncalled_reason hall envs more error.WornOut is = absurd is
-uncalled_reason hall envs more error.Backlog is = absurd is
-uncalled_reason hall envs more error.Fault is = absurd is
-uncalled_reason hall envs more error.Lent is = absurd is
-uncalled_reason hall envs more error.OtherHalf is = absurd is
-uncalled_reason hall envs more (error.Mismatch told found) is = absurd is
-uncalled_reason hall envs more error.Unfit is = absurd is
+-- what is refused for want of memory wherever a past is known, and otherwise by a table that is that of no history
+module _ (hall : HallView) (call : HallCall) (needs : NeedsMemory hall call) where
+  abbrev Only : HallError → Type 0
+  Only why = ForEachPast hall (λ past. why ≡ error.OutOfMemory)
 
-pub wanting_reason : (hall : HallView) (issuer : IssuerView) (command : Option Command) (why : HallError) → IsWanting issuer command why → KeepsReason hall why
-wanting_reason hall issuer command error.OutOfMemory is = tt
-wanting_reason hall issuer command error.BadKind is = tt
-wanting_reason hall issuer None error.Broken is = absurd is
-wanting_reason hall issuer None error.Stopping is = absurd is
-wanting_reason hall issuer None error.WornOut is = absurd is
-wanting_reason hall issuer None error.Backlog is = absurd is
-wanting_reason hall issuer None error.Fault is = absurd is
-wanting_reason hall issuer None error.Lent is = absurd is
-wanting_reason hall issuer None error.OtherHalf is = absurd is
-wanting_reason hall issuer None (error.Mismatch told found) is = absurd is
-wanting_reason hall issuer None error.Unfit is = absurd is
-wanting_reason hall issuer (Some c) error.Broken is = absurd is
-wanting_reason hall issuer (Some c) error.Stopping is = absurd is
-wanting_reason hall issuer (Some c) error.WornOut is = absurd is
-wanting_reason hall issuer (Some c) error.Backlog is = absurd is
-wanting_reason hall issuer (Some c) error.Fault is = absurd is
-wanting_reason hall issuer (Some c) error.Lent is = absurd is
-wanting_reason hall issuer (Some c) error.OtherHalf is = absurd is
-wanting_reason hall issuer (Some c) (error.Mismatch told found) is = absurd is
-wanting_reason hall issuer (Some c) error.Unfit is = absurd is
+  none_known : Only error.NoHistory → ForEachPast hall (λ past. ⊥)
+  none_known only past stands = let wrong : error.NoHistory ≡ error.OutOfMemory = only past stands in cc
+
+  pub uncalled_reason : (envs : List EnvState) (more : List (ℕ × EnvCall)) (why : HallError) → Only why → IsUncalled envs more why → KeepsReason hall call why
+  uncalled_reason envs more error.OutOfMemory only is = needs
+  uncalled_reason envs more error.NoHistory only is = none_known only
+  uncalled_reason envs more error.BadKind only is = absurd is
+  uncalled_reason envs more error.Broken only is = absurd is
+  uncalled_reason envs more error.Stopping only is = absurd is
+  uncalled_reason envs more error.WornOut only is = absurd is
+  uncalled_reason envs more error.Backlog only is = absurd is
+  uncalled_reason envs more error.Fault only is = absurd is
+  uncalled_reason envs more error.Lent only is = absurd is
+  uncalled_reason envs more error.OtherHalf only is = absurd is
+  uncalled_reason envs more (error.Mismatch told found) only is = absurd is
+  uncalled_reason envs more error.Unfit only is = absurd is
+
+  pub wanting_reason : (issuer : IssuerView) (command : Option Command) (why : HallError) → Only why → IsWanting issuer command why → KeepsReason hall call why
+  wanting_reason issuer command error.OutOfMemory only is = needs
+  wanting_reason issuer command error.NoHistory only is = none_known only
+  wanting_reason issuer None error.BadKind only is = absurd is
+  wanting_reason issuer None error.Broken only is = absurd is
+  wanting_reason issuer None error.Stopping only is = absurd is
+  wanting_reason issuer None error.WornOut only is = absurd is
+  wanting_reason issuer None error.Backlog only is = absurd is
+  wanting_reason issuer None error.Fault only is = absurd is
+  wanting_reason issuer None error.Lent only is = absurd is
+  wanting_reason issuer None error.OtherHalf only is = absurd is
+  wanting_reason issuer None (error.Mismatch told found) only is = absurd is
+  wanting_reason issuer None error.Unfit only is = absurd is
+  wanting_reason issuer (Some c) error.BadKind only is = absurd is
+  wanting_reason issuer (Some c) error.Broken only is = absurd is
+  wanting_reason issuer (Some c) error.Stopping only is = absurd is
+  wanting_reason issuer (Some c) error.WornOut only is = absurd is
+  wanting_reason issuer (Some c) error.Backlog only is = absurd is
+  wanting_reason issuer (Some c) error.Fault only is = absurd is
+  wanting_reason issuer (Some c) error.Lent only is = absurd is
+  wanting_reason issuer (Some c) error.OtherHalf only is = absurd is
+  wanting_reason issuer (Some c) (error.Mismatch told found) only is = absurd is
+  wanting_reason issuer (Some c) error.Unfit only is = absurd is
 
 -- ## The command of a request
 
@@ -96,3 +116,36 @@ pub told_asked : (drawn : List ℕ) (call : Call) (n : ℕ) (command : Option Co
     → IsAsked drawn call (option_map (told_of n) command)
 told_asked drawn call n None may = tt
 told_asked drawn call n (Some c) may = may
+
+-- ## The command that a call would issue
+
+drawn_is : (words : List ℕ) → drawn_by words ≡ id_of (slice_index words 0, slice_index words 1)
+unfolding drawn_by
+drawn_is words = refl
+
+pub request_would : (hall : HallView) (slot : ℕ) (call : Call) (now : ℕ) (words : List ℕ) (effect : Effect)
+    → PlansRequest (state_in hall.issuer) hall.environments slot call now words effect → MayAsk (drawn_by words) call effect.command
+    → is_some effect.command ≡ true → WouldIssue hall (request slot call now words)
+request_would hall slot call now words effect plans may some = would effect.command refl may some
+  where
+    would : (o : Option Command) → effect.command ≡ o → MayAsk (drawn_by words) call o → is_some o ≡ true → WouldIssue hall (request slot call now words)
+    would None is may some = absurd (false≢true some)
+    would (Some c) is may some = record {
+      command = c;
+      may = subst (λ drawn. AsksFor drawn call c.kind c.id) (drawn_is words) may;
+      has = λ past stands.
+          sym (ap (λ (e : Effect). e.command) (plans past stands.environments ∙ effect_is (settings_in hall) past slot call now words)) ∙ is;
+    }
+
+pub tick_would : (hall : HallView) (now : ℕ) (effect : Effect) → PlansTick (state_in hall.issuer) hall.environments hall.stops now effect
+    → (is_some effect.command ≡ true → hall.stops ≡ false) → is_some effect.command ≡ true → WouldIssue hall (tick now)
+tick_would hall now effect plans moving some = would effect.command refl some
+  where
+    would : (o : Option Command) → effect.command ≡ o → is_some o ≡ true → WouldIssue hall (tick now)
+    would None is none = absurd (false≢true none)
+    would (Some c) is so = record {
+      command = c;
+      may = moving some;
+      has = λ past stands.
+          sym (ap (λ (e : Effect). e.command) (plans past stands.environments stands.stopping ∙ tick_effect_is (settings_in hall) past now)) ∙ is;
+    }

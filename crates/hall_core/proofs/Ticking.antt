@@ -1,5 +1,5 @@
 -- Lemmas: what a hall stands for after a tick, a take and a forget, and why it refuses a tick.
-use Rattle.std.proofs.Common.{◌≡◌, ℕ, ◌^◌, [], ◌∷◌, ◌++◌, length, Bool, true, false, ◌||◌, refl, sym, ap, subst, ◌∙◌, arith, Option, Some, None}
+use Rattle.std.proofs.Common.{◌≡◌, ℕ, ◌^◌, List, [], ◌∷◌, ◌++◌, length, Bool, true, false, cond, ◌||◌, refl, sym, ap, subst, ◌∙◌, arith, Option, Some, None}
 use Rattle.std.specs.Prelude.{is_some, option_map}
 use Rattle.std.specs.List.{list_any}
 use Rattle.std.proofs.lemmas.List.{append-nil}
@@ -7,12 +7,16 @@ use Rattle.std.proofs.lemmas.Option.{none-some}
 use Rattle.std.proofs.lemmas.List.Folds.{list_any-append}
 use Rattle.retry_rules.specs.declared.settings.Settings.{Settings}
 use Rattle.invoke_records.specs.declared.command.Command.{Command}
-use Rattle.group_commit.specs.Issuer.{IsIssuer, issued_in, state_in}
+use Rattle.invoke_records.specs.declared.command.Kind.{Kind}
+use Rattle.async_core.specs.Choice.{move_of}
+use Rattle.group_commit.specs.Issuer.{IssuerView, IsIssuer, issued_in, state_in}
 use Rattle.hall_core.specs.declared.error.HallError.TheVariants as error
 use Rattle.hall_core.specs.declared.preparing.Prepared.{Prepared}
 use Rattle.hall_core.specs.declared.issuing.Issued.{Issued}
-use Rattle.hall_core.specs.Past.{HallCall, tick, take_slot, forget_slot, taken, forgotten, Past, SlotEvent, asks_stop, is_stopping}
-use Rattle.hall_core.specs.Effects.{Effect, nothing, scene, effect_of_tick, effect_of, command_of}
+use Rattle.hall_core.specs.Past.{HallCall, tick, take_slot, forget_slot, taken, forgotten, Past, SlotEvent, ready_in, asks_stop, is_stopping}
+use Rattle.hall_core.specs.Firsts.{Event, first_unheld, first_moving}
+use Rattle.hall_core.specs.Effects.{Effect, Scene, nothing, scene, moves_by, moves, interrupts_or_moves, effect_of_tick, effect_of, command_of}
+use Rattle.hall_core.specs.laws.Moving.{command_by_kind}
 use Rattle.hall_core.specs.Run.{option_list, slot_events, past_after, issued_by}
 use Rattle.hall_core.specs.Refusals.{first_failed, why_refused}
 use Rattle.hall_core.specs.Agreement.{IsFit, IsUnrefused}
@@ -26,8 +30,8 @@ use Rattle.hall_core.specs.Changes.{Leads, answered_to}
 use Rattle.hall_core.specs.Settling.{replied_at}
 use Rattle.hall_core.specs.Issuing.{HasPlaceFor, Continues, IsAnswered}
 use Rattle.hall_core.specs.Doing.{KeepTick}
-use Rattle.hall_core.specs.Hall.{HallView, StandsFor, settings_in, pending_in, refusal_of_moving, released_to}
-use Rattle.hall_core.proofs.Arriving.{told_to_polls, made_told, polls_are_told, told_with, none_asks, or_false, below, stands_after}
+use Rattle.hall_core.specs.Hall.{HallView, StandsFor, settings_in, pending_in, refusal_of_moving, Passes, IssuesAtMostOne, released_to}
+use Rattle.hall_core.proofs.Arriving.{told_to_polls, made_told, polls_are_told, told_some, told_with, none_asks, or_false, below, stands_after}
 
 -- ## Refusals
 
@@ -79,6 +83,19 @@ tick_unrefused old past now effect before stands fit passes is = record {
   unrefused = tick_refusal_is old past now before stands ∙ ap (λ (e : Effect). refusal_of_moving old (is_some e.command)) (sym is) ∙ passes;
 }
 
+-- a tick that is answered passed each check
+pub tick_passes : (old : HallView) (now : ℕ) (effect : Effect) (command : Option Command) (issued : Option Issued)
+    → IsIssuer old.issuer → PlansTick (state_in old.issuer) old.environments old.stops now effect → refusal_of_moving old (is_some effect.command) ≡ None
+    → command ≡ effect.command → IsAnswered old.issuer command issued → Passes old (tick now) issued
+tick_passes old now effect command issued laws plans none is answered = record {
+  by_parts =
+      ap (λ (o : Option Issued). refusal_of_moving old (is_some o)) answered
+      ∙ ap (refusal_of_moving old) (told_some (issued_in old.issuer) command)
+      ∙ ap (λ (o : Option Command). refusal_of_moving old (is_some o)) is
+      ∙ none;
+  by_past = λ past stands. tick_refused_by old past now effect laws stands plans ∙ none;
+}
+
 pub ticked : (old new : HallView) (past : Past) (now : ℕ) (effect : Effect) (p : Prepared) (issued : Option Issued)
     → IsIssuer old.issuer → IsIssuer new.issuer → StandsFor old past → IsFit (settings_in old) (tick now)
     → refusal_of_moving old (is_some effect.command) ≡ None
@@ -108,6 +125,74 @@ ticked old new past now effect p issued before after stands fit passes plans pre
       answered ∙ told_with (issued_in old.issuer) (length past.history) p.command (command_of s past (tick now)) ((before.each past.history stands.history).issued_is) (prepared.command ∙ same_command),
       stands_after old new past (tick now) effect stands is unrefused after continues.settings history count (leads effect.made prepared.leads past.made stands.environments.hold) keep stops_so,
     )
+
+-- ## A tick that has no command
+
+module _ (x : Scene) (ready : Option ℕ) where
+  abbrev IsQuiet : Effect → Type 0
+  IsQuiet effect = effect.command ≡ None → effect ≡ nothing
+
+  kind_is_quiet : (id : List ℕ) (kind : Option Kind) → IsQuiet (moves_by x ready id kind)
+  kind_is_quiet id None quiet = refl
+  kind_is_quiet id (Some kind) quiet = absurd (none-some _ (sym quiet ∙ command_by_kind x ready id kind))
+
+  move_is_quiet : (event : Option Event) → IsQuiet (moves x ready event)
+  move_is_quiet None quiet = refl
+  move_is_quiet (Some event) quiet = kind_is_quiet event.1 (move_of x.settings x.past.history x.now (is_some ready) event.1) quiet
+
+  interrupt_is_quiet : (event : Option Event) → IsQuiet (interrupts_or_moves x ready event)
+  interrupt_is_quiet None quiet = move_is_quiet (first_moving x.settings x.past.history x.now (is_some ready)) quiet
+  interrupt_is_quiet (Some event) quiet = absurd (none-some _ (sym quiet))
+
+-- a tick of a broker that stops, or of one that does not
+abbrev tick_by : Scene → Bool → Effect
+tick_by x stopping = cond stopping nothing (interrupts_or_moves x (ready_in x.settings x.past) (first_unheld x.settings x.past))
+
+tick_is_quiet : (x : Scene) → (effect_of_tick x).command ≡ None → effect_of_tick x ≡ nothing
+tick_is_quiet x quiet = either (is_stopping x.past) refl
+  where
+    either : (b : Bool) → is_stopping x.past ≡ b → effect_of_tick x ≡ nothing
+    either true stopping = ap (tick_by x) stopping
+    either false moving =
+        ap (tick_by x) moving
+        ∙ interrupt_is_quiet x (ready_in x.settings x.past) (first_unheld x.settings x.past) (sym (ap (λ b. (tick_by x b).command) moving) ∙ quiet)
+
+pub idle : (old : HallView) (past : Past) (now : ℕ) (effect : Effect) → IsIssuer old.issuer → StandsFor old past → IsFit (settings_in old) (tick now)
+    → refusal_of_moving old (is_some effect.command) ≡ None → PlansTick (state_in old.issuer) old.environments old.stops now effect → effect.command ≡ None
+    → (None ≡ issued_by (settings_in old) past (tick now)) × StandsFor old (past_after (settings_in old) past (tick now))
+idle old past now effect laws stands fit passes plans quiet =
+    let s = settings_in old in
+    let planned : effect ≡ effect_of_tick (scene s past now) = plans past stands.environments stands.stopping in
+    let is : effect ≡ effect_of s past (tick now) = planned ∙ tick_effect_is s past now in
+    let none : None ≡ command_of s past (tick now) = sym quiet ∙ ap (λ (e : Effect). e.command) is in
+    let does_nothing : nothing ≡ effect_of s past (tick now) =
+    sym (tick_is_quiet (scene s past now) (sym (ap (λ (e : Effect). e.command) planned) ∙ quiet)) ∙ tick_effect_is s past now in
+    let unrefused = tick_unrefused old past now effect laws stands fit passes is in (
+      told_with (length past.history) (length past.history) None (command_of s past (tick now)) refl none,
+      stands_after old old past (tick now) nothing stands does_nothing unrefused laws refl
+          (rw (append-nil past.history) stands.history)
+          refl
+          (rw (append-nil past.made) stands.environments.hold)
+          (rw (append-nil past.slots) stands.slots)
+          (stands.stopping ∙ sym (ap (list_any asks_stop) (append-nil past.slots))),
+    )
+
+-- nothing was issued
+pub issues_none : (issuer : IssuerView) → IssuesAtMostOne issuer issuer None
+issues_none issuer = record {
+  command = None;
+  continues = record {
+    legal = tt;
+    settings = refl;
+    table = refl;
+    issued = omega arith;
+    pending = sym (append-nil issuer.pending);
+    durable = refl;
+    broken = refl;
+    stands = λ history stands. rw (append-nil history) stands;
+  };
+  answered = refl;
+}
 
 -- ## A take and a forget
 
@@ -165,9 +250,15 @@ released_is : (broken : Bool) (durable : ℕ) (past : Past) (slot : ℕ) → rel
 unfolding released
 released_is broken durable past slot = refl
 
+pub gives_for : (s : Settings) (events : List SlotEvent) (slot : ℕ) (b c : Bool) (r d : ℕ) (result : Option (Text × ℕ))
+    → result ≡ option_map (told_in s) (released_in b r events slot) → b ≡ c → r ≡ d
+    → option_map (as_released slot) result ≡ option_map (released_to s slot) (released_in c d events slot)
+gives_for s events slot b c r d result is broken durable =
+    ap (option_map (as_released slot)) is ∙ same_release s slot (released_in b r events slot)
+    ∙ ap (option_map (released_to s slot)) (ap (λ x. released_in x r events slot) broken ∙ ap (λ n. released_in c n events slot) durable)
+
 pub gives : (s : Settings) (past : Past) (slot : ℕ) (b c : Bool) (r d : ℕ) (result : Option (Text × ℕ))
     → result ≡ option_map (told_in s) (released_in b r past.slots slot) → b ≡ c → r ≡ d
     → option_map (as_released slot) result ≡ option_map (released_to s slot) (released c d past slot)
 gives s past slot b c r d result is broken durable =
-    ap (option_map (as_released slot)) is ∙ same_release s slot (released_in b r past.slots slot)
-    ∙ ap (option_map (released_to s slot)) (released_is b r past slot ∙ ap (λ x. released x r past slot) broken ∙ ap (λ n. released c n past slot) durable)
+    gives_for s past.slots slot b c r d result is broken durable ∙ ap (option_map (released_to s slot)) (released_is c d past slot)

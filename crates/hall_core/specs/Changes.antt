@@ -51,5 +51,5 @@ pub record IsOneRefused (before more : List (ℕ × EnvCall)) : Type 0 where
 -- why these calls are not made: for want of memory, or where the environment refuses the one that it is
 abbrev pub IsUncalled : List EnvState → List (ℕ × EnvCall) → HallError → Type 0
 IsUncalled envs more error.OutOfMemory = Unit {0}
-IsUncalled envs more error.BadKind = ForEachMade envs (λ before. IsOneRefused before more)
+IsUncalled envs more error.NoHistory = ForEachMade envs (λ before. IsOneRefused before more)
 IsUncalled envs more other = ⊥

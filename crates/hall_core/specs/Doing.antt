@@ -22,4 +22,5 @@ KeepRequest old new slot unavailable p point =
 -- the polls are answered
 abbrev pub KeepTick : Entries → Entries → Prepared → ℕ → Type 0
 KeepTick old new p point =
-    ForEachKept old (λ s events. (told : List (ℕ × Told)) → p.replies.items ≡ replies_told s told → KeepFor s new (events ++ replied_at point told))
+    ForEachKept old (λ s events. (told : List (ℕ × Told)) →
+    p.replies.items ≡ replies_told s told → KeepFor s new (events ++ replied_at point told))

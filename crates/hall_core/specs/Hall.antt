@@ -1,5 +1,5 @@
 -- A hall as contracts see it, and what its calls have done.
-use Rattle.std.specs.Prelude.{◌≡◌, ℕ, ◌-◌, ◌^◌, ◌≤◌, Bool, true, false, ◌&&◌, List, [], ◌∷◌, length, Option, None, Some, ◌⊎◌, nat_le, slice_index, option_map}
+use Rattle.std.specs.Prelude.{◌≡◌, ℕ, ◌-◌, ◌^◌, ◌≤◌, Bool, true, false, ◌&&◌, List, [], ◌∷◌, Option, None, Some, ◌⊎◌, nat_le, slice_index, is_some, option_map}
 use Rattle.retry_rules.specs.declared.settings.Settings.{Settings}
 use Rattle.env_phase.specs.State.{EnvState}
 use Rattle.api_core.specs.declared.call.Call.{Call}
@@ -13,20 +13,23 @@ use Rattle.hall_core.specs.declared.error.HallError.TheVariants as error
 use Rattle.hall_core.specs.declared.issuing.Issued.{Issued}
 use Rattle.invoke_records.specs.declared.command.Command.{Command}
 use Rattle.hall_core.specs.Issuing.{Continues, IsAnswered}
-use Rattle.hall_core.specs.Past.{HallCall, arrive, Past, SlotEvent, is_stopping}
+use Rattle.hall_core.specs.Past.{HallCall, arrive, tick, Past, SlotEvent, is_stopping}
+use Rattle.hall_core.specs.Effects.{id_of, command_of}
+use Rattle.hall_core.specs.Asked.{AsksFor}
 use Rattle.hall_core.specs.Run.{past_after, issued_by}
 use Rattle.hall_core.specs.declared.released.Released.{Released}
 use Rattle.api_core.specs.Replies.{reply_of_told}
-use Rattle.hall_core.specs.Slots.{Reply, released}
+use Rattle.hall_core.specs.Slots.{Reply, released, released_in}
 use Rattle.hall_core.specs.Refusals.{first_failed, why_refused}
 use Rattle.hall_core.specs.Agreement.{IsFit}
 use Rattle.hall_core.specs.Plans.{Meets, IsToOneOf}
-use Rattle.hall_core.specs.OpenSlots.{Entries, KeepFor, has_open}
+use Rattle.hall_core.specs.OpenSlots.{Entries, KeepFor, has_open, open_count}
 
 -- the parts of a hall at a moment
 pub record HallView : Type 1 where
   pub issuer : IssuerView
   pub environments : List EnvState
+  -- what is kept of slots
   pub slots : Entries
   -- a request asked it to stop
   pub stops : Bool
@@ -36,6 +39,14 @@ view_of view hall = record { issuer = view hall.issuer; environments = hall.envi
 
 abbrev pub settings_in : HallView → Settings
 settings_in hall = hall.issuer.settings
+
+-- the slot is open
+abbrev pub is_slot_open : HallView → ℕ → Bool
+is_slot_open hall slot = has_open hall.issuer.broken hall.slots slot
+
+-- how many slots are open
+abbrev pub open_slot_count : HallView → ℕ
+open_slot_count hall = open_count hall.issuer.broken hall.slots
 
 -- ## What it has done
 
@@ -56,7 +67,7 @@ request slot call now words = arrive slot call now (slice_index words 0, slice_i
 
 -- the slot is not open, the environment is there, and the conditions of the call are met
 pub record CanBeAsked (hall : HallView) (slot : ℕ) (call : Call) (now : ℕ) (words : List ℕ) : Type 0 where
-  pub free : has_open hall.slots slot ≡ false
+  pub free : is_slot_open hall slot ≡ false
   pub environment : IsToOneOf hall.environments call
   pub fit : IsFit (settings_in hall) (request slot call now words)
 
@@ -106,7 +117,7 @@ refusal_of_arrival hall has_command =
     (hall.issuer.broken, error.Broken)
     ∷ (hall.stops, error.Stopping)
     ∷ (has_command && nat_le (2 ^ 62) (issued_in hall.issuer), error.WornOut)
-    ∷ (nat_le 1024 (length hall.slots), error.Backlog)
+    ∷ (nat_le 1024 (open_slot_count hall), error.Backlog)
     ∷ (has_command && nat_le 256 (pending_in hall.issuer), error.Backlog)
     ∷ []
     )
@@ -120,15 +131,48 @@ refusal_of_moving hall has_command =
     ∷ []
     )
 
+-- its own refusal of a call
+abbrev pub own_refusal : HallView → HallCall → Bool → Option HallError
+own_refusal hall (arrive slot call now words) has_command = refusal_of_arrival hall has_command
+own_refusal hall (tick now) has_command = refusal_of_moving hall has_command
+own_refusal hall call has_command = None
+
+-- no check fails of a call that is answered so: by what the hall keeps, and whatever was done before
+pub record Passes (hall : HallView) (call : HallCall) (issued : Option Issued) : Type 0 where
+  pub by_parts : own_refusal hall call (is_some issued) ≡ None
+  pub by_past : ForEachPast hall (λ past. why_refused hall.issuer.broken hall.issuer.durable (settings_in hall) past call ≡ None)
+
+-- a request may have the command by itself; a tick has one only where the hall is not stopping
+abbrev pub MayHave : HallView → HallCall → Command → Type 0
+MayHave hall (arrive slot call now words) c = AsksFor (id_of words) call c.kind c.id
+MayHave hall (tick now) c = hall.stops ≡ false
+MayHave hall call c = ⊥
+
+-- the call would issue this command, by itself and by whatever was done before it
+pub record WouldIssue (hall : HallView) (call : HallCall) : Type 0 where
+  pub command : Command
+  pub may : MayHave hall call command
+  pub has : ForEachPast hall (λ past. command_of (settings_in hall) past call ≡ Some command)
+
+abbrev pub IsRequest : HallCall → Type 0
+IsRequest (arrive slot call now words) = Unit {0}
+IsRequest call = ⊥
+
+-- a request needs memory for its replies, a tick only where it has a command
+abbrev pub NeedsMemory : HallView → HallCall → Type 0
+NeedsMemory hall (tick now) = WouldIssue hall (tick now)
+NeedsMemory hall call = Unit {0}
+
 -- why a call is refused, by what the hall keeps, whether a history is known or not
-abbrev pub KeepsReason : HallView → HallError → Type 0
-KeepsReason hall error.Broken = hall.issuer.broken ≡ true
-KeepsReason hall error.Stopping = hall.stops ≡ true
-KeepsReason hall error.WornOut = 2 ^ 62 ≤ issued_in hall.issuer
-KeepsReason hall error.Backlog = (1024 ≤ length hall.slots) ⊎ (256 ≤ pending_in hall.issuer)
-KeepsReason hall error.BadKind = Unit {0}
-KeepsReason hall error.OutOfMemory = Unit {0}
-KeepsReason hall other = ⊥
+abbrev pub KeepsReason : HallView → HallCall → HallError → Type 0
+KeepsReason hall call error.Broken = hall.issuer.broken ≡ true
+KeepsReason hall call error.Stopping = IsRequest call × (hall.stops ≡ true)
+KeepsReason hall call error.WornOut = WouldIssue hall call × (2 ^ 62 ≤ issued_in hall.issuer)
+KeepsReason hall call error.Backlog =
+    (IsRequest call × (1024 ≤ open_slot_count hall)) ⊎ (WouldIssue hall call × (256 ≤ pending_in hall.issuer))
+KeepsReason hall call error.NoHistory = ForEachPast hall (λ past. ⊥)
+KeepsReason hall call error.OutOfMemory = NeedsMemory hall call
+KeepsReason hall call other = ⊥
 
 -- ## Replies
 
@@ -139,6 +183,11 @@ released_to s slot told = record { reply = reply_of_told s told.0; receipt = tol
 -- the slot that it is told to
 abbrev pub slot_told : Released → ℕ
 slot_told released = released.slot
+
+-- the slot is told what these events release, where the hall has these settings
+abbrev pub GivesFor : HallView → ℕ → Option Released → Settings → List SlotEvent → Type 0
+GivesFor hall slot given s events =
+    given ≡ option_map (released_to s slot) (released_in hall.issuer.broken hall.issuer.durable events slot)
 
 -- whatever was done, the slot is told this
 abbrev pub Gives : HallView → ℕ → Option Released → Type 0

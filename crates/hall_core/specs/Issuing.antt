@@ -46,7 +46,7 @@ HasPlaceFor issuer (Some c) = (issuer.broken ≡ false) × (issued_in issuer < 2
 -- memory is wanting, or the command is not legal
 abbrev pub IsWanting : IssuerView → Option Command → HallError → Type 0
 IsWanting issuer command error.OutOfMemory = Unit {0}
-IsWanting issuer (Some c) error.BadKind = (why : Illegal) × Fails issuer c why
+IsWanting issuer (Some c) error.NoHistory = (why : Illegal) × Fails issuer c why
 IsWanting issuer command other = ⊥
 
 -- why a command is not issued, where there is a place for it
@@ -58,5 +58,5 @@ abbrev pub error_of : IssueError → HallError
 error_of issue_error.Broken = error.Broken
 error_of issue_error.WornOut = error.WornOut
 error_of issue_error.Backlog = error.Backlog
-error_of (issue_error.Illegal why) = error.BadKind
+error_of (issue_error.Illegal why) = error.NoHistory
 error_of issue_error.OutOfMemory = error.OutOfMemory

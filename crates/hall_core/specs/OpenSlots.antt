@@ -1,8 +1,8 @@
--- The open slots of a hall as contracts see them, and the events that they keep.
-use Rattle.std.specs.Prelude.{◌≡◌, ℕ, Bool, false, List, [], ◌∷◌, ◌++◌, length, Option, is_some, option_map}
+-- What a hall keeps of its slots as contracts see it, which of them are open, and the events that they keep.
+use Rattle.std.specs.Prelude.{◌≡◌, ℕ, Bool, false, not, ◌&&◌, List, [], ◌∷◌, ◌++◌, length, count_by, Option, Some, None, option_map}
 use Rattle.std.specs.Ordering.{nat_cmp}
 use Rattle.std.specs.BTreeMap.{is_at}
-use Rattle.std.specs.Map.{lookup}
+use Rattle.std.specs.Map.{lookup, values_of}
 use Rattle.retry_rules.specs.declared.settings.Settings.{Settings}
 use Rattle.api_core.specs.declared.call.Call.{Call}
 use Rattle.api_core.specs.declared.reply.Reply.{Reply as Text}
@@ -13,16 +13,31 @@ use Rattle.hall_core.specs.Past.{SlotEvent, asked}
 use Rattle.hall_core.specs.Slots.{Reply, open_among}
 use Rattle.hall_core.specs.Status.{Status, status_of, AreApart}
 
--- the open slots behind their numbers
+-- what is kept of slots, behind their numbers
 abbrev pub Entries : Type 0
 Entries = List (ℕ × OpenSlot)
 
--- what is kept of a slot, if it is open
+-- what is kept of a slot, if something is
 abbrev pub entry_at : Entries → ℕ → Option OpenSlot
 entry_at slots slot = lookup (is_at (nat_cmp slot)) slots
 
-abbrev pub has_open : Entries → ℕ → Bool
-has_open slots slot = is_some (entry_at slots slot)
+-- ## Which of them are open
+
+-- a slot that is kept is open, unless its reply is not wanted and the hall is broken
+abbrev pub is_open_entry : Bool → OpenSlot → Bool
+is_open_entry broken entry = not (broken && entry.is_forgotten)
+
+abbrev pub is_open_at : Bool → Option OpenSlot → Bool
+is_open_at broken None = false
+is_open_at broken (Some entry) = is_open_entry broken entry
+
+-- the slot is open
+abbrev pub has_open : Bool → Entries → ℕ → Bool
+has_open broken slots slot = is_open_at broken (entry_at slots slot)
+
+-- how many are open
+abbrev pub open_count : Bool → Entries → ℕ
+open_count broken slots = count_by (is_open_entry broken) (values_of slots)
 
 -- ## The events that they keep
 
@@ -42,7 +57,7 @@ kept s status = record {
   unavailable = unavailable_in s;
 }
 
--- each request came with a slot that was not open, and the slots are kept that are open by these events, as they stand
+-- each request came with a slot that was not open, and of each slot is kept how it stands by these events
 pub record KeepFor (s : Settings) (slots : Entries) (events : List SlotEvent) : Type 0 where
   pub apart : AreApart events
   pub each : (slot : ℕ) → entry_at slots slot ≡ option_map (kept s) (status_of events slot)
@@ -58,4 +73,6 @@ KeepMore s slots events event = KeepFor s slots (events ++ event ∷ [])
 
 -- whichever events they kept before a request came with this slot, they keep them again
 abbrev pub IsUndone : Entries → Entries → ℕ → Type 0
-IsUndone old new slot = (s : Settings) (events : List SlotEvent) (call : Call) → KeepMore s old events (asked slot call) → KeepFor s new events
+IsUndone old new slot =
+    (s : Settings) (events : List SlotEvent) (call : Call) → KeepMore s old events (asked slot call)
+    → KeepFor s new events

@@ -1,5 +1,5 @@
--- What the events say of one slot in a hall that is not broken, and what one event more changes.
-use Rattle.std.specs.Prelude.{◌≡◌, ℕ, Bool, true, false, ◌==◌, List, not, Option, Some, None, slice_get, take, if◌then◌else◌}
+-- What the events say of one slot, and what one event more changes.
+use Rattle.std.specs.Prelude.{◌≡◌, ℕ, Bool, true, false, ◌&&◌, ◌==◌, List, not, Option, Some, None, slice_get, take, if◌then◌else◌}
 use Rattle.std.specs.List.{list_any}
 use Rattle.hall_core.specs.Past.{SlotEvent, asked, replied, taken, forgotten}
 use Rattle.hall_core.specs.Slots.{Reply, since, forgets, reply_in, is_open_in, tell}
@@ -13,7 +13,7 @@ pub record Status : Type 0 where
   -- the reply that waits to be taken
   pub reply : Option Reply
 
--- where a slot stands by these events, if it is open
+-- where a slot stands by these events, if it is open in a hall that is not broken
 unfoldable pub status_of : List SlotEvent → ℕ → Option Status
 status_of events slot =
     if is_open_in false events slot
@@ -64,6 +64,11 @@ abbrev pub status_after : SlotEvent → ℕ → Option Status → Option Status
 status_after event slot status = if slot == slot_of event then changed_by event status else status
 
 -- ## What a status says
+
+-- the slot is open: in a broken hall it is not where its reply is not wanted
+abbrev pub is_open_by : Bool → Option Status → Bool
+is_open_by broken None = false
+is_open_by broken (Some status) = not (broken && status.is_forgotten)
 
 -- its reply is wanted
 abbrev pub is_wanted_by : Option Status → Bool

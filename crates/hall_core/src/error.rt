@@ -20,10 +20,13 @@ pub enum HallError {
     /// 1024 slots are open, or 256 commands are pending and the call has one.
     #[error("too many requests are pending")]
     Backlog,
-    /// The table, which was read from a disk, is that of no history: it refuses what a call does, or a commit needs a
-    /// switch and it has no spelling.
-    #[error("the table is that of no history")]
+    /// A commit needs a switch, and the table, which was read from a disk, has no spelling: it is that of no history.
+    #[error("the table has no spelling")]
     BadKind,
+    /// The table, which was read from a disk, is that of no history: it refuses the command of a call, or an environment
+    /// refuses what the command does to it.
+    #[error("the table is that of no history")]
+    NoHistory,
     #[error("out of memory")]
     OutOfMemory,
     /// The device failed in this call; the disk has to be opened again.

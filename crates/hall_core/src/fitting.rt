@@ -1,9 +1,8 @@
 // Whether a request is one that the hall can be asked.
 ghost use Rattle.std.specs.Prelude.{◌≡◌, ◌↔◌, IsTrue, false, length};
-ghost use Rattle.hall_core.specs.OpenSlots.{has_open};
 ghost use Rattle.hall_core.specs.Plans.{IsToOneOf};
 ghost use Rattle.hall_core.specs.Agreement.{IsFit, text_of};
-ghost use Rattle.hall_core.specs.Hall.{view_of, settings_in, request, CanBeAsked};
+ghost use Rattle.hall_core.specs.Hall.{view_of, settings_in, is_slot_open, request, CanBeAsked};
 ghost use Rattle.hall_core.specs.Environments.{IsNumberIn};
 
 use crate::environments::Environments;
@@ -43,24 +42,17 @@ impl Environments {
 }
 
 impl<I: Issuer> Hall<I> {
-    /// Whether a slot is open: a request came with it, and its reply was not taken.
-    pub fn is_open(&self, slot: u64) -> bool
-        ensures { result ≡ has_open self.now.slots slot }
-    {
-        self.slots.is_open(slot)
-    }
-
     /// Whether `arrive` can be asked this now: the slot is not open, the environment is there, the text of an answer is
     /// within the settings' limit, and the moment is at most the end of the year 9999.
     pub fn fits(&self, slot: u64, call: &Call, now: u64, words: &[u64; 2]) -> bool
-        ensures free { IsTrue result → has_open self.now.slots slot ≡ false }
+        ensures free { IsTrue result → is_slot_open (view_of I.view self.now) slot ≡ false }
         ensures environment { IsTrue result → IsToOneOf self.now.environments call.now }
         ensures fit { IsTrue result → IsFit (settings_in (view_of I.view self.now)) (request slot call.now now words.now) }
         ensures all { CanBeAsked (view_of I.view self.now) slot call.now now words.now → IsTrue result }
     {
         let _ = words;
         let most = self.issuer.table().settings().response as usize;
-        !self.slots.is_open(slot)
+        !self.is_open(slot)
             && self.environments.has_that_of(call)
             && text_size(call) <= most
             && now <= GREATEST_MOMENT

@@ -5,24 +5,18 @@ ghost use Rattle.hall_core.specs.Past.{call_stops};
 use crate::environments::Environments;
 use crate::error::HallError;
 use crate::issuing::{Issued, issue};
-use crate::planning::plan_request;
+use crate::planner::plan_request;
+use crate::planning_ticks::plan_tick;
 use crate::preparing::{Prepared, prepare};
 use crate::released::Released;
 use crate::slots::Slots;
-use crate::ticks::plan_tick;
 use api_core::{Answer, Call, Refusal, Reply, reply_text};
 use async_core::Table;
-use group_commit::{Durable, Issuer, Receipt, Ticket};
+use group_commit::{Durable, Issuer, MOST_COMMANDS, MOST_PENDING, Receipt, Ticket};
 use std::alloc::{AllocError, Global};
 
 /// How many slots may be open.
 const MOST_OPEN: usize = 1024;
-
-/// How many commands may be issued since the disk was formatted.
-const MOST_COMMANDS: u64 = 1 << 62;
-
-/// How many commands may be pending.
-const MOST_PENDING: u64 = 256;
 
 // Whether a request asks the broker to stop.
 fn is_stop(call: &Call) -> bool
@@ -49,9 +43,9 @@ pub struct Hall<I: Issuer> {
 }
 
 impl<I: Issuer> Hall<I> {
-    ghost use Rattle.std.specs.Prelude.{◌&&◌, ◌||◌, ◌^◌, nat_le, length, false, IfOk, IfErr, IfSome, IfNone, OnOk, OnErr, OnSome};
+    ghost use Rattle.std.specs.Prelude.{◌&&◌, ◌||◌, ◌^◌, nat_le, length, false, true, IfOk, IfErr, IfSome, IfNone, OnOk, OnErr, OnSome};
     ghost use Rattle.hall_core.specs.declared.error.HallError.TheVariants as HallError;
-    ghost use Rattle.hall_core.specs.OpenSlots.{has_open, unavailable_in};
+    ghost use Rattle.hall_core.specs.OpenSlots.{has_open, unavailable_in, ForEachKept};
     ghost use Rattle.hall_core.specs.Changes.{IsWithin, Leads};
     ghost use Rattle.hall_core.specs.Issuing.{Continues, IsAnswered, IsUnissued};
     ghost use Rattle.hall_core.specs.Doing.{KeepRequest, KeepTick};
@@ -60,8 +54,8 @@ impl<I: Issuer> Hall<I> {
     ghost use Rattle.hall_core.specs.Asked.{IsAsked};
     ghost use Rattle.group_commit.specs.Issuer.{issued_in, state_in};
     ghost use Rattle.hall_core.specs.Past.{tick, take_slot, forget_slot};
-    ghost use Rattle.hall_core.specs.Hall.{view_of, settings_in, pending_in, refusal_of_arrival, refusal_of_moving, IsSameHall, request, Does, Refuses, KeepsReason};
-    ghost use Rattle.hall_core.specs.Hall.{Gives, slot_told, IsDone, IsAsDurable, IssuesAtMostOne};
+    ghost use Rattle.hall_core.specs.Hall.{view_of, settings_in, pending_in, refusal_of_arrival, refusal_of_moving, IsSameHall, request, Does, Passes, Refuses, KeepsReason};
+    ghost use Rattle.hall_core.specs.Hall.{is_slot_open, Gives, GivesFor, slot_told, IsDone, IsAsDurable, IssuesAtMostOne};
 
     // Whether no number is left for a command.
     fn is_worn_out(&self, has_command: bool) -> bool
@@ -76,7 +70,7 @@ impl<I: Issuer> Hall<I> {
     {
         let issued = self.issuer.issued();
         let durable = self.issuer.durable().number();
-        has_command && issued.saturating_sub(durable) >= MOST_PENDING
+        has_command && issued.saturating_sub(durable) >= MOST_PENDING as u64
     }
 
     // Why a request is refused that comes now, if it is.
@@ -89,7 +83,7 @@ impl<I: Issuer> Hall<I> {
             Some(HallError::Stopping)
         } else if self.is_worn_out(has_command) {
             Some(HallError::WornOut)
-        } else if self.slots.len() >= MOST_OPEN {
+        } else if self.slots.open_count(self.broken) >= MOST_OPEN {
             Some(HallError::Backlog)
         } else if self.is_full(has_command) {
             Some(HallError::Backlog)
@@ -106,7 +100,7 @@ impl<I: Issuer> Hall<I> {
         unavailable: Reply,
         prepared: Prepared,
     ) -> Result<Option<Issued>, HallError>
-        requires free { has_open self.old.slots slot ≡ false }
+        requires free { has_open false self.old.slots slot ≡ false }
         requires within { IsWithin self.old.environments prepared.changes }
         requires told { unavailable ≡ unavailable_in (settings_in (view_of I.view self.old)) }
         ensures issuer { OnOk result (Continues (I.view self.old.issuer) (I.view self.new.issuer) prepared.command) }
@@ -155,7 +149,7 @@ impl<I: Issuer> Hall<I> {
     ///
     /// What an environment or the table refuses is an answer. The hall refuses by `Broken`, `Stopping`, `WornOut` (where
     /// it has a command), `Backlog` (1024 slots are open, or 256 commands are pending and it has one), or `OutOfMemory`,
-    /// in this order, and then nothing has changed; over a table that no history leaves also by `BadKind`. Moments are
+    /// in this order, and then nothing has changed; over a table that no history leaves also by `NoHistory`. Moments are
     /// milliseconds since 1970.
     pub fn arrive(
         &mut self,
@@ -164,7 +158,7 @@ impl<I: Issuer> Hall<I> {
         now: u64,
         words: [u64; 2],
     ) -> Result<Option<Issued>, HallError>
-        requires free { has_open self.old.slots slot ≡ false }
+        requires free { is_slot_open (view_of I.view self.old) slot ≡ false }
         requires environment { IsToOneOf self.old.environments call }
         requires fit { IsFit (settings_in (view_of I.view self.old)) (request slot call now words) }
         ensures ok { IfOk result (Does (view_of I.view self.old) (view_of I.view self.new) (request slot call now words)) }
@@ -172,8 +166,9 @@ impl<I: Issuer> Hall<I> {
         ensures issues { IfOk result (IssuesAtMostOne (I.view self.old.issuer) (I.view self.new.issuer)) }
         ensures kept { OnOk result (IsAsDurable (view_of I.view self.old) (view_of I.view self.new)) }
         ensures no_call { I.is_untouched self.old.issuer self.new.issuer }
+        ensures passes { IfOk result (Passes (view_of I.view self.old) (request slot call now words)) }
         ensures refused { IfErr result (Refuses (view_of I.view self.old) (request slot call now words)) }
-        ensures reason { IfErr result (KeepsReason (view_of I.view self.old)) }
+        ensures reason { IfErr result (KeepsReason (view_of I.view self.old) (request slot call now words)) }
         ensures err { OnErr result (IsSameHall (view_of I.view self.old) (view_of I.view self.new)) }
     {
         let stops = is_stop(&call);
@@ -247,16 +242,17 @@ impl<I: Issuer> Hall<I> {
     /// hall stops.
     ///
     /// It is refused by `Broken`, `WornOut` or `Backlog` (256 commands are pending) where there is a command to issue,
-    /// or `OutOfMemory`, in this order, and then nothing has changed; over a table that no history leaves also by `BadKind`.
-    /// A moment is at most the end of the year 9999.
+    /// or `OutOfMemory`, in this order, and then nothing has changed; over a table that no history leaves also by
+    /// `NoHistory`. Where there is no command it asks for no memory. A moment is at most the end of the year 9999.
     pub fn tick(&mut self, now: u64) -> Result<Option<Issued>, HallError>
         requires { IsFit (settings_in (view_of I.view self.old)) (tick now) }
         ensures ok { IfOk result (Does (view_of I.view self.old) (view_of I.view self.new) (tick now)) }
         ensures issues { IfOk result (IssuesAtMostOne (I.view self.old.issuer) (I.view self.new.issuer)) }
         ensures kept { OnOk result (IsAsDurable (view_of I.view self.old) (view_of I.view self.new)) }
         ensures no_call { I.is_untouched self.old.issuer self.new.issuer }
+        ensures passes { IfOk result (Passes (view_of I.view self.old) (tick now)) }
         ensures refused { IfErr result (Refuses (view_of I.view self.old) (tick now)) }
-        ensures reason { IfErr result (KeepsReason (view_of I.view self.old)) }
+        ensures reason { IfErr result (KeepsReason (view_of I.view self.old) (tick now)) }
         ensures err { OnErr result (IsSameHall (view_of I.view self.old) (view_of I.view self.new)) }
     {
         let plan = plan_tick(
@@ -266,8 +262,12 @@ impl<I: Issuer> Hall<I> {
             self.stops,
             now,
         );
-        if let Some(why) = self.refusal_of_moving(plan.command.is_some()) {
+        let has_command = plan.command.is_some();
+        if let Some(why) = self.refusal_of_moving(has_command) {
             return Err(why);
+        }
+        if !has_command {
+            return Ok(None);
         }
         let prepared = match prepare(self.alloc, self.issuer.table(), &self.environments, plan) {
             Ok(prepared) => prepared,
@@ -283,8 +283,11 @@ impl<I: Issuer> Hall<I> {
     /// closed. In a broken hall a slot whose reply is not durable, or that has none, is told that the broker is not
     /// available, with the receipt of all that is durable. None where the slot is not open or its reply is not wanted,
     /// and as long as it waits. It takes no memory.
+    ///
+    /// So it tells also what was computed before two halves were joined, of which one was broken (`kept`).
     pub fn take(&mut self, slot: u64) -> Option<Released>
         ensures gives { Gives (view_of I.view self.old) slot result }
+        ensures kept { ForEachKept self.old.slots (GivesFor (view_of I.view self.old) slot result) }
         ensures slot { IfSome result (λ released. slot_told released ≡ slot) }
         ensures some { OnSome result (IsDone (view_of I.view self.old) (view_of I.view self.new) (take_slot slot)) }
         ensures none { IfNone result (IsSameHall (view_of I.view self.old) (view_of I.view self.new)) }
@@ -296,10 +299,12 @@ impl<I: Issuer> Hall<I> {
         }
     }
 
-    /// The reply of a slot is not wanted any more: it is thrown away, now or when it is computed, which closes the slot.
-    /// A parked poll stays parked. For a slot that is not open it does nothing. It takes no memory.
+    /// The reply of a slot is not wanted any more: it is thrown away, now or when it is computed, which closes the slot. In a
+    /// broken hall, where nothing computes it any more, the slot is closed at once, and one that waits so is closed when the
+    /// hall breaks. A parked poll stays parked. For a slot that is not open it does nothing. It takes no memory.
     pub fn forget(&mut self, slot: u64)
         ensures done { IsDone (view_of I.view self.old) (view_of I.view self.new) (forget_slot slot) }
+        ensures closed { (I.view self.old.issuer).broken ≡ true → is_slot_open (view_of I.view self.new) slot ≡ false }
         ensures issuer { self.new.issuer ≡ self.old.issuer }
     {
         self.slots.forget(slot);

@@ -24,7 +24,7 @@ fn error_of(why: IssueError) -> HallError
         IssueError::Broken => HallError::Broken,
         IssueError::WornOut => HallError::WornOut,
         IssueError::Backlog => HallError::Backlog,
-        IssueError::Illegal(_) => HallError::BadKind,
+        IssueError::Illegal(_) => HallError::NoHistory,
         IssueError::OutOfMemory => HallError::OutOfMemory,
     }
 }

@@ -8,15 +8,15 @@
 #![tactic(auto)]
 
 mod answering;
-mod callers;
-mod calling;
+mod calling_environments;
 mod changes;
+mod drawing;
 mod environments;
 mod error;
 pub mod examples;
+mod finding_unheld;
 mod fitting;
 mod hall;
-mod ids;
 mod issuing;
 pub mod laws;
 mod open_slot;
@@ -24,15 +24,14 @@ mod over_broker;
 mod over_half;
 mod plan;
 mod planner;
-mod planning;
+mod planning_callers;
+mod planning_environments;
+mod planning_ticks;
 mod preparing;
 mod released;
-mod requests;
+mod reporting;
 mod settling;
 mod slots;
-mod standing;
-mod ticks;
-mod unheld;
 
 pub use error::HallError;
 pub use hall::Hall;

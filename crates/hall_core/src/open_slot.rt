@@ -4,7 +4,7 @@ ghost use Rattle.std.specs.Prelude.{◌≡◌, is_some};
 use api_core::Reply;
 use group_commit::{Receipt, Ticket};
 
-/// A slot that is open: a request came with it, and its reply waits to be taken or is not there yet.
+/// A slot with which a request came: its reply waits to be taken, or is not there yet.
 #[derive(Drop)]
 pub(crate) struct OpenSlot {
     /// Its reply is not wanted.
@@ -15,7 +15,7 @@ pub(crate) struct OpenSlot {
     pub(crate) unavailable: Reply,
 }
 
-/// Where a slot stands that is open.
+/// Where a slot stands.
 #[derive(Clone, Copy)]
 pub(crate) enum SlotStanding {
     /// It has no reply yet.
@@ -27,6 +27,7 @@ pub(crate) enum SlotStanding {
 }
 
 impl OpenSlot {
+    ghost use Rattle.hall_core.specs.OpenSlots.{is_open_entry};
     ghost use Rattle.hall_core.specs.SlotSteps.{fresh_entry, standing_of, released_entry, told_entry};
 
     /// A slot that was just opened.
@@ -51,6 +52,13 @@ impl OpenSlot {
         } else {
             SlotStanding::Waiting
         }
+    }
+
+    /// Whether it is open. In a broken hall it is not where its reply is not wanted: nothing will compute that.
+    pub(crate) fn is_open(&self, is_broken: bool) -> bool
+        ensures { result ≡ is_open_entry is_broken self.now }
+    {
+        !(is_broken && self.is_forgotten)
     }
 
     /// Whether its reply can be told: it is wanted and durable, or the hall is broken.

@@ -1,13 +1,14 @@
 // A hall over a broker: opening it, committing, and closing it.
-ghost use Rattle.std.specs.Prelude.{◌≡◌, List, [], false, true, Err, IfOk, IfErr, OnOk};
+ghost use Rattle.std.specs.Prelude.{◌≡◌, ◌↔◌, List, false, true, Err, IfOk, IfErr, OnOk};
 ghost use Rattle.invoke_records.specs.declared.command.Command.{Command};
-ghost use Rattle.group_commit.specs.Broker.{disk_of, pending_of, is_broken, Stands, Commits};
+ghost use Rattle.group_commit.specs.Broker.{disk_of, settings_of, is_broken, Stands, Commits};
 ghost use Rattle.group_commit.specs.Promises.{LeavesLegalStops};
 ghost use Rattle.group_commit.specs.Refusals.{FaultsHaveRisen, IsWornOut, NeedsSwitch};
 ghost use Rattle.group_commit.specs.IssuerBroker.{issuer_of};
 ghost use Rattle.hall_core.specs.declared.error.HallError.TheVariants as HallError;
 ghost use Rattle.hall_core.specs.Past.{opening};
 ghost use Rattle.hall_core.specs.Hall.{view_of, StandsFor, ForEachPast, IsAllDurable, commit_error_of};
+ghost use Rattle.hall_core.specs.Fresh.{IsFresh};
 ghost use Rattle.hall_core.specs.Halves.{HasSameParts};
 ghost use Rattle.hall_core.specs.Committing.{HasToWrite, IsNotCommitted};
 
@@ -39,13 +40,12 @@ fn error_of(why: CommitError) -> HallError
 }
 
 impl<D: Disk> Hall<Broker<D>> {
-    /// A hall over a broker that is not broken and has nothing pending, in which nothing has come yet. Want of memory
-    /// hands the broker back.
+    /// A hall over a broker, in which nothing has come yet; over a broken one it is broken. Want of memory hands the broker
+    /// back.
     pub fn new(alloc: Global, broker: Broker<D>) -> Result<Hall<Broker<D>>, HallFailure<D>>
-        requires nothing { pending_of broker ≡ [] }
-        requires sound { is_broken broker ≡ false }
         ensures stands { (history : List Command) → Stands D.view broker history
             → IfOk result (λ hall. StandsFor (view_of (issuer_of D.view) hall) (opening history)) }
+        ensures fresh { IfOk result (λ hall. IsFresh (settings_of broker) hall) }
         ensures same { IfOk result (λ hall. hall.issuer ≡ broker) }
         ensures err { IfErr result (λ failure. failure.broker ≡ broker) }
     {
@@ -53,6 +53,7 @@ impl<D: Disk> Hall<Broker<D>> {
         let Ok(environments) = Environments::new(alloc, count) else {
             return Err(HallFailure { broker });
         };
+        let broken = broker.is_broken();
         let receipt = broker.durable().receipt();
         Ok(Hall {
             alloc,
@@ -60,7 +61,7 @@ impl<D: Disk> Hall<Broker<D>> {
             environments,
             slots: Slots::new(alloc),
             stops: false,
-            broken: false,
+            broken,
             receipt,
         })
     }
@@ -69,7 +70,8 @@ impl<D: Disk> Hall<Broker<D>> {
     ///
     /// It is refused, and nothing else has changed: `Broken`, `WornOut` and `BadKind` (where the broker has to switch),
     /// `OutOfMemory`, and `Fault`, after which the hall is broken: every slot whose reply is not durable is told that the
-    /// broker is not available. What the disk may hold then is said by `any_moment`.
+    /// broker is not available, and every slot whose reply is not wanted is closed. What the disk may hold then is said by
+    /// `any_moment`. A broken hall does not call the disk.
     pub fn commit(&mut self) -> Result<Durable, HallError>
         ensures durable { IfOk result (λ durable. IsAllDurable (view_of (issuer_of D.view) self.new) durable) }
         ensures stands { ForEachPast (view_of (issuer_of D.view) self.old) (λ past. StandsFor (view_of (issuer_of D.view) self.new) past) }
@@ -84,6 +86,8 @@ impl<D: Disk> Hall<Broker<D>> {
         ensures worn { HasToWrite self.old.issuer → NeedsSwitch self.old.issuer → IsWornOut self.old.issuer
             → result ≡ Err HallError.WornOut }
         ensures cause { result ≡ Err HallError.Fault → FaultsHaveRisen D.fault_count self.old.issuer self.new.issuer }
+        ensures broken { (result ≡ Err HallError.Broken) ↔ (is_broken self.old.issuer ≡ true) }
+        ensures no_call { is_broken self.old.issuer ≡ true → disk_of self.new.issuer ≡ disk_of self.old.issuer }
     {
         match self.issuer.commit() {
             Ok(durable) => {

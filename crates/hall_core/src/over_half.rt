@@ -6,7 +6,7 @@ ghost use Rattle.group_commit.specs.IssuerHalf.{half_view, has_same_lent};
 ghost use Rattle.group_commit.specs.Lending.{Lends, CanLend, SettlesBy};
 ghost use Rattle.group_commit.specs.Splitting.{broker_of, Splits, IsSplitReason, Joins, IsNotJoined};
 ghost use Rattle.hall_core.specs.Hall.{view_of, StandsFor, ForEachPast, IsSameHall};
-ghost use Rattle.hall_core.specs.Halves.{HasSameParts, IsNotLent, IsNotDurable};
+ghost use Rattle.hall_core.specs.Halves.{HasSameParts, KeepsSlotsOf, IsNotLent, IsNotDurable};
 ghost use Rattle.hall_core.specs.Halves as meant;
 
 use crate::error::HallError;
@@ -176,13 +176,15 @@ impl Hall<IssueHalf> {
     /// Joins the halves of the broker again: what is pending is issued to the disk half, and the tables are compared.
     ///
     /// It is refused, and hands both back: `Lent` (a batch is out), `Backlog`, `OutOfMemory`, `Mismatch` (the tables
-    /// differ). A broken half gives a broken hall, and nothing is compared then.
+    /// differ). A broken half gives a broken hall, and nothing is compared then: of what was computed before, `take` tells
+    /// what the half over the disk has durable, and to every other slot that the broker is not available (`slots`).
     pub fn join<D: Disk>(self, disk: DiskHalf<D>) -> Result<Hall<Broker<D>>, HallJoinFailure<D>>
         ensures ok { IfOk result (λ hall. Joins self.issuer (broker_of disk) hall.issuer) }
         ensures parts { IfOk result (λ hall. HasSameParts (view_of half_view self) (view_of (issuer_of D.view) hall)) }
         ensures stands { ForEachPast (view_of half_view self) (λ past.
             Stands D.view (broker_of disk) (take (issued_of (broker_of disk)) past.history)
             → IfOk result (λ hall. is_broken hall.issuer ≡ false → StandsFor (view_of (issuer_of D.view) hall) past)) }
+        ensures slots { IfOk result (λ hall. KeepsSlotsOf (view_of half_view self) (view_of (issuer_of D.view) hall)) }
         ensures same { IfErr result (λ failure. failure.hall.issuer ≡ self.issuer) }
         ensures same_parts { IfErr result (λ failure. HasSameParts (view_of half_view self) (view_of half_view failure.hall)) }
         ensures err { IfErr result (λ failure.

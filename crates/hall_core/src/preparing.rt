@@ -45,7 +45,7 @@ fn own_reply(
 
 /// Makes all that a call will change, and asks for its memory. Nothing changes.
 ///
-/// It is refused by `OutOfMemory`, or by `BadKind` where an environment refuses the call that is planned, which it does
+/// It is refused by `OutOfMemory`, or by `NoHistory` where an environment refuses the call that is planned, which it does
 /// not where a history leaves the table.
 pub(crate) fn prepare(
     alloc: Global,

@@ -7,7 +7,7 @@ use group_commit::Receipt;
 /// A reply that may be told, since all that it shows is durable by this receipt. Only a hall makes one, for one slot.
 #[derive(Drop)]
 pub struct Released {
-    pub reply: Reply,
+    reply: Reply,
     pub receipt: Receipt,
     slot: u64,
 }
@@ -30,5 +30,13 @@ impl Released {
         ensures { result ≡ slot_told self.now }
     {
         self.slot
+    }
+
+    /// The reply, as it was released: nobody can change it in here.
+    pub fn into_reply(self) -> Reply
+        ensures { result ≡ self.reply }
+    {
+        let Released { reply, .. } = self;
+        reply
     }
 }

@@ -1,5 +1,5 @@
-// The open slots of a hall.
-ghost use Rattle.std.specs.Prelude.{◌≡◌, IfNone, OnSome, OnOk, OnErr, None, Some, is_some, option_map, length, false};
+// The slots of a hall.
+ghost use Rattle.std.specs.Prelude.{◌≡◌, IfNone, OnSome, OnOk, OnErr, None, Some, is_some, option_map, length, false, true};
 
 use crate::open_slot::{OpenSlot, SlotStanding};
 use api_core::Reply;
@@ -8,9 +8,10 @@ use std::alloc::{AllocError, Global};
 use std::collections::BTreeMap;
 use std::marker::Model;
 
-/// The slots that are open: for each the reply that waits to be taken, once there is one.
+/// The slots with which requests came: for each the reply that waits to be taken, once there is one.
 ///
-/// They keep what became of each slot, so that a reply is told once, and only where it is still wanted.
+/// They keep what became of each slot, so that a reply is told once, and only where it is still wanted. All of them are
+/// open, save that in a broken hall those are closed whose reply is not wanted.
 #[derive(Drop)]
 pub(crate) struct Slots {
     slots: BTreeMap<u64, OpenSlot>,
@@ -31,10 +32,10 @@ impl Slots {
     ghost use Rattle.api_core.specs.Replies.{Told, reply_of_told};
     ghost use Rattle.hall_core.specs.Past.{asked, replied, taken, forgotten};
     ghost use Rattle.hall_core.specs.Slots.{open_among, is_open_in, released_in};
-    ghost use Rattle.hall_core.specs.OpenSlots.{entry_at, has_open, told_in, unavailable_in, KeepFor, ForEachKept, KeepMore, IsUndone};
+    ghost use Rattle.hall_core.specs.OpenSlots.{entry_at, has_open, open_count, told_in, unavailable_in, KeepFor, ForEachKept, KeepMore, IsUndone};
     ghost use Rattle.hall_core.specs.SlotSteps.{PutsEntry, standing_of, with_reply, marked, released_at};
 
-    /// No slot is open. It takes no memory.
+    /// No request came yet. It takes no memory.
     pub(crate) fn new(alloc: Global) -> Slots
         ensures { (s : Settings) → KeepFor s result [] }
     {
@@ -43,25 +44,43 @@ impl Slots {
         }
     }
 
-    /// How many are open.
-    pub(crate) fn len(&self) -> usize
-        ensures by_entries { result ≡ length self.now }
-        ensures by_events { ForEachKept self.now (λ _ events. result ≡ length (open_among false events)) }
+    /// How many are open, in a hall that is broken or is not.
+    pub(crate) fn open_count(&self, is_broken: bool) -> usize
+        ensures by_entries { result ≡ open_count is_broken self.now }
+        ensures by_events { ForEachKept self.now (λ _ events. result ≡ length (open_among is_broken events)) }
     {
-        self.slots.len()
+        if is_broken {
+            self.wanted_count()
+        } else {
+            self.slots.len()
+        }
     }
 
-    /// Whether a slot is open.
-    pub(crate) fn is_open(&self, slot: u64) -> bool
-        ensures by_entry { result ≡ has_open self.now slot }
-        ensures by_events { ForEachKept self.now (λ _ events. result ≡ is_open_in false events slot) }
+    // How many are open in a broken hall.
+    fn wanted_count(&self) -> usize
+        ensures by_entries { result ≡ open_count true self.now }
+        ensures by_events { ForEachKept self.now (λ _ events. result ≡ length (open_among true events)) }
     {
-        self.slots.contains_key(&slot)
+        self.slots
+            .values()
+            .filter(|entry| entry.is_open(true))
+            .count()
+    }
+
+    /// Whether a slot is open, in a hall that is broken or is not.
+    pub(crate) fn is_open(&self, slot: u64, is_broken: bool) -> bool
+        ensures by_entry { result ≡ has_open is_broken self.now slot }
+        ensures by_events { ForEachKept self.now (λ _ events. result ≡ is_open_in is_broken events slot) }
+    {
+        match self.slots.get(&slot) {
+            Some(entry) => entry.is_open(is_broken),
+            None => false,
+        }
     }
 
     /// Opens a slot for a request that came with it. A refusal changes nothing.
     pub(crate) fn open(&mut self, slot: u64, unavailable: Reply) -> Result<(), AllocError>
-        requires { has_open self.old slot ≡ false }
+        requires { has_open false self.old slot ≡ false }
         ensures ok { ForEachKept self.old (λ s events. unavailable ≡ unavailable_in s
             → OnOk result ((call : Call) → KeepMore s self.new events (asked slot call))) }
         ensures err { OnErr result (self.new ≡ self.old) }
@@ -107,9 +126,11 @@ impl Slots {
         self.release(slot, is_broken, receipt)
     }
 
-    /// Notes that the reply of a slot is not wanted: it is closed now, or once it is replied to. It takes no memory.
+    /// Notes that the reply of a slot is not wanted: it is closed now, or once it is replied to or the hall breaks. It takes
+    /// no memory.
     pub(crate) fn forget(&mut self, slot: u64)
-        ensures { ForEachKept self.old (λ s events. KeepMore s self.new events (forgotten slot)) }
+        ensures by_events { ForEachKept self.old (λ s events. KeepMore s self.new events (forgotten slot)) }
+        ensures closed { has_open true self.new slot ≡ false }
     {
         match self.standing(slot) {
             Some(SlotStanding::Waiting) => self.mark(slot),
@@ -121,7 +142,7 @@ impl Slots {
         }
     }
 
-    // Puts a slot among the open ones.
+    // Keeps this of a slot.
     fn put(&mut self, slot: u64, entry: OpenSlot) -> Result<(), AllocError>
         ensures ok { OnOk result (PutsEntry self.old self.new slot (Some entry)) }
         ensures err { OnErr result (self.new ≡ self.old) }
@@ -155,7 +176,7 @@ impl Slots {
         }
     }
 
-    // Where a slot stands, if it is open.
+    // Where a slot stands, if something is kept of it.
     fn standing(&self, slot: u64) -> Option<SlotStanding>
         ensures { result ≡ option_map standing_of (entry_at self.now slot) }
     {
@@ -173,7 +194,7 @@ impl Slots {
         self.slots.remove(&slot)
     }
 
-    // Gives an open slot this reply.
+    // Gives a slot this reply, if something is kept of it.
     fn set_reply(&mut self, slot: u64, reply: Reply, ticket: Ticket)
         ensures { PutsEntry self.old self.new slot (option_map (with_reply (reply, ticket)) (entry_at self.old slot)) }
     {
@@ -182,7 +203,7 @@ impl Slots {
         }
     }
 
-    // Notes that the reply of an open slot is not wanted.
+    // Notes that the reply of a slot is not wanted, if something is kept of it.
     fn mark(&mut self, slot: u64)
         ensures { PutsEntry self.old self.new slot (option_map marked (entry_at self.old slot)) }
     {

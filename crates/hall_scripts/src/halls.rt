@@ -17,6 +17,7 @@ pub fn refusal(why: HallError) -> &'static str {
         HallError::WornOut => "worn out",
         HallError::Backlog => "backlog",
         HallError::BadKind => "bad kind",
+        HallError::NoHistory => "no history",
         HallError::OutOfMemory => "out of memory",
         HallError::Fault => "fault",
         HallError::Lent => "lent",
@@ -89,7 +90,7 @@ fn take<I: Issuer>(hall: &mut Hall<I>, words: &mut Words, answer: &mut Text) -> 
     };
     answer.add_with("by ", released.receipt.number());
     answer.add(" ");
-    tell_reply(Ok(released.reply), answer)
+    tell_reply(Ok(released.into_reply()), answer)
 }
 
 fn forget<I: Issuer>(hall: &mut Hall<I>, words: &mut Words) -> Reply {

@@ -4,7 +4,7 @@
 #![tactic(auto)]
 
 mod halls;
-mod places;
+mod open_hall;
 mod splits;
 mod stage;
 

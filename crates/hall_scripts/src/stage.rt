@@ -1,5 +1,5 @@
 // What a case of this program has of a disk: the disk, or a broker or a hall that is open on it.
-use crate::places::{Place, open, open_hall, put, split_or_join, step_on, take};
+use crate::open_hall::{OpenHall, ask, open, put, split_or_join, step_on, take};
 use case_runner::{Reply, Text, Words};
 use disk_steps::{Base, CaseDisk, Stage};
 use group_commit::{Broker, Ticket};
@@ -9,7 +9,7 @@ use std::alloc::Global;
 /// The disk of a case, and the broker or the hall on it.
 #[derive(Drop)]
 pub struct HallStage {
-    place: Place<Broker<CaseDisk>, CaseDisk>,
+    place: OpenHall<Broker<CaseDisk>, CaseDisk>,
     // The tickets of the broker that is open.
     tickets: Vec<Ticket>,
 }
@@ -17,7 +17,7 @@ pub struct HallStage {
 impl Stage for HallStage {
     fn nothing(alloc: Global) -> HallStage {
         HallStage {
-            place: Place::Nothing,
+            place: OpenHall::Nothing,
             tickets: Vec::new(alloc),
         }
     }
@@ -59,7 +59,7 @@ impl Stage for HallStage {
         match word {
             "hall" => {
                 self.tickets.clear();
-                open_hall(alloc, &mut self.place, base, answer)
+                ask(alloc, &mut self.place, base, answer)
             }
             "split" => split_or_join(&mut self.place, true),
             "join" => split_or_join(&mut self.place, false),

@@ -1,0 +1,4 @@
+pub mod Learning
+pub mod Marking
+pub mod Refusals
+pub mod laws

@@ -1,14 +1,23 @@
-// The committer's loop.
+// The committer: what its loop works on.
+ghost use Rattle.std.specs.Prelude.{◌≡◌, [], ◌∷◌, ◌++◌};
+ghost use Rattle.commit_loop.specs.Committer.{Step, IsRun};
+ghost use Rattle.front_board.specs.Seated.{seen_by};
+ghost use Rattle.group_commit.specs.Splitting.{broker_of};
+ghost use Rattle.receipts.specs.Serving.{HasServed};
+ghost use Rattle.receipts.specs.laws.Serving.{served_at_first, served_both};
+ghost use Rattle.http_front.specs.Learning.{known, HasLearned};
+ghost use Rattle.http_front.specs.Refusals.{is_last};
+ghost use Rattle.http_front.specs.laws.Learned.{learned_nothing, learned_more};
+
+use crate::asking::{NotCommitted, ask};
 use crate::front::Front;
-use crate::gate::{Gate, Turn};
-use crate::seated::Seated;
-use group_commit::DiskHalf;
-use hall_core::HallError;
+use commit_loop::{Committing, Gate, commit_all};
+use front_board::Seated;
+use group_commit::{DiskHalf, Durable};
 use receipts::Desk;
 use sector_disk::Disk;
 use std::sync::Wait;
 use std::sync::ledger::Ledger;
-use std::thread;
 
 /// What the committer works with: a desk, the half of the broker over the disk, and a seat of the board.
 #[derive(Drop)]
@@ -18,69 +27,114 @@ pub struct Committer<L: Ledger, D: Disk> {
     seated: Seated,
 }
 
-impl<L: Ledger, D: Disk> Committer<L, D> {
+// A committer at a front.
+#[derive(Drop)]
+struct AtFront<'a, R, L: Ledger, D: Disk> {
+    rt: &'a R,
+    front: &'a Front<L>,
+    committer: Committer<L, D>,
+}
+
+impl<R: Wait, L: Ledger, D: Disk> Committing for AtFront<'_, R, L, D> {
+    type Durable = Durable;
+
+    type Failure = NotCommitted;
+
+    ghost number = { λ durable. durable };
+
+    ghost breaks = { λ refused. is_last refused.why };
+
+    ghost leads = { λ old steps new. HasLearned
+        (known old.committer.desk.told (seen_by old.committer.seated))
+        steps
+        (known new.committer.desk.told (seen_by new.committer.seated))
+        × HasServed D.view D.fault_count (broker_of old.committer.half) (broker_of new.committer.half) };
+
+    fn pending(&mut self) -> usize {
+        self.front.pending(self.rt)
+    }
+
+    fn commit(&mut self) -> Result<Durable, NotCommitted> {
+        ask(
+            self.rt,
+            &self.front.office,
+            &mut self.committer.desk,
+            &mut self.committer.half,
+        )
+    }
+
+    fn is_broken_by(&self, why: &NotCommitted) -> bool {
+        why.is_last()
+    }
+
+    fn raise(&mut self, durable: Durable) {
+        self.committer.seated.raise(durable);
+    }
+
+    fn say_broken(&mut self) {
+        self.front.bell.say_broken();
+    }
+
+    fn ring(&mut self) {
+        self.front.bell.ring(self.rt);
+    }
+
+    fn sleep(&mut self) {
+        self.front.wake.wait(self.rt);
+    }
+
+    ghost stays = { λ value. (
+      learned_nothing (known value.committer.desk.told (seen_by value.committer.seated)),
+      served_at_first D.view D.laws D.fault_count (broker_of value.committer.half),
+    ) };
+
+    ghost goes_on = { λ first second third before after one two. (
+      learned_more
+          (known first.committer.desk.told (seen_by first.committer.seated))
+          (known second.committer.desk.told (seen_by second.committer.seated))
+          (known third.committer.desk.told (seen_by third.committer.seated))
+          before after one.0 two.0,
+      served_both D.view D.fault_count
+          (broker_of first.committer.half) (broker_of second.committer.half) (broker_of third.committer.half) one.1 two.1,
+    ) };
+}
+
+impl<L: Ledger, D: Disk + Drop> Committer<L, D> {
     /// A committer that raises the board from this seat.
-    pub fn new(desk: Desk<L>, half: DiskHalf<D>, seated: Seated) -> Committer<L, D> {
+    pub fn new(desk: Desk<L>, half: DiskHalf<D>, seated: Seated) -> Committer<L, D>
+        ensures desk { result.desk ≡ desk }
+        ensures half { result.half ≡ half }
+        ensures seat { result.seated ≡ seated }
+    {
         Committer { desk, half, seated }
     }
 
-    // Commits all that is pending: whether it became durable. The board is raised first, then the bell rings.
-    fn commit<R: Wait>(&mut self, rt: &R, front: &Front<L>) -> bool {
-        let Committer { desk, half, seated } = self;
-        match front.office.commit(rt, desk, half) {
-            Ok(durable) => {
-                seated.raise(durable);
-                front.bell.ring(rt);
-                true
-            }
-            Err(why) => {
-                if matches!(why, HallError::Fault | HallError::Broken) {
-                    front.bell.say_broken();
-                }
-                front.bell.ring(rt);
-                false
-            }
-        }
+    /// Commits as the gate says, until it ends the loop, and gives the committer back: all that is pending at a turn
+    /// becomes durable by one commit. Where nothing is pending, or a commit was refused, it sleeps until the next request
+    /// or the ticker's next turn; where the gate skips what is pending, it is asked again.
+    ///
+    /// At each moment a stop leaves a legal stop of the half's list with what it took.
+    pub fn run<R: Wait, G: Gate>(self, rt: &R, front: &Front<L>, gate: &G) -> Committer<L, D>
+        ensures learned { IsRun HasLearned (G.says gate.now)
+            (known self.desk.told (seen_by self.seated))
+            (known result.desk.told (seen_by result.seated)) }
+        ensures served { HasServed D.view D.fault_count (broker_of self.half) (broker_of result.half) }
+    {
+        let mut at = AtFront {
+            rt,
+            front,
+            committer: self,
+        };
+        commit_all(rt, gate, &mut at);
+        let AtFront { committer, .. } = at;
+        committer
     }
 
-    // One turn: whether the loop goes on.
-    fn turn<R: Wait, G: Gate>(&mut self, rt: &R, front: &Front<L>, gate: &G) -> bool {
-        let pending = front.pending(rt);
-        match gate.turn(pending) {
-            Turn::Commit => {
-                if !self.commit(rt, front) {
-                    front.wake.wait(rt);
-                }
-                true
-            }
-            Turn::Skip => {
-                if pending == 0 {
-                    front.wake.wait(rt);
-                } else {
-                    thread::yield_now();
-                }
-                true
-            }
-            Turn::End => false,
-        }
-    }
-
-    /// Commits as the gate says, until it ends the loop, and gives the desk and the half back: all that is pending at a
-    /// turn becomes durable by one commit. Where nothing is pending, or a commit was refused, it sleeps until the next
-    /// request or the ticker's next turn; where the gate skips what is pending, it is asked again.
-    pub fn run<R: Wait, G: Gate>(
-        self,
-        rt: &R,
-        front: &Front<L>,
-        gate: &G,
-    ) -> (Desk<L>, DiskHalf<D>) {
-        let mut committer = self;
-        for _ in rt.forever() {
-            if !committer.turn(rt, front, gate) {
-                break;
-            }
-        }
-        let Committer { desk, half, .. } = committer;
+    /// Its desk, and the half of the broker over the disk.
+    pub fn into_parts(self) -> (Desk<L>, DiskHalf<D>)
+        ensures { (result.0 ≡ self.desk) × (result.1 ≡ self.half) }
+    {
+        let Committer { desk, half, .. } = self;
         (desk, half)
     }
 }

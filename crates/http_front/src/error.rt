@@ -1,5 +1,9 @@
-// Why a front was not served.
+// Why a front was not served, or a request did not come to its hall.
+ghost use Rattle.std.specs.Prelude.{◌≡◌};
+ghost use Rattle.http_front.specs.declared.error.ArrivalError.TheVariants.{Hall, System};
+
 use group_commit::SplitError;
+use hall_core::HallError;
 use std::alloc::AllocError;
 use std::io;
 use thiserror::Error;
@@ -12,7 +16,37 @@ pub enum ServeError {
     /// No office was opened over the hall.
     #[error("{0}")]
     Office(#[from] SplitError),
+    /// There are more listeners than ports: one for callers and one for each environment, at least six.
+    #[error("too many ports")]
+    TooManyPorts,
     /// The system gave no thread, or nothing to wait for sockets with.
     #[error("{0}")]
     System(#[from] io::Error),
+}
+
+/// Why a request did not come to the hall, which is as it was.
+#[derive(Debug, Drop, Error)]
+pub(crate) enum ArrivalError {
+    /// The hall refused it.
+    #[error("{0}")]
+    Hall(HallError),
+    /// The clock or the source of random words failed.
+    #[error("{0}")]
+    System(io::Error),
+}
+
+impl From<HallError> for ArrivalError {
+    ghost from_gives = { λ why error. error ≡ Hall why };
+
+    fn from(why: HallError) -> ArrivalError {
+        ArrivalError::Hall(why)
+    }
+}
+
+impl From<io::Error> for ArrivalError {
+    ghost from_gives = { λ why error. error ≡ System why };
+
+    fn from(why: io::Error) -> ArrivalError {
+        ArrivalError::System(why)
+    }
 }

@@ -1,11 +1,13 @@
 // What the threads of a front share.
-ghost use Rattle.std.specs.Prelude.{◌≡◌, ◌+◌, IfOk, max};
+ghost use Rattle.std.specs.Prelude.{◌≡◌, ◌+◌, IfOk, IfErr, max};
+ghost use Rattle.long_poll.specs.Port.{IsSlot};
+ghost use Rattle.http_front.specs.Refusals.{IsArrivalError};
 
-use crate::moment::{now, words};
+use crate::arriving::arrive;
+use crate::error::ArrivalError;
 use crate::wake::Wake;
 use api_core::Call;
 use group_commit::Ticket;
-use hall_core::HallError;
 use long_poll::{Bell, Port};
 use receipts::Office;
 use retry_rules::Settings;
@@ -61,33 +63,19 @@ impl<L: Ledger> Front<L> {
         })
     }
 
-    // A call comes to a port, and then the moves that are due are made.
-    fn arrive_at<R: Wait + Clock + RandomSource>(
-        &self,
-        rt: &R,
-        port: &Port<L>,
-        call: Call,
-    ) -> Result<(Ticket, u64), HallError> {
-        let (Ok(now), Ok(words)) = (now(rt), words(rt)) else {
-            return Err(HallError::OutOfMemory);
-        };
-        let arrived = port.arrive(rt, call, now, words)?;
-        for _ in rt.forever() {
-            if !matches!(port.tick(rt, now), Ok(Some(_))) {
-                break;
-            }
-        }
-        Ok(arrived)
-    }
-
     /// A call comes to a port: its ticket and its slot. All that wait for a reply look again, and the committer is called.
+    ///
+    /// It is refused: `System` (the clock or the source of random words failed), and as `Port::arrive` refuses it.
     pub(crate) fn arrive<R: Wait + Clock + RandomSource>(
         &self,
         rt: &R,
         port: &Port<L>,
         call: Call,
-    ) -> Result<(Ticket, u64), HallError> {
-        let arrived = self.arrive_at(rt, port, call);
+    ) -> Result<(Ticket, u64), ArrivalError>
+        ensures slot { IfOk result (λ r. IsSlot r.1) }
+        ensures refused { IfErr result IsArrivalError }
+    {
+        let arrived = arrive(rt, port, call);
         self.bell.ring(rt);
         self.wake.call(rt);
         arrived

@@ -5,24 +5,23 @@
 //! that are due. The crate above uses `serve`; the loops of committer and ticker are calls of their own.
 #![tactic(auto)]
 
+mod arriving;
+mod asking;
 mod committing;
 mod error;
 mod front;
-mod gate;
 mod moment;
 mod opening;
-mod place;
+mod port_application;
 mod replying;
-mod seated;
 mod serving;
 mod ticking;
 mod wake;
 
+pub use commit_loop::{Gate, Turn, WhenPending};
 pub use committing::Committer;
 pub use error::ServeError;
 pub use front::Front;
-pub use gate::{Gate, Turn, WhenPending};
 pub use moment::now;
-pub use seated::Seated;
-pub use serving::{Ending, serve};
+pub use serving::{Ending, Served, serve};
 pub use ticking::tick_all;

@@ -1,14 +1,12 @@
 // The clock and the source of random words.
 ghost use Rattle.std.specs.Prelude.{◌≤◌, IfOk};
 
+use invoke_records::GREATEST_MOMENT;
 use rand::TryRng;
 use rand::rngs::SysRng;
 use std::io;
 use std::random::RandomSource;
 use std::time::{Clock, SystemTime};
-
-/// The last moment, at the end of the year 9999.
-const LAST_MOMENT: u64 = 253402300799999;
 
 /// The moment now, in milliseconds since 1970. A clock outside the years 1970 to 9999 shows the nearer end.
 pub fn now<C: Clock>(rt: &C) -> io::Result<u64>
@@ -16,7 +14,7 @@ pub fn now<C: Clock>(rt: &C) -> io::Result<u64>
 {
     let since = SystemTime::now(rt)?.duration_since(SystemTime::UNIX_EPOCH);
     match since {
-        Ok(since) => Ok(since.as_millis().min(u128::from(LAST_MOMENT)) as u64),
+        Ok(since) => Ok(since.as_millis().min(u128::from(GREATEST_MOMENT)) as u64),
         Err(_) => Ok(0),
     }
 }

@@ -1,12 +1,14 @@
 // Opening a front over a hall.
-ghost use Rattle.std.specs.Prelude.{◌≡◌, []};
+ghost use Rattle.std.specs.Prelude.{◌≡◌, [], IfOk};
 ghost use Rattle.group_commit.specs.Broker.{pending_of, settings_of};
+ghost use Rattle.group_commit.specs.Splitting.{broker_of};
+ghost use Rattle.hall_core.specs.Fresh.{IsFresh};
 ghost use Rattle.receipts.specs.Desks.{desk_count};
 
 use crate::committing::Committer;
 use crate::error::ServeError;
 use crate::front::Front;
-use crate::seated::{Seated, seats};
+use front_board::Seated;
 use group_commit::{Broker, DiskHalf};
 use hall_core::Hall;
 use long_poll::Port;
@@ -30,8 +32,7 @@ pub(crate) struct Opened<L: Ledger, D: Disk> {
 fn port<L: Ledger>(front: &Front<L>, desk: Desk<L>, seated: Seated) -> Result<Port<L>, AllocError> {
     let office = Arc::try_clone(&front.office)?;
     let bell = Arc::try_clone(&front.bell)?;
-    let Seated { board, seat } = seated;
-    Ok(Port::new(office, bell, board, desk, seat))
+    Ok(Port::new(office, bell, desk, seated))
 }
 
 // A port for each desk, as far as there are seats.
@@ -63,46 +64,50 @@ fn shared<L: Ledger>(
     Ok(Arc::new(alloc, front)?)
 }
 
-// A front with these desks and seats. None where there are too few.
+// A front with these desks and seats.
 fn furnish<L: Ledger, D: Disk + Drop>(
     alloc: Global,
     front: Arc<Front<L>>,
     desks: Vec<Desk<L>>,
     seats: Vec<Seated>,
     half: DiskHalf<D>,
-) -> Result<Option<Opened<L, D>>, AllocError> {
+) -> Result<Opened<L, D>, ServeError>
+    ensures half { IfOk result (λ opened. opened.committer.half ≡ half) }
+{
     let mut desks = desks;
     let mut seats = seats;
     let (Some(desk), Some(ticker), Some(seated)) = (desks.pop(), desks.pop(), seats.pop()) else {
-        return Ok(None);
+        return Err(ServeError::TooManyPorts);
     };
     let ports = ports(alloc, &front, desks, seats)?;
-    Ok(Some(Opened {
+    Ok(Opened {
         front,
         ports,
         committer: Committer::new(desk, half, seated),
         ticker,
-    }))
+    })
 }
 
-/// Opens a front over a hall: its office, its board, and the ports.
+/// Opens a front over a hall: its office, its board, and the ports. The committer has the half of the hall's broker.
 pub(crate) fn open<L: Ledger, D: Disk + Drop>(
     alloc: Global,
     hall: Hall<Broker<D>>,
     blank: Blank,
-) -> Result<Option<Opened<L, D>>, ServeError>
+) -> Result<Opened<L, D>, ServeError>
     requires nothing { pending_of hall.issuer ≡ [] }
+    requires fresh { IsFresh (settings_of hall.issuer) hall }
     requires name { blank.name ≡ L.name }
     requires parts { blank.parts ≡ L.parts }
     requires seats { L.parts ≡ desk_count (settings_of hall.issuer) }
+    ensures half { IfOk result (λ opened. broker_of opened.committer.half ≡ hall.issuer) }
 {
     let settings = hall.table().settings().copy()?;
     let durable = hall.durable();
     match Office::<L>::new(alloc, hall, blank) {
         Ok((office, desks, half)) => {
-            let seats = seats(alloc, durable, desks.len())?;
+            let seats = Seated::open(alloc, durable, desks.len())?;
             let front = shared(alloc, office, settings)?;
-            Ok(furnish(alloc, front, desks, seats, half)?)
+            furnish(alloc, front, desks, seats, half)
         }
         Err(failure) => Err(ServeError::Office(failure.cause)),
     }

@@ -1,19 +1,24 @@
 // A whole front, until its last thread has ended.
-ghost use Rattle.std.specs.Prelude.{◌≡◌, []};
+ghost use Rattle.std.specs.Prelude.{◌≡◌, ◌⊎◌, ◌≤◌, ◌+◌, [], vec_len, OnOk, IfOk};
+ghost use Rattle.commit_loop.specs.declared.gate.Turn.TheVariants as turn;
 ghost use Rattle.group_commit.specs.Broker.{pending_of, settings_of};
+ghost use Rattle.group_commit.specs.Splitting.{broker_of};
+ghost use Rattle.hall_core.specs.Fresh.{IsFresh};
 ghost use Rattle.receipts.specs.Desks.{desk_count};
+ghost use Rattle.receipts.specs.Serving.{HasServed};
 
 use crate::committing::Committer;
 use crate::error::ServeError;
 use crate::front::Front;
-use crate::gate::{Gate, Turn};
 use crate::opening::{Opened, open};
-use crate::place::Place;
+use crate::port_application::PortApplication;
 use crate::ticking::tick_all;
-use group_commit::Broker;
+use commit_loop::{Gate, Turn};
+use group_commit::{Broker, DiskHalf};
 use hall_core::Hall;
 use long_poll::Port;
-use receipts::Desk;
+use receipts::{Desk, desks};
+use retry_rules::Settings;
 use sector_disk::Disk;
 use std::alloc::AllocGlobal;
 use std::net::{Net, TcpListener, TcpStream};
@@ -34,7 +39,7 @@ pub enum Ending {
 }
 
 impl Ending {
-    // How a front whose threads have ended did.
+    // How a front has ended, once its threads have.
     fn of<L: Ledger>(front: &Front<L>) -> Ending {
         if front.bell.has_broken() {
             Ending::Broken
@@ -42,6 +47,14 @@ impl Ending {
             Ending::Stopped
         }
     }
+}
+
+/// What a front that was served leaves.
+#[derive(Drop)]
+pub struct Served<D: Disk> {
+    pub ending: Ending,
+    /// The half of the broker over the disk.
+    pub half: DiskHalf<D>,
 }
 
 // The gate of a front's committer: its owner's, until all is done.
@@ -53,6 +66,8 @@ struct UntilOver<'a, R, L: Ledger, G> {
 }
 
 impl<R: Wait, L: Ledger, G: Gate> Gate for UntilOver<'_, R, L, G> {
+    ghost says = { λ gate pending said. (said ≡ turn.End) ⊎ G.says gate.inner.now pending said };
+
     fn turn(&self, pending: usize) -> Turn {
         if self.front.ending.is_cancelled() || self.front.is_over(self.rt) {
             Turn::End
@@ -69,6 +84,8 @@ struct UntilEnding<'a, L: Ledger> {
 }
 
 impl<L: Ledger> Gate for UntilEnding<'_, L> {
+    ghost says = { λ _ _ said. (said ≡ turn.End) ⊎ (said ≡ turn.Commit) };
+
     fn turn(&self, _pending: usize) -> Turn {
         if self.front.ending.is_cancelled() {
             Turn::End
@@ -79,7 +96,7 @@ impl<L: Ledger> Gate for UntilEnding<'_, L> {
 }
 
 // Serves a place to its end. Where it fails, the front ends.
-fn serve_place<R, L>(rt: R, place: Place<R, L>, listener: TcpListener) -> io::Result<()>
+fn serve_place<R, L>(rt: R, place: PortApplication<R, L>, listener: TcpListener) -> io::Result<()>
 where
     R: Wait
         + Clock
@@ -120,7 +137,7 @@ where
 {
     let port = Arc::new(rt.alloc(), port)?;
     let front = Arc::try_clone(front)?;
-    let place = Place {
+    let place = PortApplication {
         rt,
         number,
         front,
@@ -171,19 +188,21 @@ fn join_all<R: Threads>(rt: &R, threads: Vec<JoinHandle<io::Result<()>>>) -> io:
     outcome
 }
 
-// Runs the ticker on a thread of its own and the committer on this one, until the gate or the front ends.
+// Runs the ticker on a thread of its own and the committer on this one, until the gate or the front ends: the half over the
+// disk.
 fn commit_and_tick<R, L, D, G>(
     rt: R,
     front: &Arc<Front<L>>,
     committer: Committer<L, D>,
     ticker: Desk<L>,
     gate: &G,
-) -> io::Result<()>
+) -> io::Result<DiskHalf<D>>
 where
     R: Threads + Wait + Clock + Copy + Drop + Send + 'static,
     L: Ledger + Send + Sync + 'static,
     D: Disk + Drop,
     G: Gate,
+    ensures { IfOk result (λ half. HasServed D.view D.fault_count (broker_of committer.half) (broker_of half)) }
 {
     let theirs = Arc::try_clone(front)?;
     let ticking = thread::spawn(&rt, move || {
@@ -195,10 +214,10 @@ where
         front,
         inner: gate,
     };
-    let (_desk, _half) = committer.run(&rt, front, &until);
+    let (_desk, half) = committer.run(&rt, front, &until).into_parts();
     front.ending.cancel();
     let _desk = ticking.join(&rt);
-    Ok(())
+    Ok(half)
 }
 
 // Serves an opened front to its end, and waits for its threads.
@@ -207,7 +226,7 @@ fn run<R, L, D, G>(
     opened: Opened<L, D>,
     listeners: Vec<TcpListener>,
     gate: &G,
-) -> io::Result<Ending>
+) -> io::Result<Served<D>>
 where
     R: Threads
         + Wait
@@ -222,6 +241,7 @@ where
     L: Ledger + Send + Sync + 'static,
     D: Disk + Drop,
     G: Gate,
+    ensures { IfOk result (λ served. HasServed D.view D.fault_count (broker_of opened.committer.half) (broker_of served.half)) }
 {
     let Opened {
         front,
@@ -236,22 +256,36 @@ where
     };
     front.ending.cancel();
     let joined = join_all(&rt, threads);
-    outcome?;
+    let half = outcome?;
     joined?;
-    Ok(Ending::of(&front))
+    let ending = Ending::of(&front);
+    Ok(Served { ending, half })
+}
+
+// How many ports there are: the committer and the ticker have a desk too.
+fn port_count(settings: &Settings) -> u64
+    ensures { result + 2 ≡ desk_count settings.now }
+{
+    desks(settings) - 2
 }
 
 /// Serves a hall, in which nothing has come yet and nothing is pending, with a ledger of as many parts as there are desks:
 /// the callers' port at the first listener, that of environment n at the listener n behind it. It returns once the broker
 /// was stopped or its device failed and every open request was answered or its client has gone. The committer, on the
 /// calling thread, is asked by the gate beside that.
+///
+/// The half over the disk is handed back: it is the hall's broker with what was committed since. At each moment of the serving
+/// a stop leaves a legal stop of its list.
+///
+/// It is refused: `TooManyPorts` (more listeners than ports), `Office` (no office was opened over the hall), `OutOfMemory`,
+/// and `System`, where the system gave no thread or no sockets.
 pub fn serve<R, L, D, G>(
     rt: R,
     hall: Hall<Broker<D>>,
     blank: Blank,
     listeners: Vec<TcpListener>,
     gate: &G,
-) -> Result<Ending, ServeError>
+) -> Result<Served<D>, ServeError>
 where
     R: Threads
         + Wait
@@ -267,12 +301,16 @@ where
     D: Disk + Drop,
     G: Gate,
     requires nothing { pending_of hall.issuer ≡ [] }
+    requires fresh { IsFresh (settings_of hall.issuer) hall }
     requires name { blank.name ≡ L.name }
     requires parts { blank.parts ≡ L.parts }
     requires seats { L.parts ≡ desk_count (settings_of hall.issuer) }
+    ensures ports { OnOk result (vec_len listeners + 2 ≤ desk_count (settings_of hall.issuer)) }
+    ensures served { IfOk result (λ served. HasServed D.view D.fault_count hall.issuer (broker_of served.half)) }
 {
-    match open::<L, D>(rt.alloc(), hall, blank)? {
-        Some(opened) => Ok(run(rt, opened, listeners, gate)?),
-        None => Ok(Ending::Stopped),
+    if listeners.len() as u64 > port_count(hall.table().settings()) {
+        return Err(ServeError::TooManyPorts);
     }
+    let opened = open::<L, D>(rt.alloc(), hall, blank)?;
+    Ok(run(rt, opened, listeners, gate)?)
 }

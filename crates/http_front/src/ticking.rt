@@ -1,7 +1,12 @@
-// The ticker's loop.
+// The ticker: what its loop works on.
+ghost use Rattle.std.specs.Prelude.{◌≡◌, ◌+◌, [], ◌∷◌, ◌++◌, vec_len, sum_by};
+ghost use Rattle.commit_loop.specs.Ticker.{Step, ticked, IsRun};
+ghost use Rattle.http_front.specs.Marking.{HasMarked};
+ghost use Rattle.http_front.specs.laws.Marked.{marked_nothing, marked_more};
+
 use crate::front::Front;
-use crate::gate::{Gate, Turn};
 use crate::moment::now;
+use commit_loop::{Gate, Ticking};
 use receipts::Desk;
 use std::sync::Wait;
 use std::sync::ledger::Ledger;
@@ -11,37 +16,61 @@ use std::time::{Clock, Duration};
 /// How long the ticker sleeps between its turns, in milliseconds.
 const PAUSE: u64 = 100;
 
-// Makes the moves that are due. Where the clock cannot be read none are.
-fn tick<R: Wait + Clock, L: Ledger>(rt: &R, front: &Front<L>, desk: &mut Desk<L>) {
-    let Ok(now) = now(rt) else {
-        return;
-    };
-    for _ in rt.forever() {
-        if !matches!(front.office.tick(rt, desk, now), Ok(Some(_))) {
-            break;
-        }
+// A ticker at a front.
+#[derive(Drop)]
+struct AtFront<'a, R, L: Ledger> {
+    rt: &'a R,
+    front: &'a Front<L>,
+    desk: Desk<L>,
+}
+
+// Makes a move that is due now: whether it made one. Where the clock cannot be read none is made.
+fn tick<R: Wait + Clock, L: Ledger>(rt: &R, front: &Front<L>, desk: &mut Desk<L>) -> bool
+    ensures { HasMarked (vec_len desk.old.own) (ticked result ∷ []) (vec_len desk.new.own) }
+{
+    match now(rt) {
+        Ok(now) => matches!(front.office.tick(rt, desk, now), Ok(Some(_))),
+        Err(_) => false,
     }
 }
 
+impl<R: Wait + Clock, L: Ledger> Ticking for AtFront<'_, R, L> {
+    ghost leads = { λ old steps new. HasMarked (vec_len old.desk.own) steps (vec_len new.desk.own) };
+
+    fn pending(&mut self) -> usize {
+        self.front.pending(self.rt)
+    }
+
+    fn tick(&mut self) -> bool {
+        tick(self.rt, self.front, &mut self.desk)
+    }
+
+    fn call(&mut self) {
+        self.front.wake.call(self.rt);
+    }
+
+    fn sleep(&mut self) {
+        thread::sleep(self.rt, Duration::from_millis(PAUSE));
+    }
+
+    ghost stays = { λ value. marked_nothing (vec_len value.desk.own) };
+
+    ghost goes_on = { λ first second third before after.
+        marked_more (vec_len first.desk.own) (vec_len second.desk.own) (vec_len third.desk.own) before after };
+}
+
 /// Makes the moves that are due, about every 100 milliseconds, where the gate says `Commit`, and calls the committer; at
-/// `Skip` it only sleeps. At `End` it gives its desk back.
+/// `Skip` it only sleeps. At `End` it gives its desk back, with a mark of each move that it made.
 pub fn tick_all<R: Wait + Clock, L: Ledger, G: Gate>(
     rt: &R,
     front: &Front<L>,
     desk: Desk<L>,
     gate: &G,
-) -> Desk<L> {
-    let mut desk = desk;
-    for _ in rt.forever() {
-        match gate.turn(front.pending(rt)) {
-            Turn::Commit => {
-                tick(rt, front, &mut desk);
-                front.wake.call(rt);
-            }
-            Turn::Skip => {}
-            Turn::End => break,
-        }
-        thread::sleep(rt, Duration::from_millis(PAUSE));
-    }
+) -> Desk<L>
+    ensures { IsRun HasMarked (G.says gate.now) (vec_len desk.own) (vec_len result.own) }
+{
+    let mut at = AtFront { rt, front, desk };
+    commit_loop::tick_all(rt, gate, &mut at);
+    let AtFront { desk, .. } = at;
     desk
 }

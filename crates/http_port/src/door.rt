@@ -1,7 +1,8 @@
 // HTTP/1.1 at the door of a port.
 ghost use Rattle.std.specs.Prelude.{IfSome};
 
-use crate::application::{Application, Body};
+use crate::answering::Body;
+use crate::application::Application;
 use crate::connections::Door;
 use crate::requests::Requests;
 use crate::served::Served;

@@ -4,6 +4,7 @@
 //! up to as many bytes as the application wants, and then its reply is waited for.
 #![tactic(auto)]
 
+mod answering;
 mod application;
 mod connections;
 mod door;
@@ -12,6 +13,7 @@ mod reading;
 mod requests;
 mod served;
 
-pub use application::{Answered, Application, Body, bare};
+pub use answering::{Answered, Body, Refused, Told};
+pub use application::Application;
 pub use port::serve;
 pub use reading::ReadError;

@@ -2,8 +2,10 @@
 ghost use Rattle.std.specs.Prelude.{◌≡◌, IfOk, IfSome, None};
 ghost use Rattle.futures.specs.Task.{IsArmed, Keeps};
 ghost use Rattle.futures.specs.Poll.{IfReady, OnPending};
+ghost use Rattle.http_port.specs.Answering.{SendsAnswer, SendsGiven};
 
-use crate::application::{Answered, Application, bare};
+use crate::answering::{Answered, Refused, tell};
+use crate::application::Application;
 use crate::reading::{ReadError, Reading};
 use futures::Future;
 use futures::task::{Context, Poll};
@@ -27,17 +29,17 @@ pub(crate) struct Serving<A: Application, I: Drop> {
 
 impl<A: Application, I: Drop> Serving<A, I> {
     // A body was read, or was not.
-    fn answer(&mut self, body: Result<Vec<u8>, ReadError>) -> Result<A::Reply, Answered>
+    fn answer(&mut self, body: Result<Vec<u8>, ReadError>) -> Result<A::Reply, Refused>
         ensures value { IfOk result A.Reply.can_poll }
     {
         match self.application.take() {
             Some(application) => application.answer(&self.head, body),
-            None => Err(bare(self.alloc, StatusCode::SERVICE_UNAVAILABLE)),
+            None => Err(Refused::bare(self.alloc, StatusCode::SERVICE_UNAVAILABLE)),
         }
     }
 
     // Reads on, up to the reply that waits.
-    fn poll_body(&mut self, cx: &mut Context<'_>) -> Poll<Result<A::Reply, Answered>>
+    fn poll_body(&mut self, cx: &mut Context<'_>) -> Poll<Result<A::Reply, Refused>>
         requires { IfSome self.old.reply A.Reply.can_poll }
         ensures value { IfReady result (λ answered. IfOk answered A.Reply.can_poll) }
         ensures reads { OnPending result (self.new.reply ≡ None) }
@@ -48,7 +50,8 @@ impl<A: Application, I: Drop> Serving<A, I> {
             return Poll::Ready(Ok(reply));
         }
         let Some(mut reading) = self.reading.take() else {
-            return Poll::Ready(Err(bare(self.alloc, StatusCode::SERVICE_UNAVAILABLE)));
+            let refused = Refused::bare(self.alloc, StatusCode::SERVICE_UNAVAILABLE);
+            return Poll::Ready(Err(refused));
         };
         match reading.poll(cx) {
             Poll::Pending => {
@@ -65,6 +68,8 @@ impl<A: Application, I: Drop> Serving<A, I> {
         cx: &mut Context<'_>,
     ) -> Poll<Result<Answered, Infallible>>
         requires { A.Reply.can_poll reply }
+        ensures given { IfReady result (SendsGiven (A.Reply.gives reply) A.Given.status) }
+        ensures status { IfReady result (SendsAnswer A.Given.status) }
         ensures waits { OnPending result (IfSome self.new.reply A.Reply.can_poll) }
         ensures armed { OnPending result (IsArmed cx.new) }
         ensures kept { Keeps cx.old cx.new }
@@ -74,7 +79,7 @@ impl<A: Application, I: Drop> Serving<A, I> {
                 self.reply = Some(reply);
                 Poll::Pending
             }
-            Poll::Ready(answered) => Poll::Ready(Ok(answered)),
+            Poll::Ready(told) => Poll::Ready(Ok(tell(self.alloc, told))),
         }
     }
 }
@@ -84,11 +89,13 @@ impl<A: Application, I: Drop> Future for Serving<A, I> {
 
     ghost can_poll = { λ s. IfSome s.reply A.Reply.can_poll };
 
+    ghost gives = { λ _ sent. SendsAnswer A.Given.status sent };
+
     fn poll(&mut self, cx: &mut Context<'_>) -> Poll<Result<Answered, Infallible>> {
         match self.poll_body(cx) {
             Poll::Pending => Poll::Pending,
             Poll::Ready(Ok(reply)) => self.poll_reply(reply, cx),
-            Poll::Ready(Err(answered)) => Poll::Ready(Ok(answered)),
+            Poll::Ready(Err(refused)) => Poll::Ready(Ok(refused.into_response())),
         }
     }
 }

@@ -11,7 +11,8 @@ use Rattle.invoke_records.specs.Spelling.{command_text, body_text}
 abbrev pub AreSettings : Settings → Type 0
 AreSettings s = bad_field s ≡ None
 
--- where the spelling of a sound value stands in front of the bytes, reading finds that value and leaves what stands behind it, unless memory runs out
+-- where the spelling of a sound value stands in front of the bytes, reading finds that value and leaves what stands behind it,
+-- unless memory runs out
 abbrev pub Finds : {X Y : Type 0} → (X → Y) → (Y → Type 0) → (Y → List ℕ) → List ℕ → Result (X × ℕ) RecordError → Type 0
 Finds {X} {Y} view IsSound text bytes result =
     (value : Y) (rest : List ℕ) → IsSound value → bytes ≡ text value ++ rest

@@ -1,3 +1,4 @@
 pub mod Auditing
 pub mod Formatting
+pub mod Serving
 pub mod Trial

@@ -1,8 +1,11 @@
 // Serving a disk on the ports of this machine.
 ghost use Rattle.std.specs.Prelude.{◌≡◌, [], IfOk, OnOk};
-ghost use Rattle.group_commit.specs.Broker.{pending_of};
+ghost use Rattle.group_commit.specs.Broker.{pending_of, settings_of};
+ghost use Rattle.group_commit.specs.Promises.{ForEachHistory};
+ghost use Rattle.lambda_broker.specs.Serving.{ComesToRest};
+ghost use Rattle.hall_core.specs.Fresh.{IsFresh};
 
-use group_commit::{Broker, CommitError, IssueError, OpenError, OpenFailure};
+use group_commit::{Broker, CommitError, IssueError, OpenError, without_disk};
 use hall_core::{Hall, HallFailure};
 use http_front::{Ending, ServeError, WhenPending, now, serve};
 use receipts::desks;
@@ -69,12 +72,9 @@ impl ServingError {
     }
 }
 
-// The broker on a disk, or why it was not opened; the disk is then given up.
+// The broker on a disk, which is given up where it is not opened.
 fn open<D: Disk + Drop>(alloc: Global, disk: D) -> Result<Broker<D>, OpenError> {
-    match Broker::open(alloc, disk) {
-        Ok(broker) => Ok(broker),
-        Err(OpenFailure { cause, .. }) => Err(cause),
-    }
+    without_disk(Broker::open(alloc, disk))
 }
 
 // Binds the port of the callers and one for each environment behind it.
@@ -94,7 +94,10 @@ where
 fn mark_attempts<R: Clock + Wait, D: Disk>(
     rt: &R,
     broker: &mut Broker<D>,
-) -> Result<(), ServingError> {
+) -> Result<(), ServingError>
+    ensures settings { settings_of broker.new ≡ settings_of broker.old }
+    ensures rest { ForEachHistory D.view broker.old (λ history. OnOk result (ComesToRest D.view history broker.new)) }
+{
     let now = now(rt)?;
     for _ in rt.forever() {
         if broker.resume(now)?.is_none() {
@@ -104,9 +107,10 @@ fn mark_attempts<R: Clock + Wait, D: Disk>(
     Ok(())
 }
 
-// Marks the attempts that the last stop cut off, and makes that durable.
+// Marks the attempts that the last stop cut off, and makes that durable: nothing runs then.
 fn resume<R: Clock + Wait, D: Disk>(rt: &R, broker: &mut Broker<D>) -> Result<(), ServingError>
-    ensures { OnOk result (pending_of broker.new ≡ []) }
+    ensures durable { OnOk result (pending_of broker.new ≡ []) }
+    ensures rest { ForEachHistory D.view broker.old (λ history. OnOk result (ComesToRest D.view history broker.new)) }
 {
     mark_attempts(rt, broker)?;
     match broker.commit() {
@@ -135,7 +139,8 @@ fn hall_over<D: Disk + Drop>(
     broker: Broker<D>,
 ) -> Result<Hall<Broker<D>>, ServingError>
     requires { pending_of broker ≡ [] }
-    ensures { IfOk result (λ hall. pending_of hall.issuer ≡ []) }
+    ensures nothing { IfOk result (λ hall. pending_of hall.issuer ≡ []) }
+    ensures fresh { IfOk result (λ hall. IsFresh (settings_of hall.issuer) hall) }
 {
     if broker.is_broken() {
         return Err(ServingError::Broken);
@@ -170,10 +175,12 @@ where
         + Send
         + 'static,
     D: Disk + Drop,
-    requires { pending_of hall.issuer ≡ [] }
+    requires nothing { pending_of hall.issuer ≡ [] }
+    requires fresh { IsFresh (settings_of hall.issuer) hall }
 {
     let blank = Blank::new(desks(hall.table().settings()));
-    match serve::<_, Brand, _, _>(rt, hall, blank, listeners, &WhenPending)? {
+    let served = serve::<_, Brand, _, _>(rt, hall, blank, listeners, &WhenPending)?;
+    match served.ending {
         Ending::Stopped => Ok(()),
         Ending::Broken => Err(ServingError::Broken),
     }

@@ -1,11 +1,11 @@
 // One event accepted, committed and recovered, on a disk in memory.
-ghost use Rattle.std.specs.Prelude.{◌≡◌, [], ◌∷◌, List, Ok, IfOk};
+ghost use Rattle.std.specs.Prelude.{◌≡◌, [], ◌∷◌, List, IfOk};
 ghost use Rattle.sector_disk.specs.Memory.{memory_view};
 ghost use Rattle.invoke_records.specs.declared.command.Command.{Command};
 ghost use Rattle.invoke_records.specs.declared.row.Standing.TheVariants as standing;
 ghost use Rattle.lambda_broker.specs.Trial.{trial_settings, trial_acceptance, Holds, IsOpened, IsAccepted, is_device_fault};
 
-use group_commit::{Broker, CommitError, FormatError, IssueError, OpenError, OpenFailure, format};
+use group_commit::{Broker, CommitError, FormatError, IssueError, OpenError, format, without_disk};
 use invoke_records::{Bytes, Command, Kind, Standing};
 use retry_rules::{Settings, Text};
 use sector_disk::MemDisk;
@@ -114,23 +114,11 @@ fn formatted(alloc: Global) -> Result<MemDisk, TrialError>
     Ok(disk)
 }
 
-// The broker, or why its disk was not opened.
-fn opened(
-    outcome: Result<Broker<MemDisk>, OpenFailure<MemDisk>>,
-) -> Result<Broker<MemDisk>, OpenError>
-    ensures { IfOk result (λ b. outcome ≡ Ok b) }
-{
-    match outcome {
-        Ok(broker) => Ok(broker),
-        Err(OpenFailure { cause, .. }) => Err(cause),
-    }
-}
-
 // Opens the disk; where that fails, the disk is given up.
 fn open(alloc: Global, disk: MemDisk) -> Result<Broker<MemDisk>, OpenError>
     ensures { (history : List Command) → Holds (memory_view disk) history → IfOk result (IsOpened history) }
 {
-    opened(Broker::open(alloc, disk))
+    without_disk(Broker::open(alloc, disk))
 }
 
 // A disk on which the event is durable.

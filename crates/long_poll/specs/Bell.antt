@@ -21,7 +21,8 @@ AreFree number entries = All (IsFree number) entries
 -- at a place of this key, for this number, is a waker of the task that is polled
 abbrev pub IsLeft : List Entry → ℕ → ℕ → Context → Type 0
 IsLeft entries key number cx =
-    (at : ℕ) × (entry : Entry) × (slice_get entries at ≡ Some entry) × (entry.key ≡ key) × (entry.number ≡ number) × IsSomeAnd entry.waker (λ waker. Wakes waker cx)
+    (at : ℕ) × (entry : Entry) × (slice_get entries at ≡ Some entry) × (entry.key ≡ key) × (entry.number ≡ number)
+    × IsSomeAnd entry.waker (λ waker. Wakes waker cx)
 
 -- the task's waker was left at a place of this key, or there was no memory, and the task is polled again
 abbrev pub Waits : List Entry → ℕ → ℕ → Context → Context → Type 0

@@ -1,36 +1,17 @@
 // What the futures of one port share.
 ghost use Rattle.std.specs.Prelude.{◌≡◌, ◌≤◌, IfOk, IfErr, IfSome};
-ghost use Rattle.front_board.specs.Board.{SitsAt};
 ghost use Rattle.invoke_records.specs.Spelling.{greatest_moment};
 ghost use Rattle.hall_core.specs.Hall.{slot_told};
+ghost use Rattle.long_poll.specs.Port.{IsSlot, IsRequestRefusal, IsMoveRefusal};
 
 use crate::bell::Bell;
 use api_core::Call;
-use front_board::{AnyNumber, Board, Seat};
+use front_board::Seated;
 use group_commit::{Receipt, Ticket};
 use hall_core::{HallError, Released};
 use receipts::{Desk, Office};
 use std::sync::ledger::Ledger;
 use std::sync::{Arc, Mutex, Wait};
-
-// A seat, beside the board that it is one of.
-#[derive(Drop)]
-struct Place {
-    board: Arc<Board<AnyNumber>>,
-    seat: Seat,
-    ghost sits: { SitsAt board.value seat },
-}
-
-impl Place {
-    // A receipt exactly where the board shows at least the ticket's number.
-    fn check(&mut self, ticket: Ticket) -> Result<Receipt, Ticket>
-        ensures receipt { IfOk result (λ receipt. receipt ≡ ticket) }
-        ensures kept { IfErr result (λ kept. kept ≡ ticket) }
-    {
-        let Place { board, seat } = self;
-        board.check(seat, ticket)
-    }
-}
 
 /// One port of the front: a desk of the office and a seat of the board, each behind a lock, for all futures of the port.
 #[derive(Drop)]
@@ -38,28 +19,20 @@ pub struct Port<L: Ledger> {
     office: Arc<Office<L>>,
     bell: Arc<Bell>,
     desk: Mutex<Desk<L>>,
-    place: Mutex<Place>,
+    seated: Mutex<Seated>,
 }
 
 impl<L: Ledger> Port<L> {
-    /// A port with a desk of this office and a seat of this board.
-    pub fn new(
-        office: Arc<Office<L>>,
-        bell: Arc<Bell>,
-        board: Arc<Board<AnyNumber>>,
-        desk: Desk<L>,
-        seat: Seat,
-    ) -> Port<L>
-        requires sits { SitsAt board.value seat }
+    /// A port with a desk of this office and a seat of its board.
+    pub fn new(office: Arc<Office<L>>, bell: Arc<Bell>, desk: Desk<L>, seated: Seated) -> Port<L>
         ensures office { result.office ≡ office }
         ensures bell { result.bell ≡ bell }
     {
-        let place = Place { board, seat };
         Port {
             office,
             bell,
             desk: Mutex::new(desk),
-            place: Mutex::new(place),
+            seated: Mutex::new(seated),
         }
     }
 
@@ -77,12 +50,6 @@ impl<L: Ledger> Port<L> {
         &self.bell
     }
 
-    /// The desk, when the port is closed.
-    pub fn into_desk(self) -> Desk<L> {
-        let Port { desk, .. } = self;
-        desk.into_inner()
-    }
-
     /// A request comes, as `Office::arrive` says, from the port's desk.
     pub fn arrive<R: Wait>(
         &self,
@@ -90,7 +57,10 @@ impl<L: Ledger> Port<L> {
         call: Call,
         now: u64,
         words: [u64; 2],
-    ) -> Result<(Ticket, u64), HallError> {
+    ) -> Result<(Ticket, u64), HallError>
+        ensures slot { IfOk result (λ r. IsSlot r.1) }
+        ensures refused { IfErr result IsRequestRefusal }
+    {
         let mut desk = self.desk.lock(rt);
         self.office.arrive(rt, &mut desk, call, now, words)
     }
@@ -98,6 +68,7 @@ impl<L: Ledger> Port<L> {
     /// Makes one move that is due, as `Office::tick` says, from the port's desk. A moment is at most the end of the year 9999.
     pub fn tick<R: Wait>(&self, rt: &R, now: u64) -> Result<Option<u64>, HallError>
         requires { now ≤ greatest_moment }
+        ensures { IfErr result IsMoveRefusal }
     {
         let mut desk = self.desk.lock(rt);
         self.office.tick(rt, &mut desk, now)
@@ -122,6 +93,6 @@ impl<L: Ledger> Port<L> {
         ensures receipt { IfOk result (λ receipt. receipt ≡ ticket) }
         ensures kept { IfErr result (λ kept. kept ≡ ticket) }
     {
-        self.place.lock(rt).check(ticket)
+        self.seated.lock(rt).check(ticket)
     }
 }

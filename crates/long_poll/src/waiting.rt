@@ -15,7 +15,7 @@ use std::sync::{Arc, Wait};
 
 // How far a reply is.
 #[derive(Drop)]
-enum Stage {
+enum Progress {
     // What was issued when the request came is not durable yet, as far as the port knows.
     Issued(Ticket),
     // It is durable. The reply may show more, or be computed later.
@@ -36,7 +36,7 @@ pub struct Waiting<R: Wait, L: Ledger> {
     rt: R,
     port: Arc<Port<L>>,
     slot: u64,
-    stage: Stage,
+    progress: Progress,
 }
 
 impl<R: Wait, L: Ledger> Waiting<R, L> {
@@ -47,7 +47,7 @@ impl<R: Wait, L: Ledger> Waiting<R, L> {
     /// bell; where there is no memory for one now, each poll tries again.
     pub fn new(rt: R, port: Arc<Port<L>>, ticket: Ticket, slot: u64) -> Waiting<R, L>
         ensures slot { result.slot ≡ slot }
-        ensures number { number_at result.stage ≡ Some ticket }
+        ensures number { number_at result.progress ≡ Some ticket }
         ensures port { result.port ≡ port }
     {
         let entered = port.bell().enter(&rt, slot);
@@ -56,7 +56,7 @@ impl<R: Wait, L: Ledger> Waiting<R, L> {
             rt,
             port,
             slot,
-            stage: Stage::Issued(ticket),
+            progress: Progress::Issued(ticket),
         }
     }
 
@@ -73,16 +73,16 @@ impl<R: Wait, L: Ledger> Waiting<R, L> {
     fn check(&mut self, ticket: Ticket, registered: Registered) -> Option<Cause>
         requires { IsUnder registered self.old.slot ticket }
         ensures same { (self.new.slot ≡ self.old.slot) × (self.new.port ≡ self.old.port) }
-        ensures number { number_at self.new.stage ≡ Some ticket }
+        ensures number { number_at self.new.progress ≡ Some ticket }
     {
         drop(registered);
         match self.port.check(&self.rt, ticket) {
             Ok(receipt) => {
-                self.stage = Stage::Durable(receipt);
+                self.progress = Progress::Durable(receipt);
                 Some(Cause::Durable(receipt))
             }
             Err(ticket) => {
-                self.stage = Stage::Issued(ticket);
+                self.progress = Progress::Issued(ticket);
                 self.port.bell().has_broken().then_some(Cause::HallBroke)
             }
         }
@@ -91,20 +91,20 @@ impl<R: Wait, L: Ledger> Waiting<R, L> {
     // Why the office may be asked. Where it may not, the task has registered.
     fn cause(&mut self, cx: &mut Context<'_>) -> Option<Cause>
         ensures same { (self.new.slot ≡ self.old.slot) × (self.new.port ≡ self.old.port) }
-        ensures number { number_at self.new.stage ≡ number_at self.old.stage }
+        ensures number { number_at self.new.progress ≡ number_at self.old.progress }
         ensures covers { IfNone result (Covers cx.new (λ source. source ≡ source_of self.old.port.value.bell.value)) }
         ensures kept { Keeps cx.old cx.new }
     {
-        match mem::replace(&mut self.stage, Stage::Told) {
-            Stage::Issued(ticket) => {
+        match mem::replace(&mut self.progress, Progress::Told) {
+            Progress::Issued(ticket) => {
                 let registered = self.register(ticket.number(), cx);
                 self.check(ticket, registered)
             }
-            Stage::Durable(receipt) => {
-                self.stage = Stage::Durable(receipt);
+            Progress::Durable(receipt) => {
+                self.progress = Progress::Durable(receipt);
                 Some(Cause::Durable(receipt))
             }
-            Stage::Told => {
+            Progress::Told => {
                 self.register(0, cx);
                 None
             }
@@ -116,13 +116,13 @@ impl<R: Wait, L: Ledger> Waiting<R, L> {
         requires { IsUnder registered self.old.slot 0 }
         ensures same { (self.new.slot ≡ self.old.slot) × (self.new.port ≡ self.old.port) }
         ensures slot { IfSome result (λ released. slot_told released ≡ self.old.slot) }
-        ensures told { OnSome result (number_at self.new.stage ≡ None) }
-        ensures waits { IfNone result (number_at self.new.stage ≡ number_at self.old.stage) }
+        ensures told { OnSome result (number_at self.new.progress ≡ None) }
+        ensures waits { IfNone result (number_at self.new.progress ≡ number_at self.old.progress) }
     {
         drop(cause);
         drop(registered);
         let released = self.port.take(&self.rt, self.slot)?;
-        self.stage = Stage::Told;
+        self.progress = Progress::Told;
         Some(released)
     }
 }
@@ -154,10 +154,10 @@ impl<R: Wait + Drop, L: Ledger> Drop for Waiting<R, L> {
             rt,
             port,
             slot,
-            stage,
+            progress,
         } = self;
         port.bell().leave(&rt, slot);
-        if !matches!(stage, Stage::Told) {
+        if !matches!(progress, Progress::Told) {
             port.forget(&rt, slot);
         }
     }

@@ -2,3 +2,5 @@ pub mod Followed
 pub mod AllThere
 pub mod Settled
 pub mod Refused
+pub mod UnderLock
+pub mod Running

@@ -1,5 +1,5 @@
 -- Why a desk's commit is refused, and how much can be pending.
-use Rattle.std.proofs.Common.{◌≡◌, ◌⊎◌, inl, inr, ℕ, ◌+◌, ◌-◌, ◌<◌, ◌≤◌, length, sym, subst, arith}
+use Rattle.std.proofs.Common.{inl, inr, ℕ, ◌≤◌, sym, subst, arith}
 use Rattle.std.specs.Prelude.{Result}
 use Rattle.group_commit.specs.declared.issue_half.IssueHalf.{IssueHalf}
 use Rattle.group_commit.specs.declared.batch.Written.{Written}
@@ -13,6 +13,7 @@ use Rattle.group_commit.specs.declared.error.SettleError.TheVariants as settle_e
 use Rattle.group_commit.specs.IssuerHalf.{half_view, half_laws}
 use Rattle.hall_core.specs.declared.error.HallError.{HallError}
 use Rattle.hall_core.specs.declared.error.HallError.TheVariants as error
+use Rattle.hall_core.specs.Past.{HallCall, tick}
 use Rattle.hall_core.specs.Hall.{HallView, pending_in, KeepsReason}
 use Rattle.hall_core.specs.Halves.{lend_error_of, write_error_of, settle_error_of, IsNotLent, IsNotDurable}
 use Rattle.receipts.specs.Answers.{IsMismatch, IsArrivalRefusal, IsTickRefusal, IsCommitRefusal}
@@ -30,6 +31,7 @@ module _ (told : ℕ) where
   mismatch_refuses found error.WornOut is = absurd is
   mismatch_refuses found error.Backlog is = absurd is
   mismatch_refuses found error.BadKind is = absurd is
+  mismatch_refuses found error.NoHistory is = absurd is
   mismatch_refuses found error.OutOfMemory is = absurd is
   mismatch_refuses found error.Fault is = absurd is
   mismatch_refuses found error.Lent is = absurd is
@@ -75,24 +77,26 @@ module _ (told : ℕ) where
   mismatched_arrival found error.WornOut is = absurd is
   mismatched_arrival found error.Backlog is = absurd is
   mismatched_arrival found error.BadKind is = absurd is
+  mismatched_arrival found error.NoHistory is = absurd is
   mismatched_arrival found error.OutOfMemory is = absurd is
   mismatched_arrival found error.Fault is = absurd is
   mismatched_arrival found error.Lent is = absurd is
   mismatched_arrival found error.OtherHalf is = absurd is
   mismatched_arrival found error.Unfit is = absurd is
 
-  pub refused_arrival : (hall : HallView) (why : HallError) → KeepsReason hall why → IsArrivalRefusal told why
-  refused_arrival hall error.Broken is = tt
-  refused_arrival hall error.Stopping is = tt
-  refused_arrival hall error.WornOut is = tt
-  refused_arrival hall error.Backlog is = tt
-  refused_arrival hall error.BadKind is = tt
-  refused_arrival hall error.OutOfMemory is = tt
-  refused_arrival hall error.Fault is = absurd is
-  refused_arrival hall error.Lent is = absurd is
-  refused_arrival hall error.OtherHalf is = absurd is
-  refused_arrival hall error.Unfit is = absurd is
-  refused_arrival hall (error.Mismatch before found) is = absurd is
+  pub refused_arrival : (hall : HallView) (call : HallCall) (why : HallError) → KeepsReason hall call why → IsArrivalRefusal told why
+  refused_arrival hall call error.Broken is = tt
+  refused_arrival hall call error.Stopping is = tt
+  refused_arrival hall call error.WornOut is = tt
+  refused_arrival hall call error.Backlog is = tt
+  refused_arrival hall call error.BadKind is = absurd is
+  refused_arrival hall call error.NoHistory is = tt
+  refused_arrival hall call error.OutOfMemory is = tt
+  refused_arrival hall call error.Fault is = absurd is
+  refused_arrival hall call error.Lent is = absurd is
+  refused_arrival hall call error.OtherHalf is = absurd is
+  refused_arrival hall call error.Unfit is = absurd is
+  refused_arrival hall call (error.Mismatch before found) is = absurd is
 
   -- where a move is not made
   pub mismatched_tick : (found : ℕ) (why : HallError) → IsMismatch told found why → IsTickRefusal told why
@@ -102,21 +106,23 @@ module _ (told : ℕ) where
   mismatched_tick found error.WornOut is = absurd is
   mismatched_tick found error.Backlog is = absurd is
   mismatched_tick found error.BadKind is = absurd is
+  mismatched_tick found error.NoHistory is = absurd is
   mismatched_tick found error.OutOfMemory is = absurd is
   mismatched_tick found error.Fault is = absurd is
   mismatched_tick found error.Lent is = absurd is
   mismatched_tick found error.OtherHalf is = absurd is
   mismatched_tick found error.Unfit is = absurd is
 
-  pub refused_tick : (hall : HallView) (why : HallError) → KeepsReason hall why → IsTickRefusal told why
-  refused_tick hall error.Broken is = tt
-  refused_tick hall error.Stopping is = tt
-  refused_tick hall error.WornOut is = tt
-  refused_tick hall error.Backlog is = tt
-  refused_tick hall error.BadKind is = tt
-  refused_tick hall error.OutOfMemory is = tt
-  refused_tick hall error.Fault is = absurd is
-  refused_tick hall error.Lent is = absurd is
-  refused_tick hall error.OtherHalf is = absurd is
-  refused_tick hall error.Unfit is = absurd is
-  refused_tick hall (error.Mismatch before found) is = absurd is
+  pub refused_tick : (hall : HallView) (now : ℕ) (why : HallError) → KeepsReason hall (tick now) why → IsTickRefusal told why
+  refused_tick hall now error.Broken is = tt
+  refused_tick hall now error.Stopping is = absurd is.0
+  refused_tick hall now error.WornOut is = tt
+  refused_tick hall now error.Backlog is = tt
+  refused_tick hall now error.BadKind is = absurd is
+  refused_tick hall now error.NoHistory is = tt
+  refused_tick hall now error.OutOfMemory is = tt
+  refused_tick hall now error.Fault is = absurd is
+  refused_tick hall now error.Lent is = absurd is
+  refused_tick hall now error.OtherHalf is = absurd is
+  refused_tick hall now error.Unfit is = absurd is
+  refused_tick hall now (error.Mismatch before found) is = absurd is

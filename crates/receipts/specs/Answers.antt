@@ -49,14 +49,17 @@ IsArrivalRefusal told (error.Mismatch before found) = (before ≡ told) × (foun
 IsArrivalRefusal told error.Fault = ⊥
 IsArrivalRefusal told error.Lent = ⊥
 IsArrivalRefusal told error.OtherHalf = ⊥
+IsArrivalRefusal told error.BadKind = ⊥
 IsArrivalRefusal told other = Unit {0}
 
--- the same of a tick, which fits always
+-- the same of a tick, which fits always and goes on while the broker stops
 abbrev pub IsTickRefusal : ℕ → HallError → Type 0
 IsTickRefusal told (error.Mismatch before found) = (before ≡ told) × (found < told)
 IsTickRefusal told error.Fault = ⊥
 IsTickRefusal told error.Lent = ⊥
 IsTickRefusal told error.OtherHalf = ⊥
+IsTickRefusal told error.BadKind = ⊥
+IsTickRefusal told error.Stopping = ⊥
 IsTickRefusal told error.Unfit = ⊥
 IsTickRefusal told other = Unit {0}
 
@@ -64,5 +67,6 @@ IsTickRefusal told other = Unit {0}
 abbrev pub IsCommitRefusal : ℕ → HallError → Type 0
 IsCommitRefusal told (error.Mismatch before found) = (before ≡ told) × (found < told)
 IsCommitRefusal told error.Stopping = ⊥
+IsCommitRefusal told error.NoHistory = ⊥
 IsCommitRefusal told error.Unfit = ⊥
 IsCommitRefusal told other = Unit {0}

@@ -7,12 +7,16 @@ use Rattle.group_commit.specs.declared.issue_half.IssueHalf.{IssueHalf}
 use Rattle.group_commit.specs.Issuer.{IssuerView, issued_in}
 use Rattle.group_commit.specs.IssuerHalf.{half_view}
 use Rattle.group_commit.specs.Batch.{last_of}
-use Rattle.hall_core.specs.Hall.{view_of}
+use Rattle.hall_core.specs.Hall.{HallView, view_of}
 use Rattle.receipts.specs.declared.kept.Loan.{Loan}
 use Rattle.receipts.specs.declared.kept.Loan.TheVariants.{Nothing, Out}
 use Rattle.hall_core.specs.declared.error.HallError.{HallError}
 use Rattle.hall_core.specs.Halves.{IsNotLent}
 use Rattle.receipts.specs.Answers.{IsToldMore, IsMismatch}
+
+-- the hall as its contracts see it
+abbrev pub hall_in : {g : Ghosts IssueHalf} → Hall IssueHalf g → HallView
+hall_in hall = view_of half_view hall
 
 -- its issuer
 abbrev pub issuer_in : {g : Ghosts IssueHalf} → Hall IssueHalf g → IssuerView

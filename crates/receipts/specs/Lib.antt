@@ -3,3 +3,7 @@ pub mod Following
 pub mod Answers
 pub mod Desks
 pub mod Kept
+pub mod UnderLock
+pub mod Running
+pub mod Serving
+pub mod laws

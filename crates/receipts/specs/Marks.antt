@@ -1,5 +1,5 @@
 -- Marks: what an office keeps of the commands that were issued since it was opened.
-use Rattle.std.specs.Prelude.{◌≡◌, ℕ, ◌+◌, Bool, ◌==◌, List, [], ◌∷◌, length, map, filter, Option, Some, None}
+use Rattle.std.specs.Prelude.{◌≡◌, ℕ, ◌+◌, Bool, ◌==◌, List, [], ◌∷◌, length, map, filter, sum_by, Option, Some, None}
 use Rattle.std.specs.List.{range_with_len}
 use Rattle.hall_core.specs.declared.issuing.Issued.{Issued}
 use Rattle.receipts.specs.declared.mark.Mark.{Mark}
@@ -30,3 +30,7 @@ AreNumbered before marks = numbers_of marks ≡ range_with_len (before + 1) (len
 -- the same, behind however many commands
 abbrev pub AreNumberedFromSome : List Mark → Type 0
 AreNumberedFromSome marks = (before : ℕ) × AreNumbered before marks
+
+-- how many marks the lists of all desks have together
+abbrev pub sum_of_lists : {X : Type 0} → (X → List Mark) → List X → ℕ
+sum_of_lists own desks = sum_by (λ desk. length (own desk)) desks

@@ -1,6 +1,6 @@
 // Closing an office: its desks come back, and tell what its marks tell.
-ghost use Rattle.std.specs.Prelude.{◌≡◌, ◌↔◌, ◌==◌, ◌∷◌, count_by, IfSome, IfNone, List, All, IsTrue, IfOk, IfErr, OnOk};
-ghost use Rattle.receipts.specs.Marks.{history_of_desk, AreNumberedFromSome};
+ghost use Rattle.std.specs.Prelude.{◌≡◌, ◌<◌, ◌↔◌, ◌==◌, ◌∷◌, length, count_by, IfSome, IfNone, List, All, IsTrue, IfOk, IfErr, OnOk};
+ghost use Rattle.receipts.specs.Marks.{history_of_desk, AreNumberedFromSome, sum_of_lists};
 ghost use Rattle.receipts.specs.declared.mark.Mark.{Mark};
 ghost use Rattle.receipts.specs.Desks.{IsEachOnce, HaveEachOnce, AreAll, IsReason, IsReasonForSome, IsNotMismatch, IsWhyNotJoined};
 ghost use Rattle.group_commit.specs.Splitting.{broker_of, Joins, IsNotJoined};
@@ -9,6 +9,7 @@ use crate::desk::Desk;
 use crate::error::{FinishError, FinishFailure, UnlockedFailure};
 use crate::kept::Kept;
 use crate::mark::Mark;
+use crate::marks::Marks;
 use crate::office::Office;
 use group_commit::{Broker, DiskHalf};
 use hall_core::Hall;
@@ -99,15 +100,15 @@ impl<L: Ledger> Kept<L> {
     fn has_all(&self, desks: &[Desk<L>]) -> bool
         ensures { IsTrue result ↔ AreAll (λ d. d.number) (λ d. d.own.items) L.parts self.now.marks.all.items desks.now }
     {
-        have_each_number(desks, self.seats.count()) && are_histories(&self.marks.all, desks)
+        have_each_number(desks, self.desk_count.count()) && are_histories(&self.marks.all, desks)
     }
 
     // Joins the hall with the disk half.
     fn join<D: Disk>(
         self,
         disk: DiskHalf<D>,
-    ) -> Result<(Hall<Broker<D>>, Vec<Mark>), NotClosed<D, L>>
-        ensures marks { IfOk result (λ r. r.1.items ≡ self.marks.all.items) }
+    ) -> Result<(Hall<Broker<D>>, Marks<L>), NotClosed<D, L>>
+        ensures marks { IfOk result (λ r. r.1.all.items ≡ self.marks.all.items) }
         ensures joined { IfOk result (λ r. Joins self.hall.issuer (broker_of disk) r.0.issuer) }
         ensures err { IfErr result (λ failure. IsNotMismatch failure.cause) }
         ensures not_joined { IfErr result (λ failure. IsWhyNotJoined
@@ -119,17 +120,17 @@ impl<L: Ledger> Kept<L> {
             opening,
             marks,
             slots,
-            seats,
+            desk_count,
         } = self;
         match hall.join(disk) {
-            Ok(hall) => Ok((hall, marks.all)),
+            Ok(hall) => Ok((hall, marks)),
             Err(failure) => {
                 let kept = Kept {
                     hall: failure.hall,
                     opening,
                     marks,
                     slots,
-                    seats,
+                    desk_count,
                 };
                 let cause = FinishError::NotJoined(failure.cause);
                 let disk = failure.disk;
@@ -143,9 +144,10 @@ impl<L: Ledger> Kept<L> {
         self,
         desks: &[Desk<L>],
         disk: DiskHalf<D>,
-    ) -> Result<(Hall<Broker<D>>, Vec<Mark>), NotClosed<D, L>>
+    ) -> Result<(Hall<Broker<D>>, Marks<L>), NotClosed<D, L>>
         ensures all { OnOk result (AreAll (λ d. d.number) (λ d. d.own.items) L.parts self.marks.all.items desks.now) }
-        ensures marks { IfOk result (λ r. r.1.items ≡ self.marks.all.items) }
+        ensures some { 0 < L.parts }
+        ensures marks { IfOk result (λ r. r.1.all.items ≡ self.marks.all.items) }
         ensures joined { IfOk result (λ r. Joins self.hall.issuer (broker_of disk) r.0.issuer) }
         ensures refused { IfErr result (λ failure.
             IsReason (AreAll (λ d. d.number) (λ d. d.own.items) L.parts self.marks.all.items desks.now) failure.cause) }
@@ -179,6 +181,7 @@ impl<L: Ledger> Office<L> {
     ) -> Result<(Hall<Broker<D>>, Vec<Mark>), FinishFailure<D, L>>
         ensures all { IfOk result (λ r. AreAll (λ d. d.number) (λ d. d.own.items) L.parts r.1.items desks.items) }
         ensures numbered { IfOk result (λ r. AreNumberedFromSome r.1.items) }
+        ensures sum { IfOk result (λ r. sum_of_lists (λ d. d.own.items) desks.items ≡ length r.1.items) }
         ensures refused { IfErr result (λ failure. IsReasonForSome (λ d. d.number) (λ d. d.own.items) L.parts desks.items failure.cause) }
         ensures back { IfErr result (λ failure. failure.desks.items ≡ desks.items) }
     {

@@ -1,23 +1,29 @@
 // What the office keeps under its lock: the hall, and the marks of all that it issued.
-ghost use Rattle.std.specs.Prelude.{◌≡◌, ◌+◌, ◌<◌, ◌≤◌, ◌^◌, ◌++◌, length, vec_len, vec_capacity, IfOk, IfErr, OnOk, OnErr, OnSome, IfSome, option_map};
+ghost use Rattle.std.specs.Prelude.{◌≡◌, ◌+◌, ◌<◌, ◌≤◌, ◌^◌, ◌++◌, length, vec_len, vec_capacity, IfOk, IfErr, OnOk, OnErr, OnSome, IfSome, IfNone, option_map};
 ghost use Rattle.group_commit.specs.Issuer.{issued_in};
 ghost use Rattle.receipts.specs.Marks.{marks_by, AreNumbered};
 ghost use Rattle.receipts.specs.Following.{Follows};
 ghost use Rattle.receipts.specs.Answers.{AddsAtMostOne, AddsAnswered, IsToldMore, IsToldIfAny, IsSlotOf, AddsAsked, IsMismatch, IsArrivalRefusal, IsTickRefusal};
-ghost use Rattle.receipts.specs.Kept.{issuer_in, IsToldByLoan, IsNotLentTo, number_of, either_number};
+ghost use Rattle.receipts.specs.Kept.{hall_in, issuer_in, IsToldByLoan, IsNotLentTo, number_of, either_number};
+ghost use Rattle.receipts.specs.UnderLock.{DoesAt, AnswersItsNumber, AddBoth, LendsAs, Counts, next_slot, IsNotMade, IsNotMoved, IsSameUnderLock, IsNoFault};
+ghost use Rattle.receipts.specs.Running.{HasRuns};
+ghost use Rattle.receipts.specs.Serving.{IsToldOf};
 ghost use Rattle.invoke_records.specs.Spelling.{greatest_moment};
 ghost use Rattle.group_commit.specs.Batch.{last_in};
-ghost use Rattle.hall_core.specs.Past.{take_slot, forget_slot};
-ghost use Rattle.hall_core.specs.Hall.{view_of, pending_in, slot_told, Gives, IsDone};
-ghost use Rattle.hall_core.specs.Halves.{IsNotDurable};
+ghost use Rattle.hall_core.specs.Past.{tick, take_slot, forget_slot};
+ghost use Rattle.hall_core.specs.OpenSlots.{ForEachKept};
+ghost use Rattle.hall_core.specs.Slots.{open_slots};
+ghost use Rattle.hall_core.specs.Hall.{StandsFor, ForEachPast, IsSameHall, IsAsDurable, request, pending_in, open_slot_count, slot_told, Gives, GivesFor, IsDone};
+ghost use Rattle.hall_core.specs.Halves.{HasSameParts, IsNotDurable};
 ghost use Rattle.hall_core.specs.Plans.{drawn_by};
 ghost use Rattle.hall_core.specs.declared.error.HallError.TheVariants.{WornOut};
-ghost use Rattle.group_commit.specs.IssuerHalf.{half_view};
+ghost use Rattle.group_commit.specs.IssuerHalf.{has_same_lent};
+ghost use Rattle.group_commit.specs.Lending.{SettlesBy};
 
 use crate::desk::Desk;
+use crate::desk_count::DeskCount;
 use crate::mark::Mark;
 use crate::marks::Marks;
-use crate::seats::Seats;
 use api_core::Call;
 use group_commit::{Batch, Durable, Failed, IssueHalf, Ticket, Written};
 use hall_core::{Hall, HallError, Issued, Released};
@@ -49,10 +55,11 @@ pub(crate) struct Kept<L: Ledger> {
     /// How many slots were counted.
     pub(crate) slots: u64,
     /// How many desks there are.
-    pub(crate) seats: Seats<L>,
+    pub(crate) desk_count: DeskCount<L>,
     ghost numbered: { AreNumbered opening.number marks.all.items },
     ghost reached: { issued_in (issuer_in hall) ≡ opening.number + length marks.all.items },
     ghost followed: { Follows (issuer_in hall).settings opening marks.all.items (issuer_in hall).table },
+    ghost runs: { ∥ HasRuns (hall_in hall) opening ∥₁ },
 }
 
 // Marks what a call issued, if it did, where there is room for a mark.
@@ -103,6 +110,7 @@ impl<L: Ledger> Kept<L> {
     // The next slot of a desk.
     fn next_slot(&self, desk: &Desk<L>) -> Result<u64, HallError>
         ensures slot { IfOk result (IsSlotOf desk.now.number) }
+        ensures next { IfOk result (λ slot. slot ≡ next_slot self.now.slots desk.now.number) }
         ensures room { OnOk result (self.now.slots < 2 ^ 58) }
         ensures err { IfErr result (λ why. (why ≡ WornOut) × (2 ^ 58 ≤ self.now.slots)) }
     {
@@ -127,6 +135,21 @@ impl<L: Ledger> Kept<L> {
         ensures err { OnErr result ((desk.new.own.items ≡ desk.old.own.items) × (desk.new.told ≡ desk.old.told)) }
         ensures asked { OnOk result (AddsAsked (drawn_by words) call desk.old.own.items desk.new.own.items) }
         ensures refused { IfErr result (IsArrivalRefusal desk.old.told) }
+
+        // Just this request is done, with the slot that is answered, and its command is marked here and at the desk. A refusal
+        // is the first check that fails, and changes nothing.
+        ensures done { IfOk result (λ r. DoesAt (hall_in self.old.hall) (hall_in self.new.hall) (request r.1 call now words)
+            desk.old.number desk.old.own.items desk.new.own.items) }
+        ensures both { OnOk result (AddBoth desk.old.own.items desk.new.own.items self.old.marks.all.items self.new.marks.all.items) }
+        ensures counts { IfOk result (λ r. Counts self.old.slots self.new.slots desk.old.number r.1) }
+        ensures ticket { IfOk result (λ r. r.0 ≡ issued_in (issuer_in self.new.hall)) }
+        ensures kept { OnOk result (IsAsDurable (hall_in self.old.hall) (hall_in self.new.hall)) }
+        ensures no_call { has_same_lent self.old.hall.issuer self.new.hall.issuer }
+        ensures opening { self.new.opening ≡ self.old.opening }
+        ensures reason { IfErr result (IsNotMade (hall_in self.old.hall) self.old.slots
+            (record { told = desk.old.told; desk = desk.old.number; call = call; now = now; words = words })) }
+        ensures same { OnErr result (IsSameUnderLock (hall_in self.old.hall) (hall_in self.new.hall)
+            self.old.marks.all.items self.new.marks.all.items self.old.slots self.new.slots) }
     {
         self.check(desk)?;
         let slot = self.next_slot(desk)?;
@@ -160,6 +183,19 @@ impl<L: Ledger> Kept<L> {
         ensures number { desk.new.number ≡ desk.old.number }
         ensures err { OnErr result ((desk.new.own.items ≡ desk.old.own.items) × (desk.new.told ≡ desk.old.told)) }
         ensures refused { IfErr result (IsTickRefusal desk.old.told) }
+
+        // Just this move is made, and its command is marked here and at the desk.
+        ensures done { OnOk result (DoesAt (hall_in self.old.hall) (hall_in self.new.hall) (tick now)
+            desk.old.number desk.old.own.items desk.new.own.items) }
+        ensures answer { IfOk result (AnswersItsNumber (hall_in self.old.hall) (tick now)) }
+        ensures both { OnOk result (AddBoth desk.old.own.items desk.new.own.items self.old.marks.all.items self.new.marks.all.items) }
+        ensures counted { self.new.slots ≡ self.old.slots }
+        ensures kept { OnOk result (IsAsDurable (hall_in self.old.hall) (hall_in self.new.hall)) }
+        ensures no_call { has_same_lent self.old.hall.issuer self.new.hall.issuer }
+        ensures opening { self.new.opening ≡ self.old.opening }
+        ensures reason { IfErr result (IsNotMoved (hall_in self.old.hall) desk.old.told now) }
+        ensures same { OnErr result (IsSameUnderLock (hall_in self.old.hall) (hall_in self.new.hall)
+            self.old.marks.all.items self.new.marks.all.items self.old.slots self.new.slots) }
     {
         self.check(desk)?;
         self.marks.reserve(desk)?;
@@ -180,6 +216,12 @@ impl<L: Ledger> Kept<L> {
         ensures own { desk.new.own.items ≡ desk.old.own.items }
         ensures err { OnErr result (desk.new.told ≡ desk.old.told) }
         ensures refused { IfErr result (IsNotLentTo desk.old.told self.old.hall.issuer) }
+        ensures no_fault { IfErr result IsNoFault }
+        ensures lends { IfOk result (LendsAs self.old.hall.issuer self.new.hall.issuer) }
+        ensures kept { OnErr result (has_same_lent self.old.hall.issuer self.new.hall.issuer) }
+        ensures same { IsSameUnderLock (hall_in self.old.hall) (hall_in self.new.hall)
+            self.old.marks.all.items self.new.marks.all.items self.old.slots self.new.slots }
+        ensures opening { self.new.opening ≡ self.old.opening }
     {
         self.check(desk)?;
         match self.hall.lend() {
@@ -205,6 +247,13 @@ impl<L: Ledger> Kept<L> {
         ensures own { desk.new.own.items ≡ desk.old.own.items }
         ensures err { OnErr result (desk.new.told ≡ desk.old.told) }
         ensures refused { IfErr result (IsNotDurable self.old.hall.issuer self.new.hall.issuer outcome) }
+        ensures settles { IfOk result (SettlesBy self.old.hall.issuer self.new.hall.issuer outcome) }
+        ensures tells { IsToldOf outcome result }
+        ensures stands { ForEachPast (hall_in self.old.hall) (λ past. StandsFor (hall_in self.new.hall) past) }
+        ensures parts { HasSameParts (hall_in self.old.hall) (hall_in self.new.hall) }
+        ensures marks { self.new.marks.all.items ≡ self.old.marks.all.items }
+        ensures counted { self.new.slots ≡ self.old.slots }
+        ensures opening { self.new.opening ≡ self.old.opening }
     {
         match self.hall.settle(outcome) {
             Ok(durable) => {
@@ -218,15 +267,25 @@ impl<L: Ledger> Kept<L> {
     /// The reply of a slot, where it is told.
     pub(crate) fn take(&mut self, slot: u64) -> Option<Released>
         ensures slot { IfSome result (λ released. slot_told released ≡ slot) }
-        ensures gives { Gives (view_of half_view self.old.hall) slot result }
-        ensures done { OnSome result (IsDone (view_of half_view self.old.hall) (view_of half_view self.new.hall) (take_slot slot)) }
+        ensures gives { Gives (hall_in self.old.hall) slot result }
+        ensures by_events { ForEachKept self.old.hall.slots (GivesFor (hall_in self.old.hall) slot result) }
+        ensures done { OnSome result (IsDone (hall_in self.old.hall) (hall_in self.new.hall) (take_slot slot)) }
+        ensures none { IfNone result (IsSameHall (hall_in self.old.hall) (hall_in self.new.hall)) }
+        ensures issuer { self.new.hall.issuer ≡ self.old.hall.issuer }
+        ensures marks { self.new.marks.all.items ≡ self.old.marks.all.items }
+        ensures counted { self.new.slots ≡ self.old.slots }
+        ensures opening { self.new.opening ≡ self.old.opening }
     {
         self.hall.take(slot)
     }
 
     /// The reply of a slot is not wanted any more.
     pub(crate) fn forget(&mut self, slot: u64)
-        ensures { IsDone (view_of half_view self.old.hall) (view_of half_view self.new.hall) (forget_slot slot) }
+        ensures done { IsDone (hall_in self.old.hall) (hall_in self.new.hall) (forget_slot slot) }
+        ensures issuer { self.new.hall.issuer ≡ self.old.hall.issuer }
+        ensures marks { self.new.marks.all.items ≡ self.old.marks.all.items }
+        ensures counted { self.new.slots ≡ self.old.slots }
+        ensures opening { self.new.opening ≡ self.old.opening }
     {
         self.hall.forget(slot);
     }
@@ -237,5 +296,27 @@ impl<L: Ledger> Kept<L> {
         ensures few { result ≤ 256 }
     {
         self.hall.pending() as usize
+    }
+
+    /// How many slots are open.
+    pub(crate) fn open_slots(&self) -> usize
+        ensures by_parts { result ≡ open_slot_count (hall_in self.now.hall) }
+        ensures by_past { ForEachPast (hall_in self.now.hall) (λ past. result ≡ length (open_slots (issuer_in self.now.hall).broken past)) }
+    {
+        self.hall.open_slots()
+    }
+
+    /// Whether a request asked the hall to stop.
+    pub(crate) fn is_stopping(&self) -> bool
+        ensures { result ≡ (hall_in self.now.hall).stops }
+    {
+        self.hall.is_stopping()
+    }
+
+    /// Whether the device failed.
+    pub(crate) fn is_broken(&self) -> bool
+        ensures { result ≡ (issuer_in self.now.hall).broken }
+    {
+        self.hall.is_broken()
     }
 }

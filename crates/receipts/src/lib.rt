@@ -7,13 +7,14 @@
 #![tactic(auto)]
 
 mod desk;
+mod desk_count;
 mod error;
 mod finishing;
 mod kept;
+pub mod laws;
 mod mark;
 mod marks;
 mod office;
-mod seats;
 mod unlocked;
 
 pub use desk::{Desk, desks};

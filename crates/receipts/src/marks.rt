@@ -1,10 +1,11 @@
 // The marks of all desks, and the book that counts them.
-ghost use Rattle.std.specs.Prelude.{◌≡◌, ◌<◌, ◌++◌, ◌∷◌, [], OnOk, vec_len, vec_capacity};
+ghost use Rattle.std.specs.Prelude.{◌≡◌, ◌+◌, ◌<◌, ◌++◌, ◌∷◌, [], OnOk, length, vec_len, vec_capacity};
+ghost use Rattle.receipts.specs.Marks.{sum_of_lists};
 
 use crate::desk::Desk;
 use crate::mark::Mark;
 use std::alloc::{AllocError, Global};
-use std::sync::ledger::{Book, Ledger};
+use std::sync::ledger::{Book, Ledger, Share};
 
 /// The marks of all commands since the opening, in order.
 #[derive(Drop)]
@@ -13,6 +14,20 @@ pub(crate) struct Marks<L: Ledger> {
     /// The sum of what all desks have.
     pub(crate) book: Book<L>,
     ghost counted: { vec_len all ≡ book.total },
+}
+
+// What is counted of these desks together, and of a share beside them.
+fn gather<L: Ledger>(share: Share<L>, desks: Vec<Desk<L>>) -> Share<L>
+    ensures parts { result.parts ≡ share.parts + length desks.items }
+    ensures amount { result.amount ≡ share.amount + sum_of_lists (λ d. d.own.items) desks.items }
+{
+    let mut gathered = share;
+    let mut left = desks;
+    while let Some(desk) = left.pop() {
+        let Desk { share, .. } = desk;
+        gathered.merge(share);
+    }
+    gathered
 }
 
 impl<L: Ledger> Marks<L> {
@@ -53,5 +68,22 @@ impl<L: Ledger> Marks<L> {
         own.push_reserved(mark);
         all.push_reserved(mark);
         book.add(share, 1);
+    }
+    /// All marks. The desks, of which there are as many as the ledger has parts, have just so many together.
+    pub(crate) fn into_list(self, desks: Vec<Desk<L>>) -> Vec<Mark>
+        requires some { 0 < L.parts }
+        requires desks { length desks.items ≡ L.parts }
+        ensures all { result.items ≡ self.all.items }
+        ensures sum { sum_of_lists (λ d. d.own.items) desks.items ≡ length self.all.items }
+    {
+        let Marks { all, book } = self;
+        let mut book = book;
+        let mut desks = desks;
+        if let Some(desk) = desks.pop() {
+            let Desk { share, .. } = desk;
+            let mut whole = gather(share, desks);
+            book.audit(&mut whole);
+        }
+        all
     }
 }

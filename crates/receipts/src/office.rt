@@ -1,21 +1,26 @@
 // The office: the hall under its lock.
-ghost use Rattle.std.specs.Prelude.{◌≡◌, ◌≤◌, [], map, All, vec_len, vec_capacity, IfOk, IfErr, OnOk, OnErr, IfSome};
+ghost use Rattle.std.specs.Prelude.{◌≡◌, ◌≤◌, [], map, All, Err, vec_len, vec_capacity, IfOk, IfErr, OnOk, OnErr, IfSome};
 ghost use Rattle.std.specs.List.{range_with_len};
 ghost use Rattle.invoke_records.specs.Spelling.{greatest_moment};
 ghost use Rattle.group_commit.specs.Broker.{pending_of, settings_of, table_in};
 ghost use Rattle.group_commit.specs.IssuerBroker.{issuer_of};
+ghost use Rattle.group_commit.specs.Refusals.{FaultsHaveRisen};
+ghost use Rattle.group_commit.specs.Splitting.{broker_of, IsSplitReason};
+ghost use Rattle.hall_core.specs.declared.error.HallError.TheVariants as HallError;
 ghost use Rattle.hall_core.specs.Hall.{view_of, slot_told};
+ghost use Rattle.hall_core.specs.Fresh.{IsFresh};
 ghost use Rattle.hall_core.specs.Halves.{HasSameParts};
 ghost use Rattle.receipts.specs.Desks.{desk_count};
 ghost use Rattle.receipts.specs.Answers.{AddsAtMostOne, AddsAnswered, IsToldMore, IsToldIfAny, IsSlotOf};
 ghost use Rattle.receipts.specs.Answers.{AddsAsked, IsArrivalRefusal, IsTickRefusal, IsCommitRefusal};
+ghost use Rattle.receipts.specs.Serving.{CommitsTo};
 ghost use Rattle.hall_core.specs.Plans.{drawn_by};
 
 use crate::desk::{Desk, desks};
+use crate::desk_count::DeskCount;
 use crate::error::OfficeFailure;
 use crate::kept::{Kept, Loan};
 use crate::marks::Marks;
-use crate::seats::Seats;
 use api_core::Call;
 use group_commit::{Broker, DiskHalf, Durable, SplitError, Ticket};
 use hall_core::{Hall, HallError, Released};
@@ -32,7 +37,7 @@ pub struct Office<L: Ledger> {
 }
 
 // A copy of the table, and room for so many desks.
-fn prepare<D: Disk, L: Ledger>(
+fn make_room<D: Disk, L: Ledger>(
     alloc: Global,
     hall: &Hall<Broker<D>>,
     count: u64,
@@ -44,6 +49,26 @@ fn prepare<D: Disk, L: Ledger>(
     let opening = hall.table().snapshot()?;
     let desks = Vec::with_capacity(alloc, count as usize)?;
     Ok((opening, desks))
+}
+
+// The same over a hall that is not broken.
+fn prepare<D: Disk, L: Ledger>(
+    alloc: Global,
+    hall: &Hall<Broker<D>>,
+    count: u64,
+) -> Result<(Snapshot, Vec<Desk<L>>), SplitError>
+    ensures opening { IfOk result (λ r. r.0 ≡ table_in hall.now.issuer) }
+    ensures none { IfOk result (λ r. r.1.items ≡ []) }
+    ensures room { IfOk result (λ r. vec_capacity r.1 ≡ count) }
+    ensures reason { IfErr result (IsSplitReason hall.now.issuer) }
+{
+    if hall.is_broken() {
+        return Err(SplitError::Broken);
+    }
+    match make_room(alloc, hall, count) {
+        Ok(prepared) => Ok(prepared),
+        Err(_) => Err(SplitError::OutOfMemory),
+    }
 }
 
 // So many desks, each with one part of the share and no mark. There is room for them.
@@ -72,32 +97,35 @@ fn seat<L: Ledger>(alloc: Global, room: Vec<Desk<L>>, share: Share<L>, count: u6
 }
 
 impl<L: Ledger> Office<L> {
-    /// Opens an office over a hall in which nothing is pending: the hall goes on over the half of its broker that issues,
-    /// under the lock, and the half over the disk is for whoever commits. There are as many desks as `desks` says of the
-    /// settings, which is the number of parts of the blank ledger.
+    /// Opens an office over a new hall in which nothing is pending: the hall goes on over the half of its broker that issues,
+    /// under the lock, and the half over the disk, which is the hall's broker, is for whoever commits. There are as many desks
+    /// as `desks` says of the settings, which is the number of parts of the blank ledger.
     ///
-    /// It is refused, and hands the hall and the blank back: `Broken`, `OutOfMemory`.
+    /// It is refused, and hands the hall and the blank back: `Broken`, `OutOfMemory`, in this order.
     pub fn new<D: Disk>(
         alloc: Global,
         hall: Hall<Broker<D>>,
         blank: Blank,
     ) -> Result<(Office<L>, Vec<Desk<L>>, DiskHalf<D>), OfficeFailure<Hall<Broker<D>>>>
         requires nothing { pending_of hall.issuer ≡ [] }
+        requires fresh { IsFresh (settings_of hall.issuer) hall }
         requires name { blank.name ≡ L.name }
         requires parts { blank.parts ≡ L.parts }
         requires seats { L.parts ≡ desk_count (settings_of hall.issuer) }
         ensures numbers { IfOk result (λ r. map (λ d. d.number) r.1.items ≡ range_with_len 0 L.parts) }
         ensures none { IfOk result (λ r. All (λ d. d.own.items ≡ []) r.1.items) }
         ensures untold { IfOk result (λ r. All (λ d. d.told ≡ 0) r.1.items) }
+        ensures half { IfOk result (λ r. broker_of r.2 ≡ hall.issuer) }
+        ensures reason { IfErr result (λ failure. IsSplitReason hall.issuer failure.cause) }
         ensures same { IfErr result (λ failure. failure.hall.issuer ≡ hall.issuer) }
         ensures same_parts { IfErr result (λ failure.
             HasSameParts (view_of (issuer_of D.view) hall) (view_of (issuer_of D.view) failure.hall)) }
         ensures blank { IfErr result (λ failure. failure.blank ≡ blank) }
     {
         let count = desks(hall.table().settings());
-        let Ok((opening, room)) = prepare(alloc, &hall, count) else {
-            let cause = SplitError::OutOfMemory;
-            return Err(OfficeFailure { cause, hall, blank });
+        let (opening, room) = match prepare(alloc, &hall, count) {
+            Ok(prepared) => prepared,
+            Err(cause) => return Err(OfficeFailure { cause, hall, blank }),
         };
         match hall.split() {
             Ok((hall, disk)) => {
@@ -108,7 +136,7 @@ impl<L: Ledger> Office<L> {
                     opening,
                     marks: Marks::new(alloc, book),
                     slots: 0,
-                    seats: Seats::new(count),
+                    desk_count: DeskCount::new(count),
                 };
                 let office = Office {
                     kept: Mutex::new(kept),
@@ -173,6 +201,9 @@ impl<L: Ledger> Office<L> {
     /// Makes all that is pending durable: how many commands that is. The commands are lent under the lock, written outside
     /// it, and settled under it, so that others ask the office while the disk writes.
     ///
+    /// The half is called at most once, to write just the batch that was lent: at Ok all of it is durable, and at each moment a
+    /// stop leaves a legal stop of the half's list with what it took.
+    ///
     /// It is refused: `Mismatch` (fewer commands were issued than this desk was told), `Broken`, `Lent` (another commit has
     /// lent what is pending), `OutOfMemory`, `OtherHalf` (this is not the half of this office's broker), and as the half
     /// refuses to write, after which what was lent is pending again. After `Fault` the hall is broken.
@@ -187,6 +218,8 @@ impl<L: Ledger> Office<L> {
         ensures marks { desk.new.own.items ≡ desk.old.own.items }
         ensures err { OnErr result (desk.new.told ≡ desk.old.told) }
         ensures refused { IfErr result (IsCommitRefusal desk.old.told) }
+        ensures disk { CommitsTo D.view D.fault_count (broker_of disk.old) (broker_of disk.new) result }
+        ensures fault { result ≡ Err HallError.Fault → FaultsHaveRisen D.fault_count (broker_of disk.old) (broker_of disk.new) }
     {
         let loan = self.kept.lock(rt).lend(desk)?;
         match loan {
@@ -224,16 +257,16 @@ impl<L: Ledger> Office<L> {
 
     /// How many slots are open.
     pub fn open_slots<R: Wait>(&self, rt: &R) -> usize {
-        self.kept.lock(rt).hall.open_slots()
+        self.kept.lock(rt).open_slots()
     }
 
     /// Whether a request asked the broker to stop.
     pub fn is_stopping<R: Wait>(&self, rt: &R) -> bool {
-        self.kept.lock(rt).hall.is_stopping()
+        self.kept.lock(rt).is_stopping()
     }
 
     /// Whether the device failed: the disk has to be opened again.
     pub fn is_broken<R: Wait>(&self, rt: &R) -> bool {
-        self.kept.lock(rt).hall.is_broken()
+        self.kept.lock(rt).is_broken()
     }
 }

@@ -4,8 +4,9 @@ ghost use Rattle.group_commit.specs.Issuer.{issued_in};
 ghost use Rattle.group_commit.specs.Splitting.{broker_of, Joins, IsNotJoined};
 ghost use Rattle.receipts.specs.Desks.{AreAll, IsReason, IsWhyNotJoined};
 ghost use Rattle.receipts.specs.Following.{Follows};
-ghost use Rattle.receipts.specs.Kept.{issuer_in};
-ghost use Rattle.receipts.specs.Marks.{AreNumbered};
+ghost use Rattle.receipts.specs.Kept.{hall_in, issuer_in};
+ghost use Rattle.receipts.specs.Marks.{AreNumbered, sum_of_lists};
+ghost use Rattle.receipts.specs.Running.{HasRuns};
 
 use crate::desk::Desk;
 use crate::error::UnlockedFailure;
@@ -28,12 +29,14 @@ pub struct Unlocked<L: Ledger> {
 
 impl<L: Ledger> Office<L> {
     /// Takes the office out of its lock. Its marks are numbered from the opening's number on, without a gap, up to all that
-    /// was issued, and the table's counts, standings and moments are those of the opening's table followed by the marks.
+    /// was issued, and the table's counts, standings and moments are those of the opening's table followed by the marks. For
+    /// each history that leaves the opening's table there is a run, of which no call was refused, that the hall stands for.
     pub fn unlock(self) -> Unlocked<L>
         ensures numbered { AreNumbered result.kept.opening.number result.kept.marks.all.items }
         ensures issued { issued_in (issuer_in result.kept.hall) ≡ result.kept.opening.number + length result.kept.marks.all.items }
         ensures follows { Follows (issuer_in result.kept.hall).settings result.kept.opening result.kept.marks.all.items
             (issuer_in result.kept.hall).table }
+        ensures runs { ∥ HasRuns (hall_in result.kept.hall) result.kept.opening ∥₁ }
     {
         let Office { kept } = self;
         Unlocked {
@@ -83,6 +86,7 @@ impl<L: Ledger> Unlocked<L> {
     ) -> Result<(Hall<Broker<D>>, Vec<Mark>), UnlockedFailure<D, L>>
         ensures all { OnOk result (AreAll (λ d. d.number) (λ d. d.own.items) L.parts self.kept.marks.all.items desks.items) }
         ensures marks { IfOk result (λ r. r.1.items ≡ self.kept.marks.all.items) }
+        ensures sum { OnOk result (sum_of_lists (λ d. d.own.items) desks.items ≡ length self.kept.marks.all.items) }
         ensures joined { IfOk result (λ r. Joins self.kept.hall.issuer (broker_of disk) r.0.issuer) }
         ensures refused { IfErr result (λ failure.
             IsReason (AreAll (λ d. d.number) (λ d. d.own.items) L.parts self.kept.marks.all.items desks.items) failure.cause) }
@@ -93,7 +97,7 @@ impl<L: Ledger> Unlocked<L> {
     {
         let Unlocked { kept } = self;
         match kept.close(&desks, disk) {
-            Ok(closed) => Ok(closed),
+            Ok((hall, marks)) => Ok((hall, marks.into_list(desks))),
             Err(failure) => {
                 let NotClosed { cause, kept, disk } = failure;
                 let office = Unlocked { kept };

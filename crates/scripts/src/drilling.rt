@@ -67,9 +67,18 @@ fn tell_answers(answers: &[StepAnswer], answer: &mut Text) {
 }
 
 fn tell_failure(failure: DrillFailure, answer: &mut Text) {
-    answer.add_with("step ", failure.step as u64);
+    let cause = match failure {
+        DrillFailure::AtOpening(cause) => {
+            answer.add("opening");
+            cause
+        }
+        DrillFailure::AtStep { step, cause } => {
+            answer.add_with("step ", step as u64);
+            cause
+        }
+    };
     answer.add(" ");
-    refusals::open(failure.cause, answer).add_to(answer);
+    refusals::open(cause, answer).add_to(answer);
 }
 
 fn run_drill(

@@ -2,17 +2,18 @@
 use crate::drilling::drill_step;
 use crate::events::whole_broker_step;
 use case_runner::{Reply, Text, Words};
-use disk_steps::{Base, CaseDisk, Stage, disk_step, refusals};
+use disk_steps::{Base, CaseDisk, Stage, disk_step, open_broker};
 use env_phase::Env;
-use group_commit::{Broker, OpenFailure, Ticket};
+use group_commit::{Broker, Ticket};
 use request_steps::{environment_step, reply_step, request_step};
 use sector_disk::MemDisk;
 use std::alloc::Global;
 use std::mem;
 use table_steps::{record_step, tell_member, tell_record};
 
+// What is open on a disk.
 #[derive(Drop)]
-enum Place {
+enum OpenBroker {
     Nothing,
     Closed(CaseDisk),
     Open(Broker<CaseDisk>),
@@ -21,7 +22,7 @@ enum Place {
 /// The disk of a case, or the broker that is open on it.
 #[derive(Drop)]
 pub struct BrokerStage {
-    place: Place,
+    place: OpenBroker,
     // The tickets of the broker that is open.
     tickets: Vec<Ticket>,
     // The destination record that was told last.
@@ -34,7 +35,7 @@ impl BrokerStage {
     // `ID`: the record of an event that has ended.
     fn tell_record(&mut self, alloc: Global, words: &mut Words, answer: &mut Text) -> Reply {
         match &self.place {
-            Place::Open(broker) => {
+            OpenBroker::Open(broker) => {
                 tell_record(alloc, broker.table(), &mut self.record, words, answer)
             }
             _ => Reply::NoStep,
@@ -50,9 +51,9 @@ impl BrokerStage {
         answer: &mut Text,
     ) -> Reply {
         match &mut self.place {
-            Place::Nothing => Reply::NoStep,
-            Place::Closed(disk) => disk_step(alloc, disk, word, words, answer),
-            Place::Open(broker) => {
+            OpenBroker::Nothing => Reply::NoStep,
+            OpenBroker::Closed(disk) => disk_step(alloc, disk, word, words, answer),
+            OpenBroker::Open(broker) => {
                 whole_broker_step(alloc, broker, &mut self.tickets, word, words, answer)
             }
         }
@@ -62,7 +63,7 @@ impl BrokerStage {
 impl Stage for BrokerStage {
     fn nothing(alloc: Global) -> BrokerStage {
         BrokerStage {
-            place: Place::Nothing,
+            place: OpenBroker::Nothing,
             tickets: Vec::new(alloc),
             record: Vec::new(alloc),
             environment: None,
@@ -70,14 +71,14 @@ impl Stage for BrokerStage {
     }
 
     fn put(&mut self, disk: CaseDisk) {
-        self.place = Place::Closed(disk);
+        self.place = OpenBroker::Closed(disk);
     }
 
     fn take(&mut self, base: &mut Base) -> Option<CaseDisk> {
-        match mem::replace(&mut self.place, Place::Nothing) {
-            Place::Nothing => None,
-            Place::Closed(disk) => Some(disk),
-            Place::Open(broker) => {
+        match mem::replace(&mut self.place, OpenBroker::Nothing) {
+            OpenBroker::Nothing => None,
+            OpenBroker::Closed(disk) => Some(disk),
+            OpenBroker::Open(broker) => {
                 base.durable = broker.durable().number();
                 base.issued = broker.issued();
                 self.tickets.clear();
@@ -87,15 +88,15 @@ impl Stage for BrokerStage {
     }
 
     fn open(&mut self, alloc: Global, base: &Base, disk: CaseDisk, answer: &mut Text) -> Reply {
-        match Broker::open(alloc, disk) {
+        match open_broker(alloc, disk, answer) {
             Ok(broker) => {
                 let number = broker.issued();
-                self.place = Place::Open(broker);
+                self.place = OpenBroker::Open(broker);
                 base.recovered(number)
             }
-            Err(OpenFailure { cause, disk }) => {
-                self.place = Place::Closed(disk);
-                refusals::open(cause, answer)
+            Err((disk, reply)) => {
+                self.place = OpenBroker::Closed(disk);
+                reply
             }
         }
     }

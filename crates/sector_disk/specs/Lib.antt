@@ -3,6 +3,10 @@ pub mod FaultOnce
 pub mod File
 pub mod Fuse
 pub mod Memory
+pub mod MemoryFile
 pub mod Moments
+pub mod RandomAccess
 pub mod Replay
+pub mod StdFile
+pub mod WholeCalls
 pub mod laws

@@ -3,6 +3,7 @@
 //! A disk is seen as a `DiskView`: its content, the images that a stop may leave now and at each moment since an earlier
 //! one, and whether it is honest. The crates above rest on `Disk` alone, with honesty as the premise of each clause on
 //! bytes, and state their promises on stops as `LeavesOnly`. `MemDisk` is honest, and can tear; the two wrappers fail.
+//! `FileDisk` is honest where its `RandomAccessFile` is: `MemFile` is, and of a file of the system nothing proves it.
 #![tactic(auto)]
 
 mod disk;
@@ -10,9 +11,15 @@ mod fault_once;
 mod file;
 mod fuse;
 mod memory;
+mod memory_file;
+mod random_access;
+mod replay;
+mod std_file;
 
 pub use disk::{Disk, Fault, SECTOR_SIZE};
 pub use fault_once::{CallKind, FaultOnceDisk};
 pub use file::{FileDisk, FileError};
 pub use fuse::FuseDisk;
 pub use memory::MemDisk;
+pub use memory_file::MemFile;
+pub use random_access::RandomAccessFile;

@@ -1,20 +1,12 @@
 // A disk in memory, which can tear. It keeps what it had at first and each call.
-ghost use Rattle.std.specs.Prelude.{◌≡◌, ◌*◌, ◌+◌, ◌<◌, ◌≤◌, ◌^◌, ◌-◌, ◌++◌, [], ◌∷◌, List, ℕ, false, length, replicate, IfOk, IsOk, OnOk, OnErr, is_ok, min, if◌then◌else◌, ◌-◌};
-ghost use Rattle.sector_disk.specs.declared.memory.Call.{Call};
-ghost use Rattle.sector_disk.specs.declared.memory.Call.TheVariants.{Write, Barrier};
-ghost use Rattle.sector_disk.specs.Replay.{overwritten, content_after, unsettled_after, is_unsettled_after, IsTorn, IsImage};
-ghost use Rattle.sector_disk.specs.Disk.{Holds, IsOnDisk, IsSameDisk, HasCause, IsRead, IsWrite, IsBarrier};
+ghost use Rattle.std.specs.Prelude.{◌≡◌, ◌*◌, ◌+◌, ◌<◌, ◌^◌, [], ◌∷◌, List, ℕ, false, length, replicate, IfOk, IsOk, is_ok, if◌then◌else◌};
+ghost use Rattle.sector_disk.specs.Replay.{content_after, unsettled_after, is_unsettled_after, IsTorn, IsImage};
+ghost use Rattle.sector_disk.specs.Disk.{IsOnDisk, IsSameDisk, HasCause, IsRead, IsWrite, IsBarrier};
 
 use crate::disk::count_fault;
+use crate::replay::{Call, overwrite, record, record_write};
 use crate::{Disk, Fault, SECTOR_SIZE};
 use std::alloc::{AllocError, Global};
-
-// A call that changes what a stop may leave.
-#[derive(Drop)]
-enum Call {
-    Write { at: u64, bytes: Vec<u8> },
-    Barrier,
-}
 
 /// A disk in memory. A stop may leave any bytes in the sectors that were written since the last barrier.
 #[derive(Drop)]
@@ -95,14 +87,17 @@ impl MemDisk {
 
 // Whether the sector was written since the last barrier.
 fn was_written(calls: &[Call], sector: u64) -> bool
+    requires { 512 * sector + 512 < 2 ^ 64 }
     ensures { result ≡ unsettled_after calls.now sector false }
 {
+    let size = SECTOR_SIZE as u64;
+    let start = size * sector;
     let mut unsettled = false;
     for call in calls {
         match call {
             Call::Write { at, bytes } => {
-                let count = (bytes.len() / SECTOR_SIZE) as u64;
-                unsettled = *at <= sector && sector - *at < count || unsettled;
+                let count = bytes.len() as u64;
+                unsettled = *at <= start && start - *at + size <= count || unsettled;
             }
             Call::Barrier => unsettled = false,
         }
@@ -130,39 +125,6 @@ fn tear_sector(content: &mut [u8], sectors: u64, calls: &[Call], sector: u64, by
     if sector < sectors && was_written(calls, sector) {
         overwrite(content, SECTOR_SIZE * sector as usize, bytes);
     }
-}
-
-// Writes bytes over a part.
-fn overwrite(content: &mut [u8], from: usize, bytes: &[u8])
-    requires { from + length bytes.now ≤ length content.old }
-    ensures holds { Holds content.old from bytes.now content.new }
-    ensures overwritten { content.new ≡ overwritten content.old from bytes.now }
-{
-    content[from..from + bytes.len()].copy_from_slice(bytes);
-}
-
-// Keeps a call in the record.
-fn record(calls: &mut Vec<Call>, call: Call) -> Result<(), AllocError>
-    ensures ok { OnOk result (calls.new.items ≡ calls.old.items ++ call ∷ []) }
-    ensures err { OnErr result (calls.new.items ≡ calls.old.items) }
-{
-    calls.push(call)?;
-    Ok(())
-}
-
-// Keeps a write in the record.
-fn record_write(
-    alloc: Global,
-    calls: &mut Vec<Call>,
-    at: u64,
-    bytes: &[u8],
-) -> Result<(), AllocError>
-    ensures ok { OnOk result ((copy : _) × (copy.items ≡ bytes.now) × (calls.new.items ≡ calls.old.items ++ Write at copy ∷ [])) }
-    ensures err { OnErr result (calls.new.items ≡ calls.old.items) }
-{
-    let bytes = bytes.to_vec(alloc)?;
-    record(calls, Call::Write { at, bytes })?;
-    Ok(())
 }
 
 impl Disk for MemDisk {
@@ -202,9 +164,10 @@ impl Disk for MemDisk {
         ensures write { IsWrite (memory_view self.old) (memory_view self.new) (512 * at) bytes.now result }
         ensures barriers { barriers_of self.new ≡ barriers_of self.old }
     {
-        match record_write(self.alloc, &mut self.calls, at, bytes) {
+        let from = SECTOR_SIZE * at as usize;
+        match record_write(self.alloc, &mut self.calls, from as u64, bytes) {
             Ok(()) => {
-                overwrite(&mut self.bytes, SECTOR_SIZE * at as usize, bytes);
+                overwrite(&mut self.bytes, from, bytes);
                 Ok(())
             }
             Err(_) => Err(count_fault(&mut self.faults)),

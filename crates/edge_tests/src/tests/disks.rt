@@ -1,6 +1,7 @@
 // A disk in memory that tells what it does, and halls over it.
 ghost use Rattle.std.specs.Prelude.{◌≡◌, [], IfOk};
-ghost use Rattle.group_commit.specs.Broker.{pending_of};
+ghost use Rattle.group_commit.specs.Broker.{pending_of, settings_of};
+ghost use Rattle.hall_core.specs.Fresh.{IsFresh};
 
 use group_commit::{Broker, format};
 use hall_core::Hall;
@@ -38,21 +39,25 @@ fn settings(alloc: Global) -> Result<Settings, AllocError> {
     })
 }
 
-// Formats a disk with good settings.
-fn format_disk(alloc: Global, disk: &mut MemDisk, settings: &Settings) -> Result<(), Fail> {
+/// How many sectors a disk of the tests has.
+pub const SECTORS: u64 = 64;
+
+/// Formats a disk with the settings of all tests.
+pub fn format_disk<D: Disk>(alloc: Global, disk: &mut D) -> Result<(), Fail> {
+    let settings = settings(alloc)?;
     if settings.check().is_err() {
         return Err(Fail::new("the settings are not good"));
     }
-    match format(alloc, disk, settings) {
+    match format(alloc, disk, &settings) {
         Ok(()) => Ok(()),
         Err(_) => Err(Fail::new("the disk is not formatted")),
     }
 }
 
-// A formatted disk of 64 sectors.
+// A formatted disk in memory.
 fn formatted(alloc: Global) -> Result<MemDisk, Fail> {
-    let mut disk = MemDisk::new(alloc, 64)?;
-    format_disk(alloc, &mut disk, &settings(alloc)?)?;
+    let mut disk = MemDisk::new(alloc, SECTORS)?;
+    format_disk(alloc, &mut disk)?;
     Ok(disk)
 }
 
@@ -174,7 +179,8 @@ impl<D: Disk> Disk for WatchedDisk<D> {
 
 /// A hall over a new disk that is watched.
 pub fn hall(alloc: Global, watch: &Arc<Watch>) -> Result<Hall<Broker<TestDisk>>, Fail>
-    ensures { IfOk result (λ hall. pending_of hall.issuer ≡ []) }
+    ensures nothing { IfOk result (λ hall. pending_of hall.issuer ≡ []) }
+    ensures fresh { IfOk result (λ hall. IsFresh (settings_of hall.issuer) hall) }
 {
     let watch = Arc::try_clone(watch)?;
     let fault = watch.trouble.fault;
@@ -182,9 +188,10 @@ pub fn hall(alloc: Global, watch: &Arc<Watch>) -> Result<Hall<Broker<TestDisk>>,
     hall_over(alloc, WatchedDisk { inner, watch })
 }
 
-// A hall over a formatted disk.
-fn hall_over<D: Disk + Drop>(alloc: Global, disk: D) -> Result<Hall<Broker<D>>, Fail>
-    ensures { IfOk result (λ hall. pending_of hall.issuer ≡ []) }
+/// A hall over a formatted disk.
+pub fn hall_over<D: Disk + Drop>(alloc: Global, disk: D) -> Result<Hall<Broker<D>>, Fail>
+    ensures nothing { IfOk result (λ hall. pending_of hall.issuer ≡ []) }
+    ensures fresh { IfOk result (λ hall. IsFresh (settings_of hall.issuer) hall) }
 {
     let Ok(broker) = Broker::open(alloc, disk) else {
         return Err(Fail::new("the disk is not opened"));

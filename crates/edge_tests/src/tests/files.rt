@@ -1,20 +1,20 @@
-// Disks in files of the system's folder for files of the day.
+// Disks in files of the system's folder for files of the day, and in files in memory.
 use crate::tests::house::expect;
-use sector_disk::{Disk, FileDisk, FileError, SECTOR_SIZE};
+use sector_disk::{Disk, FileDisk, FileError, MemFile, SECTOR_SIZE};
 use std::fs::File;
 use std::rt::Files;
 use std::test::Fail;
 use std::{env, fs, process};
 
-// The path of a file that no other test uses.
-fn path_of(rt: &HostRuntime, test: &str) -> Result<String, Fail> {
+/// The path of a file that no other test uses.
+pub fn path_of(rt: &HostRuntime, test: &str) -> Result<String, Fail> {
     let folder = env::temp_dir(rt)?;
     let id = process::id(rt.process());
     Ok(format!(in rt.alloc(); "{}/sector_disk_{test}_{id}", folder.as_str())?)
 }
 
 // What a sector of the disk reads as, if each of its bytes is the same.
-fn byte_at(disk: &mut FileDisk, sector: u64) -> Option<u8> {
+fn byte_at<D: Disk>(disk: &mut D, sector: u64) -> Option<u8> {
     if sector >= disk.sectors() {
         return None;
     }
@@ -29,8 +29,48 @@ fn byte_at(disk: &mut FileDisk, sector: u64) -> Option<u8> {
 }
 
 // Whether a sector of the disk was filled with this byte.
-fn is_filled(disk: &mut FileDisk, sector: u64, byte: u8) -> bool {
+fn is_filled<D: Disk>(disk: &mut D, sector: u64, byte: u8) -> bool {
     sector < disk.sectors() && disk.write(sector, &[byte; SECTOR_SIZE]).is_ok()
+}
+
+// Whether the last of 300 sectors was filled with 7, and that is durable.
+fn is_written<D: Disk>(disk: &mut D) -> bool {
+    disk.sectors() == 300 && is_filled(disk, 299, 7) && disk.barrier().is_ok()
+}
+
+// Whether 300 sectors are filled with zeros, and the last one with 7.
+fn is_kept<D: Disk>(disk: &mut D) -> bool {
+    let mut is_kept = disk.sectors() == 300;
+    for (sector, byte) in [(0, 0), (150, 0), (298, 0), (299, 7)] {
+        is_kept = is_kept && byte_at(disk, sector) == Some(byte);
+    }
+    is_kept && disk.faults() == 0
+}
+
+// Eight sectors, no two beside each other of which are the same.
+fn many_bytes() -> [u8; 4096] {
+    let mut bytes = [0; 4096];
+    for (place, byte) in bytes.iter_mut().enumerate() {
+        *byte = (place % 251) as u8;
+    }
+    bytes
+}
+
+// Whether eight sectors were written at once from sector 3 on, and that is durable.
+fn is_long_written<D: Disk>(disk: &mut D) -> bool {
+    disk.sectors() >= 12 && disk.write(3, &many_bytes()).is_ok() && disk.barrier().is_ok()
+}
+
+// Whether those sectors are read at once.
+fn is_long_read<D: Disk>(disk: &mut D) -> bool {
+    let mut bytes = [0; 4096];
+    disk.sectors() >= 12 && disk.read(3, &mut bytes).is_ok() && bytes == many_bytes()
+}
+
+// Whether what is written at once is read at once, and the sectors beside it are zeros still.
+fn is_long_kept<D: Disk>(disk: &mut D) -> bool {
+    let is_kept = is_long_written(disk) && is_long_read(disk);
+    is_kept && byte_at(disk, 2) == Some(0) && byte_at(disk, 11) == Some(0)
 }
 
 // How a disk is taken up.
@@ -62,22 +102,18 @@ fn is_made<R: Files<File = File>>(rt: &R, path: &str) -> bool {
     match FileDisk::create(rt, path, 300) {
         Ok(disk) => {
             let mut disk = disk;
-            disk.sectors() == 300 && is_filled(&mut disk, 299, 7) && disk.barrier().is_ok()
+            is_written(&mut disk)
         }
         Err(_) => false,
     }
 }
 
-// Whether a disk of 300 sectors is filled with zeros and its last sector with 7.
-fn is_kept<R: Files<File = File>>(rt: &R, path: &str) -> bool {
+// Whether a disk that is opened has what was written, and keeps more.
+fn is_opened<R: Files<File = File>>(rt: &R, path: &str) -> bool {
     match FileDisk::open(rt, path) {
         Ok(disk) => {
             let mut disk = disk;
-            let mut is_kept = disk.sectors() == 300;
-            for (sector, byte) in [(0, 0), (150, 0), (298, 0), (299, 7)] {
-                is_kept = is_kept && byte_at(&mut disk, sector) == Some(byte);
-            }
-            is_kept && disk.faults() == 0
+            is_kept(&mut disk) && is_long_kept(&mut disk)
         }
         Err(_) => false,
     }
@@ -91,8 +127,44 @@ fn what_was_written_is_read_after_it_was_opened_again(rt: HostRuntime) -> Result
     expect(&rt, is_made(&rt, path), "a disk is made of another file");
     let size = fs::metadata(&rt, path)?.len();
     expect(&rt, size == 153600, "the file has 300 sectors");
-    expect(&rt, is_kept(&rt, path), "what was written is read");
+    expect(&rt, is_opened(&rt, path), "what was written is read");
     fs::remove_file(&rt, path)?;
+    Ok(())
+}
+
+// Whether a file in memory is a disk of 300 sectors that has what was written, also once it was given back and taken up
+// again, and that keeps more.
+fn is_disk(file: MemFile) -> bool {
+    match FileDisk::over(file) {
+        Ok(disk) => {
+            let mut disk = disk;
+            if !is_written(&mut disk) {
+                return false;
+            }
+            is_disk_again(disk.into_file())
+        }
+        Err(_) => false,
+    }
+}
+
+// Whether a file in memory is a disk that has what was written, and keeps more.
+fn is_disk_again(file: MemFile) -> bool {
+    match FileDisk::over(file) {
+        Ok(disk) => {
+            let mut disk = disk;
+            is_kept(&mut disk) && is_long_kept(&mut disk)
+        }
+        Err(_) => false,
+    }
+}
+
+#[test]
+fn a_file_in_memory_is_a_disk(rt: HostRuntime) -> Result<(), Fail> {
+    let whole = MemFile::new(rt.alloc(), 153600)?;
+    expect(&rt, is_disk(whole), "what was written is read");
+    let cut = MemFile::new(rt.alloc(), 513)?;
+    let refusal = FileDisk::over(cut).err();
+    expect(&rt, refusal == Some(FileError::NotWhole), "a sector is cut");
     Ok(())
 }
 

@@ -2,24 +2,20 @@
 use http_front::{Gate, Turn};
 use std::sync::atomic::{AtomicU64, Ordering};
 
-// After so many turns a loop ends.
-const MOST_TURNS: u64 = 100_000_000;
+// After so many turns the loop ends, and with it the test.
+const LAST_TURN: u64 = 100_000_000;
 
-/// Lets a committer commit where so many commands are pending, so often, and ends its loop after many turns.
+/// Lets a committer commit where so many commands are pending.
 #[derive(Drop)]
 pub struct AtLeast {
     pending: usize,
-    commits: u64,
-    done: AtomicU64,
     turns: AtomicU64,
 }
 
 impl AtLeast {
-    pub fn new(pending: usize, commits: u64) -> AtLeast {
+    pub fn new(pending: usize) -> AtLeast {
         AtLeast {
             pending,
-            commits,
-            done: AtomicU64::new(0),
             turns: AtomicU64::new(0),
         }
     }
@@ -27,14 +23,12 @@ impl AtLeast {
 
 impl Gate for AtLeast {
     fn turn(&self, pending: usize) -> Turn {
-        let turns = self.turns.fetch_add(1, Ordering::SeqCst);
-        if turns >= MOST_TURNS || self.done.load(Ordering::SeqCst) >= self.commits {
-            return Turn::End;
+        if self.turns.fetch_add(1, Ordering::SeqCst) >= LAST_TURN {
+            Turn::End
+        } else if pending < self.pending {
+            Turn::Skip
+        } else {
+            Turn::Commit
         }
-        if pending < self.pending {
-            return Turn::Skip;
-        }
-        self.done.fetch_add(1, Ordering::SeqCst);
-        Turn::Commit
     }
 }

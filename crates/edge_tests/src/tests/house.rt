@@ -1,6 +1,7 @@
 // An office over a hall, for what happens in it.
 ghost use Rattle.std.specs.Prelude.{◌≡◌, []};
 ghost use Rattle.group_commit.specs.Broker.{pending_of, settings_of};
+ghost use Rattle.hall_core.specs.Fresh.{IsFresh};
 ghost use Rattle.receipts.specs.Desks.{desk_count};
 
 use crate::tests::disks::{TestDisk, Watch, hall};
@@ -56,6 +57,14 @@ pub enum Story {
     Polls(Poll),
 }
 
+// The last three of some desks. None where there are fewer.
+fn pop_three<L: Ledger>(desks: &mut Vec<Desk<L>>) -> Option<(Desk<L>, Desk<L>, Desk<L>)> {
+    match (desks.pop(), desks.pop(), desks.pop()) {
+        (Some(one), Some(two), Some(three)) => Some((one, two, three)),
+        _ => None,
+    }
+}
+
 // A house over a hall. None where there is no memory for it.
 fn house_over<L: Ledger, D: Disk + Drop>(
     alloc: Global,
@@ -63,6 +72,7 @@ fn house_over<L: Ledger, D: Disk + Drop>(
     blank: Blank,
 ) -> Option<House<L, D>>
     requires nothing { pending_of hall.issuer ≡ [] }
+    requires fresh { IsFresh (settings_of hall.issuer) hall }
     requires name { blank.name ≡ L.name }
     requires parts { blank.parts ≡ L.parts }
     requires seats { L.parts ≡ desk_count (settings_of hall.issuer) }
@@ -72,8 +82,8 @@ fn house_over<L: Ledger, D: Disk + Drop>(
         return None;
     };
     let mut others: Vec<Desk<L>> = desks;
-    match (others.pop(), others.pop(), others.pop()) {
-        (Some(one), Some(two), Some(three)) => Some(House {
+    match pop_three(&mut others) {
+        Some((one, two, three)) => Some(House {
             office,
             one,
             two,
@@ -82,7 +92,7 @@ fn house_over<L: Ledger, D: Disk + Drop>(
             half,
             durable,
         }),
-        _ => None,
+        None => None,
     }
 }
 
@@ -93,6 +103,7 @@ where
     R: Abort + Threads + Wait + RandomSource + AllocGlobal + Copy + Drop + Send + Sync,
     D: Disk + Drop + Send,
     requires nothing { pending_of hall.issuer ≡ [] }
+    requires fresh { IsFresh (settings_of hall.issuer) hall }
     requires name { blank.name ≡ L.name }
     requires parts { blank.parts ≡ L.parts }
     requires seats { L.parts ≡ desk_count (settings_of hall.issuer) }
@@ -116,6 +127,6 @@ where
     if tell_in::<Brand, R, TestDisk>(rt, hall, blank, watch, story) {
         Ok(())
     } else {
-        Err(Fail::new("the house is not opened"))
+        Err(Fail::new("the house was not opened, or its story not ended"))
     }
 }

@@ -1,9 +1,9 @@
 // Futures of replies, polled on one thread over an office, a board and a bell, and once from another thread.
-mod stage;
+mod scene;
 
 use crate::tests::disks::{NO_TROUBLE, Trouble, Watch};
 use crate::tests::house::{House, Story, expect, tell};
-use crate::tests::polls::stage::{Pool, Stage, slot_of, stage_in};
+use crate::tests::polls::scene::{Pool, Scene, scene_in, slot_of};
 use api_core::Call;
 use futures::executor::{LocalPool, block_on};
 use hall_core::HallError;
@@ -36,184 +36,184 @@ pub enum Poll {
     Thread,
 }
 
-fn a_ticket<R, L, D>(rt: &R, stage: &mut Stage<R, L, D>)
+fn a_ticket<R, L, D>(rt: &R, scene: &mut Scene<R, L, D>)
 where
     R: Abort + Wait + RandomSource + AllocGlobal + Copy + Drop,
     L: Ledger,
     D: Disk + Drop,
 {
-    let ticket = match stage.arrive_invoke(1) {
-        Some((ticket, _)) => stage.check(ticket).err(),
+    let ticket = match scene.arrive_invoke(1) {
+        Some((ticket, _)) => scene.check(ticket).err(),
         None => None,
     };
     expect(rt, ticket.is_some(), "a ticket waits");
-    expect(rt, stage.commit() == Ok(1), "a command is durable");
-    stage.raise();
+    expect(rt, scene.commit() == Ok(1), "a command is durable");
+    scene.raise();
     expect(
         rt,
-        stage.shows(ticket),
+        scene.shows(ticket),
         "the board shows the ticket's number",
     );
 }
 
-fn an_invoke<R, L, D>(rt: &R, stage: &mut Stage<R, L, D>, pool: &mut Pool<R, L>)
+fn an_invoke<R, L, D>(rt: &R, scene: &mut Scene<R, L, D>, pool: &mut Pool<R, L>)
 where
     R: Abort + Wait + RandomSource + AllocGlobal + Copy + Drop,
     L: Ledger,
     D: Disk + Drop,
 {
-    let slot = stage.invoke(pool, 1);
+    let slot = scene.invoke(pool, 1);
     expect(
         rt,
-        stage.heard(pool).is_nothing(),
+        scene.heard(pool).is_nothing(),
         "nothing is told before a commit",
     );
-    expect(rt, stage.commit() == Ok(1), "a command is durable");
-    stage.ring(1);
+    expect(rt, scene.commit() == Ok(1), "a command is durable");
+    scene.ring(1);
     expect(
         rt,
-        stage.heard(pool).is_nothing(),
+        scene.heard(pool).is_nothing(),
         "nothing is told before the board shows it",
     );
-    stage.raise();
-    stage.ring(0);
+    scene.raise();
+    scene.ring(0);
     expect(
         rt,
-        stage.heard(pool).is_nothing(),
+        scene.heard(pool).is_nothing(),
         "nothing is told before the ring",
     );
-    stage.ring(1);
+    scene.ring(1);
     expect(
         rt,
-        stage.heard(pool).is_one(slot, 202),
+        scene.heard(pool).is_one(slot, 202),
         "the invoke is told 202",
     );
-    expect(rt, stage.open_slots() == 0, "no slot is open");
+    expect(rt, scene.open_slots() == 0, "no slot is open");
 }
 
-fn parked_polls<R, L, D>(rt: &R, stage: &mut Stage<R, L, D>, pool: &mut Pool<R, L>)
+fn parked_polls<R, L, D>(rt: &R, scene: &mut Scene<R, L, D>, pool: &mut Pool<R, L>)
 where
     R: Abort + Wait + RandomSource + AllocGlobal + Copy + Drop,
     L: Ledger,
     D: Disk + Drop,
 {
-    let first = stage.ask(pool, RUNTIME_NEXT, 1);
+    let first = scene.ask(pool, RUNTIME_NEXT, 1);
     expect(
         rt,
-        stage.heard(pool).is_nothing(),
+        scene.heard(pool).is_nothing(),
         "the first poll is parked",
     );
-    let second = stage.ask(pool, RUNTIME_NEXT, 1);
+    let second = scene.ask(pool, RUNTIME_NEXT, 1);
     expect(
         rt,
-        stage.heard(pool).is_nothing(),
+        scene.heard(pool).is_nothing(),
         "the second poll is parked",
     );
-    stage.ring(0);
+    scene.ring(0);
     expect(
         rt,
-        stage.heard(pool).is_one(first, 409),
+        scene.heard(pool).is_one(first, 409),
         "the first poll is replaced",
     );
-    let accepted = stage.invoke(pool, 1);
-    expect(rt, stage.tick() == 2, "the event starts");
-    stage.ring(0);
+    let accepted = scene.invoke(pool, 1);
+    expect(rt, scene.tick() == 2, "the event starts");
+    scene.ring(0);
     expect(
         rt,
-        stage.heard(pool).is_nothing(),
+        scene.heard(pool).is_nothing(),
         "nothing is told before a commit",
     );
     expect(
         rt,
-        stage.commit_and_tell() == Ok(2),
+        scene.commit_and_tell() == Ok(2),
         "both commands are durable",
     );
-    let heard = stage.heard(pool);
+    let heard = scene.heard(pool);
     expect(
         rt,
         heard.are_two((second, 200), (accepted, 202)),
         "both are told",
     );
-    expect(rt, stage.open_slots() == 0, "no slot is open");
+    expect(rt, scene.open_slots() == 0, "no slot is open");
 }
 
-fn a_fault<R, L, D>(rt: &R, stage: &mut Stage<R, L, D>, pool: &mut Pool<R, L>)
+fn a_fault<R, L, D>(rt: &R, scene: &mut Scene<R, L, D>, pool: &mut Pool<R, L>)
 where
     R: Abort + Wait + RandomSource + AllocGlobal + Copy + Drop,
     L: Ledger,
     D: Disk + Drop,
 {
-    let accepted = stage.invoke(pool, 1);
+    let accepted = scene.invoke(pool, 1);
     expect(
         rt,
-        stage.heard(pool).is_nothing(),
+        scene.heard(pool).is_nothing(),
         "nothing is told before a commit",
     );
-    expect(rt, stage.commit_and_tell() == Ok(1), "a command is durable");
+    expect(rt, scene.commit_and_tell() == Ok(1), "a command is durable");
     expect(
         rt,
-        stage.heard(pool).is_one(accepted, 202),
+        scene.heard(pool).is_one(accepted, 202),
         "the invoke is told 202",
     );
-    let one = stage.ticket();
-    let parked = stage.ask(pool, RUNTIME_NEXT, 1);
-    let refused = stage.invoke(pool, 2);
-    let two = stage.ticket();
-    expect(rt, stage.open_slots() == 2, "two slots are open");
+    let one = scene.ticket();
+    let parked = scene.ask(pool, RUNTIME_NEXT, 1);
+    let refused = scene.invoke(pool, 2);
+    let two = scene.ticket();
+    expect(rt, scene.open_slots() == 2, "two slots are open");
     expect(
         rt,
-        stage.heard(pool).is_nothing(),
+        scene.heard(pool).is_nothing(),
         "nothing is told before a commit",
     );
     expect(
         rt,
-        stage.commit_and_tell() == Err(HallError::Fault),
+        scene.commit_and_tell() == Err(HallError::Fault),
         "the device fails",
     );
-    let heard = stage.heard(pool);
+    let heard = scene.heard(pool);
     expect(
         rt,
         heard.are_two((parked, 503), (refused, 503)),
         "both are told 503",
     );
-    expect(rt, stage.shows(one), "the board shows what is durable");
-    expect(rt, !stage.shows(two), "the board shows no more");
+    expect(rt, scene.shows(one), "the board shows what is durable");
+    expect(rt, !scene.shows(two), "the board shows no more");
     expect(
         rt,
-        stage.commit_and_tell() == Err(HallError::Broken),
+        scene.commit_and_tell() == Err(HallError::Broken),
         "the hall is broken",
     );
 }
 
-fn a_dropped_future<R, L, D>(rt: &R, stage: &mut Stage<R, L, D>)
+fn a_dropped_future<R, L, D>(rt: &R, scene: &mut Scene<R, L, D>)
 where
     R: Abort + Wait + RandomSource + AllocGlobal + Copy + Drop,
     L: Ledger,
     D: Disk + Drop,
 {
-    let waiting = stage.waiting(stage.arrive_invoke(1));
+    let waiting = scene.waiting(scene.arrive_invoke(1));
     expect(rt, waiting.is_some(), "a future waits");
-    expect(rt, stage.open_slots() == 1, "its slot is open");
+    expect(rt, scene.open_slots() == 1, "its slot is open");
     drop(waiting);
-    expect(rt, stage.open_slots() == 0, "its slot is forgotten");
+    expect(rt, scene.open_slots() == 0, "its slot is forgotten");
 }
 
-fn another_thread<R, L, D>(rt: &R, stage: &mut Stage<R, L, D>) -> bool
+fn another_thread<R, L, D>(rt: &R, scene: &mut Scene<R, L, D>) -> bool
 where
     R: Abort + Threads + Wait + RandomSource + AllocGlobal + Copy + Drop + Send + Sync,
     L: Ledger + Send + Sync,
     D: Disk + Drop + Send,
 {
-    let arrived = stage.arrive_invoke(1);
+    let arrived = scene.arrive_invoke(1);
     let slot = slot_of(&arrived);
-    let Some(waiting) = stage.waiting(arrived) else {
+    let Some(waiting) = scene.waiting(arrived) else {
         return false;
     };
-    let (released, told) = thread::join(rt, || block_on(rt, waiting), || stage.commit_and_tell());
+    let (released, told) = thread::join(rt, || block_on(rt, waiting), || scene.commit_and_tell());
     expect(rt, told == Ok(1), "a command is durable");
     match released {
         Ok(released) => {
-            let is_told = released.slot() == slot && released.reply.status == 202;
+            let is_told = released.slot() == slot && released.into_reply().status == 202;
             expect(rt, is_told, "the thread is told 202");
             true
         }
@@ -222,7 +222,7 @@ where
 }
 
 // Polls what needs a pool: whether there was memory for one.
-fn poll_pooled<R, L, D>(rt: &R, stage: &mut Stage<R, L, D>, which: Poll) -> bool
+fn poll_pooled<R, L, D>(rt: &R, scene: &mut Scene<R, L, D>, which: Poll) -> bool
 where
     R: Abort + Wait + RandomSource + AllocGlobal + Copy + Drop,
     L: Ledger,
@@ -233,25 +233,25 @@ where
     };
     let mut pool: Pool<R, L> = pool;
     match which {
-        Poll::Invoke => an_invoke(rt, stage, &mut pool),
-        Poll::Parked => parked_polls(rt, stage, &mut pool),
-        _ => a_fault(rt, stage, &mut pool),
+        Poll::Invoke => an_invoke(rt, scene, &mut pool),
+        Poll::Parked => parked_polls(rt, scene, &mut pool),
+        _ => a_fault(rt, scene, &mut pool),
     }
     true
 }
 
-// Polls replies on a stage: whether there was memory for it.
-fn poll_on<R, L, D>(rt: &R, stage: &mut Stage<R, L, D>, which: Poll) -> bool
+// Polls replies on a scene: whether there was memory for it.
+fn poll_on<R, L, D>(rt: &R, scene: &mut Scene<R, L, D>, which: Poll) -> bool
 where
     R: Abort + Threads + Wait + RandomSource + AllocGlobal + Copy + Drop + Send + Sync,
     L: Ledger + Send + Sync,
     D: Disk + Drop + Send,
 {
     match which {
-        Poll::Board => a_ticket(rt, stage),
-        Poll::Dropped => a_dropped_future(rt, stage),
-        Poll::Thread => return another_thread(rt, stage),
-        _ => return poll_pooled(rt, stage, which),
+        Poll::Board => a_ticket(rt, scene),
+        Poll::Dropped => a_dropped_future(rt, scene),
+        Poll::Thread => return another_thread(rt, scene),
+        _ => return poll_pooled(rt, scene, which),
     }
     true
 }
@@ -263,10 +263,10 @@ where
     L: Ledger + Send + Sync,
     D: Disk + Drop + Send,
 {
-    match stage_in(rt, house) {
-        Some(stage) => {
-            let mut stage = stage;
-            poll_on(&rt, &mut stage, which)
+    match scene_in(rt, house) {
+        Some(scene) => {
+            let mut scene = scene;
+            poll_on(&rt, &mut scene, which)
         }
         None => false,
     }

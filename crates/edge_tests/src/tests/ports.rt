@@ -1,25 +1,32 @@
 // A front whose ports are asked over loopback, with both ends in one process.
 ghost use Rattle.std.specs.Prelude.{◌≡◌, []};
 ghost use Rattle.group_commit.specs.Broker.{pending_of, settings_of};
+ghost use Rattle.hall_core.specs.Fresh.{IsFresh};
 ghost use Rattle.receipts.specs.Desks.{desk_count};
 
 mod clients;
+mod crowd;
 mod talks;
 
-use crate::tests::disks::{NO_TROUBLE, TestDisk, Trouble, Watch, hall};
+use crate::tests::disks::{NO_TROUBLE, SECTORS, Trouble, Watch, format_disk, hall, hall_over};
+use crate::tests::files::path_of;
 use crate::tests::gate::AtLeast;
-use crate::tests::ports::clients::{Doors, listen};
-use crate::tests::ports::talks::{Talk, talk_at};
+use crate::tests::house::expect;
+use crate::tests::ports::clients::{Doors, Told, listen};
+use crate::tests::ports::talks::{Leaving, Party, Talk, talk_at};
 use group_commit::Broker;
 use hall_core::Hall;
-use http_front::{Ending, serve};
+use http_front::serve;
 use receipts::desks;
-use sector_disk::Disk;
+use sector_disk::{Disk, FileDisk};
 use std::alloc::{AllocGlobal, Global};
+use std::fs;
+use std::fs::File;
 use std::marker::Brand;
 use std::net::{Net, TcpListener, TcpStream};
 use std::process::Abort;
 use std::random::RandomSource;
+use std::rt::Files;
 use std::sync::ledger::{Blank, Ledger};
 use std::sync::{Arc, Wait};
 use std::test::Fail;
@@ -46,14 +53,14 @@ where
     ))
 }
 
-// Serves a hall while a thread talks to its ports, until it is stopped: whether it was.
+// Serves a hall while a thread talks to its ports: what that was told. None where the front does not end as it has to.
 fn serve_talk<R, L, D>(
     rt: R,
     hall: Hall<Broker<D>>,
     blank: Blank,
     watch: Arc<Watch>,
     talk: Talk,
-) -> bool
+) -> Option<Told>
 where
     R: Abort
         + Threads
@@ -70,20 +77,52 @@ where
     L: Ledger + Send + Sync + 'static,
     D: Disk + Drop,
     requires nothing { pending_of hall.issuer ≡ [] }
+    requires fresh { IsFresh (settings_of hall.issuer) hall }
     requires name { blank.name ≡ L.name }
     requires parts { blank.parts ≡ L.parts }
     requires seats { L.parts ≡ desk_count (settings_of hall.issuer) }
 {
-    let Ok((listeners, doors)) = doors(&rt, rt.alloc()) else {
-        return false;
-    };
-    let Ok(clients) = thread::spawn(&rt, move || talk_at(&rt, doors, &watch, talk)) else {
-        return false;
-    };
-    let gate = AtLeast::new(talk.pending(), u64::MAX);
-    let ending = serve::<R, L, D, AtLeast>(rt, hall, blank, listeners, &gate);
-    clients.join(&rt);
-    matches!(ending, Ok(Ending::Stopped))
+    let (listeners, doors) = doors(&rt, rt.alloc()).ok()?;
+    let clients = thread::spawn(&rt, move || talk_at(&rt, doors, &watch, talk)).ok()?;
+    let gate = AtLeast::new(talk.pending());
+    let served = serve::<R, L, D, AtLeast>(rt, hall, blank, listeners, &gate).ok();
+    let told = clients.join(&rt);
+    if served?.ending == talk.ending() {
+        Some(told)
+    } else {
+        None
+    }
+}
+
+// Serves a hall over a disk in which nothing has come yet: what a client was told.
+fn serve_hall<R, D>(
+    rt: R,
+    hall: Hall<Broker<D>>,
+    watch: Arc<Watch>,
+    talk: Talk,
+) -> Result<Told, Fail>
+where
+    R: Abort
+        + Threads
+        + Wait
+        + Clock
+        + Net<Listener = TcpListener, Stream = TcpStream>
+        + RandomSource
+        + AllocGlobal
+        + Copy
+        + Drop
+        + Send
+        + Sync
+        + 'static,
+    D: Disk + Drop,
+    requires nothing { pending_of hall.issuer ≡ [] }
+    requires fresh { IsFresh (settings_of hall.issuer) hall }
+{
+    let blank = Blank::new(desks(hall.table().settings()));
+    match serve_talk::<R, Brand, D>(rt, hall, blank, watch, talk) {
+        Some(told) => Ok(told),
+        None => Err(Fail::new("the front did not end as it has to")),
+    }
 }
 
 // Serves a hall over a new disk with this trouble.
@@ -103,12 +142,9 @@ where
         + 'static,
 {
     let watch = Arc::new(rt.alloc(), Watch::new(trouble))?;
-    let hall: Hall<Broker<TestDisk>> = hall(rt.alloc(), &watch)?;
-    let blank = Blank::new(desks(hall.table().settings()));
     let theirs = Arc::try_clone(&watch)?;
-    if !serve_talk::<R, Brand, TestDisk>(rt, hall, blank, theirs, talk) {
-        return Err(Fail::new("the front was not served until it was stopped"));
-    }
+    let hall = hall(rt.alloc(), &watch)?;
+    drop(serve_hall(rt, hall, theirs, talk)?);
     if watch.is_late() {
         return Err(Fail::new("the disk waited in vain"));
     }
@@ -127,12 +163,7 @@ fn an_extension_is_told_of_the_same_event(rt: HostRuntime) -> Result<(), Fail> {
 
 #[test]
 fn a_commit_holds_no_lock_and_no_port_while_it_writes(rt: HostRuntime) -> Result<(), Fail> {
-    let trouble = Trouble {
-        fault: 0,
-        barrier: 2,
-        answers: 1,
-    };
-    tell(rt, trouble, Talk::Held)
+    tell(rt, Trouble { fault: 0, ..HELD }, Talk::Held)
 }
 
 #[test]
@@ -143,4 +174,120 @@ fn a_connection_goes_on_and_a_large_body_is_told_as_such(rt: HostRuntime) -> Res
 #[test]
 fn what_is_cut_off_is_no_event(rt: HostRuntime) -> Result<(), Fail> {
     tell(rt, NO_TROUBLE, Talk::Cut)
+}
+
+#[test]
+fn a_poll_whose_client_has_gone_stays_parked(rt: HostRuntime) -> Result<(), Fail> {
+    tell(rt, NO_TROUBLE, Talk::Gone)
+}
+
+// The first barrier of the first commit waits for one answer, and then fails: the third change behind the formatting.
+const HELD: Trouble = Trouble {
+    fault: 3,
+    barrier: 2,
+    answers: 1,
+};
+
+#[test]
+fn a_front_ends_after_a_fault_though_a_caller_has_gone(rt: HostRuntime) -> Result<(), Fail> {
+    tell(
+        rt,
+        HELD,
+        Talk::Fault(Party::Caller, Leaving::BeforeTheFault),
+    )
+}
+
+#[test]
+fn a_front_ends_after_a_fault_though_a_runtime_has_gone(rt: HostRuntime) -> Result<(), Fail> {
+    tell(
+        rt,
+        HELD,
+        Talk::Fault(Party::Runtime, Leaving::BeforeTheFault),
+    )
+}
+
+#[test]
+fn a_front_ends_after_a_fault_though_an_extension_has_gone(rt: HostRuntime) -> Result<(), Fail> {
+    tell(
+        rt,
+        HELD,
+        Talk::Fault(Party::Extension, Leaving::BeforeTheFault),
+    )
+}
+
+#[test]
+fn a_front_ends_though_a_caller_goes_after_the_fault(rt: HostRuntime) -> Result<(), Fail> {
+    tell(rt, HELD, Talk::Fault(Party::Caller, Leaving::AfterTheFault))
+}
+
+#[test]
+fn a_front_ends_though_a_runtime_goes_after_the_fault(rt: HostRuntime) -> Result<(), Fail> {
+    tell(
+        rt,
+        HELD,
+        Talk::Fault(Party::Runtime, Leaving::AfterTheFault),
+    )
+}
+
+#[test]
+fn a_front_ends_though_an_extension_goes_after_the_fault(rt: HostRuntime) -> Result<(), Fail> {
+    tell(
+        rt,
+        HELD,
+        Talk::Fault(Party::Extension, Leaving::AfterTheFault),
+    )
+}
+
+// Serves the disk in a file to the end of a talk: what a client was told.
+fn serve_file<R>(rt: R, path: &str, talk: Talk) -> Result<Told, Fail>
+where
+    R: Files<File = File>
+        + Abort
+        + Threads
+        + Wait
+        + Clock
+        + Net<Listener = TcpListener, Stream = TcpStream>
+        + RandomSource
+        + AllocGlobal
+        + Copy
+        + Drop
+        + Send
+        + Sync
+        + 'static,
+{
+    let Ok(disk) = FileDisk::open(&rt, path) else {
+        return Err(Fail::new("the file is not opened"));
+    };
+    let watch = Arc::new(rt.alloc(), Watch::new(NO_TROUBLE))?;
+    serve_hall(rt, hall_over(rt.alloc(), disk)?, watch, talk)
+}
+
+// Formats a disk in a new file.
+fn format_file<R>(rt: &R, path: &str) -> Result<(), Fail>
+where
+    R: Files<File = File> + AllocGlobal,
+{
+    match FileDisk::create(rt, path, SECTORS) {
+        Ok(disk) => {
+            let mut disk = disk;
+            format_disk(rt.alloc(), &mut disk)
+        }
+        Err(_) => Err(Fail::new("the file is not made")),
+    }
+}
+
+#[test]
+fn a_second_front_of_the_same_file_tells_the_same_record(rt: HostRuntime) -> Result<(), Fail> {
+    let path = path_of(&rt, "second_front")?;
+    let path = path.as_str();
+    format_file(&rt, path)?;
+    let first = serve_file(rt, path, Talk::Life)?;
+    let second = serve_file(rt, path, Talk::Record)?;
+    expect(
+        &rt,
+        !first.body().is_empty() && first.body() == second.body(),
+        "the record is the same",
+    );
+    fs::remove_file(&rt, path)?;
+    Ok(())
 }

@@ -42,7 +42,7 @@ fn arrive<L: Ledger, R: Wait>(
 fn status_of<L: Ledger, R: Wait>(rt: &R, office: &Office<L>, desk: &mut Desk<L>, slot: u64) -> u16 {
     for _turn in 0..MOST_TURNS {
         if let Some(released) = office.take(rt, desk, slot) {
-            return released.reply.status;
+            return released.into_reply().status;
         }
         thread::yield_now();
     }

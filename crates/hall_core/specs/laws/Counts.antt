@@ -1,5 +1,5 @@
 -- Laws: how many slots are open after one event more, where each request came with a slot that was not open.
-use Rattle.std.proofs.Common.{◌≡◌, ℕ, ◌+◌, ◌<◌, ◌≤◌, List, [], ◌∷◌, ◌++◌, length, take, Bool, true, false, ◌||◌, cond, refl, sym, subst, ap, ◌∙◌, ◌⊎◌, inl, inr, arith, zero-add, Option, Some, None, is_some, append_assoc, length-append, ◌==◌}
+use Rattle.std.proofs.Common.{◌≡◌, ℕ, ◌+◌, ◌<◌, ◌≤◌, List, [], ◌∷◌, ◌++◌, length, take, Bool, true, false, ◌&&◌, ◌||◌, cond, refl, sym, subst, ap, ◌∙◌, ◌⊎◌, inl, inr, arith, zero-add, Option, Some, None, is_some, append_assoc, length-append, ◌==◌}
 use Rattle.std.specs.Prelude.{slice_get}
 use Rattle.std.specs.List.{list_any, count_by}
 use Rattle.std.specs.Option.{option_len}
@@ -63,7 +63,7 @@ apartly P none step events =
 -- ## How often a slot is among the open ones
 
 -- 1 where this is so
-abbrev one_if : Bool → ℕ
+abbrev pub one_if : Bool → ℕ
 one_if b = cond b 1 0
 
 -- how many of these are this slot
@@ -232,6 +232,47 @@ at_most_once slot =
           let more = no_more e slot events in
           omega arith
     ])
+
+-- in a broken hall as many are open, or fewer
+closes_too : (t f b r : Bool) → (t || (f && (b || r))) ≡ false → (t || (f && (false || r))) ≡ false
+closes_too false false b r unclosed = refl
+closes_too false true false r unclosed = unclosed
+closes_too false true true r unclosed = absurd (false≢true (sym unclosed))
+closes_too true f b r unclosed = absurd (false≢true (sym unclosed))
+
+unclosed_too : (b : Bool) (slot : ℕ) (events : List SlotEvent) → closes b slot events ≡ false → closes false slot events ≡ false
+unclosed_too b slot events =
+    closes_too (list_any (takes slot) events) (list_any (forgets slot) events) b (list_any (λ x. is_some {T = Reply} (reply_by slot x)) events)
+
+-- a request in front counts no more where it is closed wherever the other is
+no_more_in_front : (c d : Bool) (n : ℕ) → (c ≡ false → d ≡ false) → cond {A = ℕ} c 0 n ≤ cond {A = ℕ} d 0 n
+no_more_in_front true d n too = omega arith
+no_more_in_front false d n too = subst (λ x. n ≤ cond {A = ℕ} x 0 n) (sym (too refl)) (omega arith)
+
+no_more_open : (b : Bool) (slot : ℕ) (events : List SlotEvent) → times slot (open_among b events) ≤ times slot (open_among false events)
+no_more_open b slot [] = omega arith
+no_more_open b slot (asked other call ∷ later) =
+    let more = no_more_open b slot later in
+    let is = front_times slot (closes b other later) other (open_among b later) in
+    let was = front_times slot (closes false other later) other (open_among false later) in
+    let front = no_more_in_front (closes b other later) (closes false other later) (cond (slot == other) 1 0) (unclosed_too b other later) in
+    omega arith
+no_more_open b slot (replied other answer point ∷ later) = no_more_open b slot later
+no_more_open b slot (taken other ∷ later) = no_more_open b slot later
+no_more_open b slot (forgotten other ∷ later) = no_more_open b slot later
+
+-- a slot is among the open ones once where it is open
+pub times_open : (b : Bool) (slot : ℕ) (events : List SlotEvent) → AreApart events → times slot (open_among b events) ≡ one_if (is_open_in b events slot)
+times_open b slot events apart =
+    elim (cases_Bool (is_open_in b events slot)) [
+      | inl here ↦
+          let most = at_most_once slot events apart in
+          let fewer = no_more_open b slot events in
+          let least = times_some slot (open_among b events) here in
+          let one : one_if (is_open_in b events slot) ≡ 1 = ap one_if here in
+          omega arith
+      | inr none ↦ times_none slot (open_among b events) none ∙ sym (ap one_if none)
+    ]
 
 counted : (o : Option Status) → option_len o ≡ cond (is_some o) 1 0
 counted None = refl

@@ -93,7 +93,7 @@ first_moving-none s h now ready all =
     (λ o i. rw (by_in (λ (o : Event). move_of s h now ready o.1 ≡ None) (held_from 1 h) o (recursion_from_All (λ (o : Event). move_of s h now ready o.1 ≡ None) (held_from 1 h) all) i) refl))
 
 -- the command of a move, by its kind
-command_by_kind : (x : Scene) (ready : Option ℕ) (id : List ℕ) (kind : Kind)
+pub command_by_kind : (x : Scene) (ready : Option ℕ) (id : List ℕ) (kind : Kind)
     → (moves_event x ready id kind).command ≡ Some (record { kind = kind; id = id; environment = environment_for ready kind; time = x.now; bytes = [] })
 command_by_kind x ready id Accept = refl
 command_by_kind x ready id Start = refl

@@ -11,7 +11,7 @@ use Rattle.async_core.specs.laws.Lives.{after_last-snoc}
 use Rattle.api_core.specs.declared.call.Call.{Call}
 use Rattle.hall_core.specs.Past.{SlotEvent, asked, replied, taken, forgotten, Past}
 use Rattle.hall_core.specs.Slots.{Reply, asks, takes, forgets, reply_by, since, reply_in, reply_of, closes, open_among, open_slots, is_open, is_open_in, tell, is_wanted_in, is_wanted, released_in, released}
-use Rattle.hall_core.specs.Status.{Status, status_of, fresh, after_reply, after_forgetting, status_after, is_wanted_by, released_by}
+use Rattle.hall_core.specs.Status.{Status, status_of, fresh, after_reply, after_forgetting, status_after, is_open_by, is_wanted_by, released_by}
 use Rattle.hall_core.specs.laws.Replies.{since_append}
 
 -- ## What stands after the last
@@ -294,6 +294,24 @@ unfolding status_of
 status_nil slot = refl
 
 -- ## What a status says
+
+open_from : (b a t f : Bool) (r : Option Reply) → (a && not (t || (f && (b || is_some r)))) ≡ is_open_by b (status_from a t f r)
+open_from b false t f r = refl
+open_from b true true f r = refl
+open_from true true false false r = refl
+open_from false true false false r = refl
+open_from true true false true None = refl
+open_from false true false true None = refl
+open_from true true false true (Some reply) = refl
+open_from false true false true (Some reply) = refl
+
+-- a slot is open, in a hall that is broken or is not
+pub open_by_standing : (b : Bool) (events : List SlotEvent) (slot : ℕ) → is_open_in b events slot ≡ is_open_by b (status_of events slot)
+open_by_standing b events slot =
+    open_is b slot events
+    ∙ ap (λ r. any events slot && not (gone events slot || (dropped events slot && (b || r)))) (is_replied (reply_by slot) (since events slot))
+    ∙ open_from b (any events slot) (gone events slot) (dropped events slot) (reply_in events slot)
+    ∙ ap (is_open_by b) (sym (status_is events slot))
 
 wanted_from : (a t f : Bool) (r : Option Reply) → (a && not (t || f)) ≡ is_wanted_by (status_from a t f r)
 wanted_from false t f r = refl

@@ -9,7 +9,7 @@ returns-in-Ok-clause-exact c =
     let bytes = c.args.bytes.now in
     let behind = c.split_at.result.1.now in
     let front = behind_front c.args.sectors bytes behind c.split_at.ensures.back (sym c.if-not-starts_with.ensures.value)
-    (rw c.u64_at-generation.ensures at c.if-generation-lt1.false) (rw c.u64_at-generation.ensures at c.if-generation.false) in
+    (rw c.u64_at-generation.ensures at c.if-generation-lt1.false) (rw c.u64_at-generation.ensures at c.if-generation-gt-MOST_GENERATIONS.false) in
     let size : length behind ≡ 484 = omega (arith, c.split_at.ensures.back_len, c.requires) in
     c.with_settings.ensures.exact
     ∙ ap (λ (rest : List ℕ). header_with c.args.sectors bytes (Ok (c.in-Ok.settings, rest)))
@@ -25,5 +25,5 @@ returns-in-Err-clause-exact c =
     none.0
     ∙ sym
     (no_settings c.args.sectors bytes behind c.split_at.ensures.back (sym c.if-not-starts_with.ensures.value) (rw c.u64_at-generation.ensures at c.if-generation-lt1.false)
-    (rw c.u64_at-generation.ensures at c.if-generation.false) c.in-Err.why c.in-Err.ensures.exact none.1))
+    (rw c.u64_at-generation.ensures at c.if-generation-gt-MOST_GENERATIONS.false) c.in-Err.why c.in-Err.ensures.exact none.1))
     c.unread.ensures

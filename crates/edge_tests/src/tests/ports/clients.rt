@@ -45,6 +45,15 @@ impl Told {
         wanted.next().is_none()
     }
 
+    /// The last line: the body of one answer whose body is one line.
+    pub fn body(&self) -> &str {
+        let mut body = "";
+        for line in self.all.lines() {
+            body = line;
+        }
+        body
+    }
+
     /// The value of the header whose line begins with this name, a colon and a space; nothing where there is none.
     pub fn header(&self, begin: &str) -> &str {
         for line in self.all.lines() {

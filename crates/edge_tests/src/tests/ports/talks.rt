@@ -2,21 +2,46 @@
 use crate::tests::disks::Watch;
 use crate::tests::house::expect;
 use crate::tests::ports::clients::{Doors, Told, ask, hear, send};
-use std::alloc::AllocGlobal;
+use http_front::Ending;
+use std::alloc::{AllocGlobal, Global};
 use std::net::{Net, TcpListener, TcpStream};
 use std::process::Abort;
 use std::thread;
 use std::thread::Threads;
+
+/// Who waits for a reply.
+#[derive(Clone, Copy)]
+pub enum Party {
+    /// A caller who invokes.
+    Caller,
+    /// A runtime whose poll is parked.
+    Runtime,
+    /// An extension whose poll is parked.
+    Extension,
+}
+
+/// When a client who waits goes away.
+#[derive(Clone, Copy)]
+pub enum Leaving {
+    BeforeTheFault,
+    AfterTheFault,
+}
 
 /// Who asks what.
 #[derive(Clone, Copy)]
 pub enum Talk {
     /// A caller and a runtime: one event's whole life.
     Life,
+    /// A caller who asks for the oldest record.
+    Record,
     /// An extension beside the runtime.
     Extension,
+    /// A runtime that goes away while its poll is parked.
+    Gone,
     /// Two callers whose invokes share a commit, and clients who ask while the disk makes its first barrier.
     Held,
+    /// A client who waits and goes away, before the first commit meets a fault or after that.
+    Fault(Party, Leaving),
     /// One connection with several requests.
     Connection,
     /// Clients who close within a request.
@@ -29,6 +54,14 @@ impl Talk {
         match self {
             Talk::Held => 2,
             _ => 1,
+        }
+    }
+
+    /// How the front ends.
+    pub fn ending(self) -> Ending {
+        match self {
+            Talk::Fault(..) => Ending::Broken,
+            _ => Ending::Stopped,
         }
     }
 }
@@ -54,6 +87,9 @@ const EVENT_NEXT: [&str; 2] = [
 
 const OLDEST: &str =
     "GET /broker/destinations/success HTTP/1.1\r\nhost: h\r\nconnection: close\r\n\r\n";
+
+// So often an answer is sent before a test has failed.
+const MOST_ANSWERS: u64 = 100_000;
 
 const NOWHERE: &str = "GET /x HTTP/1.1\r\nhost: h\r\nconnection: close\r\n\r\n";
 
@@ -98,16 +134,21 @@ where
     is_event(&ask(rt, rt.alloc(), doors.environment, [NEXT, "", ""]), id)
 }
 
-// A caller asks for the oldest record: whether it has this id.
-fn is_recorded<R>(rt: &R, doors: Doors, id: &str) -> bool
+// A caller asks for the oldest record.
+fn oldest_record<R>(rt: &R, doors: Doors) -> Told
 where
     R: AllocGlobal + Net<Listener = TcpListener, Stream = TcpStream>,
 {
-    let record = ask(rt, rt.alloc(), doors.callers, [OLDEST, "", ""]);
-    record.has("200") && record.all.contains(id)
+    ask(rt, rt.alloc(), doors.callers, [OLDEST, "", ""])
 }
 
-fn a_life<R>(rt: &R, doors: Doors)
+// Whether a record is told, and has this id.
+fn is_record(told: &Told, id: &str) -> bool {
+    told.has("200") && told.all.contains(id)
+}
+
+// The record that the event leaves.
+fn a_life<R>(rt: &R, doors: Doors) -> Told
 where
     R: Abort + AllocGlobal + Net<Listener = TcpListener, Stream = TcpStream>,
 {
@@ -122,16 +163,30 @@ where
         "its answer is taken",
     );
     let parked = send(rt, doors.environment, [NEXT, "", ""]);
-    expect(rt, is_recorded(rt, doors, id), "the record has its id");
+    let record = oldest_record(rt, doors);
+    expect(rt, is_record(&record, id), "the record has its id");
     expect(rt, call(rt, doors, STOP, "202"), "the broker stops");
     expect(
         rt,
         hear(rt.alloc(), parked).has("500"),
         "the parked poll is told so",
     );
+    record
 }
 
-fn an_extension<R>(rt: &R, doors: Doors)
+// The oldest record.
+fn a_record<R>(rt: &R, doors: Doors) -> Told
+where
+    R: Abort + AllocGlobal + Net<Listener = TcpListener, Stream = TcpStream>,
+{
+    let record = oldest_record(rt, doors);
+    expect(rt, record.has("200"), "there is a record");
+    expect(rt, call(rt, doors, STOP, "202"), "the broker stops");
+    record
+}
+
+// An extension registers and asks for its next event: where it is told that.
+fn next_of_an_extension<R>(rt: &R, doors: Doors) -> Option<TcpStream>
 where
     R: Abort + AllocGlobal + Net<Listener = TcpListener, Stream = TcpStream>,
 {
@@ -139,7 +194,14 @@ where
     let identifier = registered.header("lambda-extension-identifier: ");
     let [before, after] = EVENT_NEXT;
     expect(rt, registered.has("200"), "the extension is registered");
-    let extension = send(rt, doors.environment, [before, identifier, after]);
+    send(rt, doors.environment, [before, identifier, after])
+}
+
+fn an_extension<R>(rt: &R, doors: Doors)
+where
+    R: Abort + AllocGlobal + Net<Listener = TcpListener, Stream = TcpStream>,
+{
+    let extension = next_of_an_extension(rt, doors);
     let runtime = send(rt, doors.environment, [NEXT, "", ""]);
     let accepted = invoke(rt, doors);
     let id = accepted.header("x-amzn-requestid: ");
@@ -156,6 +218,115 @@ where
         "the extension is told it",
     );
     expect(rt, call(rt, doors, STOP, "202"), "the broker stops");
+}
+
+// Whether both ports answer, which they do behind all that came to them before.
+fn have_answered<R>(rt: &R, doors: Doors) -> bool
+where
+    R: AllocGlobal + Net<Listener = TcpListener, Stream = TcpStream>,
+{
+    call(rt, doors, NOWHERE, "404") && run(rt, doors, [NOWHERE, "", ""], "404")
+}
+
+// A client goes away, and both ports see that.
+fn go<R>(rt: &R, doors: Doors, client: Option<TcpStream>)
+where
+    R: Abort + AllocGlobal + Net<Listener = TcpListener, Stream = TcpStream>,
+{
+    expect(rt, client.is_some(), "the client is connected");
+    expect(rt, have_answered(rt, doors), "its request has come");
+    drop(client);
+    expect(rt, have_answered(rt, doors), "both ports go on");
+}
+
+// The runtime answers an event, once that was given to its parked poll: whether that is taken.
+fn is_answered_soon<R>(rt: &R, doors: Doors, id: &str) -> bool
+where
+    R: AllocGlobal + Net<Listener = TcpListener, Stream = TcpStream>,
+{
+    let [before, after] = RESPONSE;
+    for _turn in 0..MOST_ANSWERS {
+        if run(rt, doors, [before, id, after], "202") {
+            return true;
+        }
+        thread::yield_now();
+    }
+    false
+}
+
+fn a_client_that_has_gone<R>(rt: &R, doors: Doors)
+where
+    R: Abort + AllocGlobal + Net<Listener = TcpListener, Stream = TcpStream>,
+{
+    go(rt, doors, send(rt, doors.environment, [NEXT, "", ""]));
+    let accepted = invoke(rt, doors);
+    let id = accepted.header("x-amzn-requestid: ");
+    expect(rt, accepted.has("202"), "the event is accepted");
+    expect(
+        rt,
+        is_answered_soon(rt, doors, id),
+        "the poll has stayed parked",
+    );
+    let record = oldest_record(rt, doors);
+    expect(rt, is_record(&record, id), "the record has its id");
+    expect(rt, call(rt, doors, STOP, "202"), "the broker stops");
+}
+
+// Sends the request of a party that waits.
+fn wait_as<R>(rt: &R, doors: Doors, party: Party) -> Option<TcpStream>
+where
+    R: Abort + AllocGlobal + Net<Listener = TcpListener, Stream = TcpStream>,
+{
+    match party {
+        Party::Caller => send(rt, doors.callers, [INVOKE, "", ""]),
+        Party::Runtime => send(rt, doors.environment, [NEXT, "", ""]),
+        Party::Extension => next_of_an_extension(rt, doors),
+    }
+}
+
+// A caller goes away while the commit of its invoke makes the barrier that fails.
+fn leave_within_the_commit<R>(rt: &R, doors: Doors, watch: &Watch)
+where
+    R: Abort + AllocGlobal + Net<Listener = TcpListener, Stream = TcpStream>,
+{
+    let waiting = send(rt, doors.callers, [INVOKE, "", ""]);
+    watch.wait_for_barrier();
+    go(rt, doors, waiting);
+    watch.note_answer();
+}
+
+// A caller invokes, and the first commit meets its fault once both ports have seen all that came before.
+fn meet_the_fault<R>(rt: &R, doors: Doors, watch: &Watch)
+where
+    R: Abort + AllocGlobal + Net<Listener = TcpListener, Stream = TcpStream>,
+{
+    let caller = send(rt, doors.callers, [INVOKE, "", ""]);
+    watch.wait_for_barrier();
+    expect(rt, have_answered(rt, doors), "all requests have come");
+    watch.note_answer();
+    expect(
+        rt,
+        hear(rt.alloc(), caller).has("503"),
+        "the caller is told that it failed",
+    );
+}
+
+fn a_fault<R>(rt: &R, doors: Doors, watch: &Watch, party: Party, leaving: Leaving)
+where
+    R: Abort + AllocGlobal + Net<Listener = TcpListener, Stream = TcpStream>,
+{
+    match (party, leaving) {
+        (Party::Caller, Leaving::BeforeTheFault) => leave_within_the_commit(rt, doors, watch),
+        (_, Leaving::BeforeTheFault) => {
+            go(rt, doors, wait_as(rt, doors, party));
+            meet_the_fault(rt, doors, watch);
+        }
+        (_, Leaving::AfterTheFault) => {
+            let waiting = wait_as(rt, doors, party);
+            meet_the_fault(rt, doors, watch);
+            drop(waiting);
+        }
+    }
 }
 
 // Asks both ports while the disk makes a barrier, which goes on once the environment's has answered.
@@ -239,16 +410,25 @@ where
     expect(rt, watch.barriers() == 1, "no command was issued");
 }
 
-/// Talks to a front, and stops it.
-pub fn talk_at<R>(rt: &R, doors: Doors, watch: &Watch, talk: Talk)
+// Nothing that a test compares.
+fn nothing(alloc: Global) -> Told {
+    hear(alloc, None)
+}
+
+/// Talks to a front, and stops it or sees its disk fail: the record that a caller was told, where it asked for one.
+pub fn talk_at<R>(rt: &R, doors: Doors, watch: &Watch, talk: Talk) -> Told
 where
     R: Abort + Threads + AllocGlobal + Sync + Net<Listener = TcpListener, Stream = TcpStream>,
 {
     match talk {
-        Talk::Life => a_life(rt, doors),
+        Talk::Life => return a_life(rt, doors),
+        Talk::Record => return a_record(rt, doors),
         Talk::Extension => an_extension(rt, doors),
+        Talk::Gone => a_client_that_has_gone(rt, doors),
         Talk::Held => a_held_commit(rt, doors, watch),
+        Talk::Fault(party, leaving) => a_fault(rt, doors, watch, party, leaving),
         Talk::Connection => a_connection(rt, doors),
         Talk::Cut => cut_requests(rt, doors, watch),
     }
+    nothing(rt.alloc())
 }

@@ -38,10 +38,10 @@ returns-clause-run c s history durable legal stops =
 
 pub returns-then-is_err-clause-failed : goal.returns-then-is_err-clause-failed
 returns-then-is_err-clause-failed c s history durable legal stops =
-    inr (cut_off s history durable c.args.steps.now c.loop-index.index c.loop-index.answers.items c.loop-index.broker (c.loop-index.invariant s history durable legal stops)
-    c.index-steps-index.result c.loop-index-test.true c.index-steps-index.is open_error.OutOfMemory (inr refl))
+    cut_off s history durable c.args.steps.now c.loop-index.index c.loop-index.answers.items c.loop-index.broker (c.loop-index.invariant s history durable legal stops) c.index-steps-index.result
+    c.loop-index-test.true c.index-steps-index.is open_error.OutOfMemory (inr refl)
 
 pub returns-in-Err-run_step-clause-failed : goal.returns-in-Err-run_step-clause-failed
 returns-in-Err-run_step-clause-failed c s history durable legal stops =
-    inr (cut_off s history durable c.args.steps.now c.loop-index.index c.loop-index.answers.items c.loop-index.broker (c.loop-index.invariant s history durable legal stops)
-    c.index-steps-index.result c.loop-index-test.true c.index-steps-index.is c.in-Err-run_step.cause c.in-Err-run_step.ensures.needs)
+    cut_off s history durable c.args.steps.now c.loop-index.index c.loop-index.answers.items c.loop-index.broker (c.loop-index.invariant s history durable legal stops) c.index-steps-index.result
+    c.loop-index-test.true c.index-steps-index.is c.in-Err-run_step.cause c.in-Err-run_step.ensures.needs

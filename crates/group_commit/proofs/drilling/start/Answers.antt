@@ -1,5 +1,7 @@
-use Rattle.std.proofs.Common.{ℕ, take, sym, subst, arith}
+use Rattle.std.proofs.Common.{ℕ, take, Result, sym, ap, subst, arith, is_ok}
 use Rattle.sector_disk.specs.Memory.{memory_view}
+use Rattle.async_core.specs.State.{State}
+use Rattle.checkpoint.specs.declared.error.OpenError.{OpenError}
 use Rattle.group_commit.specs.Broker.{Stands}
 use Rattle.group_commit.proofs.Issued.{if_ok}
 use Rattle.group_commit.proofs.Results.{if_ok_both, ok_from, err_from}
@@ -26,3 +28,16 @@ returns-clause-refused c s history durable legal stops =
 
 pub returns-clause-nothing : goal.returns-clause-nothing
 returns-clause-nothing c = ok_from _ c.open.result c.without_disk.result c.without_disk.ensures.ok (if_ok _ _ c.open.result (λ b fresh. fresh.1) c.open.ensures.fresh)
+
+pub returns-clause-opened : goal.returns-clause-opened
+returns-clause-opened c =
+    ok_from _ c.open.result c.without_disk.result c.without_disk.ensures.ok
+    (if_ok _ _ c.open.result (λ b is. ap (λ (r : Result State OpenError). is_ok r) is) (c.open.ensures.recovers tt))
+
+pub returns-clause-not_formatted : goal.returns-clause-not_formatted
+returns-clause-not_formatted c =
+    err_from (λ failure. failure.cause) _ c.open.result c.without_disk.result c.without_disk.ensures.err c.without_disk.ensures.same (c.open.ensures.not_formatted tt)
+
+pub returns-clause-damaged : goal.returns-clause-damaged
+returns-clause-damaged c =
+    err_from (λ failure. failure.cause) _ c.open.result c.without_disk.result c.without_disk.ensures.err c.without_disk.ensures.same (c.open.ensures.damaged tt)

@@ -17,6 +17,6 @@ returns-in-Ok-split-clause-begins c s history durable legal stops =
     let is : broker_of c.in-Ok-split.disk ≡ c.in-Ok.broker = splits.disk_is in
     begun s history durable (record { issue = c.in-Ok-split.issue; disk = c.in-Ok-split.disk; held = held.Nothing })
     (subst (λ b. IsStarted s history durable b) (sym is) facts) refl
-    (splits.settings ∙ ap settings_of (sym is)) (splits.durable ∙ ap durable_of (sym is))
+    (splits.settings ∙ ap settings_of (sym is)) (splits.durable ∙ ap durable_of (sym is)) splits.broken splits.lent
     (subst (λ b. (half_view c.in-Ok-split.issue).stands (take (durable_of b) history)) (sym is)
     (c.in-Ok-split.ensures.stands (take (durable_of c.in-Ok.broker) history) facts.4))

@@ -9,7 +9,7 @@ use Rattle.lambda_broker.proofs.trial.open.Goals as goal
 
 pub returns : goal.returns
 returns c history holds =
-    ok_from _ c.open.result c.opened.result c.opened.ensures
+    ok_from _ c.open.result c.without_disk.result c.without_disk.ensures.ok
     (if_ok_both _ _ _ c.open.result
     (λ b fresh facts.
     let all : issued_of b ≡ length history = omega (arith, facts.0, facts.1) in (

@@ -1,9 +1,13 @@
 use Rattle.std.proofs.Common.{rules, ◌≡◌, ◌++◌, ◌∙◌}
 use Rattle.receipts.specs.Marks.{marks_by}
+use Rattle.receipts.specs.UnderLock.{Asking}
 use Rattle.receipts.proofs.Followed.{numbered_by, reached_by, follows_by, adds_by, adds_asked}
+use Rattle.std.proofs.Math.Logic.{∥∥₁_map}
+use Rattle.receipts.proofs.Running.{runs_by, runs_same}
 use Rattle.receipts.proofs.Refused.{refused_arrival}
+use Rattle.receipts.proofs.UnderLock.{does_at, not_made_by_fit, not_made_by_hall}
 use Rattle.group_commit.specs.IssuerHalf.{half_view}
-use Rattle.hall_core.specs.Hall.{view_of}
+use Rattle.hall_core.specs.Hall.{view_of, request, CanBeAsked}
 use Rattle.receipts.proofs.kept.Kept.arrive.Goals as goal
 
 pub invariant_of-self-in-Ok : goal.invariant_of-self-in-Ok
@@ -15,7 +19,18 @@ invariant_of-self-in-Ok g c =
       numbered = numbered_by _ _ _ _ e.command _ added e.answered _ reached c.args.self.now.numbered;
       reached = reached_by _ _ _ _ e.command _ added e.answered _ _ reached e.continues.issued;
       followed = follows_by _ _ _ _ e.command _ added e.answered _ _ _ _ _ e.continues.settings e.continues.table c.args.self.now.followed;
+      runs = ∥∥₁_map c.args.self.now.runs
+          (runs_by (view_of half_view c.args.self.now.hall) (view_of half_view c.arrive.new.self) _ _ e.continues.settings (search rules)
+          c.in-Ok.ensures.passes.by_past (λ past stands. (c.in-Ok.ensures.ok past stands).1));
     }
+
+pub invariant_of-self-in-Err-1 : goal.invariant_of-self-in-Err-1
+invariant_of-self-in-Err-1 g c = record {
+  numbered = search rules;
+  reached = search rules;
+  followed = search rules;
+  runs = ∥∥₁_map c.args.self.now.runs (runs_same (view_of half_view c.args.self.now.hall) (view_of half_view c.arrive.new.self) _ c.in-Err.ensures.err);
+}
 
 pub returns-in-Ok-clause-marks : goal.returns-in-Ok-clause-marks
 returns-in-Ok-clause-marks g c =
@@ -28,5 +43,33 @@ returns-in-Ok-clause-asked g c =
     let added : c.note.new.desk.own.items ≡ c.args.desk.now.own.items ++ marks_by c.args.desk.now.number c.in-Ok.issued = search rules in
     adds_asked _ _ _ _ _ c.in-Ok.issued added c.in-Ok.ensures.asked
 
+pub returns-in-Ok-clause-done : goal.returns-in-Ok-clause-done
+returns-in-Ok-clause-done g c =
+    let added : c.note.new.desk.own.items ≡ c.args.desk.now.own.items ++ marks_by c.args.desk.now.number c.in-Ok.issued = search rules in
+    does_at _ _ _ c.in-Ok.issued c.in-Ok.ensures.ok _ _ _ added
+
+pub returns-in-Ok-clause-both : goal.returns-in-Ok-clause-both
+returns-in-Ok-clause-both g c =
+    let own : c.note.new.desk.own.items ≡ c.args.desk.now.own.items ++ marks_by c.args.desk.now.number c.in-Ok.issued = search rules in
+    let all : c.note.new.marks.all.items ≡ c.args.self.now.marks.all.items ++ marks_by c.args.desk.now.number c.in-Ok.issued = search rules in
+    (marks_by c.args.desk.now.number c.in-Ok.issued, own, all)
+
 pub returns-in-Err-clause-refused : goal.returns-in-Err-clause-refused
-returns-in-Err-clause-refused g c = refused_arrival _ (view_of half_view c.args.self.now.hall) c.in-Err.why c.in-Err.ensures.reason
+returns-in-Err-clause-refused g c =
+    refused_arrival _ (view_of half_view c.args.self.now.hall) (request c.in_ok-slot.slot c.args.call c.args.now c.args.words) c.in-Err.why c.in-Err.ensures.reason
+
+-- ## Refusals
+
+pub returns-then-not-fits-clause-reason : goal.returns-then-not-fits-clause-reason
+returns-then-not-fits-clause-reason g c =
+    let asking : Asking = record { told = c.args.desk.now.told; desk = c.args.desk.now.number; call = c.args.call; now = c.args.now; words = c.args.words } in
+    not_made_by_fit (view_of half_view c.args.self.now.hall) c.args.self.now.slots asking (search rules) (search rules) c.in_ok-slot.slot c.in_ok-slot.ensures.next
+    c.fits.result c.fits.ensures.all (search rules)
+
+pub returns-in-Err-clause-reason : goal.returns-in-Err-clause-reason
+returns-in-Err-clause-reason g c =
+    let asking : Asking = record { told = c.args.desk.now.told; desk = c.args.desk.now.number; call = c.args.call; now = c.args.now; words = c.args.words } in
+    let can : CanBeAsked (view_of half_view c.args.self.now.hall) c.in_ok-slot.slot c.args.call c.args.now c.args.words
+    = record { free = search rules; environment = search rules; fit = search rules } in
+    not_made_by_hall (view_of half_view c.args.self.now.hall) c.args.self.now.slots asking (search rules) (search rules) c.in_ok-slot.slot c.in_ok-slot.ensures.next
+    can c.in-Err.why (record { first = c.in-Err.ensures.refused; reason = c.in-Err.ensures.reason })

@@ -1,5 +1,10 @@
-use Rattle.std.proofs.Common.{rules}
+use Rattle.std.proofs.Common.{rules, Ok, Err}
 use Rattle.receipts.proofs.Settled.{settle_same, settled_number, follows_still, reached_still}
+use Rattle.std.proofs.Math.Logic.{∥∥₁_map}
+use Rattle.group_commit.specs.IssuerHalf.{half_view}
+use Rattle.hall_core.specs.Hall.{view_of}
+use Rattle.receipts.proofs.Running.{runs_kept}
+use Rattle.receipts.proofs.UnderLock.{told_of}
 use Rattle.receipts.proofs.kept.Kept.settle.Goals as goal
 
 pub invariant_of-self : goal.invariant_of-self
@@ -10,6 +15,7 @@ invariant_of-self g c =
       numbered = kept.numbered;
       reached = reached_still _ _ _ same.1 kept.reached;
       followed = follows_still _ _ kept.opening _ _ kept.marks.all.items same.0 same.1 kept.followed;
+      runs = ∥∥₁_map kept.runs (runs_kept (view_of half_view kept.hall) (view_of half_view c.settle.new.self) _ same.0 c.settle.ensures.stands);
     }
 
 pub returns-in-Ok-clause-told : goal.returns-in-Ok-clause-told
@@ -17,3 +23,9 @@ returns-in-Ok-clause-told g c =
     let number = settled_number _ _ _ _ c.in-Ok.ensures.ok in
     let told = c.requires in
     search (rules, number, told)
+
+pub returns-in-Ok-clause-tells : goal.returns-in-Ok-clause-tells
+returns-in-Ok-clause-tells g c = told_of _ _ c.args.outcome (Ok c.in-Ok.durable) c.in-Ok.ensures.ok tt
+
+pub returns-in-Err-clause-tells : goal.returns-in-Err-clause-tells
+returns-in-Err-clause-tells g c = told_of _ _ c.args.outcome (Err c.in-Err.why) tt c.in-Err.ensures.err

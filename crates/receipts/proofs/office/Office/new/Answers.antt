@@ -1,7 +1,20 @@
-use Rattle.std.proofs.Common.{rules}
+use Rattle.std.proofs.Common.{rules, sym, ◌∙◌}
 use Rattle.group_commit.specs.Broker.{settings_of}
+use Rattle.group_commit.specs.IssuerBroker.{issuer_of}
 use Rattle.receipts.proofs.AllThere.{few_desks}
+use Rattle.receipts.proofs.Running.{runs_at_first}
 use Rattle.receipts.proofs.office.Office.new.Goals as goal
 
 pub seat-seats-requires-clause-few : goal.seat-seats-requires-clause-few
 seat-seats-requires-clause-few g c = few_desks (settings_of c.args.hall.issuer) _ c.args.hall.issuer.good.check (search rules)
+
+pub invariant_of-kept : goal.invariant_of-kept
+invariant_of-kept g c =
+    let split = c.in-Ok-split.ensures.ok in
+    record {
+      numbered = search rules;
+      reached = search rules;
+      followed = search rules;
+      runs = ∣ runs_at_first (issuer_of g.D.Disk.view) (settings_of c.args.hall.issuer) c.args.hall c.in-Ok-split.hall _ c.requires.fresh
+          c.in-Ok-split.ensures.parts split.settings (split.table ∙ sym c.in-Ok.ensures.opening) split.pending ∣₁;
+    }

@@ -1,0 +1,2 @@
+pub mod Committer
+pub mod Ticker

@@ -1,0 +1,150 @@
+// The committer's loop.
+ghost use Rattle.std.specs.Prelude.{◌≡◌, ℕ, Bool, List, [], ◌∷◌, ◌++◌};
+ghost use Rattle.std.specs.Bool.{OnTrue, OnFalse};
+ghost use Rattle.commit_loop.specs.Committer.{Step, counted, commit_step, raised, said_broken, rang, slept};
+ghost use Rattle.commit_loop.specs.Committer.{said_of, steps_of_commit, steps_of_skip, Acts, IsTurn, IsEnd, IsRun};
+ghost use Rattle.commit_loop.specs.declared.gate.Turn.TheVariants.{End};
+
+use crate::gate::{Gate, Turn};
+use std::sync::Wait;
+use std::thread;
+
+/// What a committer works on, by the steps that it makes.
+pub trait Committing {
+    /// What a commit made durable.
+    type Durable;
+
+    /// Why a commit failed.
+    type Failure: Drop;
+
+    /// How many commands are durable.
+    ghost number: { Self.Durable → ℕ };
+
+    /// Whether nothing more becomes durable. Where it does not hold, a later commit may succeed.
+    ghost breaks: { Self.Failure → Bool };
+
+    /// These steps, in this order, lead from the first value to the second.
+    ghost leads: { Self → List Step → Self → Type 0 };
+
+    /// How many commands are issued and not durable.
+    fn pending(&mut self) -> usize
+        ensures { leads self.old (counted result ∷ []) self.new };
+
+    /// Makes all that is pending durable.
+    fn commit(&mut self) -> Result<Self::Durable, Self::Failure>
+        ensures { leads self.old (commit_step number breaks result ∷ []) self.new };
+
+    /// Whether nothing more becomes durable after this failure.
+    fn is_broken_by(&self, why: &Self::Failure) -> bool
+        ensures { result ≡ breaks why.now };
+
+    /// Shows on the board how much is durable.
+    fn raise(&mut self, durable: Self::Durable)
+        ensures { leads self.old (raised (number durable) ∷ []) self.new };
+
+    /// Says that the hall is broken.
+    fn say_broken(&mut self)
+        ensures { leads self.old (said_broken ∷ []) self.new };
+
+    /// Rings the bell: all that wait for a reply look again.
+    fn ring(&mut self)
+        ensures { leads self.old (rang ∷ []) self.new };
+
+    /// Sleeps until it is called, or has been since the last time.
+    fn sleep(&mut self)
+        ensures { leads self.old (slept ∷ []) self.new };
+
+    /// No step leads to the same value.
+    ghost stays: { (value : Self) → leads value [] value };
+
+    /// Steps, and steps after them.
+    ghost goes_on: { (first second third : Self) (before after : List Step) → leads first before second → leads second after third → leads first (before ++ after) third };
+}
+
+// Shows what a commit made durable, and then rings.
+fn show<C: Committing>(committer: &mut C, durable: C::Durable)
+    ensures { C.leads committer.old (raised (C.number durable) ∷ rang ∷ []) committer.new }
+{
+    committer.raise(durable);
+    committer.ring();
+}
+
+// Says that the hall is broken, if it is.
+fn say<C: Committing>(committer: &mut C, why: &C::Failure)
+    ensures { C.leads committer.old (said_of (C.breaks why.now)) committer.new }
+{
+    if committer.is_broken_by(why) {
+        committer.say_broken();
+    }
+}
+
+// Tells of a commit that failed, and sleeps.
+fn tell<C: Committing>(committer: &mut C, why: &C::Failure)
+    ensures { C.leads committer.old (said_of (C.breaks why.now) ++ rang ∷ slept ∷ []) committer.new }
+{
+    say(committer, why);
+    committer.ring();
+    committer.sleep();
+}
+
+// Commits all that is pending, and says what became of it.
+fn commit<C: Committing>(committer: &mut C)
+    ensures { (outcome : _) × C.leads committer.old (steps_of_commit outcome) committer.new }
+{
+    match committer.commit() {
+        Ok(durable) => show(committer, durable),
+        Err(why) => tell(committer, &why),
+    }
+}
+
+// Does nothing for now: where something is pending, the gate is asked again.
+fn skip<C: Committing>(committer: &mut C, pending: usize)
+    ensures { C.leads committer.old (steps_of_skip pending) committer.new }
+{
+    if pending == 0 {
+        committer.sleep();
+    } else {
+        thread::yield_now();
+    }
+}
+
+// Does what the gate said, with so many commands pending: whether the loop goes on.
+fn act<C: Committing>(committer: &mut C, pending: usize, said: Turn) -> bool
+    ensures turned { OnTrue result (Acts C.leads pending said committer.old committer.new) }
+    ensures ended { OnFalse result ((said ≡ End) × C.leads committer.old [] committer.new) }
+{
+    match said {
+        Turn::Commit => {
+            commit(committer);
+            true
+        }
+        Turn::Skip => {
+            skip(committer, pending);
+            true
+        }
+        Turn::End => false,
+    }
+}
+
+// One turn: whether the loop goes on.
+fn turn<G: Gate, C: Committing>(gate: &G, committer: &mut C) -> bool
+    ensures turned { OnTrue result (IsTurn C.leads (G.says gate.now) committer.old committer.new) }
+    ensures ended { OnFalse result (IsEnd C.leads (G.says gate.now) committer.old committer.new) }
+{
+    let pending = committer.pending();
+    let said = gate.turn(pending);
+    act(committer, pending, said)
+}
+
+/// Commits as the gate says, until the gate ends the loop. What a commit made durable is shown on the board before the bell
+/// rings; where it failed and the hall is broken, that is said before the bell rings. Where nothing is pending, or a commit
+/// failed, the committer sleeps until it is called; where the gate skips what is pending, it is asked again.
+pub fn commit_all<R: Wait, G: Gate, C: Committing>(rt: &R, gate: &G, committer: &mut C)
+    ensures { IsRun C.leads (G.says gate.now) committer.old committer.new }
+{
+    for _ in rt.forever() {
+        if !turn(gate, committer) {
+            break;
+        }
+    }
+}

@@ -1,0 +1,41 @@
+// What a loop does next.
+ghost use Rattle.std.specs.Prelude.{◌≡◌, ℕ, nat_lt, if◌then◌else◌};
+ghost use Rattle.commit_loop.specs.declared.gate.Turn.{Turn};
+ghost use Rattle.commit_loop.specs.declared.gate.Turn.TheVariants as turn;
+
+/// What a loop does next.
+#[derive(Clone, Copy, Debug, PartialEq, Eq)]
+pub enum Turn {
+    /// The committer commits all that is pending; the ticker makes all moves that are due.
+    Commit,
+    /// Nothing, until the next turn.
+    Skip,
+    /// The loop ends.
+    End,
+}
+
+/// Is asked at each turn of a loop.
+pub trait Gate {
+    /// With so many commands pending it may say this.
+    ghost says: { Self → ℕ → Turn → Type 0 } = { λ _ _ _. Unit {0} };
+
+    /// What the loop does next, with so many commands issued and not durable.
+    fn turn(&self, pending: usize) -> Turn
+        ensures { says self.now pending result };
+}
+
+/// Commits whatever is pending.
+#[derive(Clone, Copy, Debug)]
+pub struct WhenPending;
+
+impl Gate for WhenPending {
+    ghost says = { λ _ pending said. said ≡ (if nat_lt 0 pending then turn.Commit else turn.Skip) };
+
+    fn turn(&self, pending: usize) -> Turn {
+        if pending > 0 {
+            Turn::Commit
+        } else {
+            Turn::Skip
+        }
+    }
+}

@@ -1,0 +1,89 @@
+// The ticker's loop.
+ghost use Rattle.std.specs.Prelude.{◌≡◌, ℕ, List, [], ◌∷◌, ◌++◌};
+ghost use Rattle.std.specs.Bool.{OnTrue, OnFalse};
+ghost use Rattle.commit_loop.specs.Ticker.{Step, counted, ticked, called, slept};
+ghost use Rattle.commit_loop.specs.Ticker.{steps_of_moves, Acts, IsTurn, IsEnd, IsRun};
+ghost use Rattle.commit_loop.specs.declared.gate.Turn.TheVariants.{End};
+
+use crate::gate::{Gate, Turn};
+use std::sync::Wait;
+
+/// What a ticker works on, by the steps that it makes.
+pub trait Ticking {
+    /// These steps, in this order, lead from the first value to the second.
+    ghost leads: { Self → List Step → Self → Type 0 };
+
+    /// How many commands are issued and not durable.
+    fn pending(&mut self) -> usize
+        ensures { leads self.old (counted result ∷ []) self.new };
+
+    /// Makes one move that is due: whether it made one.
+    fn tick(&mut self) -> bool
+        ensures { leads self.old (ticked result ∷ []) self.new };
+
+    /// Calls the committer.
+    fn call(&mut self)
+        ensures { leads self.old (called ∷ []) self.new };
+
+    /// Sleeps until the next turn.
+    fn sleep(&mut self)
+        ensures { leads self.old (slept ∷ []) self.new };
+
+    /// No step leads to the same value.
+    ghost stays: { (value : Self) → leads value [] value };
+
+    /// Steps, and steps after them.
+    ghost goes_on: { (first second third : Self) (before after : List Step) → leads first before second → leads second after third → leads first (before ++ after) third };
+}
+
+// Makes the moves that are due.
+fn make_moves<R: Wait, T: Ticking>(rt: &R, ticker: &mut T)
+    ensures { (made : ℕ) × T.leads ticker.old (steps_of_moves made) ticker.new }
+{
+    for _ in rt.forever() {
+        if !ticker.tick() {
+            break;
+        }
+    }
+}
+
+// Does what the gate said: whether the loop goes on.
+fn act<R: Wait, T: Ticking>(rt: &R, ticker: &mut T, said: Turn) -> bool
+    ensures turned { OnTrue result (Acts T.leads said ticker.old ticker.new) }
+    ensures ended { OnFalse result ((said ≡ End) × T.leads ticker.old [] ticker.new) }
+{
+    match said {
+        Turn::Commit => {
+            make_moves(rt, ticker);
+            ticker.call();
+            ticker.sleep();
+            true
+        }
+        Turn::Skip => {
+            ticker.sleep();
+            true
+        }
+        Turn::End => false,
+    }
+}
+
+// One turn: whether the loop goes on.
+fn turn<R: Wait, G: Gate, T: Ticking>(rt: &R, gate: &G, ticker: &mut T) -> bool
+    ensures turned { OnTrue result (IsTurn T.leads (G.says gate.now) ticker.old ticker.new) }
+    ensures ended { OnFalse result (IsEnd T.leads (G.says gate.now) ticker.old ticker.new) }
+{
+    let said = gate.turn(ticker.pending());
+    act(rt, ticker, said)
+}
+
+/// At each turn makes all moves that are due and calls the committer, where the gate says `Commit`, and sleeps; at `Skip` it
+/// only sleeps. It goes on until the gate ends the loop.
+pub fn tick_all<R: Wait, G: Gate, T: Ticking>(rt: &R, gate: &G, ticker: &mut T)
+    ensures { IsRun T.leads (G.says gate.now) ticker.old ticker.new }
+{
+    for _ in rt.forever() {
+        if !turn(rt, gate, ticker) {
+            break;
+        }
+    }
+}

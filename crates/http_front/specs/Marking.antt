@@ -1,0 +1,15 @@
+-- What a ticker has marked, beside the steps that it made.
+use Rattle.std.specs.Prelude.{◌≡◌, ℕ, ◌+◌, true, false, List, sum_by}
+use Rattle.commit_loop.specs.Ticker.{Step, counted, ticked, called, slept}
+
+-- how many moves a step made
+abbrev pub moves_in : Step → ℕ
+moves_in (counted pending) = 0
+moves_in (ticked true) = 1
+moves_in (ticked false) = 0
+moves_in called = 0
+moves_in slept = 0
+
+-- the desk, which had so many marks, has one more for each move, and no other
+abbrev pub HasMarked : ℕ → List Step → ℕ → Type 0
+HasMarked old steps new = new ≡ old + sum_by moves_in steps

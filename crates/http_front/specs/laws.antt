@@ -1,0 +1,3 @@
+-- Laws that the proofs cite.
+pub mod Learned
+pub mod Marked

@@ -1,0 +1,47 @@
+// Asking the office to commit.
+ghost use Rattle.std.specs.Prelude.{◌≡◌, IfOk, IfErr, OnErr};
+ghost use Rattle.group_commit.specs.Splitting.{broker_of};
+ghost use Rattle.receipts.specs.Answers.{IsToldMore, IsCommitRefusal};
+ghost use Rattle.receipts.specs.Serving.{HasServed};
+
+use group_commit::{DiskHalf, Durable};
+use hall_core::HallError;
+use receipts::{Desk, Office};
+use sector_disk::Disk;
+use std::sync::Wait;
+use std::sync::ledger::Ledger;
+
+/// Why an office did not commit. Only asking one makes it: nobody else can say that a commit was refused.
+#[derive(Debug, Drop)]
+pub(crate) struct NotCommitted {
+    why: HallError,
+}
+
+impl NotCommitted {
+    ghost use Rattle.http_front.specs.Refusals.{is_last};
+
+    /// Whether the hall is broken, so that nothing more becomes durable.
+    pub(crate) fn is_last(&self) -> bool
+        ensures { result ≡ is_last self.now.why }
+    {
+        matches!(self.why, HallError::Fault | HallError::Broken)
+    }
+}
+
+/// Makes all that is pending durable, as `Office::commit` says.
+pub(crate) fn ask<D: Disk, L: Ledger, R: Wait>(
+    rt: &R,
+    office: &Office<L>,
+    desk: &mut Desk<L>,
+    half: &mut DiskHalf<D>,
+) -> Result<Durable, NotCommitted>
+    ensures told { IfOk result (IsToldMore desk.old.told desk.new.told) }
+    ensures err { OnErr result (desk.new.told ≡ desk.old.told) }
+    ensures refused { IfErr result (λ refused. IsCommitRefusal desk.old.told refused.why) }
+    ensures served { HasServed D.view D.fault_count (broker_of half.old) (broker_of half.new) }
+{
+    match office.commit(rt, desk, half) {
+        Ok(durable) => Ok(durable),
+        Err(why) => Err(NotCommitted { why }),
+    }
+}

@@ -1,0 +1,104 @@
+// A port of the front, whose requests become calls.
+ghost use Rattle.std.specs.Prelude.{◌≡◌};
+ghost use Rattle.hall_core.specs.Hall.{slot_told};
+
+use crate::front::Front;
+use crate::replying::{Telling, refuse};
+use api_core::{Refusal, RequestError, read_request};
+use futures::Future;
+use futures::task::{Context, Poll};
+use http::request::Parts;
+use http_port::{Application, ReadError, Refused};
+use hyper::StatusCode;
+use long_poll::{Port, Waiting};
+use std::random::RandomSource;
+use std::sync::ledger::Ledger;
+use std::sync::{Arc, Wait};
+use std::time::Clock;
+
+/// The reply of a call, which is told once it is released.
+#[derive(Drop)]
+pub(crate) struct Replying<R: Wait, L: Ledger> {
+    waiting: Waiting<R, L>,
+}
+
+impl<R: Wait + Drop, L: Ledger> Future for Replying<R, L> {
+    type Output = Telling;
+
+    ghost gives = { λ replying telling. slot_told telling.released ≡ replying.waiting.slot };
+
+    fn poll(&mut self, cx: &mut Context<'_>) -> Poll<Telling> {
+        match self.waiting.poll(cx) {
+            Poll::Pending => Poll::Pending,
+            Poll::Ready(released) => Poll::Ready(Telling::new(released)),
+        }
+    }
+}
+
+/// A port: its number, the desk and the seat of its requests, and what it shares with the others.
+#[derive(Drop)]
+pub(crate) struct PortApplication<R, L: Ledger> {
+    pub(crate) rt: R,
+    pub(crate) number: u16,
+    pub(crate) front: Arc<Front<L>>,
+    pub(crate) port: Arc<Port<L>>,
+}
+
+impl<R: Wait + Clock + RandomSource + Copy, L: Ledger> PortApplication<R, L> {
+    // The call of a request comes; its reply then waits. What is refused is answered at once.
+    fn arrive(&self, head: &Parts, body: Vec<u8>) -> Result<Waiting<R, L>, Refusal> {
+        let front = &self.front;
+        let target = match head.uri.path_and_query() {
+            Some(target) => target.as_str(),
+            None => "/",
+        };
+        let call = match read_request(
+            front.alloc,
+            &front.settings,
+            self.number,
+            &head.method,
+            target,
+            &head.headers,
+            body,
+        ) {
+            Ok(call) => call,
+            Err(RequestError::Refused(why)) => return Err(why),
+            Err(RequestError::OutOfMemory) => return Err(Refusal::Unavailable),
+        };
+        let Ok(port) = Arc::try_clone(&self.port) else {
+            return Err(Refusal::Unavailable);
+        };
+        let Ok((ticket, slot)) = front.arrive(&self.rt, &port, call) else {
+            return Err(Refusal::Unavailable);
+        };
+        Ok(Waiting::new(self.rt, port, ticket, slot))
+    }
+}
+
+impl<R: Wait + Clock + RandomSource + Drop + Copy, L: Ledger> Application
+    for PortApplication<R, L> {
+    type Given = Telling;
+
+    type Reply = Replying<R, L>;
+
+    fn most(&self) -> usize {
+        self.front.most
+    }
+
+    fn answer(
+        &self,
+        head: &Parts,
+        body: Result<Vec<u8>, ReadError>,
+    ) -> Result<Replying<R, L>, Refused> {
+        let alloc = self.front.alloc;
+        let arrived = match body {
+            Ok(body) => self.arrive(head, body),
+            Err(ReadError::OutOfMemory) => Err(Refusal::Unavailable),
+            Err(ReadError::CutOff) => return Err(Refused::bare(alloc, StatusCode::BAD_REQUEST)),
+        };
+        match arrived {
+            Ok(waiting) => Ok(Replying { waiting }),
+            Err(why) => Err(refuse(alloc, &self.front.settings, why)),
+        }
+    }
+}

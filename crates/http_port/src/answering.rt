@@ -1,0 +1,78 @@
+// What a port answers with.
+ghost use Rattle.std.specs.Prelude.{◌≡◌, ◌≤◌, ℕ, IfSome};
+ghost use Rattle.http_port.specs.Answering.{status_of, IsStatusOf};
+
+use bytes::Bytes;
+use http_body_util::Full;
+use hyper::{Response, StatusCode};
+use std::alloc::Global;
+use std::marker::Model;
+
+/// The body of a response.
+pub type Body = Full<Bytes>;
+
+/// What a port answers with.
+pub type Answered = Response<Body>;
+
+/// What may be told to a client, which has a status of its own.
+pub trait Told: Drop {
+    /// The status with which it is told.
+    ghost status: { Self → ℕ };
+
+    /// The response that tells it. None where memory is wanting.
+    fn into_response(self, alloc: Global) -> Option<Answered>
+        ensures { IfSome result (λ response. status_of response ≡ status self) };
+}
+
+/// A refusal: a response with a status of 400 or above. Contracts see it as its status.
+#[derive(Drop)]
+pub struct Refused {
+    response: Answered,
+}
+
+impl Model for Refused {
+    ghost Value = { ℕ };
+
+    ghost view = { λ refused. status_of refused.response };
+
+    ghost invariant = { λ refused. 400 ≤ status_of refused.response };
+}
+
+impl Refused {
+    /// A refusal with this response, whose status is one that refuses.
+    pub fn new(response: Answered) -> Refused
+        requires { 400 ≤ status_of response }
+        ensures { result ≡ status_of response }
+    {
+        Refused { response }
+    }
+
+    /// A status alone.
+    pub fn bare(alloc: Global, status: StatusCode) -> Refused
+        requires { 400 ≤ status }
+        ensures { result ≡ status }
+    {
+        let mut response = Response::new(alloc, Full::new(Bytes::new()));
+        *response.status_mut() = status;
+        Refused { response }
+    }
+
+    /// Its response.
+    pub fn into_response(self) -> Answered
+        ensures same { status_of result ≡ self }
+        ensures refuses { 400 ≤ status_of result }
+    {
+        let Refused { response } = self;
+        response
+    }
+}
+
+/// The response of what is told, with its status. Where memory is wanting, 503 alone.
+pub(crate) fn tell<T: Told>(alloc: Global, told: T) -> Answered
+    ensures { IsStatusOf T.status told (status_of result) }
+{
+    match told.into_response(alloc) {
+        Some(response) => response,
+        None => Refused::bare(alloc, StatusCode::SERVICE_UNAVAILABLE).into_response(),
+    }
+}

@@ -1,0 +1,2 @@
+-- Laws that other crates and the proofs cite.
+pub mod Serving

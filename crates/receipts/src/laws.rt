@@ -1,0 +1,28 @@
+// What follows from the definitions alone, for the crates above.
+ghost use Rattle.group_commit.specs.Splitting.{broker_of};
+ghost use Rattle.receipts.specs.Serving.{CommitsTo, HasServed};
+
+use group_commit::{DiskHalf, Durable};
+use hall_core::HallError;
+use sector_disk::Disk;
+
+/// A serving is any number of commits: none at first, one more after others, and one serving after another.
+pub fn a_serving_is_its_commits<D: Disk>(
+    first: &DiskHalf<D>,
+    then: &DiskHalf<D>,
+    last: &DiskHalf<D>,
+    told: &Result<Durable, HallError>,
+)
+    ensures none { HasServed D.view D.fault_count (broker_of first.now) (broker_of first.now) }
+    ensures more { HasServed D.view D.fault_count (broker_of first.now) (broker_of then.now)
+        → CommitsTo D.view D.fault_count (broker_of then.now) (broker_of last.now) told.now
+        → HasServed D.view D.fault_count (broker_of first.now) (broker_of last.now) }
+    ensures both { HasServed D.view D.fault_count (broker_of first.now) (broker_of then.now)
+        → HasServed D.view D.fault_count (broker_of then.now) (broker_of last.now)
+        → HasServed D.view D.fault_count (broker_of first.now) (broker_of last.now) }
+{
+    let _ = first;
+    let _ = then;
+    let _ = last;
+    let _ = told;
+}

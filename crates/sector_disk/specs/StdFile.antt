@@ -1,0 +1,15 @@
+-- A file of the system as contracts see it. Nothing says what stands in it: no clause of the system's calls speaks of
+-- bytes, and a file's value stays the same whatever is written. So it is never honest, and no clause on bytes has its premise.
+use Rattle.std.specs.Prelude.{[]}
+use Rattle.std.specs.declared.fs.File.{File}
+use Rattle.sector_disk.specs.RandomAccess.{FileView}
+
+-- the file at a moment, of which nothing is claimed
+abbrev pub std_view : File → FileView
+std_view file = record {
+  content = [];
+  may_leave = λ image. Unit {0};
+  moment = 0;
+  left_since = λ t image. Unit {0};
+  honest = ⊥;
+}
