@@ -47,11 +47,10 @@ impl Told {
 
     /// The last line: the body of one answer whose body is one line.
     pub fn body(&self) -> &str {
-        let mut body = "";
-        for line in self.all.lines() {
-            body = line;
+        match self.all.lines().last() {
+            Some(line) => line,
+            None => "",
         }
-        body
     }
 
     /// The value of the header whose line begins with this name, a colon and a space; nothing where there is none.
