@@ -2,7 +2,7 @@
 ghost use Rattle.std.specs.Prelude.{◌≡◌, ◌<◌, vec_len};
 ghost use Rattle.receipts.specs.Desks.{desk_count};
 
-use crate::mark::Mark;
+use crate::mark::{Mark, Trace};
 use retry_rules::Settings;
 use std::sync::ledger::{Ledger, Share};
 
@@ -18,13 +18,13 @@ pub fn desks(settings: &Settings) -> u64
 /// A place from which one thread asks the office at a time. It keeps the marks of the commands that its calls issued, and
 /// the greatest number that it was told.
 #[derive(Drop)]
-pub struct Desk<L: Ledger> {
+pub struct Desk<L: Ledger, T: Trace = Mark> {
     /// From 0 on.
     pub(crate) number: u64,
     /// The greatest number that it was told.
     pub(crate) told: u64,
     /// Its marks, in order.
-    pub(crate) own: Vec<Mark>,
+    pub(crate) own: Vec<T>,
     /// How many they are counts in the ledger.
     pub(crate) share: Share<L>,
     ghost one: { share.parts ≡ 1 },
@@ -32,7 +32,7 @@ pub struct Desk<L: Ledger> {
     ghost few: { number < 32 },
 }
 
-impl<L: Ledger> Desk<L> {
+impl<L: Ledger, T: Trace> Desk<L, T> {
     /// Its number among the desks of its office, from 0 on.
     pub fn number(&self) -> u64
         ensures { result ≡ self.now.number }
@@ -48,7 +48,7 @@ impl<L: Ledger> Desk<L> {
     }
 
     /// The marks of the commands that its calls issued, in order.
-    pub fn marks(&self) -> &[Mark]
+    pub fn marks(&self) -> &[T]
         ensures { result.now ≡ self.now.own.items }
     {
         &self.own

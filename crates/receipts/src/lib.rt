@@ -19,6 +19,6 @@ mod unlocked;
 
 pub use desk::{Desk, desks};
 pub use error::{FinishError, FinishFailure, OfficeFailure, UnlockedFailure};
-pub use mark::Mark;
+pub use mark::{Gone, Mark, Trace};
 pub use office::Office;
 pub use unlocked::Unlocked;

@@ -4,6 +4,7 @@ ghost use Rattle.receipts.specs.Marks.{mark_of};
 
 use hall_core::Issued;
 use invoke_records::Kind;
+use std::snapshot::Snapshot;
 
 /// That a call of a desk issued a command: the command's number, kind, event and moment, in milliseconds since 1970.
 #[derive(Clone, Copy, Debug, PartialEq, Eq)]
@@ -29,5 +30,36 @@ impl Mark {
             id,
             time: issued.time,
         }
+    }
+}
+
+/// What is kept of a mark: proofs see the mark in it, and it need not have the mark's bytes.
+pub trait Trace: Drop {
+    ghost use Rattle.receipts.specs.declared.mark.Mark.{Mark};
+
+    /// The mark.
+    ghost mark: { Self → Mark };
+
+    /// What is kept of this mark.
+    fn of(made: &Mark) -> Self
+        ensures { mark result ≡ made.now };
+}
+
+impl Trace for Mark {
+    ghost mark = { λ kept. kept };
+
+    fn of(made: &Mark) -> Mark {
+        *made
+    }
+}
+
+/// A mark that proofs alone see. It has no bytes.
+pub type Gone = Snapshot<Mark>;
+
+impl Trace for Snapshot<Mark> {
+    ghost mark = { λ gone. gone.value };
+
+    fn of(made: &Mark) -> Snapshot<Mark> {
+        Snapshot::of(made)
     }
 }

@@ -1,4 +1,4 @@
-use Rattle.std.proofs.Common.{rules, ◌≡◌, ◌++◌, inr}
+use Rattle.std.proofs.Common.{rules, ◌≡◌, ◌++◌, map, inr}
 use Rattle.receipts.specs.Marks.{marks_by}
 use Rattle.receipts.proofs.Followed.{numbered_by, reached_by, follows_by, adds_answered}
 use Rattle.std.proofs.Math.Logic.{∥∥₁_map}
@@ -12,7 +12,7 @@ use Rattle.receipts.proofs.kept.Kept.tick.Goals as goal
 pub invariant_of-self-in-Ok : goal.invariant_of-self-in-Ok
 invariant_of-self-in-Ok g c =
     let e = c.in-Ok.ensures.issues in
-    let added : c.note.new.marks.all.items ≡ c.args.self.now.marks.all.items ++ marks_by c.args.desk.now.number c.in-Ok.issued = search rules in
+    let added : map g.T.Trace.mark c.note.new.marks.all.items ≡ map g.T.Trace.mark c.args.self.now.marks.all.items ++ marks_by c.args.desk.now.number c.in-Ok.issued = search rules in
     let reached = c.args.self.now.reached in
     record {
       numbered = numbered_by _ _ _ _ e.command _ added e.answered _ reached c.args.self.now.numbered;
@@ -33,12 +33,12 @@ invariant_of-self-in-Err-1 g c = record {
 
 pub returns-in-Ok-clause-marks : goal.returns-in-Ok-clause-marks
 returns-in-Ok-clause-marks g c =
-    let added : c.told_by.new.desk.own.items ≡ c.args.desk.now.own.items ++ marks_by c.args.desk.now.number c.in-Ok.issued = search rules in
+    let added : map g.T.Trace.mark c.told_by.new.desk.own.items ≡ map g.T.Trace.mark c.args.desk.now.own.items ++ marks_by c.args.desk.now.number c.in-Ok.issued = search rules in
     adds_answered _ _ _ c.in-Ok.issued added _ c.told_by.ensures.number
 
 pub returns-in-Ok-clause-done : goal.returns-in-Ok-clause-done
 returns-in-Ok-clause-done g c =
-    let added : c.told_by.new.desk.own.items ≡ c.args.desk.now.own.items ++ marks_by c.args.desk.now.number c.in-Ok.issued = search rules in
+    let added : map g.T.Trace.mark c.told_by.new.desk.own.items ≡ map g.T.Trace.mark c.args.desk.now.own.items ++ marks_by c.args.desk.now.number c.in-Ok.issued = search rules in
     does_at _ _ _ c.in-Ok.issued c.in-Ok.ensures.ok _ _ _ added
 
 pub returns-in-Ok-clause-answer : goal.returns-in-Ok-clause-answer
@@ -46,8 +46,8 @@ returns-in-Ok-clause-answer g c = answers_number _ _ _ c.in-Ok.issued c.in-Ok.en
 
 pub returns-in-Ok-clause-both : goal.returns-in-Ok-clause-both
 returns-in-Ok-clause-both g c =
-    let own : c.told_by.new.desk.own.items ≡ c.args.desk.now.own.items ++ marks_by c.args.desk.now.number c.in-Ok.issued = search rules in
-    let all : c.note.new.marks.all.items ≡ c.args.self.now.marks.all.items ++ marks_by c.args.desk.now.number c.in-Ok.issued = search rules in
+    let own : map g.T.Trace.mark c.told_by.new.desk.own.items ≡ map g.T.Trace.mark c.args.desk.now.own.items ++ marks_by c.args.desk.now.number c.in-Ok.issued = search rules in
+    let all : map g.T.Trace.mark c.note.new.marks.all.items ≡ map g.T.Trace.mark c.args.self.now.marks.all.items ++ marks_by c.args.desk.now.number c.in-Ok.issued = search rules in
     (marks_by c.args.desk.now.number c.in-Ok.issued, own, all)
 
 pub returns-in-Err-clause-refused : goal.returns-in-Err-clause-refused
