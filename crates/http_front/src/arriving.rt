@@ -9,13 +9,14 @@ use crate::moment::{now, words};
 use api_core::Call;
 use group_commit::Ticket;
 use long_poll::Port;
+use receipts::Trace;
 use std::random::RandomSource;
 use std::sync::Wait;
 use std::sync::ledger::Ledger;
 use std::time::Clock;
 
 // Makes the moves that are due.
-fn make_moves<R: Wait, L: Ledger>(rt: &R, port: &Port<L>, now: u64)
+fn make_moves<R: Wait, L: Ledger, T: Trace>(rt: &R, port: &Port<L, T>, now: u64)
     requires { now ≤ greatest_moment }
 {
     for _ in rt.forever() {
@@ -28,9 +29,9 @@ fn make_moves<R: Wait, L: Ledger>(rt: &R, port: &Port<L>, now: u64)
 /// A call comes to a port now, with two random words, and then the moves that are due are made: its ticket and its slot.
 ///
 /// It is refused: `System` (the clock or the source of random words failed), and as the port refuses it.
-pub(crate) fn arrive<R: Wait + Clock + RandomSource, L: Ledger>(
+pub(crate) fn arrive<R: Wait + Clock + RandomSource, L: Ledger, T: Trace>(
     rt: &R,
-    port: &Port<L>,
+    port: &Port<L, T>,
     call: Call,
 ) -> Result<(Ticket, u64), ArrivalError>
     ensures slot { IfOk result (λ r. IsSlot r.1) }

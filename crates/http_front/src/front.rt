@@ -9,7 +9,7 @@ use crate::wake::Wake;
 use api_core::Call;
 use group_commit::Ticket;
 use long_poll::{Bell, Port};
-use receipts::Office;
+use receipts::{Office, Trace};
 use retry_rules::Settings;
 use std::alloc::{AllocError, Global};
 use std::random::RandomSource;
@@ -30,9 +30,9 @@ fn most_read(settings: &Settings) -> usize
 
 /// What the threads of a front share: the office and the bell, what the committer sleeps on, and whether the front ends.
 #[derive(Drop)]
-pub struct Front<L: Ledger> {
+pub struct Front<L: Ledger, T: Trace> {
     pub(crate) alloc: Global,
-    pub(crate) office: Arc<Office<L>>,
+    pub(crate) office: Arc<Office<L, T>>,
     pub(crate) bell: Arc<Bell>,
     pub(crate) wake: Wake,
     pub(crate) ending: CancellationToken,
@@ -41,13 +41,13 @@ pub struct Front<L: Ledger> {
     pub(crate) most: usize,
 }
 
-impl<L: Ledger> Front<L> {
+impl<L: Ledger, T: Trace> Front<L, T> {
     /// A front over an office with these settings, which no thread serves yet.
     pub fn new(
         alloc: Global,
-        office: Arc<Office<L>>,
+        office: Arc<Office<L, T>>,
         settings: Settings,
-    ) -> Result<Front<L>, AllocError>
+    ) -> Result<Front<L, T>, AllocError>
         ensures office { IfOk result (λ front. front.office ≡ office) }
         ensures settings { IfOk result (λ front. front.settings ≡ settings) }
     {
@@ -69,7 +69,7 @@ impl<L: Ledger> Front<L> {
     pub(crate) fn arrive<R: Wait + Clock + RandomSource>(
         &self,
         rt: &R,
-        port: &Port<L>,
+        port: &Port<L, T>,
         call: Call,
     ) -> Result<(Ticket, u64), ArrivalError>
         ensures slot { IfOk result (λ r. IsSlot r.1) }

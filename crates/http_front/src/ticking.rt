@@ -7,7 +7,7 @@ ghost use Rattle.http_front.specs.laws.Marked.{marked_nothing, marked_more};
 use crate::front::Front;
 use crate::moment::now;
 use commit_loop::{Gate, Ticking};
-use receipts::Desk;
+use receipts::{Desk, Trace};
 use std::sync::Wait;
 use std::sync::ledger::Ledger;
 use std::thread;
@@ -18,14 +18,18 @@ const PAUSE: u64 = 100;
 
 // A ticker at a front.
 #[derive(Drop)]
-struct AtFront<'a, R, L: Ledger> {
+struct AtFront<'a, R, L: Ledger, T: Trace> {
     rt: &'a R,
-    front: &'a Front<L>,
-    desk: Desk<L>,
+    front: &'a Front<L, T>,
+    desk: Desk<L, T>,
 }
 
 // Makes a move that is due now: whether it made one. Where the clock cannot be read none is made.
-fn tick<R: Wait + Clock, L: Ledger>(rt: &R, front: &Front<L>, desk: &mut Desk<L>) -> bool
+fn tick<R: Wait + Clock, L: Ledger, T: Trace>(
+    rt: &R,
+    front: &Front<L, T>,
+    desk: &mut Desk<L, T>,
+) -> bool
     ensures { HasMarked (vec_len desk.old.own) (ticked result ∷ []) (vec_len desk.new.own) }
 {
     match now(rt) {
@@ -34,7 +38,7 @@ fn tick<R: Wait + Clock, L: Ledger>(rt: &R, front: &Front<L>, desk: &mut Desk<L>
     }
 }
 
-impl<R: Wait + Clock, L: Ledger> Ticking for AtFront<'_, R, L> {
+impl<R: Wait + Clock, L: Ledger, T: Trace> Ticking for AtFront<'_, R, L, T> {
     ghost leads = { λ old steps new. HasMarked (vec_len old.desk.own) steps (vec_len new.desk.own) };
 
     fn pending(&mut self) -> usize {
@@ -61,12 +65,12 @@ impl<R: Wait + Clock, L: Ledger> Ticking for AtFront<'_, R, L> {
 
 /// Makes the moves that are due, about every 100 milliseconds, where the gate says `Commit`, and calls the committer; at
 /// `Skip` it only sleeps. At `End` it gives its desk back, with a mark of each move that it made.
-pub fn tick_all<R: Wait + Clock, L: Ledger, G: Gate>(
+pub fn tick_all<R: Wait + Clock, L: Ledger, T: Trace, G: Gate>(
     rt: &R,
-    front: &Front<L>,
-    desk: Desk<L>,
+    front: &Front<L, T>,
+    desk: Desk<L, T>,
     gate: &G,
-) -> Desk<L>
+) -> Desk<L, T>
     ensures { IsRun HasMarked (G.says gate.now) (vec_len desk.own) (vec_len result.own) }
 {
     let mut at = AtFront { rt, front, desk };

@@ -8,7 +8,7 @@ ghost use Rattle.hall_core.specs.Fresh.{IsFresh};
 use group_commit::{Broker, CommitError, IssueError, OpenError, without_disk};
 use hall_core::{Hall, HallFailure};
 use http_front::{Ending, ServeError, WhenPending, now, serve};
-use receipts::desks;
+use receipts::{Gone, desks};
 use sector_disk::{Disk, FileDisk, FileError};
 use std::alloc::{AllocError, AllocGlobal, Global};
 use std::fs::File;
@@ -179,7 +179,7 @@ where
     requires fresh { IsFresh (settings_of hall.issuer) hall }
 {
     let blank = Blank::new(desks(hall.table().settings()));
-    let served = serve::<_, Brand, _, _>(rt, hall, blank, listeners, &WhenPending)?;
+    let served = serve::<_, Brand, Gone, _, _>(rt, hall, blank, listeners, &WhenPending)?;
     match served.ending {
         Ending::Stopped => Ok(()),
         Ending::Broken => Err(ServingError::Broken),

@@ -9,22 +9,27 @@ use api_core::Call;
 use front_board::Seated;
 use group_commit::{Receipt, Ticket};
 use hall_core::{HallError, Released};
-use receipts::{Desk, Office};
+use receipts::{Desk, Mark, Office, Trace};
 use std::sync::ledger::Ledger;
 use std::sync::{Arc, Mutex, Wait};
 
 /// One port of the front: a desk of the office and a seat of the board, each behind a lock, for all futures of the port.
 #[derive(Drop)]
-pub struct Port<L: Ledger> {
-    office: Arc<Office<L>>,
+pub struct Port<L: Ledger, T: Trace = Mark> {
+    office: Arc<Office<L, T>>,
     bell: Arc<Bell>,
-    desk: Mutex<Desk<L>>,
+    desk: Mutex<Desk<L, T>>,
     seated: Mutex<Seated>,
 }
 
-impl<L: Ledger> Port<L> {
+impl<L: Ledger, T: Trace> Port<L, T> {
     /// A port with a desk of this office and a seat of its board.
-    pub fn new(office: Arc<Office<L>>, bell: Arc<Bell>, desk: Desk<L>, seated: Seated) -> Port<L>
+    pub fn new(
+        office: Arc<Office<L, T>>,
+        bell: Arc<Bell>,
+        desk: Desk<L, T>,
+        seated: Seated,
+    ) -> Port<L, T>
         ensures office { result.office ≡ office }
         ensures bell { result.bell ≡ bell }
     {
@@ -37,7 +42,7 @@ impl<L: Ledger> Port<L> {
     }
 
     /// The office.
-    pub fn office(&self) -> &Office<L>
+    pub fn office(&self) -> &Office<L, T>
         ensures { result.now ≡ self.now.office.value }
     {
         &self.office

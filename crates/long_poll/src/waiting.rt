@@ -9,6 +9,7 @@ use futures::Future;
 use futures::task::{Context, Poll};
 use group_commit::{Receipt, Ticket};
 use hall_core::Released;
+use receipts::{Mark, Trace};
 use std::mem;
 use std::sync::ledger::Ledger;
 use std::sync::{Arc, Wait};
@@ -32,20 +33,20 @@ enum Cause {
 }
 
 /// Waits for the reply of one slot, and gives it once it may be told. Where it is dropped before, the slot is forgotten.
-pub struct Waiting<R: Wait, L: Ledger> {
+pub struct Waiting<R: Wait, L: Ledger, T: Trace = Mark> {
     rt: R,
-    port: Arc<Port<L>>,
+    port: Arc<Port<L, T>>,
     slot: u64,
     progress: Progress,
 }
 
-impl<R: Wait, L: Ledger> Waiting<R, L> {
+impl<R: Wait, L: Ledger, T: Trace> Waiting<R, L, T> {
     ghost use Rattle.long_poll.specs.Bell.{IsUnder, source_of};
     ghost use Rattle.long_poll.specs.Waiting.{number_at};
 
     /// Waits for the reply of this slot of the port's office, which came with this ticket. It makes itself a place at the
     /// bell; where there is no memory for one now, each poll tries again.
-    pub fn new(rt: R, port: Arc<Port<L>>, ticket: Ticket, slot: u64) -> Waiting<R, L>
+    pub fn new(rt: R, port: Arc<Port<L, T>>, ticket: Ticket, slot: u64) -> Waiting<R, L, T>
         ensures slot { result.slot ≡ slot }
         ensures number { number_at result.progress ≡ Some ticket }
         ensures port { result.port ≡ port }
@@ -127,7 +128,7 @@ impl<R: Wait, L: Ledger> Waiting<R, L> {
     }
 }
 
-impl<R: Wait + Drop, L: Ledger> Future for Waiting<R, L> {
+impl<R: Wait + Drop, L: Ledger, T: Trace> Future for Waiting<R, L, T> {
     type Output = Released;
 
     ghost use Rattle.long_poll.specs.Bell.{source_of};
@@ -148,7 +149,7 @@ impl<R: Wait + Drop, L: Ledger> Future for Waiting<R, L> {
     }
 }
 
-impl<R: Wait + Drop, L: Ledger> Drop for Waiting<R, L> {
+impl<R: Wait + Drop, L: Ledger, T: Trace> Drop for Waiting<R, L, T> {
     fn drop(self) {
         let Waiting {
             rt,

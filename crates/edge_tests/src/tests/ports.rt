@@ -17,7 +17,7 @@ use crate::tests::ports::talks::{Leaving, Party, Talk, talk_at};
 use group_commit::Broker;
 use hall_core::Hall;
 use http_front::serve;
-use receipts::desks;
+use receipts::{Gone, desks};
 use sector_disk::{Disk, FileDisk};
 use std::alloc::{AllocGlobal, Global};
 use std::fs;
@@ -85,7 +85,7 @@ where
     let (listeners, doors) = doors(&rt, rt.alloc()).ok()?;
     let clients = thread::spawn(&rt, move || talk_at(&rt, doors, &watch, talk)).ok()?;
     let gate = AtLeast::new(talk.pending());
-    let served = serve::<R, L, D, AtLeast>(rt, hall, blank, listeners, &gate).ok();
+    let served = serve::<R, L, Gone, D, AtLeast>(rt, hall, blank, listeners, &gate).ok();
     let told = clients.join(&rt);
     if served?.ending == talk.ending() {
         Some(told)

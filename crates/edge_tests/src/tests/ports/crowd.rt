@@ -9,7 +9,7 @@ use crate::tests::ports::clients::listen;
 use group_commit::Broker;
 use hall_core::Hall;
 use http_front::{ServeError, WhenPending, serve};
-use receipts::desks;
+use receipts::{Gone, desks};
 use sector_disk::Disk;
 use std::alloc::{AllocGlobal, Global};
 use std::io;
@@ -62,7 +62,7 @@ where
     let Ok(listeners) = crowd(&rt, rt.alloc()) else {
         return false;
     };
-    let ending = serve::<R, L, D, WhenPending>(rt, hall, blank, listeners, &WhenPending);
+    let ending = serve::<R, L, Gone, D, WhenPending>(rt, hall, blank, listeners, &WhenPending);
     matches!(ending, Err(ServeError::TooManyPorts))
 }
 
