@@ -1,5 +1,5 @@
 // The ticker: what its loop works on.
-ghost use Rattle.std.specs.Prelude.{◌≡◌, ◌+◌, [], ◌∷◌, ◌++◌, vec_len, sum_by};
+ghost use Rattle.std.specs.Prelude.{◌≡◌, ◌+◌, [], ◌∷◌, ◌++◌, length, map, sum_by};
 ghost use Rattle.commit_loop.specs.Ticker.{Step, ticked, IsRun};
 ghost use Rattle.http_front.specs.Marking.{HasMarked};
 ghost use Rattle.http_front.specs.laws.Marked.{marked_nothing, marked_more};
@@ -30,7 +30,7 @@ fn tick<R: Wait + Clock, L: Ledger, T: Trace>(
     front: &Front<L, T>,
     desk: &mut Desk<L, T>,
 ) -> bool
-    ensures { HasMarked (vec_len desk.old.own) (ticked result ∷ []) (vec_len desk.new.own) }
+    ensures { HasMarked (length (map T.mark desk.old.own.items)) (ticked result ∷ []) (length (map T.mark desk.new.own.items)) }
 {
     match now(rt) {
         Ok(now) => matches!(front.office.tick(rt, desk, now), Ok(Some(_))),
@@ -39,7 +39,8 @@ fn tick<R: Wait + Clock, L: Ledger, T: Trace>(
 }
 
 impl<R: Wait + Clock, L: Ledger, T: Trace> Ticking for AtFront<'_, R, L, T> {
-    ghost leads = { λ old steps new. HasMarked (vec_len old.desk.own) steps (vec_len new.desk.own) };
+    ghost leads = { λ old steps new.
+        HasMarked (length (map T.mark old.desk.own.items)) steps (length (map T.mark new.desk.own.items)) };
 
     fn pending(&mut self) -> usize {
         self.front.pending(self.rt)
@@ -57,10 +58,14 @@ impl<R: Wait + Clock, L: Ledger, T: Trace> Ticking for AtFront<'_, R, L, T> {
         thread::sleep(self.rt, Duration::from_millis(PAUSE));
     }
 
-    ghost stays = { λ value. marked_nothing (vec_len value.desk.own) };
+    ghost stays = { λ value. marked_nothing (length (map T.mark value.desk.own.items)) };
 
     ghost goes_on = { λ first second third before after.
-        marked_more (vec_len first.desk.own) (vec_len second.desk.own) (vec_len third.desk.own) before after };
+        marked_more
+            (length (map T.mark first.desk.own.items))
+            (length (map T.mark second.desk.own.items))
+            (length (map T.mark third.desk.own.items))
+            before after };
 }
 
 /// Makes the moves that are due, about every 100 milliseconds, where the gate says `Commit`, and calls the committer; at
@@ -71,7 +76,7 @@ pub fn tick_all<R: Wait + Clock, L: Ledger, T: Trace, G: Gate>(
     desk: Desk<L, T>,
     gate: &G,
 ) -> Desk<L, T>
-    ensures { IsRun HasMarked (G.says gate.now) (vec_len desk.own) (vec_len result.own) }
+    ensures { IsRun HasMarked (G.says gate.now) (length (map T.mark desk.own.items)) (length (map T.mark result.own.items)) }
 {
     let mut at = AtFront { rt, front, desk };
     commit_loop::tick_all(rt, gate, &mut at);
