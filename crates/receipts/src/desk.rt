@@ -23,7 +23,7 @@ pub struct Desk<L: Ledger, T: Trace = Mark> {
     pub(crate) number: u64,
     /// The greatest number that it was told.
     pub(crate) told: u64,
-    /// Its marks, in order.
+    /// What is kept of its marks, in order.
     pub(crate) own: Vec<T>,
     /// How many they are counts in the ledger.
     pub(crate) share: Share<L>,
@@ -47,7 +47,7 @@ impl<L: Ledger, T: Trace> Desk<L, T> {
         self.told
     }
 
-    /// The marks of the commands that its calls issued, in order.
+    /// What is kept of the marks of the commands that its calls issued, in order.
     pub fn marks(&self) -> &[T]
         ensures { result.now ≡ self.now.own.items }
     {

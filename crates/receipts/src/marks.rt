@@ -10,6 +10,7 @@ use std::sync::ledger::{Book, Ledger, Share};
 /// The marks of all commands since the opening, in order.
 #[derive(Drop)]
 pub(crate) struct Marks<L: Ledger, T: Trace> {
+    /// What is kept of them.
     pub(crate) all: Vec<T>,
     /// The sum of what all desks have.
     pub(crate) book: Book<L>,

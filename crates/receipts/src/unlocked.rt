@@ -68,7 +68,7 @@ impl<L: Ledger, T: Trace> Unlocked<L, T> {
         &self.kept.opening
     }
 
-    /// The marks of all commands that were issued since the opening, in order.
+    /// What is kept of the marks of all commands that were issued since the opening, in order.
     pub fn marks(&self) -> &[T]
         ensures { result.now ≡ self.now.kept.marks.all.items }
     {
