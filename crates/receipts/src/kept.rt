@@ -1,7 +1,7 @@
 // What the office keeps under its lock: the hall, and the marks of all that it issued.
 ghost use Rattle.std.specs.Prelude.{◌≡◌, ◌+◌, ◌<◌, ◌≤◌, ◌^◌, ◌++◌, map, length, vec_len, vec_capacity, IfOk, IfErr, OnOk, OnErr, OnSome, IfSome, IfNone, option_map};
 ghost use Rattle.group_commit.specs.Issuer.{issued_in};
-ghost use Rattle.receipts.specs.Marks.{marks_by, AreNumbered};
+ghost use Rattle.receipts.specs.Marks.{marks_by, AreNumbered, KeepsHistories};
 ghost use Rattle.receipts.specs.Following.{Follows};
 ghost use Rattle.receipts.specs.Answers.{AddsAtMostOne, AddsAnswered, IsToldMore, IsToldIfAny, IsSlotOf, AddsAsked, IsMismatch, IsArrivalRefusal, IsTickRefusal};
 ghost use Rattle.receipts.specs.Kept.{hall_in, issuer_in, IsToldByLoan, IsNotLentTo, number_of, either_number};
@@ -143,6 +143,10 @@ impl<L: Ledger, T: Trace> Kept<L, T> {
             desk.old.number (map T.mark desk.old.own.items) (map T.mark desk.new.own.items)) }
         ensures both { OnOk result (AddBoth (map T.mark desk.old.own.items) (map T.mark desk.new.own.items)
             (map T.mark self.old.marks.all.items) (map T.mark self.new.marks.all.items)) }
+        ensures histories { OnOk result (KeepsHistories desk.old.number
+            (map T.mark self.old.marks.all.items) (map T.mark desk.old.own.items)
+            (map T.mark self.new.marks.all.items) (map T.mark desk.new.own.items)) }
+        ensures unmarked { OnErr result (self.new.marks.all.items ≡ self.old.marks.all.items) }
         ensures counts { IfOk result (λ r. Counts self.old.slots self.new.slots desk.old.number r.1) }
         ensures ticket { IfOk result (λ r. r.0 ≡ issued_in (issuer_in self.new.hall)) }
         ensures kept { OnOk result (IsAsDurable (hall_in self.old.hall) (hall_in self.new.hall)) }
@@ -192,6 +196,10 @@ impl<L: Ledger, T: Trace> Kept<L, T> {
         ensures answer { IfOk result (AnswersItsNumber (hall_in self.old.hall) (tick now)) }
         ensures both { OnOk result (AddBoth (map T.mark desk.old.own.items) (map T.mark desk.new.own.items)
             (map T.mark self.old.marks.all.items) (map T.mark self.new.marks.all.items)) }
+        ensures histories { OnOk result (KeepsHistories desk.old.number
+            (map T.mark self.old.marks.all.items) (map T.mark desk.old.own.items)
+            (map T.mark self.new.marks.all.items) (map T.mark desk.new.own.items)) }
+        ensures unmarked { OnErr result (self.new.marks.all.items ≡ self.old.marks.all.items) }
         ensures counted { self.new.slots ≡ self.old.slots }
         ensures kept { OnOk result (IsAsDurable (hall_in self.old.hall) (hall_in self.new.hall)) }
         ensures no_call { has_same_lent self.old.hall.issuer self.new.hall.issuer }

@@ -9,6 +9,7 @@
 
 mod desk;
 mod desk_count;
+mod drill;
 mod error;
 mod finishing;
 mod kept;
@@ -19,6 +20,7 @@ mod office;
 mod unlocked;
 
 pub use desk::{Desk, desks};
+pub use drill::{Ask, Step};
 pub use error::{FinishError, FinishFailure, OfficeFailure, UnlockedFailure};
 pub use mark::{Gone, Mark, Trace};
 pub use office::Office;
