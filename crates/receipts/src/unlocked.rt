@@ -33,7 +33,8 @@ impl<L: Ledger, T: Trace> Office<L, T> {
     /// each history that leaves the opening's table there is a run, of which no call was refused, that the hall stands for.
     pub fn unlock(self) -> Unlocked<L, T>
         ensures numbered { AreNumbered result.kept.opening.number (map T.mark result.kept.marks.all.items) }
-        ensures issued { issued_in (issuer_in result.kept.hall) ≡ result.kept.opening.number + length (map T.mark result.kept.marks.all.items) }
+        ensures issued { issued_in (issuer_in result.kept.hall)
+            ≡ result.kept.opening.number + length (map T.mark result.kept.marks.all.items) }
         ensures follows { Follows (issuer_in result.kept.hall).settings result.kept.opening (map T.mark result.kept.marks.all.items)
             (issuer_in result.kept.hall).table }
         ensures runs { ∥ HasRuns (hall_in result.kept.hall) result.kept.opening ∥₁ }
