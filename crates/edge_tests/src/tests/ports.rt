@@ -20,7 +20,6 @@ use http_front::serve;
 use receipts::{Gone, desks};
 use sector_disk::{Disk, FileDisk};
 use std::alloc::{AllocGlobal, Global};
-use std::fs;
 use std::fs::File;
 use std::marker::Brand;
 use std::net::{Net, TcpListener, TcpStream};
@@ -32,7 +31,7 @@ use std::sync::{Arc, Wait};
 use std::test::Fail;
 use std::thread::Threads;
 use std::time::Clock;
-use std::{io, thread};
+use std::{fs, io, thread};
 
 // A listener for callers and one for the environment, and where they listen.
 fn doors<N>(rt: &N, alloc: Global) -> io::Result<(Vec<TcpListener>, Doors)>
