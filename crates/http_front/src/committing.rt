@@ -67,16 +67,20 @@ impl<R: Wait, L: Ledger, T: Trace, D: Disk> Committing for AtFront<'_, R, L, T, 
         why.is_last()
     }
 
-    fn raise(&mut self, durable: Durable) {
-        self.committer.seated.raise(durable);
+    fn raise(&mut self, durable: &Durable) {
+        self.committer.seated.raise(*durable);
     }
 
     fn say_broken(&mut self) {
         self.front.bell.say_broken();
     }
 
-    fn ring(&mut self) {
-        self.front.bell.ring(self.rt);
+    fn ring(&mut self, durable: &Durable) {
+        self.front.bell.ring(self.rt, *durable);
+    }
+
+    fn ring_all(&mut self) {
+        self.front.bell.ring_all(self.rt);
     }
 
     fn sleep(&mut self) {

@@ -7,8 +7,8 @@ use crate::arriving::arrive;
 use crate::error::ArrivalError;
 use crate::wake::Wake;
 use api_core::Call;
-use group_commit::Ticket;
-use long_poll::{Bell, Port};
+use group_commit::Durable;
+use long_poll::{Arrived, Bell, Port};
 use receipts::{Office, Trace};
 use retry_rules::Settings;
 use std::alloc::{AllocError, Global};
@@ -42,11 +42,12 @@ pub struct Front<L: Ledger, T: Trace> {
 }
 
 impl<L: Ledger, T: Trace> Front<L, T> {
-    /// A front over an office with these settings, which no thread serves yet.
+    /// A front over an office with these settings, of which so much is durable, which no thread serves yet.
     pub fn new(
         alloc: Global,
         office: Arc<Office<L, T>>,
         settings: Settings,
+        durable: Durable,
     ) -> Result<Front<L, T>, AllocError>
         ensures office { IfOk result (λ front. front.office ≡ office) }
         ensures settings { IfOk result (λ front. front.settings ≡ settings) }
@@ -55,7 +56,7 @@ impl<L: Ledger, T: Trace> Front<L, T> {
         Ok(Front {
             alloc,
             office,
-            bell: Arc::new(alloc, Bell::new(alloc))?,
+            bell: Arc::new(alloc, Bell::new(alloc, durable))?,
             wake: Wake::new(),
             ending: CancellationToken::new(alloc)?,
             settings,
@@ -63,7 +64,7 @@ impl<L: Ledger, T: Trace> Front<L, T> {
         })
     }
 
-    /// A call comes to a port: its ticket and its slot. All that wait for a reply look again, and the committer is called.
+    /// A call comes to a port. Where there is something to commit, or the broker is to stop, the committer is called.
     ///
     /// It is refused: `System` (the clock or the source of random words failed), and as `Port::arrive` refuses it.
     pub(crate) fn arrive<R: Wait + Clock + RandomSource>(
@@ -71,14 +72,16 @@ impl<L: Ledger, T: Trace> Front<L, T> {
         rt: &R,
         port: &Port<L, T>,
         call: Call,
-    ) -> Result<(Ticket, u64), ArrivalError>
-        ensures slot { IfOk result (λ r. IsSlot r.1) }
+    ) -> Result<Arrived, ArrivalError>
+        ensures slot { IfOk result (λ arrived. IsSlot arrived.slot) }
         ensures refused { IfErr result IsArrivalError }
     {
-        let arrived = arrive(rt, port, call);
-        self.bell.ring(rt);
-        self.wake.call(rt);
-        arrived
+        let stops = matches!(call, Call::StopBroker);
+        let arrived = arrive(rt, port, call)?;
+        if stops || arrived.has_command {
+            self.wake.call(rt);
+        }
+        Ok(arrived)
     }
 
     /// How many commands wait to be written: none once the hall broke.

@@ -9,7 +9,7 @@ use crate::committing::Committer;
 use crate::error::ServeError;
 use crate::front::Front;
 use front_board::Seated;
-use group_commit::{Broker, DiskHalf};
+use group_commit::{Broker, DiskHalf, Durable};
 use hall_core::Hall;
 use long_poll::Port;
 use receipts::{Desk, Office, Trace};
@@ -62,9 +62,10 @@ fn shared<L: Ledger, T: Trace>(
     alloc: Global,
     office: Office<L, T>,
     settings: Settings,
+    durable: Durable,
 ) -> Result<Arc<Front<L, T>>, AllocError> {
     let office = Arc::new(alloc, office)?;
-    let front = Front::new(alloc, office, settings)?;
+    let front = Front::new(alloc, office, settings, durable)?;
     Ok(Arc::new(alloc, front)?)
 }
 
@@ -110,7 +111,7 @@ pub(crate) fn open<L: Ledger, T: Trace, D: Disk + Drop>(
     match Office::<L, T>::new(alloc, hall, blank) {
         Ok((office, desks, half)) => {
             let seats = Seated::open(alloc, durable, desks.len())?;
-            let front = shared(alloc, office, settings)?;
+            let front = shared(alloc, office, settings, durable)?;
             furnish(alloc, front, desks, seats, half)
         }
         Err(failure) => Err(ServeError::Office(failure.cause)),

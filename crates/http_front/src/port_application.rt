@@ -69,10 +69,10 @@ impl<R: Wait + Clock + RandomSource + Copy, L: Ledger, T: Trace> PortApplication
         let Ok(port) = Arc::try_clone(&self.port) else {
             return Err(Refusal::Unavailable);
         };
-        let Ok((ticket, slot)) = front.arrive(&self.rt, &port, call) else {
+        let Ok(arrived) = front.arrive(&self.rt, &port, call) else {
             return Err(Refusal::Unavailable);
         };
-        Ok(Waiting::new(self.rt, port, ticket, slot))
+        Ok(Waiting::new(self.rt, port, arrived))
     }
 }
 

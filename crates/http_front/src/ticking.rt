@@ -1,5 +1,6 @@
 // The ticker: what its loop works on.
-ghost use Rattle.std.specs.Prelude.{◌≡◌, ◌+◌, [], ◌∷◌, ◌++◌, length, map, sum_by};
+ghost use Rattle.std.specs.Prelude.{◌≡◌, ◌≤◌, ◌+◌, [], ◌∷◌, ◌++◌, length, map, sum_by};
+ghost use Rattle.invoke_records.specs.Spelling.{greatest_moment};
 ghost use Rattle.commit_loop.specs.Ticker.{Step, ticked, IsRun};
 ghost use Rattle.http_front.specs.Marking.{HasMarked};
 ghost use Rattle.http_front.specs.laws.Marked.{marked_nothing, marked_more};
@@ -24,6 +25,26 @@ struct AtFront<'a, R, L: Ledger, T: Trace> {
     desk: Desk<L, T>,
 }
 
+// Makes a move that is due now: whether it made one. The bell is told which parked polls it answered.
+fn make_move<R: Wait, L: Ledger, T: Trace>(
+    rt: &R,
+    front: &Front<L, T>,
+    desk: &mut Desk<L, T>,
+    now: u64,
+) -> bool
+    requires { now ≤ greatest_moment }
+    ensures { HasMarked (length (map T.mark desk.old.own.items)) (ticked result ∷ []) (length (map T.mark desk.new.own.items)) }
+{
+    match front.office.tick(rt, desk, now) {
+        Ok(Some(number)) => {
+            let answered = desk.take_answered();
+            front.bell.answer(rt, &answered, number);
+            true
+        }
+        _ => false,
+    }
+}
+
 // Makes a move that is due now: whether it made one. Where the clock cannot be read none is made.
 fn tick<R: Wait + Clock, L: Ledger, T: Trace>(
     rt: &R,
@@ -33,7 +54,7 @@ fn tick<R: Wait + Clock, L: Ledger, T: Trace>(
     ensures { HasMarked (length (map T.mark desk.old.own.items)) (ticked result ∷ []) (length (map T.mark desk.new.own.items)) }
 {
     match now(rt) {
-        Ok(now) => matches!(front.office.tick(rt, desk, now), Ok(Some(_))),
+        Ok(now) => make_move(rt, front, desk, now),
         Err(_) => false,
     }
 }

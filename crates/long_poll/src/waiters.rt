@@ -1,5 +1,6 @@
 // The tasks that wait at a bell, behind its lock.
-ghost use Rattle.std.specs.Prelude.{◌≡◌, [], None, OnOk, OnNone, IfNone, IsSome, max, vec_len, vec_capacity};
+ghost use Rattle.std.specs.Prelude.{◌≡◌, ◌≤◌, [], None, IfNone, max, vec_capacity};
+ghost use Rattle.std.specs.Ordering.{nat_cmp};
 ghost use Rattle.std.specs.BTreeMap as tree;
 ghost use Rattle.futures.specs.Task.{Hears, IsArmed, Keeps};
 
@@ -21,11 +22,11 @@ pub struct Parked {
     slot: u64,
 }
 
-/// The wakers of the tasks that wait.
+/// The wakers of the tasks that wait. A waker wakes its task when it is dropped.
 #[derive(Drop)]
 pub(crate) struct Waiters {
     alloc: Global,
-    /// Of those that wait for a number, by it and by their slot.
+    /// Of those that wait for a number, by it and their slot.
     numbered: BTreeMap<(u64, u64), Waker>,
     /// Of the polls that wait for an answer, by their slot.
     parked: BTreeMap<u64, Waker>,
@@ -37,23 +38,23 @@ pub(crate) struct Waiters {
 }
 
 impl Waiters {
-    ghost use Rattle.long_poll.specs.Bell.{AreAbove, IsUnder, Waits, IsParked, Stays, GoesOn};
+    ghost use Rattle.long_poll.specs.Bell.{AreAbove, IsUnder, IsParkedAt, Waits, Stays, GoesOn};
 
-    /// Nobody waits, and what is durable now was rung. It takes no memory.
-    pub(crate) fn new(alloc: Global, durable: u64) -> Waiters
-        ensures { result.rung ≡ durable }
+    /// Nobody waits, and so much was rung. It takes no memory.
+    pub(crate) fn new(alloc: Global, rung: u64) -> Waiters
+        ensures { result.rung ≡ rung }
     {
         Waiters {
             alloc,
             numbered: BTreeMap::new(alloc),
             parked: BTreeMap::new(alloc),
-            rung: durable,
+            rung,
             room: Vec::new(alloc),
         }
     }
 
-    /// Leaves the task's waker for a ring of this number or above. Where that was rung, or where there is no memory, the
-    /// task is polled again.
+    /// Leaves the task's waker for a ring of this number or above. Where that was rung, or there is no memory, the task is
+    /// polled again.
     pub(crate) fn register(
         &mut self,
         source: &Source,
@@ -71,16 +72,17 @@ impl Waiters {
         cx.register::<()>(source, &mut waker);
         if number <= self.rung {
             cx.yield_now::<()>();
-        } else if let Some(waker) = waker
-            && self.numbered.insert((number, slot), waker).is_err() {
-            cx.yield_now::<()>();
+        } else if let Some(waker) = waker {
+            if self.numbered.insert((number, slot), waker).is_err() {
+                cx.yield_now::<()>();
+            }
         }
         Registered { slot, number }
     }
 
     /// Leaves the task's waker for the answer of this slot. Where there is no memory, the task is polled again.
     pub(crate) fn park(&mut self, source: &Source, slot: u64, cx: &mut Context<'_>) -> Parked
-        ensures under { result.slot ≡ slot }
+        ensures under { IsParkedAt result slot }
         ensures armed { IsArmed cx.new }
         ensures heard { Hears cx.new source.now.id }
         ensures kept { Keeps cx.old cx.new }
@@ -88,16 +90,91 @@ impl Waiters {
     {
         let mut waker = self.parked.remove(&slot);
         cx.register::<()>(source, &mut waker);
-        if let Some(waker) = waker && self.parked.insert(slot, waker).is_err() {
-            cx.yield_now::<()>();
+        if let Some(waker) = waker {
+            if self.parked.insert(slot, waker).is_err() {
+                cx.yield_now::<()>();
+            }
         }
         Parked { slot }
     }
 
     /// Takes away what waits for the answer of this slot.
     pub(crate) fn leave(&mut self, slot: u64) -> Option<Waker>
-        ensures { tree.get slot self.new.parked ≡ None }
+        ensures { tree.get nat_cmp self.new.parked slot ≡ None }
     {
         self.parked.remove(&slot)
+    }
+
+    /// The poll of this slot was answered, which may be told at this number: it waits for that from now on. Where the number
+    /// was rung, or there is no memory, its waker is handed out.
+    pub(crate) fn answer(&mut self, slot: u64, number: u64) -> Option<Waker>
+        ensures gone { tree.get nat_cmp self.new.parked slot ≡ None }
+        ensures goes_on { GoesOn self.old self.new slot number result }
+    {
+        let waker = self.parked.remove(&slot)?;
+        if number <= self.rung {
+            return Some(waker);
+        }
+        match self.numbered.insert((number, slot), waker) {
+            Ok(before) => before,
+            Err(refused) => Some(refused.value.1),
+        }
+    }
+
+    /// The parked task waits for this number from now on, as `answer` says.
+    pub(crate) fn go_on(&mut self, parked: Parked, number: u64) -> (Option<Waker>, Registered)
+        ensures under { IsUnder result.1 parked.slot number }
+        ensures goes_on { GoesOn self.old self.new parked.slot number result.0 }
+    {
+        let Parked { slot } = parked;
+        (self.answer(slot, number), Registered { slot, number })
+    }
+
+    // The next that waits for this number or one below.
+    fn next_up_to(&mut self, number: u64) -> Option<Waker>
+        ensures none { IfNone result (AreAbove number self.new.numbered) }
+        ensures same { (self.new.parked ≡ self.old.parked) × (self.new.rung ≡ self.old.rung) }
+    {
+        let (least, _) = self.numbered.first_key_value()?;
+        if number < least.0 {
+            return None;
+        }
+        let (_, waker) = self.numbered.pop_first()?;
+        Some(waker)
+    }
+
+    /// Takes all wakers of this number and below. One for which there is no room wakes its task here.
+    pub(crate) fn take_wakers(&mut self, number: u64) -> Vec<Waker>
+        ensures above { AreAbove number self.new.numbered }
+        ensures rung { self.new.rung ≡ max self.old.rung number }
+        ensures parked { self.new.parked ≡ self.old.parked }
+    {
+        let mut wakers = mem::replace(&mut self.room, Vec::new(self.alloc));
+        while let Some(waker) = self.next_up_to(number) {
+            if let Err(refused) = wakers.push(waker) {
+                drop(refused);
+            }
+        }
+        self.rung = self.rung.max(number);
+        wakers
+    }
+
+    /// Takes the wakers of all polls that wait for an answer, and wakes them.
+    pub(crate) fn wake_parked(&mut self)
+        ensures { self.new.parked.entries ≡ [] }
+    {
+        self.parked.clear();
+    }
+
+    /// Takes the room back that a ring had, where it is not less than what is here.
+    pub(crate) fn give_back(&mut self, room: Vec<Waker>)
+        requires empty { room.items ≡ [] }
+        ensures numbered { self.new.numbered ≡ self.old.numbered }
+        ensures parked { self.new.parked ≡ self.old.parked }
+        ensures room { vec_capacity room ≤ vec_capacity self.new.room }
+    {
+        if self.room.capacity() < room.capacity() {
+            self.room = room;
+        }
     }
 }
