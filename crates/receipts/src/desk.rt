@@ -4,6 +4,8 @@ ghost use Rattle.receipts.specs.Desks.{desk_count};
 
 use crate::mark::{Mark, Trace};
 use retry_rules::Settings;
+use std::alloc::Global;
+use std::mem;
 use std::sync::ledger::{Ledger, Share};
 
 /// How many desks an office has: for each environment's port one, and three for the callers' port, the committer and the
@@ -19,12 +21,15 @@ pub fn desks(settings: &Settings) -> u64
 /// the greatest number that it was told.
 #[derive(Drop)]
 pub struct Desk<L: Ledger, T: Trace = Mark> {
+    pub(crate) alloc: Global,
     /// From 0 on.
     pub(crate) number: u64,
     /// The greatest number that it was told.
     pub(crate) told: u64,
     /// What is kept of its marks, in order.
     pub(crate) own: Vec<T>,
+    /// The slots of the polls that its last call answered.
+    pub(crate) answered: Vec<u64>,
     /// How many they are counts in the ledger.
     pub(crate) share: Share<L>,
     ghost one: { share.parts ≡ 1 },
@@ -45,6 +50,13 @@ impl<L: Ledger, T: Trace> Desk<L, T> {
         ensures { result ≡ self.now.told }
     {
         self.told
+    }
+
+    /// The slots of the polls that its last request or move answered, handed out.
+    pub fn take_answered(&mut self) -> Vec<u64>
+    {
+        let none = Vec::new(self.alloc);
+        mem::replace(&mut self.answered, none)
     }
 
     /// What is kept of the marks of the commands that its calls issued, in order.

@@ -172,6 +172,7 @@ impl<L: Ledger, T: Trace> Kept<L, T> {
         match hall.arrive(slot, call, now, words) {
             Ok(issued) => {
                 *slots += 1;
+                desk.answered = hall.take_answered();
                 note(marks, desk, issued);
                 let ticket = hall.ticket();
                 desk.told = ticket.number();
@@ -213,6 +214,7 @@ impl<L: Ledger, T: Trace> Kept<L, T> {
         let Kept { hall, marks, .. } = self;
         match hall.tick(now) {
             Ok(issued) => {
+                desk.answered = hall.take_answered();
                 note(marks, desk, issued);
                 Ok(told_by(desk, issued))
             }
@@ -288,6 +290,11 @@ impl<L: Ledger, T: Trace> Kept<L, T> {
         ensures opening { self.new.opening ≡ self.old.opening }
     {
         self.hall.take(slot)
+    }
+
+    /// How much has to be durable before the reply of a slot is told.
+    pub(crate) fn point(&self, slot: u64) -> Option<u64> {
+        self.hall.point(slot)
     }
 
     /// The reply of a slot is not wanted any more.

@@ -93,6 +93,8 @@ fn seat<L: Ledger, T: Trace>(
     for number in 0..count {
         let share = rest.split_off(1, 0);
         desks.push_reserved(Desk {
+            alloc,
+            answered: Vec::new(alloc),
             number,
             told: 0,
             own: Vec::new(alloc),
@@ -245,6 +247,14 @@ impl<L: Ledger, T: Trace> Office<L, T> {
     {
         let _ = desk;
         self.kept.lock(rt).take(slot)
+    }
+
+    /// How much has to be durable before the reply of a slot is told, as `Hall::point` says.
+    pub fn point<R: Wait>(&self, rt: &R, desk: &mut Desk<L, T>, slot: u64) -> Option<u64>
+        ensures desk { desk.new ≡ desk.old }
+    {
+        let _ = desk;
+        self.kept.lock(rt).point(slot)
     }
 
     /// The reply of a slot is not wanted any more, as `Hall::forget` says. It takes no memory.
