@@ -16,6 +16,7 @@ use crate::ticking::tick_all;
 use commit_loop::{Gate, Turn};
 use group_commit::{Broker, DiskHalf};
 use hall_core::Hall;
+use http_port::Limits;
 use long_poll::Port;
 use receipts::{Desk, Trace, desks};
 use retry_rules::Settings;
@@ -113,7 +114,7 @@ where
     T: Trace,
 {
     let front = Arc::try_clone(&place.front)?;
-    let served = http_port::serve(rt, place, listener, &front.ending);
+    let served = http_port::serve(rt, place, listener, Limits::default(), &front.ending);
     front.ending.cancel();
     front.wake.call(&rt);
     served

@@ -6,6 +6,7 @@ ghost use Rattle.receipts.specs.Desks.{desk_count};
 
 mod clients;
 mod crowd;
+mod limits;
 mod talks;
 
 use crate::tests::disks::{NO_TROUBLE, SECTORS, Trouble, Watch, format_disk, hall, hall_over};
