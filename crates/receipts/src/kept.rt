@@ -290,6 +290,12 @@ impl<L: Ledger, T: Trace> Kept<L, T> {
         self.hall.take(slot)
     }
 
+    /// How many commands have to be durable before the reply of a slot is told, where it is computed and still wanted.
+    pub(crate) fn point(&self, slot: u64) -> Option<u64> {
+        let _ = slot;
+        None
+    }
+
     /// The reply of a slot is not wanted any more.
     pub(crate) fn forget(&mut self, slot: u64)
         ensures done { IsDone (hall_in self.old.hall) (hall_in self.new.hall) (forget_slot slot) }

@@ -97,6 +97,7 @@ fn seat<L: Ledger, T: Trace>(
             told: 0,
             own: Vec::new(alloc),
             share,
+            answered: Vec::new(alloc),
         });
     }
     desks
@@ -245,6 +246,15 @@ impl<L: Ledger, T: Trace> Office<L, T> {
     {
         let _ = desk;
         self.kept.lock(rt).take(slot)
+    }
+
+    /// How many commands have to be durable before the reply of a slot is told, where it is computed and still wanted, as
+    /// `Hall::point` says. It takes no memory.
+    pub fn point<R: Wait>(&self, rt: &R, desk: &mut Desk<L, T>, slot: u64) -> Option<u64>
+        ensures desk { desk.new ≡ desk.old }
+    {
+        let _ = desk;
+        self.kept.lock(rt).point(slot)
     }
 
     /// The reply of a slot is not wanted any more, as `Hall::forget` says. It takes no memory.
