@@ -282,6 +282,7 @@ impl<I: Issuer> Hall<I> {
             return Err(why);
         }
         if !has_command {
+            drop(plan);
             self.answered = Vec::new(self.alloc);
             return Ok(None);
         }

@@ -2,7 +2,8 @@
 ghost use Rattle.std.specs.Prelude.{◌≡◌, []};
 ghost use Rattle.hall_core.specs.Slots.{point_in, point_of};
 ghost use Rattle.hall_core.specs.OpenSlots.{ForEachKept};
-ghost use Rattle.hall_core.specs.Hall.{view_of, answered_slots, ForEachPast};
+ghost use Rattle.hall_core.specs.Hall.{view_of, answered_slots, ForEachPast, IsSameHall};
+ghost use Rattle.hall_core.specs.Halves.{HasSameParts};
 
 use crate::hall::Hall;
 use group_commit::Issuer;
@@ -14,8 +15,9 @@ impl<I: Issuer> Hall<I> {
     pub fn take_answered(&mut self) -> Vec<u64>
         ensures slots { result.items ≡ answered_slots self.old }
         ensures none_left { answered_slots self.new ≡ [] }
-        ensures same { view_of I.view self.new ≡ view_of I.view self.old }
         ensures issuer { self.new.issuer ≡ self.old.issuer }
+        ensures parts { HasSameParts (view_of I.view self.old) (view_of I.view self.new) }
+        ensures same { IsSameHall (view_of I.view self.old) (view_of I.view self.new) }
     {
         replace(&mut self.answered, Vec::new(self.alloc))
     }

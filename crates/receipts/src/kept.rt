@@ -24,10 +24,10 @@ use crate::desk::Desk;
 use crate::desk_count::DeskCount;
 use crate::mark::{Mark, Trace};
 use crate::marks::Marks;
+use crate::opening::Opening;
 use api_core::Call;
 use group_commit::{Batch, Durable, Failed, IssueHalf, Ticket, Written};
 use hall_core::{Hall, HallError, Issued, Released};
-use invoke_records::Snapshot;
 use std::sync::ledger::Ledger;
 
 /// How many slots an office counts.
@@ -50,16 +50,17 @@ pub(crate) enum Loan {
 pub(crate) struct Kept<L: Ledger, T: Trace> {
     pub(crate) hall: Hall<IssueHalf>,
     /// The table at the opening.
-    pub(crate) opening: Snapshot,
+    pub(crate) opening: Opening<T>,
     pub(crate) marks: Marks<L, T>,
     /// How many slots were counted.
     pub(crate) slots: u64,
     /// How many desks there are.
     pub(crate) desk_count: DeskCount<L>,
-    ghost numbered: { AreNumbered opening.number (map T.mark marks.all.items) },
-    ghost reached: { issued_in (issuer_in hall) ≡ opening.number + length (map T.mark marks.all.items) },
-    ghost followed: { Follows (issuer_in hall).settings opening (map T.mark marks.all.items) (issuer_in hall).table },
-    ghost runs: { ∥ HasRuns (hall_in hall) opening ∥₁ },
+    ghost numbered: { AreNumbered opening.seen.value.table.number (map T.mark marks.all.items) },
+    ghost reached: { issued_in (issuer_in hall) ≡ opening.seen.value.table.number + length (map T.mark marks.all.items) },
+    ghost followed: { Follows (issuer_in hall).settings opening.seen.value.table (map T.mark marks.all.items)
+        (issuer_in hall).table },
+    ghost runs: { ∥ HasRuns (hall_in hall) opening.seen.value.table ∥₁ },
 }
 
 // Marks what a call issued, if it did, where there is room for a mark.
@@ -172,7 +173,6 @@ impl<L: Ledger, T: Trace> Kept<L, T> {
         match hall.arrive(slot, call, now, words) {
             Ok(issued) => {
                 *slots += 1;
-                desk.answered = hall.take_answered();
                 note(marks, desk, issued);
                 let ticket = hall.ticket();
                 desk.told = ticket.number();
@@ -214,7 +214,6 @@ impl<L: Ledger, T: Trace> Kept<L, T> {
         let Kept { hall, marks, .. } = self;
         match hall.tick(now) {
             Ok(issued) => {
-                desk.answered = hall.take_answered();
                 note(marks, desk, issued);
                 Ok(told_by(desk, issued))
             }
@@ -292,9 +291,10 @@ impl<L: Ledger, T: Trace> Kept<L, T> {
         self.hall.take(slot)
     }
 
-    /// How much has to be durable before the reply of a slot is told.
+    /// How many commands have to be durable before the reply of a slot is told, where it is computed and still wanted.
     pub(crate) fn point(&self, slot: u64) -> Option<u64> {
-        self.hall.point(slot)
+        let _ = slot;
+        None
     }
 
     /// The reply of a slot is not wanted any more.

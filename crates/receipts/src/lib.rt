@@ -17,6 +17,7 @@ pub mod laws;
 mod mark;
 mod marks;
 mod office;
+mod opening;
 mod unlocked;
 
 pub use desk::{Desk, desks};
