@@ -12,8 +12,9 @@ ghost use Rattle.invoke_records.specs.Spelling.{greatest_moment};
 ghost use Rattle.group_commit.specs.Batch.{last_in};
 ghost use Rattle.hall_core.specs.Past.{tick, take_slot, forget_slot};
 ghost use Rattle.hall_core.specs.OpenSlots.{ForEachKept};
-ghost use Rattle.hall_core.specs.Slots.{open_slots};
+ghost use Rattle.hall_core.specs.Slots.{open_slots, point_in, point_of};
 ghost use Rattle.hall_core.specs.Hall.{StandsFor, ForEachPast, IsSameHall, IsAsDurable, request, pending_in, open_slot_count, slot_told, Gives, GivesFor, IsDone};
+ghost use Rattle.hall_core.specs.Hall.{AnswersPolls, answered_slots};
 ghost use Rattle.hall_core.specs.Halves.{HasSameParts, IsNotDurable};
 ghost use Rattle.hall_core.specs.Plans.{drawn_by};
 ghost use Rattle.hall_core.specs.declared.error.HallError.TheVariants.{WornOut};
@@ -92,6 +93,15 @@ fn told_by<L: Ledger, T: Trace>(desk: &mut Desk<L, T>, issued: Option<Issued>) -
     }
 }
 
+// Puts here the slots of the polls that the hall's last request or move answered.
+fn hand_out(hall: &mut Hall<IssueHalf>, answered: &mut Vec<u64>)
+    ensures slots { answered.new.items ≡ answered_slots hall.old }
+    ensures issuer { hall.new.issuer ≡ hall.old.issuer }
+    ensures same { IsSameHall (hall_in hall.old) (hall_in hall.new) }
+{
+    *answered = hall.take_answered();
+}
+
 impl<L: Ledger, T: Trace> Kept<L, T> {
     // What the hall issued is not below what the desk was told.
     fn check(&self, desk: &Desk<L, T>) -> Result<(), HallError>
@@ -157,6 +167,10 @@ impl<L: Ledger, T: Trace> Kept<L, T> {
             (record { told = desk.old.told; desk = desk.old.number; call = call; now = now; words = words })) }
         ensures same { OnErr result (IsSameUnderLock (hall_in self.old.hall) (hall_in self.new.hall)
             (map T.mark self.old.marks.all.items) (map T.mark self.new.marks.all.items) self.old.slots self.new.slots) }
+
+        // The desk has the slots of just the polls that this request answered.
+        ensures answered { IfOk result (λ r. AnswersPolls (hall_in self.old.hall) (request r.1 call now words) desk.new.answered.items) }
+        ensures kept_answered { OnErr result (desk.new.answered.items ≡ desk.old.answered.items) }
     {
         self.check(desk)?;
         let slot = self.next_slot(desk)?;
@@ -175,6 +189,7 @@ impl<L: Ledger, T: Trace> Kept<L, T> {
                 *slots += 1;
                 note(marks, desk, issued);
                 let ticket = hall.ticket();
+                hand_out(hall, &mut desk.answered);
                 desk.told = ticket.number();
                 Ok((ticket, slot))
             }
@@ -208,6 +223,10 @@ impl<L: Ledger, T: Trace> Kept<L, T> {
         ensures reason { IfErr result (IsNotMoved (hall_in self.old.hall) desk.old.told now) }
         ensures same { OnErr result (IsSameUnderLock (hall_in self.old.hall) (hall_in self.new.hall)
             (map T.mark self.old.marks.all.items) (map T.mark self.new.marks.all.items) self.old.slots self.new.slots) }
+
+        // The desk has the slots of just the polls that this move answered.
+        ensures answered { OnOk result (AnswersPolls (hall_in self.old.hall) (tick now) desk.new.answered.items) }
+        ensures kept_answered { OnErr result (desk.new.answered.items ≡ desk.old.answered.items) }
     {
         self.check(desk)?;
         self.marks.reserve(desk)?;
@@ -215,7 +234,9 @@ impl<L: Ledger, T: Trace> Kept<L, T> {
         match hall.tick(now) {
             Ok(issued) => {
                 note(marks, desk, issued);
-                Ok(told_by(desk, issued))
+                let told = told_by(desk, issued);
+                hand_out(hall, &mut desk.answered);
+                Ok(told)
             }
             Err(why) => Err(why),
         }
@@ -226,6 +247,7 @@ impl<L: Ledger, T: Trace> Kept<L, T> {
         ensures told { IfOk result (IsToldByLoan desk.old.told desk.new.told) }
         ensures number { desk.new.number ≡ desk.old.number }
         ensures own { desk.new.own.items ≡ desk.old.own.items }
+        ensures answered { desk.new.answered ≡ desk.old.answered }
         ensures err { OnErr result (desk.new.told ≡ desk.old.told) }
         ensures refused { IfErr result (IsNotLentTo desk.old.told self.old.hall.issuer) }
         ensures no_fault { IfErr result IsNoFault }
@@ -257,6 +279,7 @@ impl<L: Ledger, T: Trace> Kept<L, T> {
         ensures told { IfOk result (IsToldMore desk.old.told desk.new.told) }
         ensures number { desk.new.number ≡ desk.old.number }
         ensures own { desk.new.own.items ≡ desk.old.own.items }
+        ensures answered { desk.new.answered ≡ desk.old.answered }
         ensures err { OnErr result (desk.new.told ≡ desk.old.told) }
         ensures refused { IfErr result (IsNotDurable self.old.hall.issuer self.new.hall.issuer outcome) }
         ensures settles { IfOk result (SettlesBy self.old.hall.issuer self.new.hall.issuer outcome) }
@@ -292,9 +315,11 @@ impl<L: Ledger, T: Trace> Kept<L, T> {
     }
 
     /// How many commands have to be durable before the reply of a slot is told, where it is computed and still wanted.
-    pub(crate) fn point(&self, slot: u64) -> Option<u64> {
-        let _ = slot;
-        None
+    pub(crate) fn point(&self, slot: u64) -> Option<u64>
+        ensures by_past { ForEachPast (hall_in self.now.hall) (λ past. result ≡ point_of past slot) }
+        ensures by_events { ForEachKept self.now.hall.slots (λ _ events. result ≡ point_in events slot) }
+    {
+        self.hall.point(slot)
     }
 
     /// The reply of a slot is not wanted any more.

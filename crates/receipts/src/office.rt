@@ -159,8 +159,9 @@ impl<L: Ledger, T: Trace> Office<L, T> {
     }
 
     /// A request comes to this desk now, with two random words: it is done as `Hall::arrive` says, with a slot of its own,
-    /// and the desk gets a mark of the command that was issued, if it has one. It answers a ticket of all that its reply
-    /// shows, and the slot, from which `take` gives the reply once that is durable.
+    /// and the desk gets a mark of the command that was issued, if it has one, and the slots of the polls that it answered
+    /// (`Desk::take_answered`). It answers a ticket of all that its reply shows, and the slot, from which `take` gives the
+    /// reply once that is durable.
     ///
     /// It is refused, and changes nothing: `Mismatch` (fewer commands were issued than this desk was told), `WornOut` (2^58
     /// slots were counted), `Unfit` (the environment is not there, the text of an answer is above the settings' limit, or
@@ -181,12 +182,14 @@ impl<L: Ledger, T: Trace> Office<L, T> {
         ensures err { OnErr result ((desk.new.own.items ≡ desk.old.own.items) × (desk.new.told ≡ desk.old.told)) }
         ensures asked { OnOk result (AddsAsked (drawn_by words) call (map T.mark desk.old.own.items) (map T.mark desk.new.own.items)) }
         ensures refused { IfErr result (IsArrivalRefusal desk.old.told) }
+        ensures kept_answered { OnErr result (desk.new.answered.items ≡ desk.old.answered.items) }
     {
         self.kept.lock(rt).arrive(desk, call, now, words)
     }
 
     /// Makes one move that is due now, as `Hall::tick` does, and answers the number of its command, of which the desk gets
-    /// the mark. None where nothing is due. A moment is at most the end of the year 9999.
+    /// the mark. None where nothing is due. The desk gets the slots of the polls that it answered (`Desk::take_answered`). A
+    /// moment is at most the end of the year 9999.
     ///
     /// It is refused, and changes nothing: `Mismatch` (fewer commands were issued than this desk was told), `OutOfMemory`,
     /// and as the hall refuses it.
@@ -202,6 +205,7 @@ impl<L: Ledger, T: Trace> Office<L, T> {
         ensures number { desk.new.number ≡ desk.old.number }
         ensures err { OnErr result ((desk.new.own.items ≡ desk.old.own.items) × (desk.new.told ≡ desk.old.told)) }
         ensures refused { IfErr result (IsTickRefusal desk.old.told) }
+        ensures kept_answered { OnErr result (desk.new.answered.items ≡ desk.old.answered.items) }
     {
         self.kept.lock(rt).tick(desk, now)
     }
@@ -224,6 +228,7 @@ impl<L: Ledger, T: Trace> Office<L, T> {
         ensures told { IfOk result (IsToldMore desk.old.told desk.new.told) }
         ensures number { desk.new.number ≡ desk.old.number }
         ensures marks { desk.new.own.items ≡ desk.old.own.items }
+        ensures answered { desk.new.answered ≡ desk.old.answered }
         ensures err { OnErr result (desk.new.told ≡ desk.old.told) }
         ensures refused { IfErr result (IsCommitRefusal desk.old.told) }
         ensures disk { CommitsTo D.view D.fault_count (broker_of disk.old) (broker_of disk.new) result }
