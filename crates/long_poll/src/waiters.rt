@@ -1,5 +1,5 @@
 // The tasks that wait at a bell, behind its lock.
-ghost use Rattle.std.specs.Prelude.{◌≡◌, ◌≤◌, [], None, IfNone, max, vec_capacity};
+ghost use Rattle.std.specs.Prelude.{◌≡◌, ◌<◌, ◌≤◌, [], None, IfSome, IfNone, max, vec_capacity};
 ghost use Rattle.std.specs.Ordering.{nat_cmp};
 ghost use Rattle.std.specs.BTreeMap as tree;
 ghost use Rattle.futures.specs.Task.{Hears, IsArmed, Keeps};
@@ -132,7 +132,8 @@ impl Waiters {
 
     // The next that waits for this number or one below.
     fn next_up_to(&mut self, number: u64) -> Option<Waker>
-        ensures none { IfNone result (AreAbove number self.new.numbered) }
+        ensures none { IfNone result (AreAbove number (tree.keys self.new.numbered)) }
+        ensures fewer { IfSome result (λ _. tree.btree_map_len self.new.numbered < tree.btree_map_len self.old.numbered) }
         ensures same { (self.new.parked ≡ self.old.parked) × (self.new.rung ≡ self.old.rung) }
     {
         let (least, _) = self.numbered.first_key_value()?;
@@ -145,7 +146,7 @@ impl Waiters {
 
     /// Takes all wakers of this number and below. One for which there is no room wakes its task here.
     pub(crate) fn take_wakers(&mut self, number: u64) -> Vec<Waker>
-        ensures above { AreAbove number self.new.numbered }
+        ensures above { AreAbove number (tree.keys self.new.numbered) }
         ensures rung { self.new.rung ≡ max self.old.rung number }
         ensures parked { self.new.parked ≡ self.old.parked }
     {
