@@ -1,5 +1,5 @@
 // The connections of a port, as they come.
-ghost use Rattle.std.specs.Prelude.{◌≡◌, ◌<◌, IfSome};
+ghost use Rattle.std.specs.Prelude.{◌≡◌, ◌+◌, ◌<◌, IfSome, OnSome};
 ghost use Rattle.futures.specs.Task.{Covers, IsArmed, Keeps};
 ghost use Rattle.futures.specs.Poll.{IfReady, OnPending};
 
@@ -61,7 +61,8 @@ impl<R: Clock, D: Door> Connections<R, D> {
     // What serves a connection that has come.
     fn seat(&mut self, socket: TcpStream) -> Option<D::Served>
         requires { self.old.seats.taken < self.old.seats.most }
-        ensures { IfSome result D.Served.can_poll }
+        ensures value { IfSome result D.Served.can_poll }
+        ensures counted { OnSome result (self.new.seats.taken ≡ self.old.seats.taken + 1) }
     {
         let seat = self.seats.take()?;
         self.door.serve(socket, seat)
@@ -75,6 +76,7 @@ impl<R: Clock, D: Door> Connections<R, D> {
     ) -> Poll<Option<D::Served>>
         requires { self.old.seats.taken < self.old.seats.most }
         ensures value { IfReady result (λ next. IfSome next D.Served.can_poll) }
+        ensures counted { IfReady result (λ _. self.new.seats.taken ≡ self.old.seats.taken + 1) }
         ensures armed { OnPending result (IsArmed cx.new) }
         ensures kept { Keeps cx.old cx.new }
     {

@@ -1,5 +1,6 @@
 // How long a port waits for its clients.
-ghost use Rattle.std.specs.Prelude.{◌≡◌};
+ghost use Rattle.std.specs.Prelude.{◌≡◌, ◌*◌};
+ghost use Rattle.std.specs.Duration.{as_nanos};
 
 use std::time::Duration;
 
@@ -36,7 +37,10 @@ impl Limits {
 
 impl Default for Limits {
     fn default() -> Limits
-        ensures { result.connections ≡ 1100 }
+        ensures head { as_nanos result.head ≡ 30 * 1000000000 }
+        ensures body { as_nanos result.body ≡ 30 * 1000000000 }
+        ensures idle { as_nanos result.idle ≡ 120 * 1000000000 }
+        ensures connections { result.connections ≡ 1100 }
     {
         Limits {
             head: Duration::from_secs(REQUEST_SECONDS),

@@ -1,5 +1,5 @@
 // The seats of a port: each open connection has one.
-ghost use Rattle.std.specs.Prelude.{◌≡◌, ◌+◌, ◌≤◌, ◌<◌, IfOk, OnSome};
+ghost use Rattle.std.specs.Prelude.{◌≡◌, ◌+◌, ◌≤◌, ◌<◌, IfOk, OnSome, None};
 ghost use Rattle.futures.specs.Task.{IsArmed, Keeps};
 ghost use Rattle.futures.specs.Poll.{IfReady, OnPending};
 
@@ -105,6 +105,7 @@ impl Seats {
         requires { self.old.taken < self.old.most }
         ensures most { self.new.most ≡ self.old.most }
         ensures taken { OnSome result (self.new.taken ≡ self.old.taken + 1) }
+        ensures none { result ≡ None → self.new.taken ≡ self.old.taken }
     {
         let left = Rc::clone(&self.left).ok()?;
         self.taken += 1;

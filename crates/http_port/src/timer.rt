@@ -1,5 +1,7 @@
 // The time that a connection has.
+ghost use Rattle.std.specs.Prelude.{◌≡◌, None, IsSome};
 ghost use Rattle.futures.specs.Task.{Keeps};
+ghost use Rattle.futures.specs.Poll.{IfReady};
 
 use crate::limits::Limits;
 use crate::watch::{Phase, Watch};
@@ -41,7 +43,9 @@ impl<R: Clock + Drop> Timer<R> {
     }
 
     // A phase begins: when it has to have ended. None also where the clock tells no time.
-    fn deadline_of(&self, phase: Phase) -> Option<Instant> {
+    fn deadline_of(&self, phase: Phase) -> Option<Instant>
+        ensures { phase ≡ Phase.Reply → result ≡ None }
+    {
         let limit = phase.limit(&self.limits)?;
         Instant::now(&self.rt).ok()?.checked_add(limit)
     }
@@ -57,7 +61,8 @@ impl<R: Clock + Drop> Timer<R> {
 
     // Ready once the deadline has passed.
     fn poll_deadline(&mut self, deadline: Instant, cx: &mut Context<'_>) -> Poll<()>
-        ensures { Keeps cx.old cx.new }
+        ensures same { self.new.deadline ≡ self.old.deadline }
+        ensures kept { Keeps cx.old cx.new }
     {
         if self.sleep.poll(cx).is_pending() {
             return Poll::Pending;
@@ -72,7 +77,8 @@ impl<R: Clock + Drop> Timer<R> {
     /// Ready once the connection is to be closed. It is asked after each poll of the connection. Where a request can tell its
     /// client that it is late, the connection is polled once more.
     pub(crate) fn poll(&mut self, cx: &mut Context<'_>) -> Poll<()>
-        ensures { Keeps cx.old cx.new }
+        ensures limited { IfReady result (λ _. IsSome self.new.deadline) }
+        ensures kept { Keeps cx.old cx.new }
     {
         if let Some(phase) = self.watch.take_new() {
             self.deadline = self.deadline_of(phase);

@@ -1,5 +1,5 @@
 // What a connection waits for, as its socket and its requests note it.
-ghost use Rattle.std.specs.Prelude.{◌≡◌, ◌⊎◌, IsSome};
+ghost use Rattle.std.specs.Prelude.{◌≡◌, Some, None};
 
 use crate::limits::Limits;
 use std::cell::Cell;
@@ -22,7 +22,13 @@ pub(crate) enum Phase {
 
 impl Phase {
     /// How long it may take. None where there is no limit: that of a reply alone.
-    pub(crate) fn limit(self, limits: &Limits) -> Option<Duration> {
+    pub(crate) fn limit(self, limits: &Limits) -> Option<Duration>
+        ensures idle { self ≡ Phase.Idle → result ≡ Some limits.now.idle }
+        ensures head { self ≡ Phase.Head → result ≡ Some limits.now.head }
+        ensures body { self ≡ Phase.Body → result ≡ Some limits.now.body }
+        ensures late { self ≡ Phase.Late → result ≡ Some limits.now.body }
+        ensures reply { self ≡ Phase.Reply → result ≡ None }
+    {
         match self {
             Phase::Idle => Some(limits.idle),
             Phase::Head => Some(limits.head),

@@ -103,7 +103,11 @@ where
 {
     let mut first = send(rt, to, [NOW, "", ""]);
     let mut second = send(rt, to, [NOW, "", ""]);
-    expect(rt, hears(&mut first) && hears(&mut second), "both are served");
+    expect(
+        rt,
+        hears(&mut first) && hears(&mut second),
+        "both are served",
+    );
     let mut third = send(rt, to, [LAST, "", ""]);
     if let Some(socket) = &mut third {
         socket.set_read_timeout(Some(short()))?;
@@ -172,7 +176,10 @@ where
         alloc,
         replies: replies.clone()?,
     };
-    let port = thread::spawn(&rt, move || serve(rt, application, listener, limits, &theirs))?;
+    let port = thread::spawn(
+        &rt,
+        move || serve(rt, application, listener, limits, &theirs),
+    )?;
     let visited = visit_at(&rt, address, &replies, visit);
     ending.cancel();
     let joined = port.join(&rt);
@@ -183,25 +190,37 @@ where
 
 #[test]
 fn a_head_that_is_late_ends_its_connection(rt: HostRuntime) -> Result<(), Fail> {
-    let limits = Limits { head: short(), ..limits() };
+    let limits = Limits {
+        head: short(),
+        ..limits()
+    };
     serve_visit(rt, limits, Visit::Late(HALF_A_HEAD, ""))
 }
 
 #[test]
 fn a_body_that_is_late_is_told_so(rt: HostRuntime) -> Result<(), Fail> {
-    let limits = Limits { body: short(), ..limits() };
+    let limits = Limits {
+        body: short(),
+        ..limits()
+    };
     serve_visit(rt, limits, Visit::Late(HALF_A_BODY, "408"))
 }
 
 #[test]
 fn a_connection_without_a_request_is_closed(rt: HostRuntime) -> Result<(), Fail> {
-    let limits = Limits { idle: short(), ..limits() };
+    let limits = Limits {
+        idle: short(),
+        ..limits()
+    };
     serve_visit(rt, limits, Visit::Late("", ""))
 }
 
 #[test]
 fn a_connection_after_its_request_is_closed(rt: HostRuntime) -> Result<(), Fail> {
-    let limits = Limits { idle: short(), ..limits() };
+    let limits = Limits {
+        idle: short(),
+        ..limits()
+    };
     serve_visit(rt, limits, Visit::Late(NOW, "200"))
 }
 
