@@ -25,10 +25,10 @@ use crate::desk::Desk;
 use crate::desk_count::DeskCount;
 use crate::mark::{Mark, Trace};
 use crate::marks::Marks;
-use crate::opening::Opening;
 use api_core::Call;
 use group_commit::{Batch, Durable, Failed, IssueHalf, Ticket, Written};
 use hall_core::{Hall, HallError, Issued, Released};
+use invoke_records::Snapshot;
 use std::sync::ledger::Ledger;
 
 /// How many slots an office counts.
@@ -51,17 +51,16 @@ pub(crate) enum Loan {
 pub(crate) struct Kept<L: Ledger, T: Trace> {
     pub(crate) hall: Hall<IssueHalf>,
     /// The table at the opening.
-    pub(crate) opening: Opening<T>,
+    pub(crate) opening: Snapshot,
     pub(crate) marks: Marks<L, T>,
     /// How many slots were counted.
     pub(crate) slots: u64,
     /// How many desks there are.
     pub(crate) desk_count: DeskCount<L>,
-    ghost numbered: { AreNumbered opening.seen.value.table.number (map T.mark marks.all.items) },
-    ghost reached: { issued_in (issuer_in hall) ≡ opening.seen.value.table.number + length (map T.mark marks.all.items) },
-    ghost followed: { Follows (issuer_in hall).settings opening.seen.value.table (map T.mark marks.all.items)
-        (issuer_in hall).table },
-    ghost runs: { ∥ HasRuns (hall_in hall) opening.seen.value.table ∥₁ },
+    ghost numbered: { AreNumbered opening.number (map T.mark marks.all.items) },
+    ghost reached: { issued_in (issuer_in hall) ≡ opening.number + length (map T.mark marks.all.items) },
+    ghost followed: { Follows (issuer_in hall).settings opening (map T.mark marks.all.items) (issuer_in hall).table },
+    ghost runs: { ∥ HasRuns (hall_in hall) opening ∥₁ },
 }
 
 // Marks what a call issued, if it did, where there is room for a mark.

@@ -17,7 +17,6 @@ pub mod laws;
 mod mark;
 mod marks;
 mod office;
-mod opening;
 mod unlocked;
 
 pub use desk::{Desk, desks};

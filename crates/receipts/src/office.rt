@@ -22,10 +22,10 @@ use crate::error::OfficeFailure;
 use crate::kept::{Kept, Loan};
 use crate::mark::{Mark, Trace};
 use crate::marks::Marks;
-use crate::opening::Opening;
 use api_core::Call;
 use group_commit::{Broker, DiskHalf, Durable, SplitError, Ticket};
 use hall_core::{Hall, HallError, Released};
+use invoke_records::Snapshot;
 use sector_disk::Disk;
 use std::alloc::{AllocError, Global};
 use std::sync::ledger::{Blank, Ledger, Share};
@@ -37,17 +37,17 @@ pub struct Office<L: Ledger, T: Trace = Mark> {
     pub(crate) kept: Mutex<Kept<L, T>>,
 }
 
-// What is kept of the table, and room for so many desks.
+// A copy of the table, and room for so many desks.
 fn make_room<D: Disk, L: Ledger, T: Trace>(
     alloc: Global,
     hall: &Hall<Broker<D>>,
     count: u64,
-) -> Result<(Opening<T>, Vec<Desk<L, T>>), AllocError>
-    ensures opening { IfOk result (λ r. r.0.seen.value.table ≡ table_in hall.now.issuer) }
+) -> Result<(Snapshot, Vec<Desk<L, T>>), AllocError>
+    ensures opening { IfOk result (λ r. r.0 ≡ table_in hall.now.issuer) }
     ensures none { IfOk result (λ r. r.1.items ≡ []) }
     ensures room { IfOk result (λ r. vec_capacity r.1 ≡ count) }
 {
-    let opening = Opening::new(hall.table())?;
+    let opening = hall.table().snapshot()?;
     let desks = Vec::with_capacity(alloc, count as usize)?;
     Ok((opening, desks))
 }
@@ -57,8 +57,8 @@ fn prepare<D: Disk, L: Ledger, T: Trace>(
     alloc: Global,
     hall: &Hall<Broker<D>>,
     count: u64,
-) -> Result<(Opening<T>, Vec<Desk<L, T>>), SplitError>
-    ensures opening { IfOk result (λ r. r.0.seen.value.table ≡ table_in hall.now.issuer) }
+) -> Result<(Snapshot, Vec<Desk<L, T>>), SplitError>
+    ensures opening { IfOk result (λ r. r.0 ≡ table_in hall.now.issuer) }
     ensures none { IfOk result (λ r. r.1.items ≡ []) }
     ensures room { IfOk result (λ r. vec_capacity r.1 ≡ count) }
     ensures reason { IfErr result (IsSplitReason hall.now.issuer) }

@@ -1,5 +1,5 @@
 // An office out of its lock: what was kept under it can be seen.
-ghost use Rattle.std.specs.Prelude.{◌≡◌, ◌+◌, map, length, Some, None, IfOk, IfErr, OnOk, option_map, if◌then◌else◌};
+ghost use Rattle.std.specs.Prelude.{◌≡◌, ◌+◌, map, length, IfOk, IfErr, OnOk};
 ghost use Rattle.group_commit.specs.Issuer.{issued_in};
 ghost use Rattle.group_commit.specs.Splitting.{broker_of, Joins, IsNotJoined};
 ghost use Rattle.receipts.specs.Desks.{AreAll, IsReason, IsWhyNotJoined};
@@ -32,12 +32,12 @@ impl<L: Ledger, T: Trace> Office<L, T> {
     /// was issued, and the table's counts, standings and moments are those of the opening's table followed by the marks. For
     /// each history that leaves the opening's table there is a run, of which no call was refused, that the hall stands for.
     pub fn unlock(self) -> Unlocked<L, T>
-        ensures numbered { AreNumbered result.kept.opening.seen.value.table.number (map T.mark result.kept.marks.all.items) }
+        ensures numbered { AreNumbered result.kept.opening.number (map T.mark result.kept.marks.all.items) }
         ensures issued { issued_in (issuer_in result.kept.hall)
-            ≡ result.kept.opening.seen.value.table.number + length (map T.mark result.kept.marks.all.items) }
-        ensures follows { Follows (issuer_in result.kept.hall).settings result.kept.opening.seen.value.table
-            (map T.mark result.kept.marks.all.items) (issuer_in result.kept.hall).table }
-        ensures runs { ∥ HasRuns (hall_in result.kept.hall) result.kept.opening.seen.value.table ∥₁ }
+            ≡ result.kept.opening.number + length (map T.mark result.kept.marks.all.items) }
+        ensures follows { Follows (issuer_in result.kept.hall).settings result.kept.opening (map T.mark result.kept.marks.all.items)
+            (issuer_in result.kept.hall).table }
+        ensures runs { ∥ HasRuns (hall_in result.kept.hall) result.kept.opening ∥₁ }
     {
         let Office { kept } = self;
         Unlocked {
@@ -62,11 +62,11 @@ impl<L: Ledger, T: Trace> Unlocked<L, T> {
         &self.kept.hall
     }
 
-    /// The table at the opening, where it is kept.
-    pub fn opening(&self) -> Option<&Snapshot>
-        ensures { option_map (λ table. table.now) result ≡ (if T.keeps then Some self.now.kept.opening.seen.value.table else None) }
+    /// The table at the opening.
+    pub fn opening(&self) -> &Snapshot
+        ensures { result.now ≡ self.now.kept.opening }
     {
-        self.kept.opening.kept.as_ref()
+        &self.kept.opening
     }
 
     /// What is kept of the marks of all commands that were issued since the opening, in order.
