@@ -118,12 +118,7 @@ impl<L: Ledger, T: Trace, D: Disk + Drop> Committer<L, T, D> {
     /// or the ticker's next turn; where the gate skips what is pending, it is asked again.
     ///
     /// At each moment a stop leaves a legal stop of the half's list with what it took.
-    pub fn run<R: Wait, G: Gate>(
-        self,
-        rt: &R,
-        front: &Front<L, T>,
-        gate: &G,
-    ) -> Committer<L, T, D>
+    pub fn run<R: Wait, G: Gate>(self, rt: &R, front: &Front<L, T>, gate: &G) -> Committer<L, T, D>
         ensures learned { IsRun HasLearned (G.says gate.now)
             (known self.desk.told (seen_by self.seated))
             (known result.desk.told (seen_by result.seated)) }

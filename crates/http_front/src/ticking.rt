@@ -83,10 +83,10 @@ impl<R: Wait + Clock, L: Ledger, T: Trace> Ticking for AtFront<'_, R, L, T> {
 
     ghost goes_on = { λ first second third before after.
         marked_more
-            (length (map T.mark first.desk.own.items))
-            (length (map T.mark second.desk.own.items))
-            (length (map T.mark third.desk.own.items))
-            before after };
+        (length (map T.mark first.desk.own.items))
+        (length (map T.mark second.desk.own.items))
+        (length (map T.mark third.desk.own.items))
+        before after };
 }
 
 /// Makes the moves that are due, about every 100 milliseconds, where the gate says `Commit`, and calls the committer; at

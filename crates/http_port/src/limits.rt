@@ -4,7 +4,8 @@ ghost use Rattle.std.specs.Duration.{as_nanos};
 
 use std::time::Duration;
 
-/// From the first byte of a head until it is whole, and from there until its body is, in seconds.
+/// From the first byte of a head until it is whole, and from there until its body is, in seconds. The first head of a
+/// connection counts from its beginning.
 const REQUEST_SECONDS: u64 = 30;
 
 /// How long a connection may be idle, in seconds. Clients give up a connection sooner, so that none is closed under a
@@ -18,11 +19,11 @@ const MOST_CONNECTIONS: usize = 1100;
 /// its reply without a limit.
 #[derive(Clone, Copy, Debug)]
 pub struct Limits {
-    /// From the first byte of a head until it is whole.
+    /// From the first byte of a head until it is whole; from the connection, where it is the first.
     pub head: Duration,
     /// From the end of a head until its body is whole.
     pub body: Duration,
-    /// From a reply, or from the connection, until the next byte.
+    /// From a reply until the next byte.
     pub idle: Duration,
     /// How many connections are open at once.
     pub connections: usize,

@@ -8,9 +8,9 @@ use std::time::Duration;
 /// What a connection waits for.
 #[derive(Clone, Copy, Debug, PartialEq, Eq)]
 pub(crate) enum Phase {
-    /// The first byte of a request.
+    /// The first byte of the next request.
     Idle,
-    /// The rest of a head.
+    /// A head: its rest, or of the first request the whole.
     Head,
     /// The rest of a body.
     Body,
@@ -50,7 +50,7 @@ impl Watch {
     /// That of a connection to which nothing has come.
     pub(crate) fn new() -> Watch {
         Watch {
-            phase: Cell::new(Phase::Idle),
+            phase: Cell::new(Phase::Head),
             is_new: Cell::new(true),
         }
     }

@@ -149,11 +149,7 @@ where
         scene.heard(pool).has_waited(0),
         "nobody looks before the commit",
     );
-    expect(
-        rt,
-        scene.commit_and_tell() == Ok(2),
-        "the start is durable",
-    );
+    expect(rt, scene.commit_and_tell() == Ok(2), "the start is durable");
     expect(
         rt,
         scene.heard(pool).is_one(parked, 200),

@@ -209,7 +209,7 @@ fn a_body_that_is_late_is_told_so(rt: HostRuntime) -> Result<(), Fail> {
 #[test]
 fn a_connection_without_a_request_is_closed(rt: HostRuntime) -> Result<(), Fail> {
     let limits = Limits {
-        idle: short(),
+        head: short(),
         ..limits()
     };
     serve_visit(rt, limits, Visit::Late("", ""))
