@@ -54,12 +54,17 @@ impl Trace for Mark {
 }
 
 /// A mark that proofs alone see. It has no bytes.
-pub type Gone = Snapshot<Mark>;
+#[derive(Drop)]
+pub struct Gone {
+    seen: Snapshot<Mark>,
+}
 
-impl Trace for Snapshot<Mark> {
-    ghost mark = { λ gone. gone.value };
+impl Trace for Gone {
+    ghost mark = { λ gone. gone.seen.value };
 
-    fn of(made: &Mark) -> Snapshot<Mark> {
-        Snapshot::of(made)
+    fn of(made: &Mark) -> Gone {
+        Gone {
+            seen: Snapshot::of(made),
+        }
     }
 }
