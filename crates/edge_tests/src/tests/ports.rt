@@ -18,7 +18,7 @@ use crate::tests::ports::talks::{Leaving, Party, Talk, talk_at};
 use group_commit::Broker;
 use hall_core::Hall;
 use http_front::serve;
-use receipts::{Gone, desks};
+use receipts::{Gone, Trace, desks};
 use sector_disk::{Disk, FileDisk};
 use std::alloc::{AllocGlobal, Global};
 use std::fs::File;
@@ -54,7 +54,7 @@ where
 }
 
 // Serves a hall while a thread talks to its ports: what that was told. None where the front does not end as it has to.
-fn serve_talk<R, L, D>(
+fn serve_talk<R, L, T, D>(
     rt: R,
     hall: Hall<Broker<D>>,
     blank: Blank,
@@ -75,6 +75,7 @@ where
         + Sync
         + 'static,
     L: Ledger + Send + Sync + 'static,
+    T: Trace + Send + Sync + 'static,
     D: Disk + Drop,
     requires nothing { pending_of hall.issuer ≡ [] }
     requires fresh { IsFresh (settings_of hall.issuer) hall }
@@ -85,7 +86,7 @@ where
     let (listeners, doors) = doors(&rt, rt.alloc()).ok()?;
     let clients = thread::spawn(&rt, move || talk_at(&rt, doors, &watch, talk)).ok()?;
     let gate = AtLeast::new(talk.pending());
-    let served = serve::<R, L, Gone, D, AtLeast>(rt, hall, blank, listeners, &gate).ok();
+    let served = serve::<R, L, T, D, AtLeast>(rt, hall, blank, listeners, &gate).ok();
     let told = clients.join(&rt);
     if served?.ending == talk.ending() {
         Some(told)
@@ -119,7 +120,7 @@ where
     requires fresh { IsFresh (settings_of hall.issuer) hall }
 {
     let blank = Blank::new(desks(hall.table().settings()));
-    match serve_talk::<R, Brand, D>(rt, hall, blank, watch, talk) {
+    match serve_talk::<R, Brand, Gone, D>(rt, hall, blank, watch, talk) {
         Some(told) => Ok(told),
         None => Err(Fail::new("the front did not end as it has to")),
     }
