@@ -8,6 +8,7 @@ use std::net::{Net, TcpListener, TcpStream};
 use std::process::Abort;
 use std::thread;
 use std::thread::Threads;
+use std::time::{Clock, Duration, Instant};
 
 /// Who waits for a reply.
 #[derive(Clone, Copy)]
@@ -329,16 +330,35 @@ where
     }
 }
 
+// Whether a second has passed since then.
+fn has_passed<R: Clock>(rt: &R, began: Instant) -> bool {
+    match began.elapsed(rt) {
+        Ok(passed) => passed >= Duration::from_secs(1),
+        Err(_) => true,
+    }
+}
+
+// Lets the other threads run for 10000 turns. On a machine that does other work a turn is long, so it takes a second at most.
+fn let_others_run<R: Clock>(rt: &R) {
+    let Ok(began) = Instant::now(rt) else {
+        return;
+    };
+    for _turn in 0..10_000 {
+        if has_passed(rt, began) {
+            return;
+        }
+        thread::yield_now();
+    }
+}
+
 // Asks both ports while the disk makes a barrier, which goes on once the environment's has answered.
 fn ask_beside<R>(rt: &R, doors: Doors, watch: &Watch) -> bool
 where
-    R: AllocGlobal + Net<Listener = TcpListener, Stream = TcpStream>,
+    R: Clock + AllocGlobal + Net<Listener = TcpListener, Stream = TcpStream>,
 {
     watch.wait_for_barrier();
     let oldest = send(rt, doors.callers, [OLDEST, "", ""]);
-    for _turn in 0..10_000 {
-        thread::yield_now();
-    }
+    let_others_run(rt);
     let is_answered = run(rt, doors, [NOWHERE, "", ""], "404");
     watch.note_answer();
     hear(rt.alloc(), oldest).has("204") && is_answered
@@ -346,7 +366,12 @@ where
 
 fn a_held_commit<R>(rt: &R, doors: Doors, watch: &Watch)
 where
-    R: Abort + Threads + AllocGlobal + Sync + Net<Listener = TcpListener, Stream = TcpStream>,
+    R: Abort
+        + Threads
+        + Clock
+        + AllocGlobal
+        + Sync
+        + Net<Listener = TcpListener, Stream = TcpStream>,
 {
     let (one, (two, beside)) = thread::join(
         rt,
@@ -418,7 +443,12 @@ fn nothing(alloc: Global) -> Told {
 /// Talks to a front, and stops it or sees its disk fail: the record that a caller was told, where it asked for one.
 pub fn talk_at<R>(rt: &R, doors: Doors, watch: &Watch, talk: Talk) -> Told
 where
-    R: Abort + Threads + AllocGlobal + Sync + Net<Listener = TcpListener, Stream = TcpStream>,
+    R: Abort
+        + Threads
+        + Clock
+        + AllocGlobal
+        + Sync
+        + Net<Listener = TcpListener, Stream = TcpStream>,
 {
     match talk {
         Talk::Life => return a_life(rt, doors),
