@@ -96,7 +96,7 @@ where
 }
 
 // Serves a hall over a disk in which nothing has come yet: what a client was told.
-fn serve_hall<R, D>(
+fn serve_hall<R, D, T>(
     rt: R,
     hall: Hall<Broker<D>>,
     watch: Arc<Watch>,
@@ -116,11 +116,12 @@ where
         + Sync
         + 'static,
     D: Disk + Drop,
+    T: Trace + Send + Sync + 'static,
     requires nothing { pending_of hall.issuer ≡ [] }
     requires fresh { IsFresh (settings_of hall.issuer) hall }
 {
     let blank = Blank::new(desks(hall.table().settings()));
-    match serve_talk::<R, Brand, Gone, D>(rt, hall, blank, watch, talk) {
+    match serve_talk::<R, Brand, T, D>(rt, hall, blank, watch, talk) {
         Some(told) => Ok(told),
         None => Err(Fail::new("the front did not end as it has to")),
     }
@@ -145,7 +146,7 @@ where
     let watch = Arc::new(rt.alloc(), Watch::new(trouble))?;
     let theirs = Arc::try_clone(&watch)?;
     let hall = hall(rt.alloc(), &watch)?;
-    drop(serve_hall(rt, hall, theirs, talk)?);
+    drop(serve_hall::<_, _, Gone>(rt, hall, theirs, talk)?);
     if watch.is_late() {
         return Err(Fail::new("the disk waited in vain"));
     }
@@ -260,7 +261,7 @@ where
         return Err(Fail::new("the file is not opened"));
     };
     let watch = Arc::new(rt.alloc(), Watch::new(NO_TROUBLE))?;
-    serve_hall(rt, hall_over(rt.alloc(), disk)?, watch, talk)
+    serve_hall::<_, _, Gone>(rt, hall_over(rt.alloc(), disk)?, watch, talk)
 }
 
 // Formats a disk in a new file.
