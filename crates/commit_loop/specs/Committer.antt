@@ -15,7 +15,10 @@ pub data Step : Type 0 where
   -- it raised the board to so many
   raised : (durable : ℕ) → Step
   said_broken : Step
-  rang : Step
+  -- it woke those that wait for so many or fewer
+  rang : (durable : ℕ) → Step
+  -- it woke all that wait
+  rang_all : Step
   slept : Step
 
 -- ## A turn
@@ -25,15 +28,15 @@ abbrev pub commit_step : {D F : Type 0} → (D → ℕ) → (F → Bool) → Res
 commit_step number breaks (Ok durable) = committed (number durable)
 commit_step number breaks (Err why) = failed (breaks why)
 
--- what is said of one that failed
+-- what is said of one that failed: where the hall broke, all that wait are told
 abbrev pub said_of : Bool → List Step
-said_of true = said_broken ∷ []
+said_of true = said_broken ∷ rang_all ∷ []
 said_of false = []
 
 -- a commit after which so many are durable, or that failed and may have found the hall broken; and what follows it
 abbrev pub steps_of_commit : Result ℕ Bool → List Step
-steps_of_commit (Ok durable) = committed durable ∷ raised durable ∷ rang ∷ []
-steps_of_commit (Err broke) = failed broke ∷ (said_of broke ++ rang ∷ slept ∷ [])
+steps_of_commit (Ok durable) = committed durable ∷ raised durable ∷ rang durable ∷ []
+steps_of_commit (Err broke) = failed broke ∷ (said_of broke ++ slept ∷ [])
 
 -- nothing is done about so many commands
 abbrev pub steps_of_skip : ℕ → List Step

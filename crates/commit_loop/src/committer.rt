@@ -1,7 +1,7 @@
 // The committer's loop.
 ghost use Rattle.std.specs.Prelude.{◌≡◌, ℕ, Bool, List, [], ◌∷◌, ◌++◌};
 ghost use Rattle.std.specs.Bool.{OnTrue, OnFalse};
-ghost use Rattle.commit_loop.specs.Committer.{Step, counted, commit_step, raised, said_broken, rang, slept};
+ghost use Rattle.commit_loop.specs.Committer.{Step, counted, commit_step, raised, said_broken, rang, rang_all, slept};
 ghost use Rattle.commit_loop.specs.Committer.{said_of, steps_of_commit, steps_of_skip, Acts, IsTurn, IsEnd, IsRun};
 ghost use Rattle.commit_loop.specs.declared.gate.Turn.TheVariants.{End};
 
@@ -12,7 +12,7 @@ use std::thread;
 /// What a committer works on, by the steps that it makes.
 pub trait Committing {
     /// What a commit made durable.
-    type Durable;
+    type Durable: Drop;
 
     /// Why a commit failed.
     type Failure: Drop;
@@ -39,16 +39,20 @@ pub trait Committing {
         ensures { result ≡ breaks why.now };
 
     /// Shows on the board how much is durable.
-    fn raise(&mut self, durable: Self::Durable)
-        ensures { leads self.old (raised (number durable) ∷ []) self.new };
+    fn raise(&mut self, durable: &Self::Durable)
+        ensures { leads self.old (raised (number durable.now) ∷ []) self.new };
 
     /// Says that the hall is broken.
     fn say_broken(&mut self)
         ensures { leads self.old (said_broken ∷ []) self.new };
 
-    /// Rings the bell: all that wait for a reply look again.
-    fn ring(&mut self)
-        ensures { leads self.old (rang ∷ []) self.new };
+    /// Rings the bell for those whose reply may be told now: they wait for so much, or less.
+    fn ring(&mut self, durable: &Self::Durable)
+        ensures { leads self.old (rang (number durable.now) ∷ []) self.new };
+
+    /// Rings the bell for all that wait for a reply.
+    fn ring_all(&mut self)
+        ensures { leads self.old (rang_all ∷ []) self.new };
 
     /// Sleeps until it is called, or has been since the last time.
     fn sleep(&mut self)
@@ -62,11 +66,19 @@ pub trait Committing {
 }
 
 // Shows what a commit made durable, and then rings.
-fn show<C: Committing>(committer: &mut C, durable: C::Durable)
-    ensures { C.leads committer.old (raised (C.number durable) ∷ rang ∷ []) committer.new }
+fn show<C: Committing>(committer: &mut C, durable: &C::Durable)
+    ensures { C.leads committer.old (raised (C.number durable.now) ∷ rang (C.number durable.now) ∷ []) committer.new }
 {
     committer.raise(durable);
-    committer.ring();
+    committer.ring(durable);
+}
+
+// Says that the hall is broken, and then rings for all.
+fn say_broken<C: Committing>(committer: &mut C)
+    ensures { C.leads committer.old (said_broken ∷ rang_all ∷ []) committer.new }
+{
+    committer.say_broken();
+    committer.ring_all();
 }
 
 // Says that the hall is broken, if it is.
@@ -74,16 +86,15 @@ fn say<C: Committing>(committer: &mut C, why: &C::Failure)
     ensures { C.leads committer.old (said_of (C.breaks why.now)) committer.new }
 {
     if committer.is_broken_by(why) {
-        committer.say_broken();
+        say_broken(committer);
     }
 }
 
 // Tells of a commit that failed, and sleeps.
 fn tell<C: Committing>(committer: &mut C, why: &C::Failure)
-    ensures { C.leads committer.old (said_of (C.breaks why.now) ++ rang ∷ slept ∷ []) committer.new }
+    ensures { C.leads committer.old (said_of (C.breaks why.now) ++ slept ∷ []) committer.new }
 {
     say(committer, why);
-    committer.ring();
     committer.sleep();
 }
 
@@ -92,7 +103,7 @@ fn commit<C: Committing>(committer: &mut C)
     ensures { (outcome : _) × C.leads committer.old (steps_of_commit outcome) committer.new }
 {
     match committer.commit() {
-        Ok(durable) => show(committer, durable),
+        Ok(durable) => show(committer, &durable),
         Err(why) => tell(committer, &why),
     }
 }
@@ -137,8 +148,9 @@ fn turn<G: Gate, C: Committing>(gate: &G, committer: &mut C) -> bool
 }
 
 /// Commits as the gate says, until the gate ends the loop. What a commit made durable is shown on the board before the bell
-/// rings; where it failed and the hall is broken, that is said before the bell rings. Where nothing is pending, or a commit
-/// failed, the committer sleeps until it is called; where the gate skips what is pending, it is asked again.
+/// rings for those that wait for it; where it failed and the hall is broken, that is said before the bell rings for all.
+/// Where nothing is pending, or a commit failed, the committer sleeps until it is called; where the gate skips what is
+/// pending, it is asked again.
 pub fn commit_all<R: Wait, G: Gate, C: Committing>(rt: &R, gate: &G, committer: &mut C)
     ensures { IsRun C.leads (G.says gate.now) committer.old committer.new }
 {

@@ -16,7 +16,7 @@ use Rattle.group_commit.specs.Issuer.{IsIssuer, issued_in, state_in, Fails}
 use Rattle.hall_core.specs.declared.error.HallError.TheVariants as error
 use Rattle.hall_core.specs.Past.{HallCall, arrive, Past, asked, replied, calls_in, calls_of, call_stops, asks_stop, is_stopping}
 use Rattle.hall_core.specs.Effects.{Effect, scene, effect_of_request, effect_of, command_of}
-use Rattle.hall_core.specs.Run.{option_list, reply_to_poll, replies_to_polls, own_reply, slot_events, past_by, past_after, issued_by}
+use Rattle.hall_core.specs.Run.{option_list, reply_to_poll, replies_to_polls, own_reply, slot_events, past_by, past_after, issued_by, slots_of, polls_answered}
 use Rattle.hall_core.specs.Slots.{open_slots, open_among}
 use Rattle.hall_core.specs.Refusals.{first_failed, why_refused}
 use Rattle.hall_core.specs.Agreement.{IsFit, IsUnrefused, IsKept}
@@ -197,6 +197,12 @@ pub effect_is : (s : Settings) (past : Past) (slot : ℕ) (call : Call) (now : �
     → effect_of_request (scene s past now) slot (drawn_by words) call ≡ effect_of s past (request slot call now words)
 unfolding effect_of drawn_by
 effect_is s past slot call now words = refl
+
+-- the polls that are answered by this effect are those that the call answers
+pub answered_is : (s : Settings) (past : Past) (call : HallCall) (effect : Effect) → effect ≡ effect_of s past call
+    → slots_of (answered_to past.made effect.made) ≡ polls_answered s past call
+unfolding polls_answered calls_of
+answered_is s past call effect is = ap (λ (e : Effect). slots_of (answered_to past.made e.made)) is
 
 pub told_with : (n m : ℕ) (c d : Option Command) → n ≡ m → c ≡ d
     → option_map (told_of n) c ≡ option_map (λ (c : Command). record { number = m + 1; kind = c.kind; id = c.id; time = c.time }) d

@@ -6,6 +6,7 @@ mod Moments
 mod Oldest
 mod Kept
 mod OpenCount
+mod Points
 pub mod Settled
 mod Holders
 mod FirstUnheld

@@ -17,7 +17,7 @@ use Rattle.hall_core.specs.Past.{HallCall, tick, take_slot, forget_slot, taken, 
 use Rattle.hall_core.specs.Firsts.{Event, first_unheld, first_moving}
 use Rattle.hall_core.specs.Effects.{Effect, Scene, nothing, scene, moves_by, moves, interrupts_or_moves, effect_of_tick, effect_of, command_of}
 use Rattle.hall_core.specs.laws.Moving.{command_by_kind}
-use Rattle.hall_core.specs.Run.{option_list, slot_events, past_after, issued_by}
+use Rattle.hall_core.specs.Run.{option_list, slot_events, past_after, issued_by, polls_answered}
 use Rattle.hall_core.specs.Refusals.{first_failed, why_refused}
 use Rattle.hall_core.specs.Agreement.{IsFit, IsUnrefused}
 use Rattle.hall_core.specs.Plans.{PlansTick}
@@ -31,7 +31,7 @@ use Rattle.hall_core.specs.Settling.{replied_at}
 use Rattle.hall_core.specs.Issuing.{HasPlaceFor, Continues, IsAnswered}
 use Rattle.hall_core.specs.Doing.{KeepTick}
 use Rattle.hall_core.specs.Hall.{HallView, StandsFor, settings_in, pending_in, refusal_of_moving, Passes, IssuesAtMostOne, released_to}
-use Rattle.hall_core.proofs.Arriving.{told_to_polls, made_told, polls_are_told, told_some, told_with, none_asks, or_false, below, stands_after}
+use Rattle.hall_core.proofs.Arriving.{answered_is, told_to_polls, made_told, polls_are_told, told_some, told_with, none_asks, or_false, below, stands_after}
 
 -- ## Refusals
 
@@ -157,6 +157,20 @@ tick_is_quiet x quiet = either (is_stopping x.past) refl
         ap (tick_by x) moving
         ∙ interrupt_is_quiet x (ready_in x.settings x.past) (first_unheld x.settings x.past) (sym (ap (λ b. (tick_by x b).command) moving) ∙ quiet)
 
+-- a tick without a command does nothing
+idle_is : (s : Settings) (past : Past) (now : ℕ) (effect : Effect) → effect ≡ effect_of_tick (scene s past now) → effect.command ≡ None
+    → nothing ≡ effect_of s past (tick now)
+idle_is s past now effect planned quiet =
+    sym (tick_is_quiet (scene s past now) (sym (ap (λ (e : Effect). e.command) planned) ∙ quiet)) ∙ tick_effect_is s past now
+
+-- and answers no poll
+pub idle_answers_none : (old : HallView) (past : Past) (now : ℕ) (effect : Effect) → StandsFor old past
+    → PlansTick (state_in old.issuer) old.environments old.stops now effect → effect.command ≡ None
+    → [] ≡ polls_answered (settings_in old) past (tick now)
+idle_answers_none old past now effect stands plans quiet =
+    answered_is (settings_in old) past (tick now) nothing
+    (idle_is (settings_in old) past now effect (plans past stands.environments stands.stopping) quiet)
+
 pub idle : (old : HallView) (past : Past) (now : ℕ) (effect : Effect) → IsIssuer old.issuer → StandsFor old past → IsFit (settings_in old) (tick now)
     → refusal_of_moving old (is_some effect.command) ≡ None → PlansTick (state_in old.issuer) old.environments old.stops now effect → effect.command ≡ None
     → (None ≡ issued_by (settings_in old) past (tick now)) × StandsFor old (past_after (settings_in old) past (tick now))
@@ -165,8 +179,7 @@ idle old past now effect laws stands fit passes plans quiet =
     let planned : effect ≡ effect_of_tick (scene s past now) = plans past stands.environments stands.stopping in
     let is : effect ≡ effect_of s past (tick now) = planned ∙ tick_effect_is s past now in
     let none : None ≡ command_of s past (tick now) = sym quiet ∙ ap (λ (e : Effect). e.command) is in
-    let does_nothing : nothing ≡ effect_of s past (tick now) =
-    sym (tick_is_quiet (scene s past now) (sym (ap (λ (e : Effect). e.command) planned) ∙ quiet)) ∙ tick_effect_is s past now in
+    let does_nothing : nothing ≡ effect_of s past (tick now) = idle_is s past now effect planned quiet in
     let unrefused = tick_unrefused old past now effect laws stands fit passes is in (
       told_with (length past.history) (length past.history) None (command_of s past (tick now)) refl none,
       stands_after old old past (tick now) nothing stands does_nothing unrefused laws refl

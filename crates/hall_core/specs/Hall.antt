@@ -16,7 +16,7 @@ use Rattle.hall_core.specs.Issuing.{Continues, IsAnswered}
 use Rattle.hall_core.specs.Past.{HallCall, arrive, tick, Past, SlotEvent, is_stopping}
 use Rattle.hall_core.specs.Effects.{id_of, command_of}
 use Rattle.hall_core.specs.Asked.{AsksFor}
-use Rattle.hall_core.specs.Run.{past_after, issued_by}
+use Rattle.hall_core.specs.Run.{past_after, issued_by, polls_answered}
 use Rattle.hall_core.specs.declared.released.Released.{Released}
 use Rattle.api_core.specs.Replies.{reply_of_told}
 use Rattle.hall_core.specs.Slots.{Reply, released, released_in}
@@ -36,6 +36,10 @@ pub record HallView : Type 1 where
 
 abbrev pub view_of : {I : Type 0} {g : Ghosts I} → (I → IssuerView) → Hall I g → HallView
 view_of view hall = record { issuer = view hall.issuer; environments = hall.environments; slots = hall.slots; stops = hall.stops }
+
+-- the slots of the polls that the last request or move answered, until they are handed out
+abbrev pub answered_slots : {I : Type 0} {g : Ghosts I} → Hall I g → List ℕ
+answered_slots hall = hall.answered.items
 
 abbrev pub settings_in : HallView → Settings
 settings_in hall = hall.issuer.settings
@@ -83,6 +87,10 @@ pub record IssuesAtMostOne (old new : IssuerView) (issued : Option Issued) : Typ
   pub command : Option Command
   pub continues : Continues old new command
   pub answered : IsAnswered old command issued
+
+-- whatever was done before, the call answers the polls of these slots, in this order
+abbrev pub AnswersPolls : HallView → HallCall → List ℕ → Type 0
+AnswersPolls old call slots = ForEachPast old (λ past. slots ≡ polls_answered (settings_in old) past call)
 
 -- nothing has become durable in between, and the device did not fail
 abbrev pub IsAsDurable : HallView → HallView → Type 0

@@ -5,6 +5,7 @@ use Rattle.env_phase.specs.State.{EnvState}
 use Rattle.api_core.specs.Replies.{reply_of_told}
 use Rattle.hall_core.specs.declared.preparing.Prepared.{Prepared}
 use Rattle.hall_core.specs.Effects.{Effect}
+use Rattle.hall_core.specs.Run.{slots_of}
 use Rattle.hall_core.specs.Plans.{ForEachPast}
 use Rattle.hall_core.specs.Answering.{polls_told}
 use Rattle.hall_core.specs.Changes.{IsWithin, LeadsTo, answered_to}
@@ -16,4 +17,5 @@ pub record IsPreparedFor (table : State) (environments : List EnvState) (effect 
   pub leads : LeadsTo environments p.changes effect.made
   pub replies : ForEachPast table environments (λ past.
       p.replies.items ≡ polls_told table.settings past.history (answered_to past.made effect.made))
+  pub answered : ForEachPast table environments (λ past. p.answered.items ≡ slots_of (answered_to past.made effect.made))
   pub own : p.own ≡ option_map (reply_of_told table.settings) effect.reply

@@ -1,5 +1,5 @@
 -- Words of the public laws.
-use Rattle.std.specs.Prelude.{◌≡◌, ℕ, Bool, true, List, [], ◌∷◌, Option, Some, None, is_some, option_map}
+use Rattle.std.specs.Prelude.{◌≡◌, ◌==◌, ℕ, Bool, true, false, List, [], ◌∷◌, Option, Some, None, is_some, option_map}
 use Rattle.std.specs.List.{list_any}
 use Rattle.retry_rules.specs.declared.settings.Settings.{Settings}
 use Rattle.invoke_records.specs.declared.command.Command.{Command}
@@ -11,10 +11,10 @@ use Rattle.async_core.specs.Choice.{IsNextMove, command_of_move}
 use Rattle.env_phase.specs.declared.call.EnvCall.{EnvCall}
 use Rattle.env_phase.specs.Environment.{running}
 use Rattle.env_phase.specs.Polls.{refusal_of as env_refusal_of}
-use Rattle.hall_core.specs.Past.{HallCall, tick, Past, opening, calls_of, moment}
+use Rattle.hall_core.specs.Past.{HallCall, arrive, tick, take_slot, forget_slot, Past, opening, calls_of, moment}
 use Rattle.hall_core.specs.Firsts.{Event, first_unheld, first_moving}
 use Rattle.hall_core.specs.Effects.{Scene, command_for, moves, effect_of, command_of}
-use Rattle.hall_core.specs.Run.{own_event, past_after}
+use Rattle.hall_core.specs.Run.{own_event, polls_answered, past_after}
 use Rattle.hall_core.specs.Slots.{Reply, asks, reply_of}
 use Rattle.hall_core.specs.Agreement.{IsUnrefused, IsRun, AllAgree, IsKept, IsUnheld}
 
@@ -55,6 +55,18 @@ comes_with slot call = list_any (asks slot) (own_event call)
 abbrev pub ReplyStays : Settings → Past → HallCall → ℕ → Type 0
 ReplyStays s past call slot =
     (reply : Reply) → reply_of past slot ≡ Some reply → reply_of (past_after s past call) slot ≡ Some reply
+
+-- a call of this slot: a request that comes with it, its taking or its forgetting
+abbrev pub names : ℕ → HallCall → Bool
+names slot (arrive other call now words) = slot == other
+names slot (tick now) = false
+names slot (take_slot other) = slot == other
+names slot (forget_slot other) = slot == other
+
+-- the call is none of this slot, and answers no poll that came with it
+abbrev pub LeavesAlone : Settings → Past → HallCall → ℕ → Type 0
+LeavesAlone s past call slot =
+    (names slot call ≡ false) × (list_any (λ other. slot == other) (polls_answered s past call) ≡ false)
 
 -- ## What runs
 

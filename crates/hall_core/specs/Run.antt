@@ -43,6 +43,10 @@ abbrev pub replies_to_polls : Past → ℕ → ℕ × EnvCall → List SlotEvent
 replies_to_polls past point made =
     map (λ (poll : ℕ × PollAnswer). replied poll.0 (reply_to_poll past.history poll.1) point) (answered_by (calls_of past made.0) made.1)
 
+-- the slots of polls
+abbrev pub slots_of : List (ℕ × PollAnswer) → List ℕ
+slots_of polls = map (λ (poll : ℕ × PollAnswer). poll.0) polls
+
 -- the reply to the caller
 abbrev pub own_reply : ℕ → HallCall → Option Told → List SlotEvent
 own_reply point (arrive slot call now words) (Some answer) = replied slot answer point ∷ []
@@ -71,6 +75,11 @@ past_by past call effect = record {
 -- what was done after one call more
 unfoldable pub past_after : Settings → Past → HallCall → Past
 past_after s past call = past_by past call (effect_of s past call)
+
+-- the slots of the polls that a call answers, in the order of their replies
+unfoldable pub polls_answered : Settings → Past → HallCall → List ℕ
+polls_answered s past call =
+    slots_of (flat_map (λ (made : ℕ × EnvCall). answered_by (calls_of past made.0) made.1) (effect_of s past call).made)
 
 -- what a call answers of its command: its number, kind, id and moment
 abbrev pub issued_by : Settings → Past → HallCall → Option Issued

@@ -1,5 +1,5 @@
 -- Words for the steps of private functions over open slots.
-use Rattle.std.specs.Prelude.{◌≡◌, ℕ, ◌+◌, ◌==◌, Bool, true, false, length, Option, Some, None, is_some, if◌then◌else◌, nat_le}
+use Rattle.std.specs.Prelude.{◌≡◌, ℕ, ◌+◌, ◌==◌, Bool, true, false, length, Option, Some, None, is_some, option_map, if◌then◌else◌, nat_le}
 use Rattle.std.specs.Option.{option_len}
 use Rattle.api_core.specs.declared.reply.Reply.{Reply as Text}
 use Rattle.hall_core.specs.declared.open_slot.OpenSlot.{OpenSlot}
@@ -35,6 +35,14 @@ released_entry broken durable entry =
 abbrev pub released_at : Bool → ℕ → Option OpenSlot → Option (Text × ℕ)
 released_at broken durable None = None
 released_at broken durable (Some entry) = released_entry broken durable entry
+
+-- how many commands have to be durable before the reply of an entry is told, where it has one that is wanted
+abbrev pub point_by : OpenSlot → Option ℕ
+point_by entry = if entry.is_forgotten then None else option_map (λ (reply : Text × ℕ). reply.1) entry.reply
+
+abbrev pub point_at : Option OpenSlot → Option ℕ
+point_at None = None
+point_at (Some entry) = point_by entry
 
 abbrev pub told_now : ℕ → Text → Option (Text × ℕ) → Text × ℕ
 told_now durable unavailable None = (unavailable, durable)

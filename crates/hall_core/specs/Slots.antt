@@ -1,5 +1,5 @@
 -- Which slots are open, what is replied to them, and which replies may be told.
-use Rattle.std.specs.Prelude.{ℕ, Bool, false, not, ◌&&◌, ◌||◌, ◌==◌, List, [], ◌∷◌, Option, Some, None, is_some, filter_map, slice_get, if◌then◌else◌, nat_le}
+use Rattle.std.specs.Prelude.{ℕ, Bool, false, not, ◌&&◌, ◌||◌, ◌==◌, List, [], ◌∷◌, Option, Some, None, is_some, filter_map, option_map, slice_get, if◌then◌else◌, nat_le}
 use Rattle.std.specs.List.{list_any, after_last}
 use Rattle.api_core.specs.declared.refusal.Refusal.TheVariants as refusal
 use Rattle.api_core.specs.Replies.{Told}
@@ -85,6 +85,14 @@ is_wanted_in events slot =
 
 abbrev pub is_wanted : Past → ℕ → Bool
 is_wanted past slot = is_wanted_in past.slots slot
+
+-- how many commands have to be durable before the reply is told, where it is computed and wanted
+abbrev pub point_in : List SlotEvent → ℕ → Option ℕ
+point_in events slot =
+    if is_wanted_in events slot then option_map (λ (reply : Reply). reply.1) (reply_in events slot) else None
+
+unfoldable pub point_of : Past → ℕ → Option ℕ
+point_of past slot = point_in past.slots slot
 
 -- what a take gives where so many commands are durable: the answer, and the number of its receipt
 abbrev pub released_in : Bool → ℕ → List SlotEvent → ℕ → Option Reply

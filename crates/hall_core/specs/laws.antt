@@ -12,4 +12,5 @@ pub mod Requests
 pub mod Ticks
 pub mod Sound
 pub mod Statuses
+pub mod Points
 pub mod Counts

@@ -3,7 +3,7 @@ ghost use Rattle.std.specs.Prelude.{◌≡◌, map, IfOk};
 ghost use Rattle.async_core.specs.Lives.{life, payload_of};
 ghost use Rattle.async_core.specs.Histories.{ForEachLegalHistory};
 ghost use Rattle.api_core.specs.Replies.{IsTellable, told_by, reply_of_told};
-ghost use Rattle.hall_core.specs.Run.{reason_told, reply_to_poll};
+ghost use Rattle.hall_core.specs.Run.{reason_told, reply_to_poll, slots_of};
 ghost use Rattle.hall_core.specs.Answering.{polls_told, poll_told};
 
 use api_core::{Answer, Refusal, Reply, ShutdownReason, reply_text};
@@ -76,4 +76,18 @@ pub(crate) fn replies_to_polls(
         replies.push((*slot, reply))?;
     }
     Ok(replies)
+}
+
+/// The slots of the polls that are answered.
+pub(crate) fn slots_of_polls(
+    alloc: Global,
+    answered: &[(u64, PollAnswer)],
+) -> Result<Vec<u64>, AllocError>
+    ensures { IfOk result (λ slots. slots.items ≡ slots_of answered.now) }
+{
+    let mut slots = Vec::with_capacity(alloc, answered.len())?;
+    for (slot, _) in answered {
+        slots.push(*slot)?;
+    }
+    Ok(slots)
 }

@@ -38,6 +38,8 @@ pub struct Hall<I: Issuer> {
     pub(crate) broken: bool,
     /// Of all that is durable.
     pub(crate) receipt: Receipt,
+    /// The slots of the polls that the last request or move answered.
+    pub(crate) answered: Vec<u64>,
     ghost knows: { broken ≡ (I.view issuer).broken },
     ghost counted: { receipt ≡ (I.view issuer).durable },
 }
@@ -55,7 +57,7 @@ impl<I: Issuer> Hall<I> {
     ghost use Rattle.group_commit.specs.Issuer.{issued_in, state_in};
     ghost use Rattle.hall_core.specs.Past.{tick, take_slot, forget_slot};
     ghost use Rattle.hall_core.specs.Hall.{view_of, settings_in, pending_in, refusal_of_arrival, refusal_of_moving, IsSameHall, request, Does, Passes, Refuses, KeepsReason};
-    ghost use Rattle.hall_core.specs.Hall.{is_slot_open, Gives, GivesFor, slot_told, IsDone, IsAsDurable, IssuesAtMostOne};
+    ghost use Rattle.hall_core.specs.Hall.{is_slot_open, Gives, GivesFor, slot_told, IsDone, IsAsDurable, IssuesAtMostOne, AnswersPolls, answered_slots};
 
     // Whether no number is left for a command.
     fn is_worn_out(&self, has_command: bool) -> bool
@@ -110,6 +112,8 @@ impl<I: Issuer> Hall<I> {
         ensures slots { OnOk result (KeepRequest self.old.slots self.new.slots slot unavailable prepared
             (issued_in (I.view self.new.issuer))) }
         ensures stops { OnOk result (self.new.stops ≡ (self.old.stops || stops)) }
+        ensures answered { OnOk result (self.new.answered ≡ prepared.answered) }
+        ensures kept_answered { OnErr result (self.new.answered ≡ self.old.answered) }
         ensures no_call { I.is_untouched self.old.issuer self.new.issuer }
         ensures err { OnErr result (IsSameHall (view_of I.view self.old) (view_of I.view self.new)) }
         ensures refused { IfErr result (IsUnissued (I.view self.old.issuer) prepared.command) }
@@ -118,6 +122,7 @@ impl<I: Issuer> Hall<I> {
             command,
             changes,
             replies,
+            answered,
             own,
         } = prepared;
         self.slots.open(slot, unavailable)?;
@@ -127,6 +132,7 @@ impl<I: Issuer> Hall<I> {
                 self.slots.reply_all(replies, &self.issuer);
                 self.slots.reply_own(slot, own, self.issuer.ticket());
                 self.stops = self.stops || stops;
+                self.answered = answered;
                 Ok(issued)
             }
             Err(why) => {
@@ -146,6 +152,7 @@ impl<I: Issuer> Hall<I> {
 
     /// A request comes with a slot that is not open, now, with two random words: its command is issued, if it has one,
     /// its environment is called, and replies are computed. A reply is told by `take` once all that it shows is durable.
+    /// `take_answered` then hands out the slots of the polls that it answered.
     ///
     /// What an environment or the table refuses is an answer. The hall refuses by `Broken`, `Stopping`, `WornOut` (where
     /// it has a command), `Backlog` (1024 slots are open, or 256 commands are pending and it has one), or `OutOfMemory`,
@@ -169,6 +176,8 @@ impl<I: Issuer> Hall<I> {
         ensures passes { IfOk result (Passes (view_of I.view self.old) (request slot call now words)) }
         ensures refused { IfErr result (Refuses (view_of I.view self.old) (request slot call now words)) }
         ensures reason { IfErr result (KeepsReason (view_of I.view self.old) (request slot call now words)) }
+        ensures answered { OnOk result (AnswersPolls (view_of I.view self.old) (request slot call now words) (answered_slots self.new)) }
+        ensures kept_answered { OnErr result (answered_slots self.new ≡ answered_slots self.old) }
         ensures err { OnErr result (IsSameHall (view_of I.view self.old) (view_of I.view self.new)) }
     {
         let stops = is_stop(&call);
@@ -221,6 +230,8 @@ impl<I: Issuer> Hall<I> {
         ensures environments { OnOk result (Leads self.old.environments prepared.changes self.new.environments) }
         ensures slots { OnOk result (KeepTick self.old.slots self.new.slots prepared (issued_in (I.view self.new.issuer))) }
         ensures stops { OnOk result (self.new.stops ≡ self.old.stops) }
+        ensures answered { OnOk result (self.new.answered ≡ prepared.answered) }
+        ensures kept_answered { OnErr result (self.new.answered ≡ self.old.answered) }
         ensures no_call { I.is_untouched self.old.issuer self.new.issuer }
         ensures err { OnErr result (IsSameHall (view_of I.view self.old) (view_of I.view self.new)) }
         ensures refused { IfErr result (IsUnissued (I.view self.old.issuer) prepared.command) }
@@ -229,17 +240,19 @@ impl<I: Issuer> Hall<I> {
             command,
             changes,
             replies,
+            answered,
             ..
         } = prepared;
         let issued = issue(&mut self.issuer, command)?;
         self.environments.change(changes);
         self.slots.reply_all(replies, &self.issuer);
+        self.answered = answered;
         Ok(issued)
     }
 
     /// Makes one move that is due now: first an Interrupt for an event that runs in no environment, else the table's
     /// next move, a Start with the least-numbered environment that is ready. None where nothing is due, and once the
-    /// hall stops.
+    /// hall stops. `take_answered` then hands out the slots of the polls that it answered.
     ///
     /// It is refused by `Broken`, `WornOut` or `Backlog` (256 commands are pending) where there is a command to issue,
     /// or `OutOfMemory`, in this order, and then nothing has changed; over a table that no history leaves also by
@@ -253,6 +266,8 @@ impl<I: Issuer> Hall<I> {
         ensures passes { IfOk result (Passes (view_of I.view self.old) (tick now)) }
         ensures refused { IfErr result (Refuses (view_of I.view self.old) (tick now)) }
         ensures reason { IfErr result (KeepsReason (view_of I.view self.old) (tick now)) }
+        ensures answered { OnOk result (AnswersPolls (view_of I.view self.old) (tick now) (answered_slots self.new)) }
+        ensures kept_answered { OnErr result (answered_slots self.new ≡ answered_slots self.old) }
         ensures err { OnErr result (IsSameHall (view_of I.view self.old) (view_of I.view self.new)) }
     {
         let plan = plan_tick(
@@ -267,6 +282,8 @@ impl<I: Issuer> Hall<I> {
             return Err(why);
         }
         if !has_command {
+            drop(plan);
+            self.answered = Vec::new(self.alloc);
             return Ok(None);
         }
         let prepared = match prepare(self.alloc, self.issuer.table(), &self.environments, plan) {
@@ -292,6 +309,7 @@ impl<I: Issuer> Hall<I> {
         ensures some { OnSome result (IsDone (view_of I.view self.old) (view_of I.view self.new) (take_slot slot)) }
         ensures none { IfNone result (IsSameHall (view_of I.view self.old) (view_of I.view self.new)) }
         ensures issuer { self.new.issuer ≡ self.old.issuer }
+        ensures kept_answered { answered_slots self.new ≡ answered_slots self.old }
     {
         match self.slots.take(slot, self.broken, self.receipt) {
             Some((reply, receipt)) => Some(Released::new(slot, reply, receipt)),
@@ -306,6 +324,7 @@ impl<I: Issuer> Hall<I> {
         ensures done { IsDone (view_of I.view self.old) (view_of I.view self.new) (forget_slot slot) }
         ensures closed { (I.view self.old.issuer).broken ≡ true → is_slot_open (view_of I.view self.new) slot ≡ false }
         ensures issuer { self.new.issuer ≡ self.old.issuer }
+        ensures kept_answered { answered_slots self.new ≡ answered_slots self.old }
     {
         self.slots.forget(slot);
     }

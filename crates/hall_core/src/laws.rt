@@ -10,8 +10,9 @@ ghost use Rattle.hall_core.specs.Firsts.{Event, first_unheld};
 ghost use Rattle.hall_core.specs.Past.{HallCall, Past, opening, ready_in, is_stopping};
 ghost use Rattle.hall_core.specs.Effects.{Scene, command_of};
 ghost use Rattle.hall_core.specs.Run.{option_list, past_after, after, past_of};
+ghost use Rattle.hall_core.specs.Slots.{point_of};
 ghost use Rattle.hall_core.specs.Agreement.{IsSound, AllAgree, IsKept, IsUnheld};
-ghost use Rattle.hall_core.specs.Promises.{TableAnswers, next_command, comes_with, ReplyStays, RunsInOne, AllRunSomewhere};
+ghost use Rattle.hall_core.specs.Promises.{TableAnswers, next_command, comes_with, ReplyStays, LeavesAlone, RunsInOne, AllRunSomewhere};
 ghost use Rattle.hall_core.specs.Promises.{IsMade, AreMade, IsRunFrom, move_command, CommandIsLegal, CallIsAccepted};
 ghost use Rattle.hall_core.specs.Promises.{NoneUnheld, InterruptsFirst, InterruptsUnheld, LeavesNone};
 
@@ -33,6 +34,12 @@ pub fn runs()
 /// A reply that was computed stays, whatever is called then, until another request comes with its slot.
 pub fn replies()
     ensures { (s : Settings) (past : Past) (call : HallCall) (slot : ℕ) → comes_with slot call ≡ false → ReplyStays s past call slot }
+{}
+
+/// What a slot's reply waits for changes only by a call that names the slot, or that answers the poll that came with it.
+pub fn points()
+    ensures { (s : Settings) (past : Past) (call : HallCall) (slot : ℕ) → LeavesAlone s past call slot
+        → point_of (past_after s past call) slot ≡ point_of past slot }
 {}
 
 /// An event runs in one environment at most.

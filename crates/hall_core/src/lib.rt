@@ -32,6 +32,7 @@ mod released;
 mod reporting;
 mod settling;
 mod slots;
+mod waking;
 
 pub use error::HallError;
 pub use hall::Hall;

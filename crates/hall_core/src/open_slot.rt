@@ -28,7 +28,7 @@ pub(crate) enum SlotStanding {
 
 impl OpenSlot {
     ghost use Rattle.hall_core.specs.OpenSlots.{is_open_entry};
-    ghost use Rattle.hall_core.specs.SlotSteps.{fresh_entry, standing_of, released_entry, told_entry};
+    ghost use Rattle.hall_core.specs.SlotSteps.{fresh_entry, standing_of, released_entry, point_by, told_entry};
 
     /// A slot that was just opened.
     pub(crate) fn new(unavailable: Reply) -> OpenSlot
@@ -70,6 +70,16 @@ impl OpenSlot {
             None => false,
         };
         !self.is_forgotten && (is_durable || is_broken)
+    }
+
+    /// How many commands have to be durable before its reply is told, where it has one that is wanted.
+    pub(crate) fn point(&self) -> Option<u64>
+        ensures { result ≡ point_by self.now }
+    {
+        match &self.reply {
+            Some((_, ticket)) if !self.is_forgotten => Some(ticket.number()),
+            _ => None,
+        }
     }
 
     /// Its reply with the receipt that goes with it: its own where that is durable by this one, else that it is not

@@ -1,5 +1,5 @@
 // A hall over a broker: opening it, committing, and closing it.
-ghost use Rattle.std.specs.Prelude.{◌≡◌, ◌↔◌, List, false, true, Err, IfOk, IfErr, OnOk};
+ghost use Rattle.std.specs.Prelude.{◌≡◌, ◌↔◌, List, [], false, true, Err, IfOk, IfErr, OnOk};
 ghost use Rattle.invoke_records.specs.declared.command.Command.{Command};
 ghost use Rattle.group_commit.specs.Broker.{disk_of, settings_of, is_broken, Stands, Commits};
 ghost use Rattle.group_commit.specs.Promises.{LeavesLegalStops};
@@ -7,7 +7,7 @@ ghost use Rattle.group_commit.specs.Refusals.{FaultsHaveRisen, IsWornOut, NeedsS
 ghost use Rattle.group_commit.specs.IssuerBroker.{issuer_of};
 ghost use Rattle.hall_core.specs.declared.error.HallError.TheVariants as HallError;
 ghost use Rattle.hall_core.specs.Past.{opening};
-ghost use Rattle.hall_core.specs.Hall.{view_of, StandsFor, ForEachPast, IsAllDurable, commit_error_of};
+ghost use Rattle.hall_core.specs.Hall.{view_of, answered_slots, StandsFor, ForEachPast, IsAllDurable, commit_error_of};
 ghost use Rattle.hall_core.specs.Fresh.{IsFresh};
 ghost use Rattle.hall_core.specs.Halves.{HasSameParts};
 ghost use Rattle.hall_core.specs.Committing.{HasToWrite, IsNotCommitted};
@@ -47,6 +47,7 @@ impl<D: Disk> Hall<Broker<D>> {
             → IfOk result (λ hall. StandsFor (view_of (issuer_of D.view) hall) (opening history)) }
         ensures fresh { IfOk result (λ hall. IsFresh (settings_of broker) hall) }
         ensures same { IfOk result (λ hall. hall.issuer ≡ broker) }
+        ensures answered { IfOk result (λ hall. answered_slots hall ≡ []) }
         ensures err { IfErr result (λ failure. failure.broker ≡ broker) }
     {
         let count = broker.table().settings().environments;
@@ -63,6 +64,7 @@ impl<D: Disk> Hall<Broker<D>> {
             stops: false,
             broken,
             receipt,
+            answered: Vec::new(alloc),
         })
     }
 
@@ -78,6 +80,7 @@ impl<D: Disk> Hall<Broker<D>> {
         ensures sound { OnOk result (is_broken self.new.issuer ≡ is_broken self.old.issuer) }
         ensures fault { is_broken self.old.issuer ≡ false → is_broken self.new.issuer ≡ true → result ≡ Err HallError.Fault }
         ensures any_moment { LeavesLegalStops D.view self.old.issuer (disk_of self.new.issuer) }
+        ensures kept_answered { answered_slots self.new ≡ answered_slots self.old }
 
         // Whether a history is known or not: the issuer alone changes, at Ok only in what is durable.
         ensures parts { HasSameParts (view_of (issuer_of D.view) self.old) (view_of (issuer_of D.view) self.new) }

@@ -5,7 +5,7 @@ ghost use Rattle.group_commit.specs.IssuerBroker.{issuer_of};
 ghost use Rattle.group_commit.specs.IssuerHalf.{half_view, has_same_lent};
 ghost use Rattle.group_commit.specs.Lending.{Lends, CanLend, SettlesBy};
 ghost use Rattle.group_commit.specs.Splitting.{broker_of, Splits, IsSplitReason, Joins, IsNotJoined};
-ghost use Rattle.hall_core.specs.Hall.{view_of, StandsFor, ForEachPast, IsSameHall};
+ghost use Rattle.hall_core.specs.Hall.{view_of, answered_slots, StandsFor, ForEachPast, IsSameHall};
 ghost use Rattle.hall_core.specs.Halves.{HasSameParts, KeepsSlotsOf, IsNotLent, IsNotDurable};
 ghost use Rattle.hall_core.specs.Halves as meant;
 
@@ -83,11 +83,13 @@ impl<D: Disk> Hall<Broker<D>> {
         requires { pending_of self.issuer ≡ [] }
         ensures ok { IfOk result (λ halves. Splits self.issuer halves.0.issuer halves.1) }
         ensures parts { IfOk result (λ halves. HasSameParts (view_of (issuer_of D.view) self) (view_of half_view halves.0)) }
+        ensures answered { IfOk result (λ halves. answered_slots halves.0 ≡ answered_slots self) }
         ensures stands { ForEachPast (view_of (issuer_of D.view) self) (λ past.
             IfOk result (λ halves. StandsFor (view_of half_view halves.0) past)) }
         ensures same { IfErr result (λ failure. failure.hall.issuer ≡ self.issuer) }
         ensures same_parts { IfErr result (λ failure.
             HasSameParts (view_of (issuer_of D.view) self) (view_of (issuer_of D.view) failure.hall)) }
+        ensures kept_answered { IfErr result (λ failure. answered_slots failure.hall ≡ answered_slots self) }
         ensures reason { IfErr result (λ failure. IsSplitReason self.issuer failure.cause) }
     {
         let Hall {
@@ -98,6 +100,7 @@ impl<D: Disk> Hall<Broker<D>> {
             stops,
             broken,
             receipt,
+            answered,
         } = self;
         match issuer.split() {
             Ok((issuer, disk)) => {
@@ -109,6 +112,7 @@ impl<D: Disk> Hall<Broker<D>> {
                     stops,
                     broken,
                     receipt,
+                    answered,
                 };
                 Ok((hall, disk))
             }
@@ -122,6 +126,7 @@ impl<D: Disk> Hall<Broker<D>> {
                     stops,
                     broken,
                     receipt,
+                    answered,
                 };
                 Err(HallSplitFailure { cause, hall })
             }
@@ -140,6 +145,7 @@ impl Hall<IssueHalf> {
         ensures ok { IfOk result (Lends self.old.issuer self.new.issuer) }
         ensures reason { IfErr result (IsNotLent self.old.issuer) }
         ensures kept { OnErr result (has_same_lent self.old.issuer self.new.issuer) }
+        ensures kept_answered { answered_slots self.new ≡ answered_slots self.old }
     {
         match self.issuer.lend() {
             Ok(batch) => Ok(batch),
@@ -158,6 +164,7 @@ impl Hall<IssueHalf> {
         ensures parts { HasSameParts (view_of half_view self.old) (view_of half_view self.new) }
         ensures ok { IfOk result (SettlesBy self.old.issuer self.new.issuer outcome) }
         ensures err { IfErr result (IsNotDurable self.old.issuer self.new.issuer outcome) }
+        ensures kept_answered { answered_slots self.new ≡ answered_slots self.old }
     {
         match self.issuer.settle(outcome) {
             Ok(durable) => {
@@ -181,12 +188,14 @@ impl Hall<IssueHalf> {
     pub fn join<D: Disk>(self, disk: DiskHalf<D>) -> Result<Hall<Broker<D>>, HallJoinFailure<D>>
         ensures ok { IfOk result (λ hall. Joins self.issuer (broker_of disk) hall.issuer) }
         ensures parts { IfOk result (λ hall. HasSameParts (view_of half_view self) (view_of (issuer_of D.view) hall)) }
+        ensures answered { IfOk result (λ hall. answered_slots hall ≡ answered_slots self) }
         ensures stands { ForEachPast (view_of half_view self) (λ past.
             Stands D.view (broker_of disk) (take (issued_of (broker_of disk)) past.history)
             → IfOk result (λ hall. is_broken hall.issuer ≡ false → StandsFor (view_of (issuer_of D.view) hall) past)) }
         ensures slots { IfOk result (λ hall. KeepsSlotsOf (view_of half_view self) (view_of (issuer_of D.view) hall)) }
         ensures same { IfErr result (λ failure. failure.hall.issuer ≡ self.issuer) }
         ensures same_parts { IfErr result (λ failure. HasSameParts (view_of half_view self) (view_of half_view failure.hall)) }
+        ensures kept_answered { IfErr result (λ failure. answered_slots failure.hall ≡ answered_slots self) }
         ensures err { IfErr result (λ failure.
             IsNotJoined self.issuer failure.hall.issuer (broker_of disk) (broker_of failure.disk) failure.cause) }
     {
@@ -198,6 +207,7 @@ impl Hall<IssueHalf> {
             stops,
             broken,
             receipt,
+            answered,
         } = self;
         match Broker::join(issuer, disk) {
             Ok(issuer) => {
@@ -211,6 +221,7 @@ impl Hall<IssueHalf> {
                     stops,
                     broken,
                     receipt,
+                    answered,
                 })
             }
             Err(failure) => {
@@ -223,6 +234,7 @@ impl Hall<IssueHalf> {
                     stops,
                     broken,
                     receipt,
+                    answered,
                 };
                 let disk = failure.disk;
                 Err(HallJoinFailure { cause, hall, disk })

@@ -6,7 +6,7 @@ ghost use Rattle.hall_core.specs.Plans.{AreCallable, moment_replied};
 ghost use Rattle.hall_core.specs.Changes.{IsUncalled};
 ghost use Rattle.hall_core.specs.Prepared.{IsPreparedFor};
 
-use crate::answering::replies_to_polls;
+use crate::answering::{replies_to_polls, slots_of_polls};
 use crate::changes::Changes;
 use crate::environments::Environments;
 use crate::error::HallError;
@@ -24,6 +24,8 @@ pub(crate) struct Prepared {
     pub(crate) changes: Changes,
     /// Each with its slot.
     pub(crate) replies: Vec<(u64, Reply)>,
+    /// The slots of the polls that are answered.
+    pub(crate) answered: Vec<u64>,
     pub(crate) own: Option<Reply>,
 }
 
@@ -65,10 +67,12 @@ pub(crate) fn prepare(
     let own = own_reply(alloc, table.settings(), reply)?;
     let (changes, answered) = environments.call(alloc, made)?;
     let replies = replies_to_polls(alloc, table, &answered)?;
+    let answered = slots_of_polls(alloc, &answered)?;
     Ok(Prepared {
         command,
         changes,
         replies,
+        answered,
         own,
     })
 }

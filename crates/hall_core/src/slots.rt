@@ -31,9 +31,9 @@ impl Slots {
     ghost use Rattle.api_core.specs.declared.call.Call.{Call};
     ghost use Rattle.api_core.specs.Replies.{Told, reply_of_told};
     ghost use Rattle.hall_core.specs.Past.{asked, replied, taken, forgotten};
-    ghost use Rattle.hall_core.specs.Slots.{open_among, is_open_in, released_in};
+    ghost use Rattle.hall_core.specs.Slots.{open_among, is_open_in, released_in, point_in};
     ghost use Rattle.hall_core.specs.OpenSlots.{entry_at, has_open, open_count, told_in, unavailable_in, KeepFor, ForEachKept, KeepMore, IsUndone};
-    ghost use Rattle.hall_core.specs.SlotSteps.{PutsEntry, standing_of, with_reply, marked, released_at};
+    ghost use Rattle.hall_core.specs.SlotSteps.{PutsEntry, standing_of, with_reply, marked, released_at, point_at};
 
     /// No request came yet. It takes no memory.
     pub(crate) fn new(alloc: Global) -> Slots
@@ -124,6 +124,18 @@ impl Slots {
         ensures none { IfNone result (self.new ≡ self.old) }
     {
         self.release(slot, is_broken, receipt)
+    }
+
+    /// How many commands have to be durable before the reply of a slot is told, where it is computed and wanted. It takes
+    /// no memory.
+    pub(crate) fn point(&self, slot: u64) -> Option<u64>
+        ensures by_entry { result ≡ point_at (entry_at self.now slot) }
+        ensures by_events { ForEachKept self.now (λ _ events. result ≡ point_in events slot) }
+    {
+        match self.slots.get(&slot) {
+            Some(entry) => entry.point(),
+            None => None,
+        }
     }
 
     /// Notes that the reply of a slot is not wanted: it is closed now, or once it is replied to or the hall breaks. It takes

@@ -7,38 +7,65 @@ ghost use Rattle.http_front.specs.Refusals.{IsArrivalError};
 use crate::error::ArrivalError;
 use crate::moment::{now, words};
 use api_core::Call;
-use group_commit::Ticket;
-use long_poll::Port;
+use long_poll::{Arrived, Port};
+use receipts::Trace;
+use std::io;
 use std::random::RandomSource;
 use std::sync::Wait;
 use std::sync::ledger::Ledger;
 use std::time::Clock;
 
-// Makes the moves that are due.
-fn make_moves<R: Wait, L: Ledger>(rt: &R, port: &Port<L>, now: u64)
+// Whether a new id is drawn for this call.
+fn draws(call: &Call) -> bool {
+    matches!(call, Call::Invoke { .. } | Call::Register { .. })
+}
+
+// Whether a move may be possible after this call that was not before it. Nothing is started, throttled or expired sooner for
+// a record that is read or collected, for an extension that registers, or for an attempt that succeeded: its environment can
+// be given nothing before it asks again.
+fn may_move(call: &Call) -> bool {
+    !matches!(
+        call,
+        Call::Oldest(_) | Call::Delete(_) | Call::Register { .. } | Call::Response { .. }
+    )
+}
+
+// Two random words where the call needs them.
+fn words_for<R: RandomSource>(rt: &R, call: &Call) -> io::Result<[u64; 2]> {
+    if draws(call) { words(rt) } else { Ok([0, 0]) }
+}
+
+// Makes the moves that are due: whether there was one.
+fn make_moves<R: Wait, L: Ledger, T: Trace>(rt: &R, port: &Port<L, T>, now: u64) -> bool
     requires { now ≤ greatest_moment }
 {
+    let mut moved = false;
     for _ in rt.forever() {
         if !matches!(port.tick(rt, now), Ok(Some(_))) {
             break;
         }
+        moved = true;
     }
+    moved
 }
 
-/// A call comes to a port now, with two random words, and then the moves that are due are made: its ticket and its slot.
+/// A call comes to a port now, with two random words, and then the moves that are due are made.
 ///
 /// It is refused: `System` (the clock or the source of random words failed), and as the port refuses it.
-pub(crate) fn arrive<R: Wait + Clock + RandomSource, L: Ledger>(
+pub(crate) fn arrive<R: Wait + Clock + RandomSource, L: Ledger, T: Trace>(
     rt: &R,
-    port: &Port<L>,
+    port: &Port<L, T>,
     call: Call,
-) -> Result<(Ticket, u64), ArrivalError>
-    ensures slot { IfOk result (λ r. IsSlot r.1) }
+) -> Result<Arrived, ArrivalError>
+    ensures slot { IfOk result (λ arrived. IsSlot arrived.slot) }
     ensures refused { IfErr result IsArrivalError }
 {
+    let moves = may_move(&call);
+    let words = words_for(rt, &call)?;
     let now = now(rt)?;
-    let words = words(rt)?;
-    let arrived = port.arrive(rt, call, now, words)?;
-    make_moves(rt, port, now);
+    let mut arrived = port.arrive(rt, call, now, words)?;
+    if moves && make_moves(rt, port, now) {
+        arrived.has_command = true;
+    }
     Ok(arrived)
 }

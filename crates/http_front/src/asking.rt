@@ -6,7 +6,7 @@ ghost use Rattle.receipts.specs.Serving.{HasServed};
 
 use group_commit::{DiskHalf, Durable};
 use hall_core::HallError;
-use receipts::{Desk, Office};
+use receipts::{Desk, Office, Trace};
 use sector_disk::Disk;
 use std::sync::Wait;
 use std::sync::ledger::Ledger;
@@ -29,10 +29,10 @@ impl NotCommitted {
 }
 
 /// Makes all that is pending durable, as `Office::commit` says.
-pub(crate) fn ask<D: Disk, L: Ledger, R: Wait>(
+pub(crate) fn ask<D: Disk, L: Ledger, T: Trace, R: Wait>(
     rt: &R,
-    office: &Office<L>,
-    desk: &mut Desk<L>,
+    office: &Office<L, T>,
+    desk: &mut Desk<L, T>,
     half: &mut DiskHalf<D>,
 ) -> Result<Durable, NotCommitted>
     ensures told { IfOk result (IsToldMore desk.old.told desk.new.told) }

@@ -14,28 +14,28 @@ use crate::front::Front;
 use commit_loop::{Committing, Gate, commit_all};
 use front_board::Seated;
 use group_commit::{DiskHalf, Durable};
-use receipts::Desk;
+use receipts::{Desk, Trace};
 use sector_disk::Disk;
 use std::sync::Wait;
 use std::sync::ledger::Ledger;
 
 /// What the committer works with: a desk, the half of the broker over the disk, and a seat of the board.
 #[derive(Drop)]
-pub struct Committer<L: Ledger, D: Disk> {
-    desk: Desk<L>,
+pub struct Committer<L: Ledger, T: Trace, D: Disk> {
+    desk: Desk<L, T>,
     half: DiskHalf<D>,
     seated: Seated,
 }
 
 // A committer at a front.
 #[derive(Drop)]
-struct AtFront<'a, R, L: Ledger, D: Disk> {
+struct AtFront<'a, R, L: Ledger, T: Trace, D: Disk> {
     rt: &'a R,
-    front: &'a Front<L>,
-    committer: Committer<L, D>,
+    front: &'a Front<L, T>,
+    committer: Committer<L, T, D>,
 }
 
-impl<R: Wait, L: Ledger, D: Disk> Committing for AtFront<'_, R, L, D> {
+impl<R: Wait, L: Ledger, T: Trace, D: Disk> Committing for AtFront<'_, R, L, T, D> {
     type Durable = Durable;
 
     type Failure = NotCommitted;
@@ -67,16 +67,20 @@ impl<R: Wait, L: Ledger, D: Disk> Committing for AtFront<'_, R, L, D> {
         why.is_last()
     }
 
-    fn raise(&mut self, durable: Durable) {
-        self.committer.seated.raise(durable);
+    fn raise(&mut self, durable: &Durable) {
+        self.committer.seated.raise(*durable);
     }
 
     fn say_broken(&mut self) {
         self.front.bell.say_broken();
     }
 
-    fn ring(&mut self) {
-        self.front.bell.ring(self.rt);
+    fn ring(&mut self, durable: &Durable) {
+        self.front.bell.ring(self.rt, *durable);
+    }
+
+    fn ring_all(&mut self) {
+        self.front.bell.ring_all(self.rt);
     }
 
     fn sleep(&mut self) {
@@ -99,9 +103,9 @@ impl<R: Wait, L: Ledger, D: Disk> Committing for AtFront<'_, R, L, D> {
     ) };
 }
 
-impl<L: Ledger, D: Disk + Drop> Committer<L, D> {
+impl<L: Ledger, T: Trace, D: Disk + Drop> Committer<L, T, D> {
     /// A committer that raises the board from this seat.
-    pub fn new(desk: Desk<L>, half: DiskHalf<D>, seated: Seated) -> Committer<L, D>
+    pub fn new(desk: Desk<L, T>, half: DiskHalf<D>, seated: Seated) -> Committer<L, T, D>
         ensures desk { result.desk ≡ desk }
         ensures half { result.half ≡ half }
         ensures seat { result.seated ≡ seated }
@@ -114,7 +118,7 @@ impl<L: Ledger, D: Disk + Drop> Committer<L, D> {
     /// or the ticker's next turn; where the gate skips what is pending, it is asked again.
     ///
     /// At each moment a stop leaves a legal stop of the half's list with what it took.
-    pub fn run<R: Wait, G: Gate>(self, rt: &R, front: &Front<L>, gate: &G) -> Committer<L, D>
+    pub fn run<R: Wait, G: Gate>(self, rt: &R, front: &Front<L, T>, gate: &G) -> Committer<L, T, D>
         ensures learned { IsRun HasLearned (G.says gate.now)
             (known self.desk.told (seen_by self.seated))
             (known result.desk.told (seen_by result.seated)) }
@@ -131,7 +135,7 @@ impl<L: Ledger, D: Disk + Drop> Committer<L, D> {
     }
 
     /// Its desk, and the half of the broker over the disk.
-    pub fn into_parts(self) -> (Desk<L>, DiskHalf<D>)
+    pub fn into_parts(self) -> (Desk<L, T>, DiskHalf<D>)
         ensures { (result.0 ≡ self.desk) × (result.1 ≡ self.half) }
     {
         let Committer { desk, half, .. } = self;

@@ -7,9 +7,9 @@ use crate::arriving::arrive;
 use crate::error::ArrivalError;
 use crate::wake::Wake;
 use api_core::Call;
-use group_commit::Ticket;
-use long_poll::{Bell, Port};
-use receipts::Office;
+use group_commit::Durable;
+use long_poll::{Arrived, Bell, Port};
+use receipts::{Office, Trace};
 use retry_rules::Settings;
 use std::alloc::{AllocError, Global};
 use std::random::RandomSource;
@@ -30,9 +30,9 @@ fn most_read(settings: &Settings) -> usize
 
 /// What the threads of a front share: the office and the bell, what the committer sleeps on, and whether the front ends.
 #[derive(Drop)]
-pub struct Front<L: Ledger> {
+pub struct Front<L: Ledger, T: Trace> {
     pub(crate) alloc: Global,
-    pub(crate) office: Arc<Office<L>>,
+    pub(crate) office: Arc<Office<L, T>>,
     pub(crate) bell: Arc<Bell>,
     pub(crate) wake: Wake,
     pub(crate) ending: CancellationToken,
@@ -41,13 +41,14 @@ pub struct Front<L: Ledger> {
     pub(crate) most: usize,
 }
 
-impl<L: Ledger> Front<L> {
-    /// A front over an office with these settings, which no thread serves yet.
+impl<L: Ledger, T: Trace> Front<L, T> {
+    /// A front over an office with these settings, of which so much is durable, which no thread serves yet.
     pub fn new(
         alloc: Global,
-        office: Arc<Office<L>>,
+        office: Arc<Office<L, T>>,
         settings: Settings,
-    ) -> Result<Front<L>, AllocError>
+        durable: Durable,
+    ) -> Result<Front<L, T>, AllocError>
         ensures office { IfOk result (λ front. front.office ≡ office) }
         ensures settings { IfOk result (λ front. front.settings ≡ settings) }
     {
@@ -55,7 +56,7 @@ impl<L: Ledger> Front<L> {
         Ok(Front {
             alloc,
             office,
-            bell: Arc::new(alloc, Bell::new(alloc))?,
+            bell: Arc::new(alloc, Bell::new(alloc, durable))?,
             wake: Wake::new(),
             ending: CancellationToken::new(alloc)?,
             settings,
@@ -63,22 +64,24 @@ impl<L: Ledger> Front<L> {
         })
     }
 
-    /// A call comes to a port: its ticket and its slot. All that wait for a reply look again, and the committer is called.
+    /// A call comes to a port. Where there is something to commit, or the broker is to stop, the committer is called.
     ///
     /// It is refused: `System` (the clock or the source of random words failed), and as `Port::arrive` refuses it.
     pub(crate) fn arrive<R: Wait + Clock + RandomSource>(
         &self,
         rt: &R,
-        port: &Port<L>,
+        port: &Port<L, T>,
         call: Call,
-    ) -> Result<(Ticket, u64), ArrivalError>
-        ensures slot { IfOk result (λ r. IsSlot r.1) }
+    ) -> Result<Arrived, ArrivalError>
+        ensures slot { IfOk result (λ arrived. IsSlot arrived.slot) }
         ensures refused { IfErr result IsArrivalError }
     {
-        let arrived = arrive(rt, port, call);
-        self.bell.ring(rt);
-        self.wake.call(rt);
-        arrived
+        let stops = matches!(call, Call::StopBroker);
+        let arrived = arrive(rt, port, call)?;
+        if stops || arrived.has_command {
+            self.wake.call(rt);
+        }
+        Ok(arrived)
     }
 
     /// How many commands wait to be written: none once the hall broke.

@@ -9,10 +9,10 @@ use crate::committing::Committer;
 use crate::error::ServeError;
 use crate::front::Front;
 use front_board::Seated;
-use group_commit::{Broker, DiskHalf};
+use group_commit::{Broker, DiskHalf, Durable};
 use hall_core::Hall;
 use long_poll::Port;
-use receipts::{Desk, Office};
+use receipts::{Desk, Office, Trace};
 use retry_rules::Settings;
 use sector_disk::Disk;
 use std::alloc::{AllocError, Global};
@@ -21,27 +21,31 @@ use std::sync::ledger::{Blank, Ledger};
 
 /// A front that no thread serves yet: its ports, and what the committer and the ticker work with.
 #[derive(Drop)]
-pub(crate) struct Opened<L: Ledger, D: Disk> {
-    pub(crate) front: Arc<Front<L>>,
-    pub(crate) ports: Vec<Port<L>>,
-    pub(crate) committer: Committer<L, D>,
-    pub(crate) ticker: Desk<L>,
+pub(crate) struct Opened<L: Ledger, T: Trace, D: Disk> {
+    pub(crate) front: Arc<Front<L, T>>,
+    pub(crate) ports: Vec<Port<L, T>>,
+    pub(crate) committer: Committer<L, T, D>,
+    pub(crate) ticker: Desk<L, T>,
 }
 
 // A port with this desk and seat.
-fn port<L: Ledger>(front: &Front<L>, desk: Desk<L>, seated: Seated) -> Result<Port<L>, AllocError> {
+fn port<L: Ledger, T: Trace>(
+    front: &Front<L, T>,
+    desk: Desk<L, T>,
+    seated: Seated,
+) -> Result<Port<L, T>, AllocError> {
     let office = Arc::try_clone(&front.office)?;
     let bell = Arc::try_clone(&front.bell)?;
     Ok(Port::new(office, bell, desk, seated))
 }
 
 // A port for each desk, as far as there are seats.
-fn ports<L: Ledger>(
+fn ports<L: Ledger, T: Trace>(
     alloc: Global,
-    front: &Front<L>,
-    desks: Vec<Desk<L>>,
+    front: &Front<L, T>,
+    desks: Vec<Desk<L, T>>,
     seats: Vec<Seated>,
-) -> Result<Vec<Port<L>>, AllocError> {
+) -> Result<Vec<Port<L, T>>, AllocError> {
     let mut ports = Vec::with_capacity(alloc, desks.len())?;
     let mut seats = seats.into_iter();
     for desk in desks {
@@ -54,24 +58,25 @@ fn ports<L: Ledger>(
 }
 
 // A front over an office, to be shared.
-fn shared<L: Ledger>(
+fn shared<L: Ledger, T: Trace>(
     alloc: Global,
-    office: Office<L>,
+    office: Office<L, T>,
     settings: Settings,
-) -> Result<Arc<Front<L>>, AllocError> {
+    durable: Durable,
+) -> Result<Arc<Front<L, T>>, AllocError> {
     let office = Arc::new(alloc, office)?;
-    let front = Front::new(alloc, office, settings)?;
+    let front = Front::new(alloc, office, settings, durable)?;
     Ok(Arc::new(alloc, front)?)
 }
 
 // A front with these desks and seats.
-fn furnish<L: Ledger, D: Disk + Drop>(
+fn furnish<L: Ledger, T: Trace, D: Disk + Drop>(
     alloc: Global,
-    front: Arc<Front<L>>,
-    desks: Vec<Desk<L>>,
+    front: Arc<Front<L, T>>,
+    desks: Vec<Desk<L, T>>,
     seats: Vec<Seated>,
     half: DiskHalf<D>,
-) -> Result<Opened<L, D>, ServeError>
+) -> Result<Opened<L, T, D>, ServeError>
     ensures half { IfOk result (λ opened. opened.committer.half ≡ half) }
 {
     let mut desks = desks;
@@ -89,11 +94,11 @@ fn furnish<L: Ledger, D: Disk + Drop>(
 }
 
 /// Opens a front over a hall: its office, its board, and the ports. The committer has the half of the hall's broker.
-pub(crate) fn open<L: Ledger, D: Disk + Drop>(
+pub(crate) fn open<L: Ledger, T: Trace, D: Disk + Drop>(
     alloc: Global,
     hall: Hall<Broker<D>>,
     blank: Blank,
-) -> Result<Opened<L, D>, ServeError>
+) -> Result<Opened<L, T, D>, ServeError>
     requires nothing { pending_of hall.issuer ≡ [] }
     requires fresh { IsFresh (settings_of hall.issuer) hall }
     requires name { blank.name ≡ L.name }
@@ -103,10 +108,10 @@ pub(crate) fn open<L: Ledger, D: Disk + Drop>(
 {
     let settings = hall.table().settings().copy()?;
     let durable = hall.durable();
-    match Office::<L>::new(alloc, hall, blank) {
+    match Office::<L, T>::new(alloc, hall, blank) {
         Ok((office, desks, half)) => {
             let seats = Seated::open(alloc, durable, desks.len())?;
-            let front = shared(alloc, office, settings)?;
+            let front = shared(alloc, office, settings, durable)?;
             furnish(alloc, front, desks, seats, half)
         }
         Err(failure) => Err(ServeError::Office(failure.cause)),

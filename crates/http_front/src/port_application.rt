@@ -11,6 +11,7 @@ use http::request::Parts;
 use http_port::{Application, ReadError, Refused};
 use hyper::StatusCode;
 use long_poll::{Port, Waiting};
+use receipts::Trace;
 use std::random::RandomSource;
 use std::sync::ledger::Ledger;
 use std::sync::{Arc, Wait};
@@ -18,11 +19,11 @@ use std::time::Clock;
 
 /// The reply of a call, which is told once it is released.
 #[derive(Drop)]
-pub(crate) struct Replying<R: Wait, L: Ledger> {
-    waiting: Waiting<R, L>,
+pub(crate) struct Replying<R: Wait, L: Ledger, T: Trace> {
+    waiting: Waiting<R, L, T>,
 }
 
-impl<R: Wait + Drop, L: Ledger> Future for Replying<R, L> {
+impl<R: Wait + Drop, L: Ledger, T: Trace> Future for Replying<R, L, T> {
     type Output = Telling;
 
     ghost gives = { λ replying telling. slot_told telling.released ≡ replying.waiting.slot };
@@ -37,16 +38,16 @@ impl<R: Wait + Drop, L: Ledger> Future for Replying<R, L> {
 
 /// A port: its number, the desk and the seat of its requests, and what it shares with the others.
 #[derive(Drop)]
-pub(crate) struct PortApplication<R, L: Ledger> {
+pub(crate) struct PortApplication<R, L: Ledger, T: Trace> {
     pub(crate) rt: R,
     pub(crate) number: u16,
-    pub(crate) front: Arc<Front<L>>,
-    pub(crate) port: Arc<Port<L>>,
+    pub(crate) front: Arc<Front<L, T>>,
+    pub(crate) port: Arc<Port<L, T>>,
 }
 
-impl<R: Wait + Clock + RandomSource + Copy, L: Ledger> PortApplication<R, L> {
+impl<R: Wait + Clock + RandomSource + Copy, L: Ledger, T: Trace> PortApplication<R, L, T> {
     // The call of a request comes; its reply then waits. What is refused is answered at once.
-    fn arrive(&self, head: &Parts, body: Vec<u8>) -> Result<Waiting<R, L>, Refusal> {
+    fn arrive(&self, head: &Parts, body: Vec<u8>) -> Result<Waiting<R, L, T>, Refusal> {
         let front = &self.front;
         let target = match head.uri.path_and_query() {
             Some(target) => target.as_str(),
@@ -68,18 +69,18 @@ impl<R: Wait + Clock + RandomSource + Copy, L: Ledger> PortApplication<R, L> {
         let Ok(port) = Arc::try_clone(&self.port) else {
             return Err(Refusal::Unavailable);
         };
-        let Ok((ticket, slot)) = front.arrive(&self.rt, &port, call) else {
+        let Ok(arrived) = front.arrive(&self.rt, &port, call) else {
             return Err(Refusal::Unavailable);
         };
-        Ok(Waiting::new(self.rt, port, ticket, slot))
+        Ok(Waiting::new(self.rt, port, arrived))
     }
 }
 
-impl<R: Wait + Clock + RandomSource + Drop + Copy, L: Ledger> Application
-    for PortApplication<R, L> {
+impl<R: Wait + Clock + RandomSource + Drop + Copy, L: Ledger, T: Trace> Application
+    for PortApplication<R, L, T> {
     type Given = Telling;
 
-    type Reply = Replying<R, L>;
+    type Reply = Replying<R, L, T>;
 
     fn most(&self) -> usize {
         self.front.most
@@ -89,7 +90,7 @@ impl<R: Wait + Clock + RandomSource + Drop + Copy, L: Ledger> Application
         &self,
         head: &Parts,
         body: Result<Vec<u8>, ReadError>,
-    ) -> Result<Replying<R, L>, Refused> {
+    ) -> Result<Replying<R, L, T>, Refused> {
         let alloc = self.front.alloc;
         let arrived = match body {
             Ok(body) => self.arrive(head, body),

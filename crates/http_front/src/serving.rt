@@ -16,8 +16,9 @@ use crate::ticking::tick_all;
 use commit_loop::{Gate, Turn};
 use group_commit::{Broker, DiskHalf};
 use hall_core::Hall;
+use http_port::Limits;
 use long_poll::Port;
-use receipts::{Desk, desks};
+use receipts::{Desk, SharedOpening, SharedTrace, Trace, desks};
 use retry_rules::Settings;
 use sector_disk::Disk;
 use std::alloc::AllocGlobal;
@@ -40,7 +41,7 @@ pub enum Ending {
 
 impl Ending {
     // How a front has ended, once its threads have.
-    fn of<L: Ledger>(front: &Front<L>) -> Ending {
+    fn of<L: Ledger, T: Trace>(front: &Front<L, T>) -> Ending {
         if front.bell.has_broken() {
             Ending::Broken
         } else {
@@ -59,13 +60,13 @@ pub struct Served<D: Disk> {
 
 // The gate of a front's committer: its owner's, until all is done.
 #[derive(Drop)]
-struct UntilOver<'a, R, L: Ledger, G> {
+struct UntilOver<'a, R, L: Ledger, T: Trace, G> {
     rt: &'a R,
-    front: &'a Front<L>,
+    front: &'a Front<L, T>,
     inner: &'a G,
 }
 
-impl<R: Wait, L: Ledger, G: Gate> Gate for UntilOver<'_, R, L, G> {
+impl<R: Wait, L: Ledger, T: Trace, G: Gate> Gate for UntilOver<'_, R, L, T, G> {
     ghost says = { λ gate pending said. (said ≡ turn.End) ⊎ G.says gate.inner.now pending said };
 
     fn turn(&self, pending: usize) -> Turn {
@@ -79,11 +80,11 @@ impl<R: Wait, L: Ledger, G: Gate> Gate for UntilOver<'_, R, L, G> {
 
 // The gate of a front's ticker: it ticks until the front ends.
 #[derive(Drop)]
-struct UntilEnding<'a, L: Ledger> {
-    front: &'a Front<L>,
+struct UntilEnding<'a, L: Ledger, T: Trace> {
+    front: &'a Front<L, T>,
 }
 
-impl<L: Ledger> Gate for UntilEnding<'_, L> {
+impl<L: Ledger, T: Trace> Gate for UntilEnding<'_, L, T> {
     ghost says = { λ _ _ said. (said ≡ turn.End) ⊎ (said ≡ turn.Commit) };
 
     fn turn(&self, _pending: usize) -> Turn {
@@ -96,7 +97,11 @@ impl<L: Ledger> Gate for UntilEnding<'_, L> {
 }
 
 // Serves a place to its end. Where it fails, the front ends.
-fn serve_place<R, L>(rt: R, place: PortApplication<R, L>, listener: TcpListener) -> io::Result<()>
+fn serve_place<R, L, T>(
+    rt: R,
+    place: PortApplication<R, L, T>,
+    listener: TcpListener,
+) -> io::Result<()>
 where
     R: Wait
         + Clock
@@ -106,20 +111,21 @@ where
         + Copy
         + Drop,
     L: Ledger,
+    T: Trace,
 {
     let front = Arc::try_clone(&place.front)?;
-    let served = http_port::serve(rt, place, listener, &front.ending);
+    let served = http_port::serve(rt, place, listener, Limits::default(), &front.ending);
     front.ending.cancel();
     front.wake.call(&rt);
     served
 }
 
 // Starts a thread that serves a port.
-fn start_port<R, L>(
+fn start_port<R, L, T>(
     rt: R,
-    front: &Arc<Front<L>>,
+    front: &Arc<Front<L, T>>,
     number: u16,
-    port: Port<L>,
+    port: Port<L, T>,
     listener: TcpListener,
 ) -> io::Result<JoinHandle<io::Result<()>>>
 where
@@ -134,6 +140,8 @@ where
         + Send
         + 'static,
     L: Ledger + Send + Sync + 'static,
+    T: SharedTrace + 'static,
+    T::Opening: SharedOpening + 'static,
 {
     let port = Arc::new(rt.alloc(), port)?;
     let front = Arc::try_clone(front)?;
@@ -148,10 +156,10 @@ where
 }
 
 // Starts a thread for each listener, with the next port.
-fn start<R, L>(
+fn start<R, L, T>(
     rt: R,
-    front: &Arc<Front<L>>,
-    ports: Vec<Port<L>>,
+    front: &Arc<Front<L, T>>,
+    ports: Vec<Port<L, T>>,
     listeners: Vec<TcpListener>,
     threads: &mut Vec<JoinHandle<io::Result<()>>>,
 ) -> io::Result<()>
@@ -167,6 +175,8 @@ where
         + Send
         + 'static,
     L: Ledger + Send + Sync + 'static,
+    T: SharedTrace + 'static,
+    T::Opening: SharedOpening + 'static,
 {
     let mut number = 0u16;
     for (port, listener) in ports.into_iter().zip(listeners) {
@@ -190,16 +200,18 @@ fn join_all<R: Threads>(rt: &R, threads: Vec<JoinHandle<io::Result<()>>>) -> io:
 
 // Runs the ticker on a thread of its own and the committer on this one, until the gate or the front ends: the half over the
 // disk.
-fn commit_and_tick<R, L, D, G>(
+fn commit_and_tick<R, L, T, D, G>(
     rt: R,
-    front: &Arc<Front<L>>,
-    committer: Committer<L, D>,
-    ticker: Desk<L>,
+    front: &Arc<Front<L, T>>,
+    committer: Committer<L, T, D>,
+    ticker: Desk<L, T>,
     gate: &G,
 ) -> io::Result<DiskHalf<D>>
 where
     R: Threads + Wait + Clock + Copy + Drop + Send + 'static,
     L: Ledger + Send + Sync + 'static,
+    T: SharedTrace + 'static,
+    T::Opening: SharedOpening + 'static,
     D: Disk + Drop,
     G: Gate,
     ensures { IfOk result (λ half. HasServed D.view D.fault_count (broker_of committer.half) (broker_of half)) }
@@ -221,9 +233,9 @@ where
 }
 
 // Serves an opened front to its end, and waits for its threads.
-fn run<R, L, D, G>(
+fn run<R, L, T, D, G>(
     rt: R,
-    opened: Opened<L, D>,
+    opened: Opened<L, T, D>,
     listeners: Vec<TcpListener>,
     gate: &G,
 ) -> io::Result<Served<D>>
@@ -239,6 +251,8 @@ where
         + Send
         + 'static,
     L: Ledger + Send + Sync + 'static,
+    T: SharedTrace + 'static,
+    T::Opening: SharedOpening + 'static,
     D: Disk + Drop,
     G: Gate,
     ensures { IfOk result (λ served. HasServed D.view D.fault_count (broker_of opened.committer.half) (broker_of served.half)) }
@@ -279,7 +293,7 @@ fn port_count(settings: &Settings) -> u64
 ///
 /// It is refused: `TooManyPorts` (more listeners than ports), `Office` (no office was opened over the hall), `OutOfMemory`,
 /// and `System`, where the system gave no thread or no sockets.
-pub fn serve<R, L, D, G>(
+pub fn serve<R, L, T, D, G>(
     rt: R,
     hall: Hall<Broker<D>>,
     blank: Blank,
@@ -298,6 +312,8 @@ where
         + Send
         + 'static,
     L: Ledger + Send + Sync + 'static,
+    T: SharedTrace + 'static,
+    T::Opening: SharedOpening + 'static,
     D: Disk + Drop,
     G: Gate,
     requires nothing { pending_of hall.issuer ≡ [] }
@@ -311,6 +327,6 @@ where
     if listeners.len() as u64 > port_count(hall.table().settings()) {
         return Err(ServeError::TooManyPorts);
     }
-    let opened = open::<L, D>(rt.alloc(), hall, blank)?;
+    let opened = open::<L, T, D>(rt.alloc(), hall, blank)?;
     Ok(run(rt, opened, listeners, gate)?)
 }

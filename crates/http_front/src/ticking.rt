@@ -1,5 +1,6 @@
 // The ticker: what its loop works on.
-ghost use Rattle.std.specs.Prelude.{◌≡◌, ◌+◌, [], ◌∷◌, ◌++◌, vec_len, sum_by};
+ghost use Rattle.std.specs.Prelude.{◌≡◌, ◌≤◌, ◌+◌, [], ◌∷◌, ◌++◌, length, map, sum_by};
+ghost use Rattle.invoke_records.specs.Spelling.{greatest_moment};
 ghost use Rattle.commit_loop.specs.Ticker.{Step, ticked, IsRun};
 ghost use Rattle.http_front.specs.Marking.{HasMarked};
 ghost use Rattle.http_front.specs.laws.Marked.{marked_nothing, marked_more};
@@ -7,7 +8,7 @@ ghost use Rattle.http_front.specs.laws.Marked.{marked_nothing, marked_more};
 use crate::front::Front;
 use crate::moment::now;
 use commit_loop::{Gate, Ticking};
-use receipts::Desk;
+use receipts::{Desk, Trace};
 use std::sync::Wait;
 use std::sync::ledger::Ledger;
 use std::thread;
@@ -18,24 +19,49 @@ const PAUSE: u64 = 100;
 
 // A ticker at a front.
 #[derive(Drop)]
-struct AtFront<'a, R, L: Ledger> {
+struct AtFront<'a, R, L: Ledger, T: Trace> {
     rt: &'a R,
-    front: &'a Front<L>,
-    desk: Desk<L>,
+    front: &'a Front<L, T>,
+    desk: Desk<L, T>,
+}
+
+// Makes a move that is due now: whether it made one. The bell is told which parked polls it answered.
+fn make_move<R: Wait, L: Ledger, T: Trace>(
+    rt: &R,
+    front: &Front<L, T>,
+    desk: &mut Desk<L, T>,
+    now: u64,
+) -> bool
+    requires { now ≤ greatest_moment }
+    ensures { HasMarked (length (map T.mark desk.old.own.items)) (ticked result ∷ []) (length (map T.mark desk.new.own.items)) }
+{
+    match front.office.tick(rt, desk, now) {
+        Ok(Some(number)) => {
+            let answered = desk.take_answered();
+            front.bell.answer(rt, &answered, number);
+            true
+        }
+        _ => false,
+    }
 }
 
 // Makes a move that is due now: whether it made one. Where the clock cannot be read none is made.
-fn tick<R: Wait + Clock, L: Ledger>(rt: &R, front: &Front<L>, desk: &mut Desk<L>) -> bool
-    ensures { HasMarked (vec_len desk.old.own) (ticked result ∷ []) (vec_len desk.new.own) }
+fn tick<R: Wait + Clock, L: Ledger, T: Trace>(
+    rt: &R,
+    front: &Front<L, T>,
+    desk: &mut Desk<L, T>,
+) -> bool
+    ensures { HasMarked (length (map T.mark desk.old.own.items)) (ticked result ∷ []) (length (map T.mark desk.new.own.items)) }
 {
     match now(rt) {
-        Ok(now) => matches!(front.office.tick(rt, desk, now), Ok(Some(_))),
+        Ok(now) => make_move(rt, front, desk, now),
         Err(_) => false,
     }
 }
 
-impl<R: Wait + Clock, L: Ledger> Ticking for AtFront<'_, R, L> {
-    ghost leads = { λ old steps new. HasMarked (vec_len old.desk.own) steps (vec_len new.desk.own) };
+impl<R: Wait + Clock, L: Ledger, T: Trace> Ticking for AtFront<'_, R, L, T> {
+    ghost leads = { λ old steps new.
+        HasMarked (length (map T.mark old.desk.own.items)) steps (length (map T.mark new.desk.own.items)) };
 
     fn pending(&mut self) -> usize {
         self.front.pending(self.rt)
@@ -53,21 +79,25 @@ impl<R: Wait + Clock, L: Ledger> Ticking for AtFront<'_, R, L> {
         thread::sleep(self.rt, Duration::from_millis(PAUSE));
     }
 
-    ghost stays = { λ value. marked_nothing (vec_len value.desk.own) };
+    ghost stays = { λ value. marked_nothing (length (map T.mark value.desk.own.items)) };
 
     ghost goes_on = { λ first second third before after.
-        marked_more (vec_len first.desk.own) (vec_len second.desk.own) (vec_len third.desk.own) before after };
+        marked_more
+        (length (map T.mark first.desk.own.items))
+        (length (map T.mark second.desk.own.items))
+        (length (map T.mark third.desk.own.items))
+        before after };
 }
 
 /// Makes the moves that are due, about every 100 milliseconds, where the gate says `Commit`, and calls the committer; at
 /// `Skip` it only sleeps. At `End` it gives its desk back, with a mark of each move that it made.
-pub fn tick_all<R: Wait + Clock, L: Ledger, G: Gate>(
+pub fn tick_all<R: Wait + Clock, L: Ledger, T: Trace, G: Gate>(
     rt: &R,
-    front: &Front<L>,
-    desk: Desk<L>,
+    front: &Front<L, T>,
+    desk: Desk<L, T>,
     gate: &G,
-) -> Desk<L>
-    ensures { IsRun HasMarked (G.says gate.now) (vec_len desk.own) (vec_len result.own) }
+) -> Desk<L, T>
+    ensures { IsRun HasMarked (G.says gate.now) (length (map T.mark desk.own.items)) (length (map T.mark result.own.items)) }
 {
     let mut at = AtFront { rt, front, desk };
     commit_loop::tick_all(rt, gate, &mut at);

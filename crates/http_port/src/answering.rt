@@ -57,6 +57,27 @@ impl Refused {
         Refused { response }
     }
 
+    // The status of a request that is late, with the word that its connection ends. None where memory is wanting.
+    fn late_response(alloc: Global) -> Option<Answered>
+        ensures { IfSome result (λ response. status_of response ≡ 408) }
+    {
+        Response::builder(alloc)
+            .status(StatusCode::REQUEST_TIMEOUT)
+            .header("connection", "close")
+            .body(Full::new(Bytes::new()))
+            .ok()
+    }
+
+    /// What a client is told whose body has not come in time. Its connection ends then.
+    pub(crate) fn late(alloc: Global) -> Refused
+        ensures { result ≡ 408 }
+    {
+        match Refused::late_response(alloc) {
+            Some(response) => Refused::new(response),
+            None => Refused::bare(alloc, StatusCode::REQUEST_TIMEOUT),
+        }
+    }
+
     /// Its response.
     pub fn into_response(self) -> Answered
         ensures same { status_of result ≡ self }

@@ -1,19 +1,26 @@
 //! HTTP/1.1 on one port: the requests of its connections are read and handed to an application, which answers each.
 //!
 //! A thread serves a port by `serve`, on a runtime of its own. Each request is a hand-written future: its body is read,
-//! up to as many bytes as the application wants, and then its reply is waited for.
+//! up to as many bytes as the application wants, and then its reply is waited for. `Limits` say how long a client may take,
+//! and how many connections are open at once.
 #![tactic(auto)]
 
 mod answering;
 mod application;
 mod connections;
 mod door;
+mod limits;
+mod noted;
 mod port;
 mod reading;
 mod requests;
+mod seats;
 mod served;
+mod timer;
+mod watch;
 
 pub use answering::{Answered, Body, Refused, Told};
 pub use application::Application;
+pub use limits::Limits;
 pub use port::serve;
 pub use reading::ReadError;

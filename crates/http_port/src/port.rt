@@ -2,6 +2,8 @@
 use crate::application::Application;
 use crate::connections::Connections;
 use crate::door::HttpDoor;
+use crate::limits::Limits;
+use crate::seats::Seats;
 use hyper::server::conn::http1::Builder;
 use std::alloc::AllocGlobal;
 use std::hash::RandomState;
@@ -21,10 +23,10 @@ const LAST_REPLIES: u64 = 5;
 fn run<R, A>(
     rt: &R,
     runtime: &mut LocalRuntime,
-    connections: Connections<R, HttpDoor<A>>,
+    connections: Connections<R, HttpDoor<R, A>>,
 ) -> io::Result<()>
 where
-    R: Wait + Clock + RandomSource + AllocGlobal + Drop,
+    R: Wait + Clock + RandomSource + AllocGlobal + Copy + Drop,
     A: Application,
 {
     runtime.run_all(rt, connections)
@@ -32,10 +34,15 @@ where
 
 /// Serves a port on this thread until `ending` is cancelled. A connection goes on from request to request. At the end the
 /// request that it is in is still answered, where that takes no longer than five seconds.
+///
+/// A connection is closed where a head does not come whole in the time of the limits, or no byte of one does. A body that does
+/// not come in its time is answered 408, and then its connection is closed. A reply is waited for without a limit. While as
+/// many connections are open as the limits allow, nothing is accepted.
 pub fn serve<R, A>(
     rt: R,
     application: A,
     listener: std::net::TcpListener,
+    limits: Limits,
     ending: &CancellationToken,
 ) -> io::Result<()>
 where
@@ -51,21 +58,25 @@ where
     let mut runtime = LocalRuntime::new(&rt)?;
     runtime.set_shutdown_timeout(Some(Duration::from_secs(LAST_REPLIES)));
     let listener = TcpListener::from_std(listener, runtime.handle().reactor())?;
-    let timers = runtime.handle().time().clone()?;
+    let timers = runtime.handle().time();
     let alloc = rt.alloc();
     let door = HttpDoor {
+        rt,
         alloc,
         http: Builder::new(alloc, RandomState::new(&rt)?),
         application: Arc::new(alloc, application)?,
+        timers: timers.clone()?,
+        limits,
         ending: ending.clone()?,
     };
     let connections = Connections {
         rt,
         door,
-        timers,
+        timers: timers.clone()?,
         incoming: listener.incoming(),
         ending: ending.cancelled()?,
         pause: None,
+        seats: Seats::new(alloc, limits.connections)?,
     };
     run(&rt, &mut runtime, connections)
 }

@@ -7,6 +7,7 @@ ghost use Rattle.http_port.specs.Answering.{SendsAnswer, SendsGiven};
 use crate::answering::{Answered, Refused, tell};
 use crate::application::Application;
 use crate::reading::{ReadError, Reading};
+use crate::watch::{Phase, Watch};
 use futures::Future;
 use futures::task::{Context, Poll};
 use http::request::Parts;
@@ -15,6 +16,7 @@ use hyper::service::Service;
 use hyper::{Request, StatusCode};
 use std::alloc::Global;
 use std::convert::Infallible;
+use std::rc::Rc;
 use std::sync::Arc;
 
 /// The future of one request. First its body is read; where it has a reply, that waits.
@@ -22,16 +24,33 @@ use std::sync::Arc;
 pub(crate) struct Serving<A: Application, I: Drop> {
     alloc: Global,
     application: Option<Arc<A>>,
+    watch: Option<Rc<Watch>>,
     head: Parts,
     reading: Option<Reading<I>>,
     reply: Option<A::Reply>,
 }
 
 impl<A: Application, I: Drop> Serving<A, I> {
-    // A body was read, or was not.
+    // Another phase of its connection begins.
+    fn enter(&self, phase: Phase) {
+        if let Some(watch) = &self.watch {
+            watch.enter(phase);
+        }
+    }
+
+    // Whether its body has not come in time.
+    fn is_late(&self) -> bool {
+        match &self.watch {
+            Some(watch) => watch.is_late(),
+            None => false,
+        }
+    }
+
+    // A body was read, or was not. From now on its connection waits for the reply.
     fn answer(&mut self, body: Result<Vec<u8>, ReadError>) -> Result<A::Reply, Refused>
         ensures value { IfOk result A.Reply.can_poll }
     {
+        self.enter(Phase::Reply);
         match self.application.take() {
             Some(application) => application.answer(&self.head, body),
             None => Err(Refused::bare(self.alloc, StatusCode::SERVICE_UNAVAILABLE)),
@@ -48,6 +67,9 @@ impl<A: Application, I: Drop> Serving<A, I> {
     {
         if let Some(reply) = self.reply.take() {
             return Poll::Ready(Ok(reply));
+        }
+        if self.is_late() {
+            return Poll::Ready(Err(Refused::late(self.alloc)));
         }
         let Some(mut reading) = self.reading.take() else {
             let refused = Refused::bare(self.alloc, StatusCode::SERVICE_UNAVAILABLE);
@@ -92,11 +114,15 @@ impl<A: Application, I: Drop> Future for Serving<A, I> {
     ghost gives = { λ _ sent. SendsAnswer A.Given.status sent };
 
     fn poll(&mut self, cx: &mut Context<'_>) -> Poll<Result<Answered, Infallible>> {
-        match self.poll_body(cx) {
+        let polled = match self.poll_body(cx) {
             Poll::Pending => Poll::Pending,
             Poll::Ready(Ok(reply)) => self.poll_reply(reply, cx),
             Poll::Ready(Err(refused)) => Poll::Ready(Ok(refused.into_response())),
+        };
+        if polled.is_ready() {
+            self.enter(Phase::Idle);
         }
+        polled
     }
 }
 
@@ -105,6 +131,7 @@ impl<A: Application, I: Drop> Future for Serving<A, I> {
 pub(crate) struct Requests<A> {
     pub(crate) alloc: Global,
     pub(crate) application: Arc<A>,
+    pub(crate) watch: Rc<Watch>,
 }
 
 impl<A: Application, I: Drop> Service<Request<Incoming<I>>> for Requests<A> {
@@ -116,9 +143,11 @@ impl<A: Application, I: Drop> Service<Request<Incoming<I>>> for Requests<A> {
 
     fn call(&self, req: Request<Incoming<I>>) -> Serving<A, I> {
         let (head, body) = req.into_parts();
+        self.watch.enter(Phase::Body);
         Serving {
             alloc: self.alloc,
             application: Arc::try_clone(&self.application).ok(),
+            watch: Rc::clone(&self.watch).ok(),
             head,
             reading: Some(Reading::new(self.alloc, body, self.application.most())),
             reply: None,

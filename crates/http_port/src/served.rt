@@ -1,40 +1,71 @@
 // A connection that is served to its end.
 ghost use Rattle.std.specs.Prelude.{IfSome};
+ghost use Rattle.futures.specs.Task.{IsArmed, Keeps};
+ghost use Rattle.futures.specs.Poll.{OnPending};
 
+use crate::seats::Seat;
+use crate::timer::Timer;
 use futures::Future;
 use futures::task::{Context, Poll};
+use std::time::Clock;
 
-/// A connection as a task. How it ended is not told.
+// A connection that is open, and has a seat.
 #[derive(Drop)]
-pub(crate) struct Served<C> {
-    conn: Option<C>,
+struct Seated<C, R> {
+    conn: C,
+    timer: Timer<R>,
+    // It is left when the connection has ended.
+    seat: Seat,
 }
 
-impl<C: Future> Served<C> {
-    /// Serves a connection that can be polled.
-    pub(crate) fn new(conn: C) -> Served<C>
-        requires { C.can_poll conn }
-        ensures { IfSome result.conn C.can_poll }
+impl<C: Future<Output = T>, T: Drop, R: Clock + Drop> Seated<C, R> {
+    // Ready once the connection has ended, or is to be closed.
+    fn poll(&mut self, cx: &mut Context<'_>) -> Poll<()>
+        requires { C.can_poll self.old.conn }
+        ensures again { OnPending result (C.can_poll self.new.conn) }
+        ensures armed { OnPending result (IsArmed cx.new) }
+        ensures kept { Keeps cx.old cx.new }
     {
-        Served { conn: Some(conn) }
+        if self.conn.poll(cx).is_ready() {
+            return Poll::Ready(());
+        }
+        self.timer.poll(cx)
     }
 }
 
-impl<C: Future<Output = T>, T: Drop> Future for Served<C> {
+/// A connection as a task. How it ended is not told.
+#[derive(Drop)]
+pub(crate) struct Served<C, R> {
+    seated: Option<Seated<C, R>>,
+}
+
+impl<C: Future, R> Served<C, R> {
+    /// Serves a connection that can be polled, in this time, and leaves its seat.
+    pub(crate) fn new(conn: C, timer: Timer<R>, seat: Seat) -> Served<C, R>
+        requires { C.can_poll conn }
+        ensures { IfSome result.seated (λ seated. C.can_poll seated.conn) }
+    {
+        Served {
+            seated: Some(Seated { conn, timer, seat }),
+        }
+    }
+}
+
+impl<C: Future<Output = T>, T: Drop, R: Clock + Drop> Future for Served<C, R> {
     type Output = ();
 
-    ghost can_poll = { λ s. IfSome s.conn C.can_poll };
+    ghost can_poll = { λ s. IfSome s.seated (λ seated. C.can_poll seated.conn) };
 
     fn poll(&mut self, cx: &mut Context<'_>) -> Poll<()> {
-        let Some(mut conn) = self.conn.take() else {
+        let Some(mut seated) = self.seated.take() else {
             return Poll::Ready(());
         };
-        match conn.poll(cx) {
+        match seated.poll(cx) {
             Poll::Pending => {
-                self.conn = Some(conn);
+                self.seated = Some(seated);
                 Poll::Pending
             }
-            Poll::Ready(_) => Poll::Ready(()),
+            Poll::Ready(()) => Poll::Ready(()),
         }
     }
 }

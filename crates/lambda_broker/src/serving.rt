@@ -8,7 +8,7 @@ ghost use Rattle.hall_core.specs.Fresh.{IsFresh};
 use group_commit::{Broker, CommitError, IssueError, OpenError, without_disk};
 use hall_core::{Hall, HallFailure};
 use http_front::{Ending, ServeError, WhenPending, now, serve};
-use receipts::desks;
+use receipts::{Gone, SharedOpening, SharedTrace, desks};
 use sector_disk::{Disk, FileDisk, FileError};
 use std::alloc::{AllocError, AllocGlobal, Global};
 use std::fs::File;
@@ -158,7 +158,7 @@ fn announce<W: Write>(port: u16, out: &mut W) -> io::Result<()> {
 }
 
 // Serves a hall until the broker is stopped.
-fn serve_hall<R, D>(
+fn serve_hall<R, D, T>(
     rt: R,
     hall: Hall<Broker<D>>,
     listeners: Vec<TcpListener>,
@@ -175,11 +175,13 @@ where
         + Send
         + 'static,
     D: Disk + Drop,
+    T: SharedTrace + 'static,
+    T::Opening: SharedOpening + 'static,
     requires nothing { pending_of hall.issuer ≡ [] }
     requires fresh { IsFresh (settings_of hall.issuer) hall }
 {
     let blank = Blank::new(desks(hall.table().settings()));
-    let served = serve::<_, Brand, _, _>(rt, hall, blank, listeners, &WhenPending)?;
+    let served = serve::<_, Brand, T, _, _>(rt, hall, blank, listeners, &WhenPending)?;
     match served.ending {
         Ending::Stopped => Ok(()),
         Ending::Broken => Err(ServingError::Broken),
@@ -187,7 +189,7 @@ where
 }
 
 // Serves a broker that was opened: the ports first, then the attempts that the last stop cut off.
-fn serve_broker<R, D, W>(
+fn serve_broker<R, D, W, T>(
     rt: R,
     broker: Broker<D>,
     port: u16,
@@ -206,6 +208,8 @@ where
         + 'static,
     D: Disk + Drop,
     W: Write,
+    T: SharedTrace + 'static,
+    T::Opening: SharedOpening + 'static,
 {
     let mut broker = broker;
     let environments = broker.table().settings().environments;
@@ -213,7 +217,7 @@ where
     resume(&rt, &mut broker)?;
     let hall = hall_over(rt.alloc(), broker)?;
     announce(port, out)?;
-    serve_hall(rt, hall, listeners)
+    serve_hall::<_, _, T>(rt, hall, listeners)
 }
 
 /// Serves a disk: callers on a port of this machine and environment n on the port n behind it, from the line that is
@@ -235,5 +239,5 @@ where
 {
     let disk = FileDisk::open(&rt, at.path)?;
     let broker = open(rt.alloc(), disk)?;
-    serve_broker(rt, broker, at.port, out)
+    serve_broker::<_, _, _, Gone>(rt, broker, at.port, out)
 }

@@ -1,5 +1,5 @@
 -- The future of one reply: the slot that it waits for, and the number that has to be durable before the office is asked.
-use Rattle.std.specs.Prelude.{ℕ, Option, Some, None}
+use Rattle.std.specs.Prelude.{ℕ, ◌^◌, ◌-◌, Option, Some, None}
 use Rattle.long_poll.specs.declared.waiting.Progress.{Progress}
 use Rattle.long_poll.specs.declared.waiting.Progress.TheVariants as progress
 
@@ -7,4 +7,10 @@ use Rattle.long_poll.specs.declared.waiting.Progress.TheVariants as progress
 abbrev pub number_at : Progress → Option ℕ
 number_at (progress.Issued ticket) = Some ticket
 number_at (progress.Durable receipt) = Some receipt
+number_at (progress.Answered receipt number) = Some receipt
 number_at progress.Told = None
+
+-- the number for which it registers: that of its ticket, and else one that is never rung
+abbrev pub number_for : Progress → ℕ
+number_for (progress.Issued ticket) = ticket
+number_for other = 2 ^ 64 - 1

@@ -1,14 +1,15 @@
-// The bell: tasks register there, and a ring wakes them.
+// The bell: tasks register there, and a ring wakes those that can go on.
 ghost use Rattle.futures.specs.Task.{Hears, IsArmed, Keeps};
 
-use crate::waiters::{Registered, Waiters};
+use crate::waiters::{Parked, Registered, Waiters};
 use futures::task::{Context, Source};
-use std::alloc::{AllocError, Global};
+use group_commit::Durable;
+use std::alloc::Global;
 use std::sync::atomic::{AtomicBool, Ordering};
 use std::sync::{Mutex, Wait};
 
-/// Tasks wait here for a commit, or for a request that may have answered them, each under a key of its own. It also says
-/// whether the hall broke.
+/// Tasks wait here, each for a slot: for a number that has to be durable, or, where it is a parked poll, for its answer.
+/// It also says whether the hall broke.
 #[derive(Drop)]
 pub struct Bell {
     source: Source,
@@ -17,54 +18,86 @@ pub struct Bell {
 }
 
 impl Bell {
-    ghost use Rattle.long_poll.specs.Bell.{IsUnder, source_of};
+    ghost use Rattle.long_poll.specs.Bell.{IsUnder, IsParkedAt, source_of};
 
-    pub fn new(alloc: Global) -> Bell {
+    /// A bell that nobody waits at, where so much is durable. It takes no memory.
+    pub fn new(alloc: Global, durable: Durable) -> Bell {
         Bell {
             source: Source::new(),
             broke: AtomicBool::new(false),
-            waiters: Mutex::new(Waiters::new(alloc)),
+            waiters: Mutex::new(Waiters::new(alloc, durable.number())),
         }
     }
 
-    /// Makes a place for this key, so that no poll under it and no ring needs memory.
-    pub fn enter<R: Wait>(&self, rt: &R, key: u64) -> Result<(), AllocError> {
-        self.waiters.lock(rt).enter(key)
-    }
-
-    /// Takes the place of this key away.
-    pub fn leave<R: Wait>(&self, rt: &R, key: u64) {
-        let waker = self.waiters.lock(rt).leave(key);
-        drop(waker);
-    }
-
-    /// Registers the task under this key: the next ring of this number or above wakes it. Where the key has no place and
-    /// there is no memory for one, the task is polled again at once.
-    pub fn register<R: Wait>(
+    /// Registers the task for this slot: the next ring of this number or above wakes it. Where that was rung, or there is no
+    /// memory, the task is polled again at once.
+    pub(crate) fn register<R: Wait>(
         &self,
         rt: &R,
-        key: u64,
+        slot: u64,
         number: u64,
         cx: &mut Context<'_>,
     ) -> Registered
-        ensures under { IsUnder result key number }
+        ensures under { IsUnder result slot number }
         ensures armed { IsArmed cx.new }
         ensures heard { Hears cx.new (source_of self.now) }
         ensures kept { Keeps cx.old cx.new }
     {
         self.waiters
             .lock(rt)
-            .register(&self.source, key, number, cx)
+            .register(&self.source, slot, number, cx)
     }
 
-    /// Wakes all tasks that registered since they were woken last.
-    pub fn ring<R: Wait>(&self, rt: &R) {
+    /// Registers the task for the answer of this slot: once that is told here, the task waits for its number. Where there is
+    /// no memory, the task is polled again at once.
+    pub(crate) fn park<R: Wait>(&self, rt: &R, slot: u64, cx: &mut Context<'_>) -> Parked
+        ensures under { IsParkedAt result slot }
+        ensures armed { IsArmed cx.new }
+        ensures heard { Hears cx.new (source_of self.now) }
+        ensures kept { Keeps cx.old cx.new }
+    {
+        self.waiters.lock(rt).park(&self.source, slot, cx)
+    }
+
+    /// The parked task waits for this number from now on: the next ring of it or above wakes it, or it is woken now, if that
+    /// was rung.
+    pub(crate) fn go_on<R: Wait>(&self, rt: &R, parked: Parked, number: u64) -> Registered
+        ensures { IsUnder result parked.slot number }
+    {
+        let (waker, registered) = self.waiters.lock(rt).go_on(parked, number);
+        drop(waker);
+        registered
+    }
+
+    /// Nobody waits for the answer of this slot any more.
+    pub(crate) fn leave<R: Wait>(&self, rt: &R, slot: u64) {
+        let waker = self.waiters.lock(rt).leave(slot);
+        drop(waker);
+    }
+
+    /// The polls of these slots were answered, which may be told once this number is durable. Those of them that are parked
+    /// here are woken by a ring of it, or now, if it was rung.
+    pub fn answer<R: Wait>(&self, rt: &R, slots: &[u64], number: u64) {
+        for slot in slots {
+            let waker = self.waiters.lock(rt).answer(*slot, number);
+            drop(waker);
+        }
+    }
+
+    /// Wakes the tasks that wait for what is durable now. A waker wakes its task when it is dropped, which happens outside
+    /// the lock.
+    pub fn ring<R: Wait>(&self, rt: &R, durable: Durable) {
+        self.ring_up_to(rt, durable.number());
+    }
+
+    /// Wakes all tasks. Each that registers from now on is polled again at once.
+    pub fn ring_all<R: Wait>(&self, rt: &R) {
         self.ring_up_to(rt, u64::MAX);
+        self.waiters.lock(rt).wake_parked();
     }
 
-    /// Wakes the tasks that wait for this number or one below. Those that wait for 0 need no commit: a request may have
-    /// answered them. A waker wakes its task when it is dropped, which happens outside the lock.
-    pub fn ring_up_to<R: Wait>(&self, rt: &R, number: u64) {
+    // Wakes the tasks that wait for this number or one below.
+    fn ring_up_to<R: Wait>(&self, rt: &R, number: u64) {
         let mut wakers = self.waiters.lock(rt).take_wakers(number);
         wakers.clear();
         self.waiters.lock(rt).give_back(wakers);

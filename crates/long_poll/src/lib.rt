@@ -1,8 +1,8 @@
 //! Long polls: the future of one reply, which waits until the reply may be told.
 //!
-//! It registers at a bell, which is rung after each commit and each request, looks at the board for its ticket without a
-//! lock, and asks the office only once its ticket is durable or the bell says that the hall broke. The crates above use
-//! that it gives the reply of its own slot, and that a poll which is pending has registered.
+//! It looks at the board for its ticket without a lock, and asks the office only once the ticket is durable or the bell says
+//! that the hall broke. Where the reply may not be told yet, it registers at the bell, which wakes those that can go on. The
+//! crates above use that it gives the reply of its own slot, and that a poll which is pending has registered.
 #![tactic(auto)]
 
 mod bell;
@@ -11,6 +11,5 @@ mod waiters;
 mod waiting;
 
 pub use bell::Bell;
-pub use port::Port;
-pub use waiters::Registered;
+pub use port::{Arrived, Port};
 pub use waiting::Waiting;

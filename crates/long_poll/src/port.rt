@@ -9,22 +9,38 @@ use api_core::Call;
 use front_board::Seated;
 use group_commit::{Receipt, Ticket};
 use hall_core::{HallError, Released};
-use receipts::{Desk, Office};
+use receipts::{Desk, Mark, Office, Trace};
 use std::sync::ledger::Ledger;
 use std::sync::{Arc, Mutex, Wait};
 
+/// A request that came to the hall.
+#[derive(Drop)]
+pub struct Arrived {
+    /// Of all that its reply shows.
+    pub ticket: Ticket,
+    /// From which its reply is taken.
+    pub slot: u64,
+    /// Whether it issued a command, which has to be committed.
+    pub has_command: bool,
+}
+
 /// One port of the front: a desk of the office and a seat of the board, each behind a lock, for all futures of the port.
 #[derive(Drop)]
-pub struct Port<L: Ledger> {
-    office: Arc<Office<L>>,
+pub struct Port<L: Ledger, T: Trace = Mark> {
+    office: Arc<Office<L, T>>,
     bell: Arc<Bell>,
-    desk: Mutex<Desk<L>>,
+    desk: Mutex<Desk<L, T>>,
     seated: Mutex<Seated>,
 }
 
-impl<L: Ledger> Port<L> {
+impl<L: Ledger, T: Trace> Port<L, T> {
     /// A port with a desk of this office and a seat of its board.
-    pub fn new(office: Arc<Office<L>>, bell: Arc<Bell>, desk: Desk<L>, seated: Seated) -> Port<L>
+    pub fn new(
+        office: Arc<Office<L, T>>,
+        bell: Arc<Bell>,
+        desk: Desk<L, T>,
+        seated: Seated,
+    ) -> Port<L, T>
         ensures office { result.office ≡ office }
         ensures bell { result.bell ≡ bell }
     {
@@ -37,7 +53,7 @@ impl<L: Ledger> Port<L> {
     }
 
     /// The office.
-    pub fn office(&self) -> &Office<L>
+    pub fn office(&self) -> &Office<L, T>
         ensures { result.now ≡ self.now.office.value }
     {
         &self.office
@@ -50,28 +66,45 @@ impl<L: Ledger> Port<L> {
         &self.bell
     }
 
-    /// A request comes, as `Office::arrive` says, from the port's desk.
+    /// A request comes, as `Office::arrive` says, from the port's desk. The bell is told which parked polls it answered.
     pub fn arrive<R: Wait>(
         &self,
         rt: &R,
         call: Call,
         now: u64,
         words: [u64; 2],
-    ) -> Result<(Ticket, u64), HallError>
-        ensures slot { IfOk result (λ r. IsSlot r.1) }
+    ) -> Result<Arrived, HallError>
+        ensures slot { IfOk result (λ arrived. IsSlot arrived.slot) }
         ensures refused { IfErr result IsRequestRefusal }
     {
         let mut desk = self.desk.lock(rt);
-        self.office.arrive(rt, &mut desk, call, now, words)
+        let marked = desk.marks().len();
+        let (ticket, slot) = self.office.arrive(rt, &mut desk, call, now, words)?;
+        let has_command = marked < desk.marks().len();
+        let answered = desk.take_answered();
+        drop(desk);
+        self.bell.answer(rt, &answered, ticket.number());
+        Ok(Arrived {
+            ticket,
+            slot,
+            has_command,
+        })
     }
 
-    /// Makes one move that is due, as `Office::tick` says, from the port's desk. A moment is at most the end of the year 9999.
+    /// Makes one move that is due, as `Office::tick` says, from the port's desk. The bell is told which parked polls it
+    /// answered. A moment is at most the end of the year 9999.
     pub fn tick<R: Wait>(&self, rt: &R, now: u64) -> Result<Option<u64>, HallError>
         requires { now ≤ greatest_moment }
         ensures { IfErr result IsMoveRefusal }
     {
         let mut desk = self.desk.lock(rt);
-        self.office.tick(rt, &mut desk, now)
+        let moved = self.office.tick(rt, &mut desk, now)?;
+        let answered = desk.take_answered();
+        drop(desk);
+        if let Some(number) = moved {
+            self.bell.answer(rt, &answered, number);
+        }
+        Ok(moved)
     }
 
     /// The reply of a slot, as `Office::take` gives it.
@@ -80,6 +113,12 @@ impl<L: Ledger> Port<L> {
     {
         let mut desk = self.desk.lock(rt);
         self.office.take(rt, &mut desk, slot)
+    }
+
+    /// How much has to be durable before the reply of a slot is told, as `Office::point` says.
+    pub(crate) fn point<R: Wait>(&self, rt: &R, slot: u64) -> Option<u64> {
+        let mut desk = self.desk.lock(rt);
+        self.office.point(rt, &mut desk, slot)
     }
 
     /// The reply of a slot is not wanted any more, as `Office::forget` says.

@@ -1,129 +1,177 @@
 // The tasks that wait at a bell, behind its lock.
-ghost use Rattle.std.specs.Prelude.{◌≡◌, ◌≤◌, ◌++◌, ◌∷◌, [], None, OnOk, OnErr, vec_len, vec_capacity};
+ghost use Rattle.std.specs.Prelude.{◌≡◌, ◌<◌, ◌≤◌, [], None, IfSome, IfNone, max, vec_capacity};
+ghost use Rattle.std.specs.Ordering.{nat_cmp};
+ghost use Rattle.std.specs.BTreeMap as tree;
 ghost use Rattle.futures.specs.Task.{Hears, IsArmed, Keeps};
 
 use futures::task::{Context, Source, Waker};
-use std::alloc::{AllocError, Global};
+use std::alloc::Global;
+use std::collections::BTreeMap;
 use std::mem;
 
-/// The place of one key, with the waker of the task that waits there, and the number that it waits for.
-#[derive(Drop)]
-struct Entry {
-    key: u64,
-    number: u64,
-    waker: Option<Waker>,
-}
-
-impl Entry {
-    ghost use Rattle.long_poll.specs.Bell.{IsFree};
-
-    // What waits here for this number or one below.
-    #[tactic(auto, unfolding(crate::specs::Bell::IsFree))]
-    fn take(&mut self, number: u64) -> Option<Waker>
-        ensures { IsFree number self.new }
-    {
-        if self.number <= number {
-            self.waker.take()
-        } else {
-            None
-        }
-    }
-}
-
-/// That a task has registered under a key, for a number: its waker is at the key's place, or it is polled again. Only
-/// registering makes one.
+/// That a task has registered for a slot: it waits for a number, or is polled again. Only registering makes one.
 #[derive(Drop)]
 pub struct Registered {
-    key: u64,
+    slot: u64,
     number: u64,
 }
 
-/// A place for each key, and room for their wakers.
+/// That a task has registered for a slot: it waits for the slot's answer, or is polled again. Only parking makes one.
+#[derive(Drop)]
+pub struct Parked {
+    slot: u64,
+}
+
+/// The wakers of the tasks that wait. A waker wakes its task when it is dropped.
 #[derive(Drop)]
 pub(crate) struct Waiters {
     alloc: Global,
-    entries: Vec<Entry>,
-    /// With room for as many wakers as there are places, unless a ring has it.
+    /// Of those that wait for a number, by it and their slot.
+    numbered: BTreeMap<(u64, u64), Waker>,
+    /// Of the polls that wait for an answer, by their slot.
+    parked: BTreeMap<u64, Waker>,
+    /// The greatest number that was rung.
+    rung: u64,
+    /// Room for wakers, unless a ring has it.
     room: Vec<Waker>,
     ghost empty: { room.items ≡ [] },
 }
 
 impl Waiters {
-    ghost use Rattle.long_poll.specs.Bell.{AreFree, IsUnder, Waits};
+    ghost use Rattle.long_poll.specs.Bell.{AreAbove, IsUnder, IsParkedAt, Waits, Stays, GoesOn};
 
-    pub(crate) fn new(alloc: Global) -> Waiters {
+    /// Nobody waits, and so much was rung. It takes no memory.
+    pub(crate) fn new(alloc: Global, rung: u64) -> Waiters
+        ensures { result.rung ≡ rung }
+    {
         Waiters {
             alloc,
-            entries: Vec::new(alloc),
+            numbered: BTreeMap::new(alloc),
+            parked: BTreeMap::new(alloc),
+            rung,
             room: Vec::new(alloc),
         }
     }
 
-    /// Makes a place for a key, so that neither registering there nor ringing needs memory.
-    pub(crate) fn enter(&mut self, key: u64) -> Result<(), AllocError>
-        ensures place { OnOk result
-            (self.new.entries.items ≡ self.old.entries.items ++ record { key = key; number = 0; waker = None } ∷ []) }
-        ensures room { OnOk result (vec_len self.new.entries ≤ vec_capacity self.new.room) }
-        ensures err { OnErr result (self.new.entries.items ≡ self.old.entries.items) }
-    {
-        self.room.reserve(self.entries.len().saturating_add(1))?;
-        self.entries.push(Entry {
-            key,
-            number: 0,
-            waker: None,
-        })?;
-        Ok(())
-    }
-
-    /// Takes a key's place away, and hands out what waits there.
-    pub(crate) fn leave(&mut self, key: u64) -> Option<Waker> {
-        let at = self.entries.iter().position(|entry| entry.key == key)?;
-        let Entry { waker, .. } = self.entries.swap_remove(at);
-        waker
-    }
-
-    /// Leaves the task's waker at the key's place, for rings of this number and above. Where there is no place and no memory
-    /// for one, the task is polled again.
+    /// Leaves the task's waker for a ring of this number or above. Where that was rung, or there is no memory, the task is
+    /// polled again.
     pub(crate) fn register(
         &mut self,
         source: &Source,
-        key: u64,
+        slot: u64,
         number: u64,
         cx: &mut Context<'_>,
     ) -> Registered
-        ensures under { IsUnder result key number }
+        ensures under { IsUnder result slot number }
         ensures armed { IsArmed cx.new }
         ensures heard { Hears cx.new source.now.id }
         ensures kept { Keeps cx.old cx.new }
-        ensures waits { Waits self.new.entries.items key number cx.old cx.new }
+        ensures waits { Waits self.new slot number cx.old cx.new }
     {
-        let mut waker = self.leave(key);
+        let mut waker = self.numbered.remove(&(number, slot));
         cx.register::<()>(source, &mut waker);
-        if self.entries.push(Entry { key, number, waker }).is_err() {
+        if number <= self.rung {
             cx.yield_now::<()>();
-        }
-        Registered { key, number }
-    }
-
-    /// Takes all wakers of this number and below out of their places. One for which there is no room wakes its task here.
-    pub(crate) fn take_wakers(&mut self, number: u64) -> Vec<Waker>
-        ensures free { AreFree number self.new.entries.items }
-    {
-        let mut wakers = mem::replace(&mut self.room, Vec::new(self.alloc));
-        for entry in self.entries.iter_mut() {
-            if let Some(waker) = entry.take(number) {
-                if let Err(refused) = wakers.push(waker) {
-                    drop(refused);
-                }
+        } else if let Some(waker) = waker {
+            if self.numbered.insert((number, slot), waker).is_err() {
+                cx.yield_now::<()>();
             }
         }
+        Registered { slot, number }
+    }
+
+    /// Leaves the task's waker for the answer of this slot. Where there is no memory, the task is polled again.
+    pub(crate) fn park(&mut self, source: &Source, slot: u64, cx: &mut Context<'_>) -> Parked
+        ensures under { IsParkedAt result slot }
+        ensures armed { IsArmed cx.new }
+        ensures heard { Hears cx.new source.now.id }
+        ensures kept { Keeps cx.old cx.new }
+        ensures stays { Stays self.new slot cx.old cx.new }
+    {
+        let mut waker = self.parked.remove(&slot);
+        cx.register::<()>(source, &mut waker);
+        if let Some(waker) = waker {
+            if self.parked.insert(slot, waker).is_err() {
+                cx.yield_now::<()>();
+            }
+        }
+        Parked { slot }
+    }
+
+    /// Takes away what waits for the answer of this slot.
+    pub(crate) fn leave(&mut self, slot: u64) -> Option<Waker>
+        ensures { tree.get nat_cmp self.new.parked slot ≡ None }
+    {
+        self.parked.remove(&slot)
+    }
+
+    /// The poll of this slot was answered, which may be told at this number: it waits for that from now on. Where the number
+    /// was rung, or there is no memory, its waker is handed out.
+    pub(crate) fn answer(&mut self, slot: u64, number: u64) -> Option<Waker>
+        ensures gone { tree.get nat_cmp self.new.parked slot ≡ None }
+        ensures goes_on { GoesOn self.old self.new slot number result }
+    {
+        let waker = self.parked.remove(&slot)?;
+        if number <= self.rung {
+            return Some(waker);
+        }
+        match self.numbered.insert((number, slot), waker) {
+            Ok(before) => before,
+            Err(refused) => Some(refused.value.1),
+        }
+    }
+
+    /// The parked task waits for this number from now on, as `answer` says.
+    pub(crate) fn go_on(&mut self, parked: Parked, number: u64) -> (Option<Waker>, Registered)
+        ensures under { IsUnder result.1 parked.slot number }
+        ensures goes_on { GoesOn self.old self.new parked.slot number result.0 }
+    {
+        let Parked { slot } = parked;
+        (self.answer(slot, number), Registered { slot, number })
+    }
+
+    // The next that waits for this number or one below.
+    fn next_up_to(&mut self, number: u64) -> Option<Waker>
+        ensures none { IfNone result (AreAbove number (tree.keys self.new.numbered)) }
+        ensures fewer { IfSome result (λ _. tree.btree_map_len self.new.numbered < tree.btree_map_len self.old.numbered) }
+        ensures same { (self.new.parked ≡ self.old.parked) × (self.new.rung ≡ self.old.rung) }
+    {
+        let (least, _) = self.numbered.first_key_value()?;
+        if number < least.0 {
+            return None;
+        }
+        let (_, waker) = self.numbered.pop_first()?;
+        Some(waker)
+    }
+
+    /// Takes all wakers of this number and below. One for which there is no room wakes its task here.
+    pub(crate) fn take_wakers(&mut self, number: u64) -> Vec<Waker>
+        ensures above { AreAbove number (tree.keys self.new.numbered) }
+        ensures rung { self.new.rung ≡ max self.old.rung number }
+        ensures parked { self.new.parked ≡ self.old.parked }
+    {
+        let mut wakers = mem::replace(&mut self.room, Vec::new(self.alloc));
+        while let Some(waker) = self.next_up_to(number) {
+            if let Err(refused) = wakers.push(waker) {
+                drop(refused);
+            }
+        }
+        self.rung = self.rung.max(number);
         wakers
+    }
+
+    /// Takes the wakers of all polls that wait for an answer, and wakes them.
+    pub(crate) fn wake_parked(&mut self)
+        ensures { self.new.parked.entries ≡ [] }
+    {
+        self.parked.clear();
     }
 
     /// Takes the room back that a ring had, where it is not less than what is here.
     pub(crate) fn give_back(&mut self, room: Vec<Waker>)
         requires empty { room.items ≡ [] }
-        ensures same { self.new.entries.items ≡ self.old.entries.items }
+        ensures numbered { self.new.numbered ≡ self.old.numbered }
+        ensures parked { self.new.parked ≡ self.old.parked }
         ensures room { vec_capacity room ≤ vec_capacity self.new.room }
     {
         if self.room.capacity() < room.capacity() {

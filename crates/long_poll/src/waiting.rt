@@ -3,12 +3,13 @@ ghost use Rattle.std.specs.Prelude.{◌≡◌, Some, None, IfSome, IfNone, OnSom
 ghost use Rattle.futures.specs.Task.{Covers, Keeps};
 ghost use Rattle.hall_core.specs.Hall.{slot_told};
 
-use crate::port::Port;
-use crate::waiters::Registered;
+use crate::port::{Arrived, Port};
+use crate::waiters::{Parked, Registered};
 use futures::Future;
 use futures::task::{Context, Poll};
 use group_commit::{Receipt, Ticket};
 use hall_core::Released;
+use receipts::{Mark, Trace};
 use std::mem;
 use std::sync::ledger::Ledger;
 use std::sync::{Arc, Wait};
@@ -18,8 +19,10 @@ use std::sync::{Arc, Wait};
 enum Progress {
     // What was issued when the request came is not durable yet, as far as the port knows.
     Issued(Ticket),
-    // It is durable. The reply may show more, or be computed later.
+    // It is durable. The reply may be computed later.
     Durable(Receipt),
+    // The reply was computed, and may be told once so much is durable.
+    Answered(Receipt, u64),
     // It was told.
     Told,
 }
@@ -32,31 +35,38 @@ enum Cause {
 }
 
 /// Waits for the reply of one slot, and gives it once it may be told. Where it is dropped before, the slot is forgotten.
-pub struct Waiting<R: Wait, L: Ledger> {
+pub struct Waiting<R: Wait, L: Ledger, T: Trace = Mark> {
     rt: R,
-    port: Arc<Port<L>>,
+    port: Arc<Port<L, T>>,
     slot: u64,
     progress: Progress,
 }
 
-impl<R: Wait, L: Ledger> Waiting<R, L> {
-    ghost use Rattle.long_poll.specs.Bell.{IsUnder, source_of};
-    ghost use Rattle.long_poll.specs.Waiting.{number_at};
+impl<R: Wait, L: Ledger, T: Trace> Waiting<R, L, T> {
+    ghost use Rattle.long_poll.specs.Bell.{IsUnder, IsParkedAt, source_of};
+    ghost use Rattle.long_poll.specs.Waiting.{number_at, number_for};
 
-    /// Waits for the reply of this slot of the port's office, which came with this ticket. It makes itself a place at the
-    /// bell; where there is no memory for one now, each poll tries again.
-    pub fn new(rt: R, port: Arc<Port<L>>, ticket: Ticket, slot: u64) -> Waiting<R, L>
-        ensures slot { result.slot ≡ slot }
-        ensures number { number_at result.progress ≡ Some ticket }
+    /// Waits for the reply of a request that came to this port.
+    pub fn new(rt: R, port: Arc<Port<L, T>>, arrived: Arrived) -> Waiting<R, L, T>
+        ensures slot { result.slot ≡ arrived.slot }
+        ensures number { number_at result.progress ≡ Some arrived.ticket }
         ensures port { result.port ≡ port }
     {
-        let entered = port.bell().enter(&rt, slot);
-        drop(entered);
         Waiting {
             rt,
             port,
-            slot,
-            progress: Progress::Issued(ticket),
+            slot: arrived.slot,
+            progress: Progress::Issued(arrived.ticket),
+        }
+    }
+
+    // The number for which the task registers: once that is durable, the office may be asked.
+    fn number(&self) -> u64
+        ensures { result ≡ number_for self.now.progress }
+    {
+        match &self.progress {
+            Progress::Issued(ticket) => ticket.number(),
+            _ => u64::MAX,
         }
     }
 
@@ -69,13 +79,21 @@ impl<R: Wait, L: Ledger> Waiting<R, L> {
         self.port.bell().register(&self.rt, self.slot, number, cx)
     }
 
-    // Looks at the board for a ticket, after the task has registered for its number: why the office may be asked, if it may.
-    fn check(&mut self, ticket: Ticket, registered: Registered) -> Option<Cause>
-        requires { IsUnder registered self.old.slot ticket }
+    // Registers for the slot's answer.
+    fn park(&self, cx: &mut Context<'_>) -> Parked
+        ensures under { IsParkedAt result self.now.slot }
+        ensures covers { Covers cx.new (λ source. source ≡ source_of self.now.port.value.bell.value) }
+        ensures kept { Keeps cx.old cx.new }
+    {
+        self.port.bell().park(&self.rt, self.slot, cx)
+    }
+
+    // Looks at the board for a ticket: why the office may be asked, if it may.
+    fn check(&mut self, ticket: Ticket) -> Option<Cause>
         ensures same { (self.new.slot ≡ self.old.slot) × (self.new.port ≡ self.old.port) }
         ensures number { number_at self.new.progress ≡ Some ticket }
+        ensures waits { IfNone result (number_for self.new.progress ≡ ticket) }
     {
-        drop(registered);
         match self.port.check(&self.rt, ticket) {
             Ok(receipt) => {
                 self.progress = Progress::Durable(receipt);
@@ -88,46 +106,136 @@ impl<R: Wait, L: Ledger> Waiting<R, L> {
         }
     }
 
-    // Why the office may be asked. Where it may not, the task has registered.
+    // Looks whether the office may be asked, and why.
+    fn look(&mut self) -> Option<Cause>
+        ensures same { (self.new.slot ≡ self.old.slot) × (self.new.port ≡ self.old.port) }
+        ensures number { number_at self.new.progress ≡ number_at self.old.progress }
+    {
+        match mem::replace(&mut self.progress, Progress::Told) {
+            Progress::Issued(ticket) => self.check(ticket),
+            Progress::Durable(receipt) => {
+                self.progress = Progress::Durable(receipt);
+                Some(Cause::Durable(receipt))
+            }
+            Progress::Answered(receipt, number) => {
+                self.progress = Progress::Answered(receipt, number);
+                Some(Cause::Durable(receipt))
+            }
+            Progress::Told => None,
+        }
+    }
+
+    // Looks again, after the task has registered for its number.
+    fn look_again(&mut self, registered: Registered) -> Option<Cause>
+        requires { IsUnder registered self.old.slot (number_for self.old.progress) }
+        ensures same { (self.new.slot ≡ self.old.slot) × (self.new.port ≡ self.old.port) }
+        ensures number { number_at self.new.progress ≡ number_at self.old.progress }
+    {
+        drop(registered);
+        self.look()
+    }
+
+    // Why the office may be asked. Where it may not, the task has registered, and looked after that.
     fn cause(&mut self, cx: &mut Context<'_>) -> Option<Cause>
         ensures same { (self.new.slot ≡ self.old.slot) × (self.new.port ≡ self.old.port) }
         ensures number { number_at self.new.progress ≡ number_at self.old.progress }
         ensures covers { IfNone result (Covers cx.new (λ source. source ≡ source_of self.old.port.value.bell.value)) }
         ensures kept { Keeps cx.old cx.new }
     {
-        match mem::replace(&mut self.progress, Progress::Told) {
-            Progress::Issued(ticket) => {
-                let registered = self.register(ticket.number(), cx);
-                self.check(ticket, registered)
-            }
-            Progress::Durable(receipt) => {
-                self.progress = Progress::Durable(receipt);
-                Some(Cause::Durable(receipt))
-            }
-            Progress::Told => {
-                self.register(0, cx);
-                None
-            }
+        let cause = self.look();
+        if cause.is_some() {
+            return cause;
         }
+        let registered = self.register(self.number(), cx);
+        self.look_again(registered)
     }
 
-    // Asks the office, of which there has to be a cause, after the task has registered for each ring.
-    fn ask(&mut self, cause: Cause, registered: Registered) -> Option<Released>
-        requires { IsUnder registered self.old.slot 0 }
+    // Takes the reply, if it may be told.
+    fn take(&mut self) -> Option<Released>
+        ensures same { (self.new.slot ≡ self.old.slot) × (self.new.port ≡ self.old.port) }
+        ensures slot { IfSome result (λ released. slot_told released ≡ self.old.slot) }
+        ensures told { OnSome result (number_at self.new.progress ≡ None) }
+        ensures waits { IfNone result (number_at self.new.progress ≡ number_at self.old.progress) }
+    {
+        let released = self.port.take(&self.rt, self.slot)?;
+        self.progress = Progress::Told;
+        Some(released)
+    }
+
+    // Asks the office, of which there has to be a cause.
+    fn ask(&mut self, cause: Cause) -> Option<Released>
         ensures same { (self.new.slot ≡ self.old.slot) × (self.new.port ≡ self.old.port) }
         ensures slot { IfSome result (λ released. slot_told released ≡ self.old.slot) }
         ensures told { OnSome result (number_at self.new.progress ≡ None) }
         ensures waits { IfNone result (number_at self.new.progress ≡ number_at self.old.progress) }
     {
         drop(cause);
+        self.take()
+    }
+
+    // Takes the reply, after the task has registered for the number at which it may be told.
+    fn take_registered(&mut self, registered: Registered) -> Option<Released>
+        requires { registered.slot ≡ self.old.slot }
+        ensures same { (self.new.slot ≡ self.old.slot) × (self.new.port ≡ self.old.port) }
+        ensures slot { IfSome result (λ released. slot_told released ≡ self.old.slot) }
+        ensures told { OnSome result (number_at self.new.progress ≡ None) }
+        ensures waits { IfNone result (number_at self.new.progress ≡ number_at self.old.progress) }
+    {
         drop(registered);
-        let released = self.port.take(&self.rt, self.slot)?;
-        self.progress = Progress::Told;
-        Some(released)
+        self.take()
+    }
+
+    // The number at which the reply may be told, if that is known.
+    fn known_point(&self) -> Option<u64> {
+        match &self.progress {
+            Progress::Answered(_, number) => Some(*number),
+            _ => None,
+        }
+    }
+
+    // Asks at which number the reply may be told, after the task has registered for the slot's answer.
+    fn ask_point(&mut self, parked: &Parked) -> Option<u64>
+        requires { IsParkedAt parked.now self.old.slot }
+        ensures same { (self.new.slot ≡ self.old.slot) × (self.new.port ≡ self.old.port) }
+        ensures number { number_at self.new.progress ≡ number_at self.old.progress }
+    {
+        let _ = parked;
+        let number = self.port.point(&self.rt, self.slot)?;
+        if let Progress::Durable(receipt) = &self.progress {
+            self.progress = Progress::Answered(*receipt, number);
+        }
+        Some(number)
+    }
+
+    // Registers for the slot's answer, and where that was computed, for its number. None where it was not.
+    fn register_again(&mut self, cx: &mut Context<'_>) -> Option<Registered>
+        ensures same { (self.new.slot ≡ self.old.slot) × (self.new.port ≡ self.old.port) }
+        ensures number { number_at self.new.progress ≡ number_at self.old.progress }
+        ensures under { IfSome result (λ registered. registered.slot ≡ self.old.slot) }
+        ensures covers { Covers cx.new (λ source. source ≡ source_of self.old.port.value.bell.value) }
+        ensures kept { Keeps cx.old cx.new }
+    {
+        if let Some(number) = self.known_point() {
+            return Some(self.register(number, cx));
+        }
+        let parked = self.park(cx);
+        let number = self.ask_point(&parked)?;
+        Some(self.port.bell().go_on(&self.rt, parked, number))
+    }
+
+    // Waits for the reply: for the slot's answer, and where that was computed, for its number.
+    fn wait(&mut self, cx: &mut Context<'_>) -> Option<Released>
+        ensures same { (self.new.slot ≡ self.old.slot) × (self.new.port ≡ self.old.port) }
+        ensures slot { IfSome result (λ released. slot_told released ≡ self.old.slot) }
+        ensures covers { IfNone result (Covers cx.new (λ source. source ≡ source_of self.old.port.value.bell.value)) }
+        ensures kept { Keeps cx.old cx.new }
+    {
+        let registered = self.register_again(cx)?;
+        self.take_registered(registered)
     }
 }
 
-impl<R: Wait + Drop, L: Ledger> Future for Waiting<R, L> {
+impl<R: Wait + Drop, L: Ledger, T: Trace> Future for Waiting<R, L, T> {
     type Output = Released;
 
     ghost use Rattle.long_poll.specs.Bell.{source_of};
@@ -140,15 +248,17 @@ impl<R: Wait + Drop, L: Ledger> Future for Waiting<R, L> {
         let Some(cause) = self.cause(cx) else {
             return Poll::Pending;
         };
-        let registered = self.register(0, cx);
-        match self.ask(cause, registered) {
+        if let Some(released) = self.ask(cause) {
+            return Poll::Ready(released);
+        }
+        match self.wait(cx) {
             Some(released) => Poll::Ready(released),
             None => Poll::Pending,
         }
     }
 }
 
-impl<R: Wait + Drop, L: Ledger> Drop for Waiting<R, L> {
+impl<R: Wait + Drop, L: Ledger, T: Trace> Drop for Waiting<R, L, T> {
     fn drop(self) {
         let Waiting {
             rt,
@@ -156,8 +266,8 @@ impl<R: Wait + Drop, L: Ledger> Drop for Waiting<R, L> {
             slot,
             progress,
         } = self;
-        port.bell().leave(&rt, slot);
         if !matches!(progress, Progress::Told) {
+            port.bell().leave(&rt, slot);
             port.forget(&rt, slot);
         }
     }

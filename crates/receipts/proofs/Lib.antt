@@ -4,3 +4,4 @@ pub mod Settled
 pub mod Refused
 pub mod UnderLock
 pub mod Running
+pub mod Histories

@@ -126,7 +126,7 @@ runs_moved old new opened same parts runs =
     (λ past stands. stands_moved (hall_in old) (hall_in new) past stands settings table
     (subst (λ (i : IssueHalf). (half_view i).stands past.history) (sym same) stands.history) parts) runs
 
-same_stands : (old new : HallView) → IsSameHall old new → (past : Past) → StandsFor old past → StandsFor new past
+pub same_stands : (old new : HallView) → IsSameHall old new → (past : Past) → StandsFor old past → StandsFor new past
 same_stands old new same past stands = record {
   history = (same.issuer.stands past.history).1 stands.history;
   environments = rw (same.issuer.settings, same.issuer.table, same.environments) stands.environments;

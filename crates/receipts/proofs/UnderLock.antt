@@ -12,6 +12,7 @@ use Rattle.group_commit.specs.declared.error.WriteError.TheVariants as write_err
 use Rattle.group_commit.specs.declared.error.SettleError.{SettleError}
 use Rattle.group_commit.specs.declared.error.SettleError.TheVariants as settle_error
 use Rattle.group_commit.specs.Issuer.{IssuerView, IsSameIssuer, issued_in}
+use Rattle.group_commit.specs.IssuerHalf.{half_view}
 use Rattle.group_commit.specs.Batch.{cause_of}
 use Rattle.group_commit.specs.Lending.{SettlesBy, IsNotSettled}
 use Rattle.group_commit.specs.Writing.{IsRefusedAs}
@@ -19,13 +20,15 @@ use Rattle.hall_core.specs.declared.error.HallError.{HallError}
 use Rattle.hall_core.specs.declared.error.HallError.TheVariants as error
 use Rattle.hall_core.specs.declared.issuing.Issued.{Issued}
 use Rattle.hall_core.specs.Past.{HallCall}
-use Rattle.hall_core.specs.Hall.{HallView, IsSameHall, CanBeAsked, Does, request}
+use Rattle.hall_core.specs.Run.{past_after}
+use Rattle.hall_core.specs.Hall.{HallView, settings_in, IsSameHall, CanBeAsked, Does, IssuesAtMostOne, request}
 use Rattle.hall_core.specs.Halves.{lend_error_of, write_error_of, settle_error_of, IsNotLent, IsNotDurable}
 use Rattle.receipts.specs.declared.mark.Mark.{Mark}
 use Rattle.receipts.specs.Marks.{marks_by}
 use Rattle.receipts.specs.Answers.{IsMismatch}
 use Rattle.receipts.specs.Kept.{number_of}
 use Rattle.receipts.specs.Serving.{IsToldOf}
+use Rattle.receipts.proofs.Running.{same_stands}
 use Rattle.receipts.specs.UnderLock.{DoesAt, AnswersItsNumber, next_slot, Asking, ComesToHall, IsTurnedAway, HallRefuses, IsNotMade, IsNoFault}
 
 -- ## What was done
@@ -52,6 +55,17 @@ module _ (old new : HallView) (call : HallCall) (issued : Option Issued) (does :
 
   pub answers_number : (answer : Option ℕ) → answer ≡ option_map number_of issued → AnswersItsNumber old call answer
   answers_number answer is past stands = is ∙ ap (option_map number_of) (does past stands).0
+
+-- what hands out the answered polls does nothing
+pub does_still : (old mid new : HallView) (call : HallCall) (issued : Option Issued) → IsSameHall mid new → Does old mid call issued
+    → Does old new call issued
+does_still old mid new call issued same does past stands =
+    let done = does past stands in
+    (done.0, same_stands mid new same (past_after (settings_in old) past call) done.1)
+
+pub issues_still : (half mid new : IssueHalf) (issued : Option Issued) → new ≡ mid → IssuesAtMostOne (half_view half) (half_view mid) issued
+    → IssuesAtMostOne (half_view half) (half_view new) issued
+issues_still half mid new issued same issues = subst (λ (i : IssueHalf). IssuesAtMostOne (half_view half) (half_view i) issued) (sym same) issues
 
 -- ## What is told of a write
 

@@ -1,5 +1,5 @@
 -- Marks: what an office keeps of the commands that were issued since it was opened.
-use Rattle.std.specs.Prelude.{◌≡◌, ℕ, ◌+◌, Bool, ◌==◌, List, [], ◌∷◌, length, map, filter, sum_by, Option, Some, None}
+use Rattle.std.specs.Prelude.{◌≡◌, ◌≢◌, ℕ, ◌+◌, Bool, ◌==◌, List, [], ◌∷◌, length, map, filter, sum_by, slice_get, Option, Some, None}
 use Rattle.std.specs.List.{range_with_len}
 use Rattle.hall_core.specs.declared.issuing.Issued.{Issued}
 use Rattle.receipts.specs.declared.mark.Mark.{Mark}
@@ -19,6 +19,18 @@ is_of desk mark = mark.desk == desk
 -- the history of a desk: the marks that have its number
 abbrev pub history_of_desk : ℕ → List Mark → List Mark
 history_of_desk desk marks = filter (is_of desk) marks
+
+-- a call of a desk, from marks and own marks to those afterwards: own marks that were the desk's history still are it, and the
+-- histories of the others stay
+abbrev pub KeepsHistories : ℕ → List Mark → List Mark → List Mark → List Mark → Type 0
+KeepsHistories desk marks own later later_own =
+    (own ≡ history_of_desk desk marks → later_own ≡ history_of_desk desk later)
+    × ((other : ℕ) → other ≢ desk → history_of_desk other later ≡ history_of_desk other marks)
+
+-- the desk at each place has the number of the place, and its own marks are its history
+abbrev pub AreHistories : {X : Type 0} → (X → ℕ) → (X → List Mark) → List Mark → List X → Type 0
+AreHistories {X = X} number own marks desks =
+    (place : ℕ) (desk : X) → slice_get desks place ≡ Some desk → (number desk ≡ place) × (own desk ≡ history_of_desk place marks)
 
 abbrev pub numbers_of : List Mark → List ℕ
 numbers_of marks = map (λ (mark : Mark). mark.number) marks

@@ -91,11 +91,11 @@ fn are_histories<L: Ledger>(all: &[Mark], desks: &[Desk<L>]) -> bool
 #[derive(Drop)]
 pub(crate) struct NotClosed<D: Disk, L: Ledger> {
     pub(crate) cause: FinishError,
-    pub(crate) kept: Kept<L>,
+    pub(crate) kept: Kept<L, Mark>,
     pub(crate) disk: DiskHalf<D>,
 }
 
-impl<L: Ledger> Kept<L> {
+impl<L: Ledger> Kept<L, Mark> {
     // Whether these are all its desks, each with its own marks.
     fn has_all(&self, desks: &[Desk<L>]) -> bool
         ensures { IsTrue result ↔ AreAll (λ d. d.number) (λ d. d.own.items) L.parts self.now.marks.all.items desks.now }
@@ -107,7 +107,7 @@ impl<L: Ledger> Kept<L> {
     fn join<D: Disk>(
         self,
         disk: DiskHalf<D>,
-    ) -> Result<(Hall<Broker<D>>, Marks<L>), NotClosed<D, L>>
+    ) -> Result<(Hall<Broker<D>>, Marks<L, Mark>), NotClosed<D, L>>
         ensures marks { IfOk result (λ r. r.1.all.items ≡ self.marks.all.items) }
         ensures joined { IfOk result (λ r. Joins self.hall.issuer (broker_of disk) r.0.issuer) }
         ensures err { IfErr result (λ failure. IsNotMismatch failure.cause) }
@@ -144,7 +144,7 @@ impl<L: Ledger> Kept<L> {
         self,
         desks: &[Desk<L>],
         disk: DiskHalf<D>,
-    ) -> Result<(Hall<Broker<D>>, Marks<L>), NotClosed<D, L>>
+    ) -> Result<(Hall<Broker<D>>, Marks<L, Mark>), NotClosed<D, L>>
         ensures all { OnOk result (AreAll (λ d. d.number) (λ d. d.own.items) L.parts self.marks.all.items desks.now) }
         ensures some { 0 < L.parts }
         ensures marks { IfOk result (λ r. r.1.all.items ≡ self.marks.all.items) }

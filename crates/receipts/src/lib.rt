@@ -1,13 +1,15 @@
 //! The office: one hall under a lock, and a desk for each thread that asks it.
 //!
 //! Under the lock the office marks each command that was issued since it was opened, and each desk keeps the marks of its
-//! own. The crates above use that what a desk was told is never undercut, that a call adds the mark of the command that it
-//! tells and no other, and that at the end each desk has its history among all marks. Whenever the lock is free the table
-//! tells what the marks tell.
+//! own. What is kept of a mark is a type parameter, a `Trace`: the mark itself, or `Gone`, which has no bytes and which
+//! proofs alone see. The crates above use that what a desk was told is never undercut, that a call adds the mark of the
+//! command that it tells and no other, and that at the end each desk that kept its marks has its history among all marks.
+//! Whenever the lock is free the table tells what the marks tell.
 #![tactic(auto)]
 
 mod desk;
 mod desk_count;
+mod drill;
 mod error;
 mod finishing;
 mod kept;
@@ -15,10 +17,13 @@ pub mod laws;
 mod mark;
 mod marks;
 mod office;
+mod opening;
 mod unlocked;
 
 pub use desk::{Desk, desks};
+pub use drill::{Ask, Step};
 pub use error::{FinishError, FinishFailure, OfficeFailure, UnlockedFailure};
-pub use mark::Mark;
+pub use mark::{Gone, Mark, SharedTrace, Trace};
 pub use office::Office;
+pub use opening::{GoneTable, OpeningTrace, SharedOpening};
 pub use unlocked::Unlocked;

@@ -1,16 +1,17 @@
 // The marks of all desks, and the book that counts them.
-ghost use Rattle.std.specs.Prelude.{◌≡◌, ◌+◌, ◌<◌, ◌++◌, ◌∷◌, [], OnOk, length, vec_len, vec_capacity};
+ghost use Rattle.std.specs.Prelude.{◌≡◌, ◌+◌, ◌<◌, ◌++◌, ◌∷◌, [], map, OnOk, length, vec_len, vec_capacity};
 ghost use Rattle.receipts.specs.Marks.{sum_of_lists};
 
 use crate::desk::Desk;
-use crate::mark::Mark;
+use crate::mark::{Mark, Trace};
 use std::alloc::{AllocError, Global};
 use std::sync::ledger::{Book, Ledger, Share};
 
 /// The marks of all commands since the opening, in order.
 #[derive(Drop)]
-pub(crate) struct Marks<L: Ledger> {
-    pub(crate) all: Vec<Mark>,
+pub(crate) struct Marks<L: Ledger, T: Trace> {
+    /// What is kept of them.
+    pub(crate) all: Vec<T>,
     /// The sum of what all desks have.
     pub(crate) book: Book<L>,
     ghost counted: { vec_len all ≡ book.total },
@@ -30,9 +31,9 @@ fn gather<L: Ledger>(share: Share<L>, desks: Vec<Desk<L>>) -> Share<L>
     gathered
 }
 
-impl<L: Ledger> Marks<L> {
+impl<L: Ledger, T: Trace> Marks<L, T> {
     /// None. It takes no memory.
-    pub(crate) fn new(alloc: Global, book: Book<L>) -> Marks<L>
+    pub(crate) fn new(alloc: Global, book: Book<L>) -> Marks<L, T>
         requires { book.total ≡ 0 }
         ensures { result.all.items ≡ [] }
     {
@@ -43,10 +44,11 @@ impl<L: Ledger> Marks<L> {
     }
 
     /// Makes room for one mark more here and at the desk.
-    pub(crate) fn reserve(&mut self, desk: &mut Desk<L>) -> Result<(), AllocError>
+    pub(crate) fn reserve(&mut self, desk: &mut Desk<L, T>) -> Result<(), AllocError>
         ensures all { self.new.all.items ≡ self.old.all.items }
         ensures own { desk.new.own.items ≡ desk.old.own.items }
         ensures desk { (desk.new.number ≡ desk.old.number) × (desk.new.told ≡ desk.old.told) }
+        ensures answered { desk.new.answered ≡ desk.old.answered }
         ensures room_here { OnOk result (vec_len self.new.all < vec_capacity self.new.all) }
         ensures room_there { OnOk result (vec_len desk.new.own < vec_capacity desk.new.own) }
     {
@@ -56,19 +58,22 @@ impl<L: Ledger> Marks<L> {
     }
 
     /// Adds a mark here and at the desk, where there is room. It takes no memory.
-    pub(crate) fn add(&mut self, desk: &mut Desk<L>, mark: Mark)
+    pub(crate) fn add(&mut self, desk: &mut Desk<L, T>, mark: Mark)
         requires room_here { vec_len self.old.all < vec_capacity self.old.all }
         requires room_there { vec_len desk.old.own < vec_capacity desk.old.own }
-        ensures all { self.new.all.items ≡ self.old.all.items ++ mark ∷ [] }
-        ensures own { desk.new.own.items ≡ desk.old.own.items ++ mark ∷ [] }
+        ensures all { map T.mark self.new.all.items ≡ map T.mark self.old.all.items ++ mark ∷ [] }
+        ensures own { map T.mark desk.new.own.items ≡ map T.mark desk.old.own.items ++ mark ∷ [] }
         ensures desk { (desk.new.number ≡ desk.old.number) × (desk.new.told ≡ desk.old.told) }
     {
         let Marks { all, book } = self;
         let Desk { own, share, .. } = desk;
-        own.push_reserved(mark);
-        all.push_reserved(mark);
+        own.push_reserved(T::of(&mark));
+        all.push_reserved(T::of(&mark));
         book.add(share, 1);
     }
+}
+
+impl<L: Ledger> Marks<L, Mark> {
     /// All marks. The desks, of which there are as many as the ledger has parts, have just so many together.
     pub(crate) fn into_list(self, desks: Vec<Desk<L>>) -> Vec<Mark>
         requires some { 0 < L.parts }

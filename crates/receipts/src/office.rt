@@ -20,11 +20,12 @@ use crate::desk::{Desk, desks};
 use crate::desk_count::DeskCount;
 use crate::error::OfficeFailure;
 use crate::kept::{Kept, Loan};
+use crate::mark::{Mark, Trace};
 use crate::marks::Marks;
+use crate::opening::OpeningTrace;
 use api_core::Call;
 use group_commit::{Broker, DiskHalf, Durable, SplitError, Ticket};
 use hall_core::{Hall, HallError, Released};
-use invoke_records::Snapshot;
 use sector_disk::Disk;
 use std::alloc::{AllocError, Global};
 use std::sync::ledger::{Blank, Ledger, Share};
@@ -32,32 +33,32 @@ use std::sync::{Mutex, Wait};
 
 /// A hall under a lock. Threads share it by reference, each with a desk of its own.
 #[derive(Drop)]
-pub struct Office<L: Ledger> {
-    pub(crate) kept: Mutex<Kept<L>>,
+pub struct Office<L: Ledger, T: Trace = Mark> {
+    pub(crate) kept: Mutex<Kept<L, T>>,
 }
 
-// A copy of the table, and room for so many desks.
-fn make_room<D: Disk, L: Ledger>(
+// What is kept of the table, and room for so many desks.
+fn make_room<D: Disk, L: Ledger, T: Trace>(
     alloc: Global,
     hall: &Hall<Broker<D>>,
     count: u64,
-) -> Result<(Snapshot, Vec<Desk<L>>), AllocError>
-    ensures opening { IfOk result (λ r. r.0 ≡ table_in hall.now.issuer) }
+) -> Result<(T::Opening, Vec<Desk<L, T>>), AllocError>
+    ensures opening { IfOk result (λ r. T.Opening.table r.0 ≡ table_in hall.now.issuer) }
     ensures none { IfOk result (λ r. r.1.items ≡ []) }
     ensures room { IfOk result (λ r. vec_capacity r.1 ≡ count) }
 {
-    let opening = hall.table().snapshot()?;
+    let opening = T::Opening::of(hall.table())?;
     let desks = Vec::with_capacity(alloc, count as usize)?;
     Ok((opening, desks))
 }
 
 // The same over a hall that is not broken.
-fn prepare<D: Disk, L: Ledger>(
+fn prepare<D: Disk, L: Ledger, T: Trace>(
     alloc: Global,
     hall: &Hall<Broker<D>>,
     count: u64,
-) -> Result<(Snapshot, Vec<Desk<L>>), SplitError>
-    ensures opening { IfOk result (λ r. r.0 ≡ table_in hall.now.issuer) }
+) -> Result<(T::Opening, Vec<Desk<L, T>>), SplitError>
+    ensures opening { IfOk result (λ r. T.Opening.table r.0 ≡ table_in hall.now.issuer) }
     ensures none { IfOk result (λ r. r.1.items ≡ []) }
     ensures room { IfOk result (λ r. vec_capacity r.1 ≡ count) }
     ensures reason { IfErr result (IsSplitReason hall.now.issuer) }
@@ -72,7 +73,12 @@ fn prepare<D: Disk, L: Ledger>(
 }
 
 // So many desks, each with one part of the share and no mark. There is room for them.
-fn seat<L: Ledger>(alloc: Global, room: Vec<Desk<L>>, share: Share<L>, count: u64) -> Vec<Desk<L>>
+fn seat<L: Ledger, T: Trace>(
+    alloc: Global,
+    room: Vec<Desk<L, T>>,
+    share: Share<L>,
+    count: u64,
+) -> Vec<Desk<L, T>>
     requires none { room.items ≡ [] }
     requires room { vec_capacity room ≡ count }
     requires few { count ≤ 32 }
@@ -91,12 +97,13 @@ fn seat<L: Ledger>(alloc: Global, room: Vec<Desk<L>>, share: Share<L>, count: u6
             told: 0,
             own: Vec::new(alloc),
             share,
+            answered: Vec::new(alloc),
         });
     }
     desks
 }
 
-impl<L: Ledger> Office<L> {
+impl<L: Ledger, T: Trace> Office<L, T> {
     /// Opens an office over a new hall in which nothing is pending: the hall goes on over the half of its broker that issues,
     /// under the lock, and the half over the disk, which is the hall's broker, is for whoever commits. There are as many desks
     /// as `desks` says of the settings, which is the number of parts of the blank ledger.
@@ -106,7 +113,7 @@ impl<L: Ledger> Office<L> {
         alloc: Global,
         hall: Hall<Broker<D>>,
         blank: Blank,
-    ) -> Result<(Office<L>, Vec<Desk<L>>, DiskHalf<D>), OfficeFailure<Hall<Broker<D>>>>
+    ) -> Result<(Office<L, T>, Vec<Desk<L, T>>, DiskHalf<D>), OfficeFailure<Hall<Broker<D>>>>
         requires nothing { pending_of hall.issuer ≡ [] }
         requires fresh { IsFresh (settings_of hall.issuer) hall }
         requires name { blank.name ≡ L.name }
@@ -152,8 +159,9 @@ impl<L: Ledger> Office<L> {
     }
 
     /// A request comes to this desk now, with two random words: it is done as `Hall::arrive` says, with a slot of its own,
-    /// and the desk gets a mark of the command that was issued, if it has one. It answers a ticket of all that its reply
-    /// shows, and the slot, from which `take` gives the reply once that is durable.
+    /// and the desk gets a mark of the command that was issued, if it has one, and the slots of the polls that it answered
+    /// (`Desk::take_answered`). It answers a ticket of all that its reply shows, and the slot, from which `take` gives the
+    /// reply once that is durable.
     ///
     /// It is refused, and changes nothing: `Mismatch` (fewer commands were issued than this desk was told), `WornOut` (2^58
     /// slots were counted), `Unfit` (the environment is not there, the text of an answer is above the settings' limit, or
@@ -161,39 +169,43 @@ impl<L: Ledger> Office<L> {
     pub fn arrive<R: Wait>(
         &self,
         rt: &R,
-        desk: &mut Desk<L>,
+        desk: &mut Desk<L, T>,
         call: Call,
         now: u64,
         words: [u64; 2],
     ) -> Result<(Ticket, u64), HallError>
-        ensures marks { IfOk result (λ r. AddsAtMostOne desk.old.number desk.old.own.items desk.new.own.items r.0) }
+        ensures marks { IfOk result (λ r.
+            AddsAtMostOne desk.old.number (map T.mark desk.old.own.items) (map T.mark desk.new.own.items) r.0) }
         ensures told { IfOk result (λ r. IsToldMore desk.old.told desk.new.told r.0) }
         ensures slot { IfOk result (λ r. IsSlotOf desk.old.number r.1) }
         ensures number { desk.new.number ≡ desk.old.number }
         ensures err { OnErr result ((desk.new.own.items ≡ desk.old.own.items) × (desk.new.told ≡ desk.old.told)) }
-        ensures asked { OnOk result (AddsAsked (drawn_by words) call desk.old.own.items desk.new.own.items) }
+        ensures asked { OnOk result (AddsAsked (drawn_by words) call (map T.mark desk.old.own.items) (map T.mark desk.new.own.items)) }
         ensures refused { IfErr result (IsArrivalRefusal desk.old.told) }
+        ensures kept_answered { OnErr result (desk.new.answered.items ≡ desk.old.answered.items) }
     {
         self.kept.lock(rt).arrive(desk, call, now, words)
     }
 
     /// Makes one move that is due now, as `Hall::tick` does, and answers the number of its command, of which the desk gets
-    /// the mark. None where nothing is due. A moment is at most the end of the year 9999.
+    /// the mark. None where nothing is due. The desk gets the slots of the polls that it answered (`Desk::take_answered`). A
+    /// moment is at most the end of the year 9999.
     ///
     /// It is refused, and changes nothing: `Mismatch` (fewer commands were issued than this desk was told), `OutOfMemory`,
     /// and as the hall refuses it.
     pub fn tick<R: Wait>(
         &self,
         rt: &R,
-        desk: &mut Desk<L>,
+        desk: &mut Desk<L, T>,
         now: u64,
     ) -> Result<Option<u64>, HallError>
         requires { now ≤ greatest_moment }
-        ensures marks { IfOk result (AddsAnswered desk.old.number desk.old.own.items desk.new.own.items) }
+        ensures marks { IfOk result (AddsAnswered desk.old.number (map T.mark desk.old.own.items) (map T.mark desk.new.own.items)) }
         ensures told { IfOk result (IsToldIfAny desk.old.told desk.new.told) }
         ensures number { desk.new.number ≡ desk.old.number }
         ensures err { OnErr result ((desk.new.own.items ≡ desk.old.own.items) × (desk.new.told ≡ desk.old.told)) }
         ensures refused { IfErr result (IsTickRefusal desk.old.told) }
+        ensures kept_answered { OnErr result (desk.new.answered.items ≡ desk.old.answered.items) }
     {
         self.kept.lock(rt).tick(desk, now)
     }
@@ -210,12 +222,13 @@ impl<L: Ledger> Office<L> {
     pub fn commit<D: Disk, R: Wait>(
         &self,
         rt: &R,
-        desk: &mut Desk<L>,
+        desk: &mut Desk<L, T>,
         disk: &mut DiskHalf<D>,
     ) -> Result<Durable, HallError>
         ensures told { IfOk result (IsToldMore desk.old.told desk.new.told) }
         ensures number { desk.new.number ≡ desk.old.number }
         ensures marks { desk.new.own.items ≡ desk.old.own.items }
+        ensures answered { desk.new.answered ≡ desk.old.answered }
         ensures err { OnErr result (desk.new.told ≡ desk.old.told) }
         ensures refused { IfErr result (IsCommitRefusal desk.old.told) }
         ensures disk { CommitsTo D.view D.fault_count (broker_of disk.old) (broker_of disk.new) result }
@@ -232,7 +245,7 @@ impl<L: Ledger> Office<L> {
     }
 
     /// The reply of a slot, where all that it shows is durable, as `Hall::take` gives it. It takes no memory.
-    pub fn take<R: Wait>(&self, rt: &R, desk: &mut Desk<L>, slot: u64) -> Option<Released>
+    pub fn take<R: Wait>(&self, rt: &R, desk: &mut Desk<L, T>, slot: u64) -> Option<Released>
         ensures slot { IfSome result (λ released. slot_told released ≡ slot) }
         ensures desk { desk.new ≡ desk.old }
     {
@@ -240,8 +253,17 @@ impl<L: Ledger> Office<L> {
         self.kept.lock(rt).take(slot)
     }
 
+    /// How many commands have to be durable before the reply of a slot is told, where it is computed and still wanted, as
+    /// `Hall::point` says. It takes no memory.
+    pub fn point<R: Wait>(&self, rt: &R, desk: &mut Desk<L, T>, slot: u64) -> Option<u64>
+        ensures desk { desk.new ≡ desk.old }
+    {
+        let _ = desk;
+        self.kept.lock(rt).point(slot)
+    }
+
     /// The reply of a slot is not wanted any more, as `Hall::forget` says. It takes no memory.
-    pub fn forget<R: Wait>(&self, rt: &R, desk: &mut Desk<L>, slot: u64)
+    pub fn forget<R: Wait>(&self, rt: &R, desk: &mut Desk<L, T>, slot: u64)
         ensures desk { desk.new ≡ desk.old }
     {
         let _ = desk;

@@ -1,5 +1,5 @@
 // An office out of its lock: what was kept under it can be seen.
-ghost use Rattle.std.specs.Prelude.{◌≡◌, ◌+◌, length, IfOk, IfErr, OnOk};
+ghost use Rattle.std.specs.Prelude.{◌≡◌, ◌+◌, map, length, IfOk, IfErr, OnOk};
 ghost use Rattle.group_commit.specs.Issuer.{issued_in};
 ghost use Rattle.group_commit.specs.Splitting.{broker_of, Joins, IsNotJoined};
 ghost use Rattle.receipts.specs.Desks.{AreAll, IsReason, IsWhyNotJoined};
@@ -12,31 +12,31 @@ use crate::desk::Desk;
 use crate::error::UnlockedFailure;
 use crate::finishing::NotClosed;
 use crate::kept::Kept;
-use crate::mark::Mark;
+use crate::mark::{Mark, Trace};
 use crate::office::Office;
 use group_commit::{Broker, DiskHalf, IssueHalf};
 use hall_core::Hall;
-use invoke_records::Snapshot;
 use sector_disk::Disk;
 use std::sync::Mutex;
 use std::sync::ledger::Ledger;
 
 /// An office that no thread shares, out of its lock.
 #[derive(Drop)]
-pub struct Unlocked<L: Ledger> {
-    pub(crate) kept: Kept<L>,
+pub struct Unlocked<L: Ledger, T: Trace = Mark> {
+    pub(crate) kept: Kept<L, T>,
 }
 
-impl<L: Ledger> Office<L> {
+impl<L: Ledger, T: Trace> Office<L, T> {
     /// Takes the office out of its lock. Its marks are numbered from the opening's number on, without a gap, up to all that
     /// was issued, and the table's counts, standings and moments are those of the opening's table followed by the marks. For
     /// each history that leaves the opening's table there is a run, of which no call was refused, that the hall stands for.
-    pub fn unlock(self) -> Unlocked<L>
-        ensures numbered { AreNumbered result.kept.opening.number result.kept.marks.all.items }
-        ensures issued { issued_in (issuer_in result.kept.hall) ≡ result.kept.opening.number + length result.kept.marks.all.items }
-        ensures follows { Follows (issuer_in result.kept.hall).settings result.kept.opening result.kept.marks.all.items
-            (issuer_in result.kept.hall).table }
-        ensures runs { ∥ HasRuns (hall_in result.kept.hall) result.kept.opening ∥₁ }
+    pub fn unlock(self) -> Unlocked<L, T>
+        ensures numbered { AreNumbered (T.Opening.table result.kept.opening).number (map T.mark result.kept.marks.all.items) }
+        ensures issued { issued_in (issuer_in result.kept.hall)
+            ≡ (T.Opening.table result.kept.opening).number + length (map T.mark result.kept.marks.all.items) }
+        ensures follows { Follows (issuer_in result.kept.hall).settings (T.Opening.table result.kept.opening)
+            (map T.mark result.kept.marks.all.items) (issuer_in result.kept.hall).table }
+        ensures runs { ∥ HasRuns (hall_in result.kept.hall) (T.Opening.table result.kept.opening) ∥₁ }
     {
         let Office { kept } = self;
         Unlocked {
@@ -45,9 +45,9 @@ impl<L: Ledger> Office<L> {
     }
 }
 
-impl<L: Ledger> Unlocked<L> {
+impl<L: Ledger, T: Trace> Unlocked<L, T> {
     /// Puts the office under a lock again.
-    pub fn lock(self) -> Office<L> {
+    pub fn lock(self) -> Office<L, T> {
         let Unlocked { kept } = self;
         Office {
             kept: Mutex::new(kept),
@@ -61,20 +61,22 @@ impl<L: Ledger> Unlocked<L> {
         &self.kept.hall
     }
 
-    /// The table at the opening.
-    pub fn opening(&self) -> &Snapshot
+    /// What is kept of the table at the opening.
+    pub fn opening(&self) -> &T::Opening
         ensures { result.now ≡ self.now.kept.opening }
     {
         &self.kept.opening
     }
 
-    /// The marks of all commands that were issued since the opening, in order.
-    pub fn marks(&self) -> &[Mark]
+    /// What is kept of the marks of all commands that were issued since the opening, in order.
+    pub fn marks(&self) -> &[T]
         ensures { result.now ≡ self.now.kept.marks.all.items }
     {
         &self.kept.marks.all
     }
+}
 
+impl<L: Ledger> Unlocked<L> {
     /// Closes the office: its hall, over the broker that the halves make again, and its marks.
     ///
     /// It is refused, and hands all back: `Mismatch` exactly where the desks do not have each desk number once, or a desk's

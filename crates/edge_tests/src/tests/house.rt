@@ -11,7 +11,7 @@ use api_core::Call;
 use group_commit::{Broker, DiskHalf, Durable};
 use hall_core::Hall;
 use invoke_records::Bytes;
-use receipts::{Desk, Office, desks};
+use receipts::{Desk, Mark, Office, desks};
 use sector_disk::Disk;
 use std::alloc::{AllocError, AllocGlobal, Global};
 use std::marker::Brand;
@@ -78,7 +78,7 @@ fn house_over<L: Ledger, D: Disk + Drop>(
     requires seats { L.parts ≡ desk_count (settings_of hall.issuer) }
 {
     let durable = hall.durable();
-    let Ok((office, desks, half)) = Office::<L>::new(alloc, hall, blank) else {
+    let Ok((office, desks, half)) = Office::<L, Mark>::new(alloc, hall, blank) else {
         return None;
     };
     let mut others: Vec<Desk<L>> = desks;

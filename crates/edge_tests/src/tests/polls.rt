@@ -26,8 +26,10 @@ pub enum Poll {
     Board,
     /// A reply is told once it is durable, the board shows it and the bell was rung, and not before.
     Invoke,
-    /// A poll that parks is told by the commit of the command that answers it, and one that is replaced after the next ring.
+    /// A poll that parks is told by the commit of the command that answers it, and one that is replaced at once.
     Parked,
+    /// Neither a request that does not answer a parked poll nor its commit has the poll look again.
+    Asleep,
     /// The second commit meets a fault: both open slots are told 503, though the board shows no more than before.
     Fault,
     /// A future that is dropped before its reply is told forgets its slot.
@@ -43,7 +45,7 @@ where
     D: Disk + Drop,
 {
     let ticket = match scene.arrive_invoke(1) {
-        Some((ticket, _)) => scene.check(ticket).err(),
+        Some(arrived) => scene.check(arrived.ticket).err(),
         None => None,
     };
     expect(rt, ticket.is_some(), "a ticket waits");
@@ -69,20 +71,13 @@ where
         "nothing is told before a commit",
     );
     expect(rt, scene.commit() == Ok(1), "a command is durable");
-    scene.ring(1);
     expect(
         rt,
-        scene.heard(pool).is_nothing(),
-        "nothing is told before the board shows it",
+        scene.heard(pool).has_waited(0),
+        "nobody looks before the ring",
     );
     scene.raise();
-    scene.ring(0);
-    expect(
-        rt,
-        scene.heard(pool).is_nothing(),
-        "nothing is told before the ring",
-    );
-    scene.ring(1);
+    scene.ring();
     expect(
         rt,
         scene.heard(pool).is_one(slot, 202),
@@ -106,18 +101,11 @@ where
     let second = scene.ask(pool, RUNTIME_NEXT, 1);
     expect(
         rt,
-        scene.heard(pool).is_nothing(),
-        "the second poll is parked",
-    );
-    scene.ring(0);
-    expect(
-        rt,
         scene.heard(pool).is_one(first, 409),
-        "the first poll is replaced",
+        "the first poll is replaced by the second, which is parked",
     );
     let accepted = scene.invoke(pool, 1);
     expect(rt, scene.tick() == 2, "the event starts");
-    scene.ring(0);
     expect(
         rt,
         scene.heard(pool).is_nothing(),
@@ -135,6 +123,38 @@ where
         "both are told",
     );
     expect(rt, scene.open_slots() == 0, "no slot is open");
+}
+
+fn a_sleeping_poll<R, L, D>(rt: &R, scene: &mut Scene<R, L, D>, pool: &mut Pool<R, L>)
+where
+    R: Abort + Wait + RandomSource + AllocGlobal + Copy + Drop,
+    L: Ledger,
+    D: Disk + Drop,
+{
+    let parked = scene.ask(pool, RUNTIME_NEXT, 1);
+    expect(rt, scene.heard(pool).has_waited(1), "the poll is parked");
+    let accepted = scene.invoke(pool, 1);
+    expect(
+        rt,
+        scene.heard(pool).has_waited(1),
+        "only the invoke has looked",
+    );
+    expect(rt, scene.commit_and_tell() == Ok(1), "a command is durable");
+    let heard = scene.heard(pool);
+    expect(rt, heard.is_one(accepted, 202), "the invoke is told 202");
+    expect(rt, heard.has_waited(0), "the parked poll has not looked");
+    expect(rt, scene.tick() == 2, "the event starts");
+    expect(
+        rt,
+        scene.heard(pool).has_waited(0),
+        "nobody looks before the commit",
+    );
+    expect(rt, scene.commit_and_tell() == Ok(2), "the start is durable");
+    expect(
+        rt,
+        scene.heard(pool).is_one(parked, 200),
+        "the parked poll is told the event",
+    );
 }
 
 fn a_fault<R, L, D>(rt: &R, scene: &mut Scene<R, L, D>, pool: &mut Pool<R, L>)
@@ -235,6 +255,7 @@ where
     match which {
         Poll::Invoke => an_invoke(rt, scene, &mut pool),
         Poll::Parked => parked_polls(rt, scene, &mut pool),
+        Poll::Asleep => a_sleeping_poll(rt, scene, &mut pool),
         _ => a_fault(rt, scene, &mut pool),
     }
     true
@@ -298,6 +319,11 @@ fn an_invoke_is_told_after_its_commit(rt: HostRuntime) -> Result<(), Fail> {
 #[test]
 fn parked_polls_are_told_when_they_are_answered(rt: HostRuntime) -> Result<(), Fail> {
     tell_of(rt, 0, Poll::Parked)
+}
+
+#[test]
+fn a_parked_poll_is_woken_by_the_commit_of_its_answer_alone(rt: HostRuntime) -> Result<(), Fail> {
+    tell_of(rt, 0, Poll::Asleep)
 }
 
 #[test]

@@ -6,6 +6,7 @@ ghost use Rattle.receipts.specs.Desks.{desk_count};
 
 mod clients;
 mod crowd;
+mod limits;
 mod talks;
 
 use crate::tests::disks::{NO_TROUBLE, SECTORS, Trouble, Watch, format_disk, hall, hall_over};
@@ -17,7 +18,7 @@ use crate::tests::ports::talks::{Leaving, Party, Talk, talk_at};
 use group_commit::Broker;
 use hall_core::Hall;
 use http_front::serve;
-use receipts::desks;
+use receipts::{Gone, SharedOpening, SharedTrace, desks};
 use sector_disk::{Disk, FileDisk};
 use std::alloc::{AllocGlobal, Global};
 use std::fs::File;
@@ -53,7 +54,7 @@ where
 }
 
 // Serves a hall while a thread talks to its ports: what that was told. None where the front does not end as it has to.
-fn serve_talk<R, L, D>(
+fn serve_talk<R, L, T, D>(
     rt: R,
     hall: Hall<Broker<D>>,
     blank: Blank,
@@ -74,6 +75,8 @@ where
         + Sync
         + 'static,
     L: Ledger + Send + Sync + 'static,
+    T: SharedTrace + 'static,
+    T::Opening: SharedOpening + 'static,
     D: Disk + Drop,
     requires nothing { pending_of hall.issuer ≡ [] }
     requires fresh { IsFresh (settings_of hall.issuer) hall }
@@ -84,7 +87,7 @@ where
     let (listeners, doors) = doors(&rt, rt.alloc()).ok()?;
     let clients = thread::spawn(&rt, move || talk_at(&rt, doors, &watch, talk)).ok()?;
     let gate = AtLeast::new(talk.pending());
-    let served = serve::<R, L, D, AtLeast>(rt, hall, blank, listeners, &gate).ok();
+    let served = serve::<R, L, T, D, AtLeast>(rt, hall, blank, listeners, &gate).ok();
     let told = clients.join(&rt);
     if served?.ending == talk.ending() {
         Some(told)
@@ -94,7 +97,7 @@ where
 }
 
 // Serves a hall over a disk in which nothing has come yet: what a client was told.
-fn serve_hall<R, D>(
+fn serve_hall<R, D, T>(
     rt: R,
     hall: Hall<Broker<D>>,
     watch: Arc<Watch>,
@@ -114,11 +117,13 @@ where
         + Sync
         + 'static,
     D: Disk + Drop,
+    T: SharedTrace + 'static,
+    T::Opening: SharedOpening + 'static,
     requires nothing { pending_of hall.issuer ≡ [] }
     requires fresh { IsFresh (settings_of hall.issuer) hall }
 {
     let blank = Blank::new(desks(hall.table().settings()));
-    match serve_talk::<R, Brand, D>(rt, hall, blank, watch, talk) {
+    match serve_talk::<R, Brand, T, D>(rt, hall, blank, watch, talk) {
         Some(told) => Ok(told),
         None => Err(Fail::new("the front did not end as it has to")),
     }
@@ -143,7 +148,7 @@ where
     let watch = Arc::new(rt.alloc(), Watch::new(trouble))?;
     let theirs = Arc::try_clone(&watch)?;
     let hall = hall(rt.alloc(), &watch)?;
-    drop(serve_hall(rt, hall, theirs, talk)?);
+    drop(serve_hall::<_, _, Gone>(rt, hall, theirs, talk)?);
     if watch.is_late() {
         return Err(Fail::new("the disk waited in vain"));
     }
@@ -258,7 +263,7 @@ where
         return Err(Fail::new("the file is not opened"));
     };
     let watch = Arc::new(rt.alloc(), Watch::new(NO_TROUBLE))?;
-    serve_hall(rt, hall_over(rt.alloc(), disk)?, watch, talk)
+    serve_hall::<_, _, Gone>(rt, hall_over(rt.alloc(), disk)?, watch, talk)
 }
 
 // Formats a disk in a new file.

@@ -3,7 +3,7 @@ use Rattle.std.specs.Prelude.{◌≡◌, ℕ, ◌≤◌, Bool, List, [], ◌∷�
 use Rattle.std.proofs.Common.{arith, get_or}
 use Rattle.std.proofs.lemmas.List.Elements.{All-nil, All-cons, All-append}
 use Rattle.receipts.specs.Answers.{IsToldMore}
-use Rattle.commit_loop.specs.Committer.{Step, counted, committed, failed, commit_step, raised, said_broken, rang, slept}
+use Rattle.commit_loop.specs.Committer.{Step, counted, committed, failed, commit_step, raised, said_broken, rang, rang_all, slept}
 use Rattle.http_front.specs.Learning.{Known, known, IsKnown, HasLearned}
 
 -- what was known is known later
@@ -13,7 +13,8 @@ IsKnown-later old new (committed durable) told seen before = omega arith
 IsKnown-later old new (failed broke) told seen before = tt
 IsKnown-later old new (raised durable) told seen before = omega arith
 IsKnown-later old new said_broken told seen before = tt
-IsKnown-later old new rang told seen before = tt
+IsKnown-later old new (rang durable) told seen before = tt
+IsKnown-later old new rang_all told seen before = tt
 IsKnown-later old new slept told seen before = tt
 
 pub learned_nothing : (now : Known) → HasLearned now [] now

@@ -8,7 +8,7 @@ use futures::executor::LocalPool;
 use futures::task::{Context, Poll};
 use group_commit::{DiskHalf, Durable, Receipt, Ticket};
 use hall_core::HallError;
-use long_poll::{Bell, Port, Waiting};
+use long_poll::{Arrived, Bell, Port, Waiting};
 use receipts::{Desk, Office};
 use sector_disk::Disk;
 use std::alloc::{AllocGlobal, Global};
@@ -23,9 +23,9 @@ const POLLS: usize = 1000;
 const NO_SLOT: u64 = u64::MAX;
 
 /// The slot of what has arrived.
-pub fn slot_of(arrived: &Option<(Ticket, u64)>) -> u64 {
+pub fn slot_of(arrived: &Option<Arrived>) -> u64 {
     match arrived {
-        Some((_, slot)) => *slot,
+        Some(arrived) => arrived.slot,
         None => NO_SLOT,
     }
 }
@@ -39,6 +39,8 @@ pub struct Heard {
     count: usize,
     first: Reply,
     second: Reply,
+    /// How many polls were pending.
+    pending: usize,
 }
 
 impl Heard {
@@ -50,6 +52,11 @@ impl Heard {
     /// Whether this reply was told, and no other.
     pub fn is_one(self, slot: u64, status: u16) -> bool {
         self.count == 1 && self.first == (slot, status)
+    }
+
+    /// Whether just so many polls were made in vain.
+    pub fn has_waited(self, pending: usize) -> bool {
+        self.pending == pending
     }
 
     /// Whether these two replies were told, in whatever order, and no other.
@@ -72,7 +79,11 @@ impl<R: Wait + Drop, L: Ledger> Future for Noted<R, L> {
 
     fn poll(&mut self, cx: &mut Context<'_>) -> Poll<()> {
         let released = match self.waiting.poll(cx) {
-            Poll::Pending => return Poll::Pending,
+            Poll::Pending => {
+                let mut heard = self.told.lock(&self.rt);
+                heard.pending = heard.pending.saturating_add(1);
+                return Poll::Pending;
+            }
             Poll::Ready(released) => released,
         };
         let reply = (released.slot(), released.into_reply().status);
@@ -94,6 +105,7 @@ const NOTHING: Heard = Heard {
     count: 0,
     first: (0, 0),
     second: (0, 0),
+    pending: 0,
 };
 
 #[derive(Drop)]
@@ -129,9 +141,10 @@ fn port<L: Ledger>(
     office: Office<L>,
     desk: Desk<L>,
     seated: Seated,
+    durable: Durable,
 ) -> Option<Arc<Port<L>>> {
     let office = Arc::new(alloc, office).ok()?;
-    let bell = Arc::new(alloc, Bell::new(alloc)).ok()?;
+    let bell = Arc::new(alloc, Bell::new(alloc, durable)).ok()?;
     Arc::new(alloc, Port::new(office, bell, desk, seated)).ok()
 }
 
@@ -144,7 +157,7 @@ fn placed<L: Ledger>(
 ) -> Option<(Arc<Port<L>>, Props)> {
     let told = Arc::new(alloc, Mutex::new(NOTHING)).ok()?;
     let (committer, looker, seated) = seats(alloc, durable)?;
-    let port = port(alloc, office, desk, seated)?;
+    let port = port(alloc, office, desk, seated, durable)?;
     let props = Props {
         committer,
         looker,
@@ -188,12 +201,12 @@ where
     D: Disk + Drop,
 {
     // A request comes, with this number for a new id.
-    fn arrive(&self, call: Call, number: u64) -> Option<(Ticket, u64)> {
+    fn arrive(&self, call: Call, number: u64) -> Option<Arrived> {
         self.port.arrive(&self.rt, call, NOW, [0, number]).ok()
     }
 
     /// An invoke comes, whose event gets the n-th id.
-    pub fn arrive_invoke(&self, n: u64) -> Option<(Ticket, u64)> {
+    pub fn arrive_invoke(&self, n: u64) -> Option<Arrived> {
         match invoke(self.rt.alloc()) {
             Ok(call) => self.arrive(call, n),
             Err(_) => None,
@@ -201,10 +214,10 @@ where
     }
 
     /// The future of the reply of what has arrived.
-    pub fn waiting(&self, arrived: Option<(Ticket, u64)>) -> Option<Waiting<R, L>> {
-        let (ticket, slot) = arrived?;
+    pub fn waiting(&self, arrived: Option<Arrived>) -> Option<Waiting<R, L>> {
+        let arrived = arrived?;
         let port = Arc::try_clone(&self.port).ok()?;
-        Some(Waiting::new(self.rt, port, ticket, slot))
+        Some(Waiting::new(self.rt, port, arrived))
     }
 
     // Lets the pool poll a future: whether it does.
@@ -217,7 +230,7 @@ where
     }
 
     // Lets the pool poll for the reply of what has arrived: its slot, or none that there is.
-    fn follow(&self, pool: &Pool<R, L>, arrived: Option<(Ticket, u64)>) -> u64 {
+    fn follow(&self, pool: &Pool<R, L>, arrived: Option<Arrived>) -> u64 {
         let slot = slot_of(&arrived);
         match self.waiting(arrived) {
             Some(waiting) => {
@@ -284,24 +297,24 @@ where
         self.props.committer.raise(self.durable);
     }
 
-    /// Wakes those that wait for this number or one below.
-    pub fn ring(&self, number: u64) {
-        self.port.bell().ring_up_to(&self.rt, number);
+    /// Wakes those that wait for what is durable.
+    pub fn ring(&self) {
+        self.port.bell().ring(&self.rt, self.durable);
     }
 
     /// Commits, raises the board and rings; after a fault it is said that the hall broke.
     pub fn commit_and_tell(&mut self) -> Result<u64, HallError> {
         let told = self.commit();
         match told {
-            Ok(number) => {
+            Ok(_) => {
                 self.raise();
-                self.ring(number);
+                self.ring();
             }
             Err(why) => {
                 if matches!(why, HallError::Fault) {
                     self.port.bell().say_broken();
+                    self.port.bell().ring_all(&self.rt);
                 }
-                self.port.bell().ring(&self.rt);
             }
         }
         told

@@ -9,7 +9,7 @@ use crate::tests::ports::clients::listen;
 use group_commit::Broker;
 use hall_core::Hall;
 use http_front::{ServeError, WhenPending, serve};
-use receipts::desks;
+use receipts::{Gone, SharedOpening, SharedTrace, desks};
 use sector_disk::Disk;
 use std::alloc::{AllocGlobal, Global};
 use std::io;
@@ -39,7 +39,7 @@ where
 }
 
 // Serves a hall at too many listeners: whether that is refused.
-fn is_refused<R, L, D>(rt: R, hall: Hall<Broker<D>>, blank: Blank) -> bool
+fn is_refused<R, L, T, D>(rt: R, hall: Hall<Broker<D>>, blank: Blank) -> bool
 where
     R: Threads
         + Wait
@@ -52,6 +52,8 @@ where
         + Send
         + 'static,
     L: Ledger + Send + Sync + 'static,
+    T: SharedTrace + 'static,
+    T::Opening: SharedOpening + 'static,
     D: Disk + Drop,
     requires nothing { pending_of hall.issuer ≡ [] }
     requires fresh { IsFresh (settings_of hall.issuer) hall }
@@ -62,7 +64,7 @@ where
     let Ok(listeners) = crowd(&rt, rt.alloc()) else {
         return false;
     };
-    let ending = serve::<R, L, D, WhenPending>(rt, hall, blank, listeners, &WhenPending);
+    let ending = serve::<R, L, T, D, WhenPending>(rt, hall, blank, listeners, &WhenPending);
     matches!(ending, Err(ServeError::TooManyPorts))
 }
 
@@ -83,7 +85,7 @@ where
     let watch = Arc::new(rt.alloc(), Watch::new(NO_TROUBLE))?;
     let hall: Hall<Broker<TestDisk>> = hall(rt.alloc(), &watch)?;
     let blank = Blank::new(desks(hall.table().settings()));
-    Ok(is_refused::<R, Brand, TestDisk>(rt, hall, blank))
+    Ok(is_refused::<R, Brand, Gone, TestDisk>(rt, hall, blank))
 }
 
 #[test]

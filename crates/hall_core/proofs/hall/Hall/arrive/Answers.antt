@@ -5,7 +5,7 @@ use Rattle.hall_core.specs.Prepared.{IsPreparedFor}
 use Rattle.hall_core.specs.Issuing.{HasPlaceFor}
 use Rattle.hall_core.specs.Effects.{Effect}
 use Rattle.hall_core.specs.Hall.{view_of, settings_in, request, refusal_of_arrival}
-use Rattle.hall_core.proofs.Arriving.{arrived, refused_by, finds_place, is_free, effect_is, arrival_passes, planned_unrefused, called_but_for_memory, issued_but_for_memory}
+use Rattle.hall_core.proofs.Arriving.{arrived, answered_is, refused_by, finds_place, is_free, effect_is, arrival_passes, planned_unrefused, called_but_for_memory, issued_but_for_memory}
 use Rattle.hall_core.proofs.Reasons.{arrival_reason, uncalled_reason, wanting_reason, request_would, told_asked}
 use Rattle.hall_core.proofs.hall.Hall.arrive.Goals as goal
 
@@ -132,3 +132,13 @@ returns-in-Ok-do_for-clause-passes g c =
     let none : refusal_of_arrival old (is_some effect.command) ≡ None = search rules in
     arrival_passes old c.args.slot c.args.call c.args.now c.args.words effect c.in-Ok-prepare.prepared.command c.in-Ok-do_for.issued
     (g.met.I.Issuer.laws c.args.self.now.issuer) plans none c.in-Ok-prepare.ensures.ok.command c.in-Ok-do_for.ensures.issued
+
+pub returns-in-Ok-do_for-clause-answered : goal.returns-in-Ok-do_for-clause-answered
+returns-in-Ok-do_for-clause-answered g c = λ past stands.
+    let s = settings_in (view_of g.I.Issuer.view c.args.self.now) in
+    let req = request c.args.slot c.args.call c.args.now c.args.words in
+    let effect = c.plan_request-plan.result.effect in
+    let plans = subst (λ t. PlansRequest t c.args.self.now.environments c.args.slot c.args.call c.args.now c.args.words effect) c.table.ensures c.plan_request-plan.ensures.effect in
+    let prepared = subst (λ t. IsPreparedFor t c.args.self.now.environments effect c.in-Ok-prepare.prepared) c.table-2.ensures c.in-Ok-prepare.ensures.ok in
+    let is = plans past stands.environments ∙ effect_is s past c.args.slot c.args.call c.args.now c.args.words in
+    ap (λ v. v.items) c.in-Ok-do_for.ensures.answered ∙ prepared.answered past stands.environments ∙ answered_is s past req effect is

@@ -6,9 +6,9 @@ use Rattle.hall_core.specs.Issuing.{HasPlaceFor}
 use Rattle.hall_core.specs.Past.{tick}
 use Rattle.hall_core.specs.Effects.{Effect}
 use Rattle.hall_core.specs.Hall.{view_of, settings_in, refusal_of_moving}
-use Rattle.hall_core.proofs.Arriving.{called_but_for_memory, issued_but_for_memory}
+use Rattle.hall_core.proofs.Arriving.{answered_is, called_but_for_memory, issued_but_for_memory}
 use Rattle.hall_core.proofs.Kept.{nothing_there}
-use Rattle.hall_core.proofs.Ticking.{ticked, idle, issues_none, tick_refused_by, tick_passes, moving_finds_place, tick_effect_is, tick_unrefused}
+use Rattle.hall_core.proofs.Ticking.{ticked, idle, idle_answers_none, issues_none, tick_refused_by, tick_passes, moving_finds_place, tick_effect_is, tick_unrefused}
 use Rattle.hall_core.proofs.Reasons.{moving_reason, uncalled_reason, wanting_reason, tick_would}
 use Rattle.hall_core.proofs.hall.Hall.tick.Goals as goal
 
@@ -137,3 +137,20 @@ returns-then-not-has_command-clause-passes g c =
     let none : refusal_of_moving old (is_some effect.command) ≡ None = search rules in
     let quiet : is_some effect.command ≡ false = search rules in
     tick_passes old c.args.now effect None None (g.met.I.Issuer.laws c.args.self.now.issuer) plans none (sym (nothing_there effect.command quiet)) refl
+
+pub returns-in-Ok-do_moving-clause-answered : goal.returns-in-Ok-do_moving-clause-answered
+returns-in-Ok-do_moving-clause-answered g c = λ past stands.
+    let s = settings_in (view_of g.I.Issuer.view c.args.self.now) in
+    let effect = c.plan_tick-plan.result.effect in
+    let plans = subst (λ t. PlansTick t c.args.self.now.environments c.args.self.now.stops c.args.now effect) c.table.ensures c.plan_tick-plan.ensures.effect in
+    let prepared = subst (λ t. IsPreparedFor t c.args.self.now.environments effect c.in-Ok.prepared) c.table-2.ensures c.in-Ok.ensures.ok in
+    let is = plans past stands.environments stands.stopping ∙ tick_effect_is s past c.args.now in
+    ap (λ v. v.items) c.in-Ok-do_moving.ensures.answered ∙ prepared.answered past stands.environments ∙ answered_is s past (tick c.args.now) effect is
+
+pub returns-then-not-has_command-clause-answered : goal.returns-then-not-has_command-clause-answered
+returns-then-not-has_command-clause-answered g c = λ past stands.
+    let old = view_of g.I.Issuer.view c.args.self.now in
+    let effect = c.plan_tick-plan.result.effect in
+    let plans = subst (λ t. PlansTick t c.args.self.now.environments c.args.self.now.stops c.args.now effect) c.table.ensures c.plan_tick-plan.ensures.effect in
+    let quiet : is_some effect.command ≡ false = search rules in
+    c.new.ensures.items ∙ idle_answers_none old past c.args.now effect stands plans (nothing_there effect.command quiet)

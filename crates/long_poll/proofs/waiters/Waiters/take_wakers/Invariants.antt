@@ -1,7 +1,10 @@
-use Rattle.std.proofs.Common.{take}
-use Rattle.long_poll.specs.Bell.{AreFree}
+use Rattle.std.proofs.Common.{◌≡◌}
+use Rattle.std.specs.BTreeMap.{btree_map_len}
 use Rattle.long_poll.proofs.waiters.Waiters.take_wakers.Given as goal
 
--- the places so far are free
-abbrev pub invariant-loop-entry : goal.invariant-loop-entry
-invariant-loop-entry l = AreFree l.number (take l.entry-index l.entry-items)
+-- nothing changes but those that wait for a number
+abbrev pub invariant-loop-waker : goal.invariant-loop-waker
+invariant-loop-waker l = (l.self.parked ≡ l.fn.self.parked) × (l.self.rung ≡ l.fn.self.rung)
+
+abbrev pub decreases-loop-waker : goal.decreases-loop-waker
+decreases-loop-waker l = btree_map_len l.self.numbered

@@ -1,27 +1,28 @@
-use Rattle.std.proofs.Common.{rules, ◌≡◌, ◌++◌, ◌∙◌}
+use Rattle.std.proofs.Common.{rules, ◌≡◌, ◌++◌, map, ◌∙◌}
 use Rattle.receipts.specs.Marks.{marks_by}
 use Rattle.receipts.specs.UnderLock.{Asking}
+use Rattle.receipts.proofs.Histories.{histories_by}
 use Rattle.receipts.proofs.Followed.{numbered_by, reached_by, follows_by, adds_by, adds_asked}
 use Rattle.std.proofs.Math.Logic.{∥∥₁_map}
-use Rattle.receipts.proofs.Running.{runs_by, runs_same}
+use Rattle.receipts.proofs.Running.{runs_by, runs_same, same_stands}
 use Rattle.receipts.proofs.Refused.{refused_arrival}
-use Rattle.receipts.proofs.UnderLock.{does_at, not_made_by_fit, not_made_by_hall}
+use Rattle.receipts.proofs.UnderLock.{does_at, does_still, issues_still, not_made_by_fit, not_made_by_hall}
 use Rattle.group_commit.specs.IssuerHalf.{half_view}
 use Rattle.hall_core.specs.Hall.{view_of, request, CanBeAsked}
 use Rattle.receipts.proofs.kept.Kept.arrive.Goals as goal
 
 pub invariant_of-self-in-Ok : goal.invariant_of-self-in-Ok
 invariant_of-self-in-Ok g c =
-    let e = c.in-Ok.ensures.issues in
-    let added : c.note.new.marks.all.items ≡ c.args.self.now.marks.all.items ++ marks_by c.args.desk.now.number c.in-Ok.issued = search rules in
+    let e = issues_still c.args.self.now.hall.issuer c.arrive.new.self.issuer _ c.in-Ok.issued c.hand_out.ensures.issuer c.in-Ok.ensures.issues in
+    let added : map g.T.Trace.mark c.note.new.marks.all.items ≡ map g.T.Trace.mark c.args.self.now.marks.all.items ++ marks_by c.args.desk.now.number c.in-Ok.issued = search rules in
     let reached = c.args.self.now.reached in
     record {
       numbered = numbered_by _ _ _ _ e.command _ added e.answered _ reached c.args.self.now.numbered;
       reached = reached_by _ _ _ _ e.command _ added e.answered _ _ reached e.continues.issued;
       followed = follows_by _ _ _ _ e.command _ added e.answered _ _ _ _ _ e.continues.settings e.continues.table c.args.self.now.followed;
       runs = ∥∥₁_map c.args.self.now.runs
-          (runs_by (view_of half_view c.args.self.now.hall) (view_of half_view c.arrive.new.self) _ _ e.continues.settings (search rules)
-          c.in-Ok.ensures.passes.by_past (λ past stands. (c.in-Ok.ensures.ok past stands).1));
+          (runs_by (view_of half_view c.args.self.now.hall) (view_of half_view c.hand_out.new.hall) _ _ e.continues.settings (search rules)
+          c.in-Ok.ensures.passes.by_past (λ past stands. same_stands _ _ c.hand_out.ensures.same _ (c.in-Ok.ensures.ok past stands).1));
     }
 
 pub invariant_of-self-in-Err-1 : goal.invariant_of-self-in-Err-1
@@ -35,24 +36,33 @@ invariant_of-self-in-Err-1 g c = record {
 pub returns-in-Ok-clause-marks : goal.returns-in-Ok-clause-marks
 returns-in-Ok-clause-marks g c =
     let e = c.in-Ok.ensures.issues in
-    let added : c.note.new.desk.own.items ≡ c.args.desk.now.own.items ++ marks_by c.args.desk.now.number c.in-Ok.issued = search rules in
+    let added : map g.T.Trace.mark c.note.new.desk.own.items ≡ map g.T.Trace.mark c.args.desk.now.own.items ++ marks_by c.args.desk.now.number c.in-Ok.issued = search rules in
     adds_by _ _ _ _ e.command _ added e.answered _ (c.ticket-ticket.ensures ∙ e.continues.issued)
 
 pub returns-in-Ok-clause-asked : goal.returns-in-Ok-clause-asked
 returns-in-Ok-clause-asked g c =
-    let added : c.note.new.desk.own.items ≡ c.args.desk.now.own.items ++ marks_by c.args.desk.now.number c.in-Ok.issued = search rules in
+    let added : map g.T.Trace.mark c.note.new.desk.own.items ≡ map g.T.Trace.mark c.args.desk.now.own.items ++ marks_by c.args.desk.now.number c.in-Ok.issued = search rules in
     adds_asked _ _ _ _ _ c.in-Ok.issued added c.in-Ok.ensures.asked
 
 pub returns-in-Ok-clause-done : goal.returns-in-Ok-clause-done
 returns-in-Ok-clause-done g c =
-    let added : c.note.new.desk.own.items ≡ c.args.desk.now.own.items ++ marks_by c.args.desk.now.number c.in-Ok.issued = search rules in
-    does_at _ _ _ c.in-Ok.issued c.in-Ok.ensures.ok _ _ _ added
+    let added : map g.T.Trace.mark c.note.new.desk.own.items ≡ map g.T.Trace.mark c.args.desk.now.own.items ++ marks_by c.args.desk.now.number c.in-Ok.issued = search rules in
+    does_at _ _ _ c.in-Ok.issued (does_still _ _ _ _ c.in-Ok.issued c.hand_out.ensures.same c.in-Ok.ensures.ok) _ _ _ added
+
+pub returns-in-Ok-clause-answered : goal.returns-in-Ok-clause-answered
+returns-in-Ok-clause-answered g c past stands = c.hand_out.ensures.slots ∙ c.in-Ok.ensures.answered past stands
 
 pub returns-in-Ok-clause-both : goal.returns-in-Ok-clause-both
 returns-in-Ok-clause-both g c =
-    let own : c.note.new.desk.own.items ≡ c.args.desk.now.own.items ++ marks_by c.args.desk.now.number c.in-Ok.issued = search rules in
-    let all : c.note.new.marks.all.items ≡ c.args.self.now.marks.all.items ++ marks_by c.args.desk.now.number c.in-Ok.issued = search rules in
+    let own : map g.T.Trace.mark c.note.new.desk.own.items ≡ map g.T.Trace.mark c.args.desk.now.own.items ++ marks_by c.args.desk.now.number c.in-Ok.issued = search rules in
+    let all : map g.T.Trace.mark c.note.new.marks.all.items ≡ map g.T.Trace.mark c.args.self.now.marks.all.items ++ marks_by c.args.desk.now.number c.in-Ok.issued = search rules in
     (marks_by c.args.desk.now.number c.in-Ok.issued, own, all)
+
+pub returns-in-Ok-clause-histories : goal.returns-in-Ok-clause-histories
+returns-in-Ok-clause-histories g c =
+    let own : map g.T.Trace.mark c.note.new.desk.own.items ≡ map g.T.Trace.mark c.args.desk.now.own.items ++ marks_by c.args.desk.now.number c.in-Ok.issued = search rules in
+    let all : map g.T.Trace.mark c.note.new.marks.all.items ≡ map g.T.Trace.mark c.args.self.now.marks.all.items ++ marks_by c.args.desk.now.number c.in-Ok.issued = search rules in
+    histories_by _ _ _ _ _ c.in-Ok.issued all own
 
 pub returns-in-Err-clause-refused : goal.returns-in-Err-clause-refused
 returns-in-Err-clause-refused g c =

@@ -1,4 +1,4 @@
-use Rattle.std.proofs.Common.{rules, Ok, Err}
+use Rattle.std.proofs.Common.{rules, map, Ok, Err}
 use Rattle.receipts.proofs.Settled.{settle_same, settled_number, follows_still, reached_still}
 use Rattle.std.proofs.Math.Logic.{∥∥₁_map}
 use Rattle.group_commit.specs.IssuerHalf.{half_view}
@@ -14,7 +14,7 @@ invariant_of-self g c =
     record {
       numbered = kept.numbered;
       reached = reached_still _ _ _ same.1 kept.reached;
-      followed = follows_still _ _ kept.opening _ _ kept.marks.all.items same.0 same.1 kept.followed;
+      followed = follows_still _ _ (g.T.Opening.OpeningTrace.table kept.opening) _ _ (map g.T.Trace.mark kept.marks.all.items) same.0 same.1 kept.followed;
       runs = ∥∥₁_map kept.runs (runs_kept (view_of half_view kept.hall) (view_of half_view c.settle.new.self) _ same.0 c.settle.ensures.stands);
     }
 

@@ -1,26 +1,27 @@
-use Rattle.std.proofs.Common.{rules, ◌≡◌, ◌++◌, inr}
+use Rattle.std.proofs.Common.{rules, ◌≡◌, ◌++◌, map, inr, ◌∙◌}
 use Rattle.receipts.specs.Marks.{marks_by}
+use Rattle.receipts.proofs.Histories.{histories_by}
 use Rattle.receipts.proofs.Followed.{numbered_by, reached_by, follows_by, adds_answered}
 use Rattle.std.proofs.Math.Logic.{∥∥₁_map}
-use Rattle.receipts.proofs.Running.{runs_by, runs_same}
+use Rattle.receipts.proofs.Running.{runs_by, runs_same, same_stands}
 use Rattle.receipts.proofs.Refused.{refused_tick}
-use Rattle.receipts.proofs.UnderLock.{does_at, answers_number}
+use Rattle.receipts.proofs.UnderLock.{does_at, does_still, issues_still, answers_number}
 use Rattle.group_commit.specs.IssuerHalf.{half_view}
 use Rattle.hall_core.specs.Hall.{view_of}
 use Rattle.receipts.proofs.kept.Kept.tick.Goals as goal
 
 pub invariant_of-self-in-Ok : goal.invariant_of-self-in-Ok
 invariant_of-self-in-Ok g c =
-    let e = c.in-Ok.ensures.issues in
-    let added : c.note.new.marks.all.items ≡ c.args.self.now.marks.all.items ++ marks_by c.args.desk.now.number c.in-Ok.issued = search rules in
+    let e = issues_still c.args.self.now.hall.issuer c.tick.new.self.issuer _ c.in-Ok.issued c.hand_out.ensures.issuer c.in-Ok.ensures.issues in
+    let added : map g.T.Trace.mark c.note.new.marks.all.items ≡ map g.T.Trace.mark c.args.self.now.marks.all.items ++ marks_by c.args.desk.now.number c.in-Ok.issued = search rules in
     let reached = c.args.self.now.reached in
     record {
       numbered = numbered_by _ _ _ _ e.command _ added e.answered _ reached c.args.self.now.numbered;
       reached = reached_by _ _ _ _ e.command _ added e.answered _ _ reached e.continues.issued;
       followed = follows_by _ _ _ _ e.command _ added e.answered _ _ _ _ _ e.continues.settings e.continues.table c.args.self.now.followed;
       runs = ∥∥₁_map c.args.self.now.runs
-          (runs_by (view_of half_view c.args.self.now.hall) (view_of half_view c.tick.new.self) _ _ e.continues.settings c.requires
-          c.in-Ok.ensures.passes.by_past (λ past stands. (c.in-Ok.ensures.ok past stands).1));
+          (runs_by (view_of half_view c.args.self.now.hall) (view_of half_view c.hand_out.new.hall) _ _ e.continues.settings c.requires
+          c.in-Ok.ensures.passes.by_past (λ past stands. same_stands _ _ c.hand_out.ensures.same _ (c.in-Ok.ensures.ok past stands).1));
     }
 
 pub invariant_of-self-in-Err-1 : goal.invariant_of-self-in-Err-1
@@ -33,22 +34,31 @@ invariant_of-self-in-Err-1 g c = record {
 
 pub returns-in-Ok-clause-marks : goal.returns-in-Ok-clause-marks
 returns-in-Ok-clause-marks g c =
-    let added : c.told_by.new.desk.own.items ≡ c.args.desk.now.own.items ++ marks_by c.args.desk.now.number c.in-Ok.issued = search rules in
-    adds_answered _ _ _ c.in-Ok.issued added _ c.told_by.ensures.number
+    let added : map g.T.Trace.mark c.told_by-told.new.desk.own.items ≡ map g.T.Trace.mark c.args.desk.now.own.items ++ marks_by c.args.desk.now.number c.in-Ok.issued = search rules in
+    adds_answered _ _ _ c.in-Ok.issued added _ c.told_by-told.ensures.number
 
 pub returns-in-Ok-clause-done : goal.returns-in-Ok-clause-done
 returns-in-Ok-clause-done g c =
-    let added : c.told_by.new.desk.own.items ≡ c.args.desk.now.own.items ++ marks_by c.args.desk.now.number c.in-Ok.issued = search rules in
-    does_at _ _ _ c.in-Ok.issued c.in-Ok.ensures.ok _ _ _ added
+    let added : map g.T.Trace.mark c.told_by-told.new.desk.own.items ≡ map g.T.Trace.mark c.args.desk.now.own.items ++ marks_by c.args.desk.now.number c.in-Ok.issued = search rules in
+    does_at _ _ _ c.in-Ok.issued (does_still _ _ _ _ c.in-Ok.issued c.hand_out.ensures.same c.in-Ok.ensures.ok) _ _ _ added
 
 pub returns-in-Ok-clause-answer : goal.returns-in-Ok-clause-answer
-returns-in-Ok-clause-answer g c = answers_number _ _ _ c.in-Ok.issued c.in-Ok.ensures.ok _ c.told_by.ensures.number
+returns-in-Ok-clause-answer g c = answers_number _ _ _ c.in-Ok.issued c.in-Ok.ensures.ok _ c.told_by-told.ensures.number
+
+pub returns-in-Ok-clause-answered : goal.returns-in-Ok-clause-answered
+returns-in-Ok-clause-answered g c past stands = c.hand_out.ensures.slots ∙ c.in-Ok.ensures.answered past stands
 
 pub returns-in-Ok-clause-both : goal.returns-in-Ok-clause-both
 returns-in-Ok-clause-both g c =
-    let own : c.told_by.new.desk.own.items ≡ c.args.desk.now.own.items ++ marks_by c.args.desk.now.number c.in-Ok.issued = search rules in
-    let all : c.note.new.marks.all.items ≡ c.args.self.now.marks.all.items ++ marks_by c.args.desk.now.number c.in-Ok.issued = search rules in
+    let own : map g.T.Trace.mark c.told_by-told.new.desk.own.items ≡ map g.T.Trace.mark c.args.desk.now.own.items ++ marks_by c.args.desk.now.number c.in-Ok.issued = search rules in
+    let all : map g.T.Trace.mark c.note.new.marks.all.items ≡ map g.T.Trace.mark c.args.self.now.marks.all.items ++ marks_by c.args.desk.now.number c.in-Ok.issued = search rules in
     (marks_by c.args.desk.now.number c.in-Ok.issued, own, all)
+
+pub returns-in-Ok-clause-histories : goal.returns-in-Ok-clause-histories
+returns-in-Ok-clause-histories g c =
+    let own : map g.T.Trace.mark c.told_by-told.new.desk.own.items ≡ map g.T.Trace.mark c.args.desk.now.own.items ++ marks_by c.args.desk.now.number c.in-Ok.issued = search rules in
+    let all : map g.T.Trace.mark c.note.new.marks.all.items ≡ map g.T.Trace.mark c.args.self.now.marks.all.items ++ marks_by c.args.desk.now.number c.in-Ok.issued = search rules in
+    histories_by _ _ _ _ _ c.in-Ok.issued all own
 
 pub returns-in-Err-clause-refused : goal.returns-in-Err-clause-refused
 returns-in-Err-clause-refused g c = refused_tick _ (view_of half_view c.args.self.now.hall) c.args.now c.in-Err.why c.in-Err.ensures.reason

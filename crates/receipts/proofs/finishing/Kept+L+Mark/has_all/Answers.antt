@@ -2,7 +2,7 @@ use Rattle.std.proofs.Common.{rules, ◌≡◌, true, false, All, sym}
 use Rattle.std.specs.Prelude.{◌↔◌}
 use Rattle.receipts.specs.Marks.{history_of_desk}
 use Rattle.receipts.proofs.AllThere.{all_there, not_there}
-use Rattle.receipts.proofs.kept.Kept.has_all.Goals as goal
+use Rattle.receipts.proofs.finishing.Kept+L+Mark.has_all.Goals as goal
 
 pub returns-then-have_each_number : goal.returns-then-have_each_number
 returns-then-have_each_number g c =

@@ -1,7 +1,7 @@
 use Rattle.std.proofs.Common.{rules}
 use Rattle.std.proofs.Math.Logic.{∥∥₁_map}
 use Rattle.receipts.proofs.Running.{runs_moved}
-use Rattle.receipts.proofs.kept.Kept.join.Goals as goal
+use Rattle.receipts.proofs.finishing.Kept+L+Mark.join.Goals as goal
 
 pub invariant_of-kept : goal.invariant_of-kept
 invariant_of-kept g c = record {
