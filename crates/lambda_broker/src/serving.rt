@@ -158,7 +158,7 @@ fn announce<W: Write>(port: u16, out: &mut W) -> io::Result<()> {
 }
 
 // Serves a hall until the broker is stopped.
-fn serve_hall<R, D, T>(
+fn serve_hall<R, T, D>(
     rt: R,
     hall: Hall<Broker<D>>,
     listeners: Vec<TcpListener>,
@@ -174,14 +174,14 @@ where
         + Drop
         + Send
         + 'static,
-    D: Disk + Drop,
     T: SharedTrace + 'static,
     T::Opening: SharedOpening + 'static,
+    D: Disk + Drop,
     requires nothing { pending_of hall.issuer ≡ [] }
     requires fresh { IsFresh (settings_of hall.issuer) hall }
 {
     let blank = Blank::new(desks(hall.table().settings()));
-    let served = serve::<_, Brand, T, _, _>(rt, hall, blank, listeners, &WhenPending)?;
+    let served = serve::<R, Brand, T, D, WhenPending>(rt, hall, blank, listeners, &WhenPending)?;
     match served.ending {
         Ending::Stopped => Ok(()),
         Ending::Broken => Err(ServingError::Broken),
@@ -189,7 +189,7 @@ where
 }
 
 // Serves a broker that was opened: the ports first, then the attempts that the last stop cut off.
-fn serve_broker<R, D, W, T>(
+fn serve_broker<R, T, D, W>(
     rt: R,
     broker: Broker<D>,
     port: u16,
@@ -206,10 +206,10 @@ where
         + Drop
         + Send
         + 'static,
-    D: Disk + Drop,
-    W: Write,
     T: SharedTrace + 'static,
     T::Opening: SharedOpening + 'static,
+    D: Disk + Drop,
+    W: Write,
 {
     let mut broker = broker;
     let environments = broker.table().settings().environments;
@@ -217,7 +217,7 @@ where
     resume(&rt, &mut broker)?;
     let hall = hall_over(rt.alloc(), broker)?;
     announce(port, out)?;
-    serve_hall::<_, _, T>(rt, hall, listeners)
+    serve_hall::<R, T, D>(rt, hall, listeners)
 }
 
 /// Serves a disk: callers on a port of this machine and environment n on the port n behind it, from the line that is
@@ -239,5 +239,5 @@ where
 {
     let disk = FileDisk::open(&rt, at.path)?;
     let broker = open(rt.alloc(), disk)?;
-    serve_broker::<_, _, _, Gone>(rt, broker, at.port, out)
+    serve_broker::<R, Gone, FileDisk, W>(rt, broker, at.port, out)
 }

@@ -9,7 +9,9 @@ mod crowd;
 mod limits;
 mod talks;
 
-use crate::tests::disks::{NO_TROUBLE, SECTORS, Trouble, Watch, format_disk, hall, hall_over};
+use crate::tests::disks::{
+    NO_TROUBLE, SECTORS, TestDisk, Trouble, Watch, format_disk, hall, hall_over,
+};
 use crate::tests::files::path_of;
 use crate::tests::gate::AtLeast;
 use crate::tests::house::expect;
@@ -97,7 +99,7 @@ where
 }
 
 // Serves a hall over a disk in which nothing has come yet: what a client was told.
-fn serve_hall<R, D, T>(
+fn serve_hall<R, T, D>(
     rt: R,
     hall: Hall<Broker<D>>,
     watch: Arc<Watch>,
@@ -116,9 +118,9 @@ where
         + Send
         + Sync
         + 'static,
-    D: Disk + Drop,
     T: SharedTrace + 'static,
     T::Opening: SharedOpening + 'static,
+    D: Disk + Drop,
     requires nothing { pending_of hall.issuer ≡ [] }
     requires fresh { IsFresh (settings_of hall.issuer) hall }
 {
@@ -148,7 +150,7 @@ where
     let watch = Arc::new(rt.alloc(), Watch::new(trouble))?;
     let theirs = Arc::try_clone(&watch)?;
     let hall = hall(rt.alloc(), &watch)?;
-    drop(serve_hall::<_, _, Gone>(rt, hall, theirs, talk)?);
+    drop(serve_hall::<R, Gone, TestDisk>(rt, hall, theirs, talk)?);
     if watch.is_late() {
         return Err(Fail::new("the disk waited in vain"));
     }
@@ -263,7 +265,7 @@ where
         return Err(Fail::new("the file is not opened"));
     };
     let watch = Arc::new(rt.alloc(), Watch::new(NO_TROUBLE))?;
-    serve_hall::<_, _, Gone>(rt, hall_over(rt.alloc(), disk)?, watch, talk)
+    serve_hall::<R, Gone, FileDisk>(rt, hall_over(rt.alloc(), disk)?, watch, talk)
 }
 
 // Formats a disk in a new file.
