@@ -6,12 +6,11 @@ ghost use Rattle.lambda_broker.specs.Trial.{status_of};
 use crate::auditing::{Audit, OldDisk, audit_disk};
 use crate::formatting::{NewDisk, make_disk};
 use crate::serving::{Address, serve_disk};
-use crate::trial::{Trial, TrialError, run_trial};
 use crate::words::{Job, Task, read_task};
 use audit_report::Older;
+use broker_trial::{Trial, TrialError, run_trial};
 use clap::Error;
 use clap::error::ErrorKind;
-use invoke_records::Standing;
 use std::alloc::AllocGlobal;
 use std::fmt::Display;
 use std::fs::File;
@@ -23,7 +22,6 @@ use std::rt::Files;
 use std::sync::Wait;
 use std::thread::Threads;
 use std::time::Clock;
-use uuid::Uuid;
 
 /// The command did what it was asked to.
 const DONE: u8 = 0;
@@ -90,15 +88,7 @@ fn print_trial<W: Write>(outcome: Result<Trial, TrialError>, out: &mut W) -> io:
 {
     match outcome {
         Ok(done) => {
-            let mut buffer = Uuid::encode_buffer();
-            let id = Uuid::from_bytes(done.id)
-                .hyphenated()
-                .encode_lower(&mut buffer);
-            let accepted = done.accepted;
-            let durable = done.durable;
-            writeln!(out, "accepted {accepted} {id}")?;
-            writeln!(out, "durable {durable}")?;
-            print_standing(done.standing, out)?;
+            done.print(out)?;
             Ok(DONE)
         }
         Err(fault) => print_fault(&fault, fault.is_device_fault(), out),
@@ -196,15 +186,4 @@ fn print_fault<E: Display, W: Write>(
     }
     writeln!(out, "refused: {fault}")?;
     Ok(REFUSED)
-}
-
-// Where the event stood after its disk was opened again.
-fn print_standing<W: Write>(standing: Standing, out: &mut W) -> io::Result<()> {
-    match standing {
-        Standing::Unknown => writeln!(out, "recovered unknown"),
-        Standing::Waiting { due } => writeln!(out, "recovered waiting due {due}"),
-        Standing::DueAgain { due } => writeln!(out, "recovered due again due {due}"),
-        Standing::Running { deadline, .. } => writeln!(out, "recovered running until {deadline}"),
-        Standing::Ended { at, .. } => writeln!(out, "recovered ended at {at}"),
-    }
 }

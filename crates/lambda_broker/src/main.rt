@@ -1,14 +1,12 @@
 //! The program `lambda_broker`: one command line, read by `clap`, and the work of each of its commands.
 //!
-//! `trial` takes one event the whole way over a disk in memory: accepted, committed, recovered. It rests on the clauses of
-//! `group_commit` alone.
+//! `trial` takes one event the whole way over a disk in memory, as `broker_trial` does it.
 #![tactic(auto)]
 
 mod auditing;
 mod command_line;
 mod formatting;
 mod serving;
-mod trial;
 mod words;
 
 use std::io::{ErrorKind, Write};

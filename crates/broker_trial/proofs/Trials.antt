@@ -17,7 +17,7 @@ use Rattle.checkpoint.specs.Live.{RecoversTo}
 use Rattle.group_commit.specs.declared.broker.Broker.{Broker}
 use Rattle.group_commit.specs.History.{IsLegalStop}
 use Rattle.group_commit.specs.Broker.{disk_of, settings_of}
-use Rattle.lambda_broker.specs.Trial.{trial_settings, trial_acceptance, Holds, IsOpened}
+use Rattle.broker_trial.specs.Trial.{trial_settings, trial_acceptance, Holds, IsOpened}
 
 -- what is Ok was Ok before
 pub ok_from : {T E F : Type 0} (P : T → Type 0) (before : Result T F) (after : Result T E) → IfOk after (λ x. before ≡ Ok x) → IfOk before P → IfOk after P

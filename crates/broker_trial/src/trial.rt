@@ -3,7 +3,7 @@ ghost use Rattle.std.specs.Prelude.{◌≡◌, [], ◌∷◌, List, IfOk};
 ghost use Rattle.sector_disk.specs.Memory.{memory_view};
 ghost use Rattle.invoke_records.specs.declared.command.Command.{Command};
 ghost use Rattle.invoke_records.specs.declared.row.Standing.TheVariants as standing;
-ghost use Rattle.lambda_broker.specs.Trial.{trial_settings, trial_acceptance, Holds, IsOpened, IsAccepted, is_device_fault};
+ghost use Rattle.broker_trial.specs.Trial.{trial_settings, trial_acceptance, Holds, IsOpened, IsAccepted, is_device_fault};
 
 use group_commit::{Broker, CommitError, FormatError, IssueError, OpenError, format, without_disk};
 use invoke_records::{Bytes, Command, Kind, Standing};

@@ -1,7 +1,7 @@
 use Rattle.std.proofs.Common.{[], ◌∷◌}
-use Rattle.lambda_broker.specs.Trial.{trial_acceptance}
-use Rattle.lambda_broker.proofs.Trials.{closed_holds}
-use Rattle.lambda_broker.proofs.trial.accept.Goals as goal
+use Rattle.broker_trial.specs.Trial.{trial_acceptance}
+use Rattle.broker_trial.proofs.Trials.{closed_holds}
+use Rattle.broker_trial.proofs.trial.accept.Goals as goal
 
 pub returns : goal.returns
 returns c opened =

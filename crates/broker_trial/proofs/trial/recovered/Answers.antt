@@ -2,9 +2,9 @@ use Rattle.std.proofs.Common.{◌≡◌, ◌∷◌, [], sym, ap, ◌∙◌, subs
 use Rattle.retry_rules.specs.declared.settings.Settings.{Settings}
 use Rattle.async_core.specs.State.{State}
 use Rattle.async_core.specs.History.{IsLegal, standing_in, table_of}
-use Rattle.lambda_broker.specs.Trial.{trial_acceptance}
-use Rattle.lambda_broker.proofs.Trials.{accepted_standing}
-use Rattle.lambda_broker.proofs.trial.recovered.Goals as goal
+use Rattle.broker_trial.specs.Trial.{trial_acceptance}
+use Rattle.broker_trial.proofs.Trials.{accepted_standing}
+use Rattle.broker_trial.proofs.trial.recovered.Goals as goal
 
 pub returns : goal.returns
 returns c holds =

@@ -2,8 +2,8 @@ use Rattle.std.proofs.Common.{◌≡◌, ◌∷◌, [], ◌∙◌, subst}
 use Rattle.sector_disk.specs.Memory.{memory_view}
 use Rattle.invoke_records.specs.declared.command.Command.{Command}
 use Rattle.group_commit.specs.Broker.{settings_of, Stands}
-use Rattle.lambda_broker.specs.Trial.{trial_settings, trial_acceptance}
-use Rattle.lambda_broker.proofs.trial.issue.Goals as goal
+use Rattle.broker_trial.specs.Trial.{trial_settings, trial_acceptance}
+use Rattle.broker_trial.proofs.trial.issue.Goals as goal
 
 pub returns : goal.returns
 returns c first =

@@ -4,9 +4,9 @@ use Rattle.retry_rules.specs.declared.settings.Settings.{Settings}
 use Rattle.async_core.specs.Rules.{empty_table}
 use Rattle.async_core.specs.laws.Tables.{IsLegal-nil}
 use Rattle.checkpoint.specs.Live.{RecoversTo}
-use Rattle.lambda_broker.specs.Trial.{trial_settings}
-use Rattle.lambda_broker.proofs.Trials.{formatted_stops}
-use Rattle.lambda_broker.proofs.trial.formatted.Goals as goal
+use Rattle.broker_trial.specs.Trial.{trial_settings}
+use Rattle.broker_trial.proofs.Trials.{formatted_stops}
+use Rattle.broker_trial.proofs.trial.formatted.Goals as goal
 
 pub returns : goal.returns
 returns c =
