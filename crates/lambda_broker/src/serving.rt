@@ -188,13 +188,8 @@ where
     }
 }
 
-// Serves a broker that was opened: the ports first, then the attempts that the last stop cut off.
-fn serve_broker<R, T, D, W>(
-    rt: R,
-    broker: Broker<D>,
-    port: u16,
-    out: &mut W,
-) -> Result<(), ServingError>
+// Serves what is on a disk: the ports first, then the attempts that the last stop cut off.
+fn serve_on<R, T, D, W>(rt: R, disk: D, port: u16, out: &mut W) -> Result<(), ServingError>
 where
     R: Threads
         + Wait
@@ -211,7 +206,7 @@ where
     D: Disk + Drop,
     W: Write,
 {
-    let mut broker = broker;
+    let mut broker = open(rt.alloc(), disk)?;
     let environments = broker.table().settings().environments;
     let listeners = listen(&rt, port, environments)?;
     resume(&rt, &mut broker)?;
@@ -238,6 +233,5 @@ where
     W: Write,
 {
     let disk = FileDisk::open(&rt, at.path)?;
-    let broker = open(rt.alloc(), disk)?;
-    serve_broker::<R, Gone, FileDisk, W>(rt, broker, at.port, out)
+    serve_on::<R, Gone, FileDisk, W>(rt, disk, at.port, out)
 }

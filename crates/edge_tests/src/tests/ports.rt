@@ -131,6 +131,34 @@ where
     }
 }
 
+// Serves a hall over a new disk with this trouble, by an office that keeps this of its marks.
+fn tell_by<R, T>(rt: R, trouble: Trouble, talk: Talk) -> Result<(), Fail>
+where
+    R: Abort
+        + Threads
+        + Wait
+        + Clock
+        + Net<Listener = TcpListener, Stream = TcpStream>
+        + RandomSource
+        + AllocGlobal
+        + Copy
+        + Drop
+        + Send
+        + Sync
+        + 'static,
+    T: SharedTrace + 'static,
+    T::Opening: SharedOpening + 'static,
+{
+    let watch = Arc::new(rt.alloc(), Watch::new(trouble))?;
+    let theirs = Arc::try_clone(&watch)?;
+    let hall = hall(rt.alloc(), &watch)?;
+    drop(serve_hall::<R, T, TestDisk>(rt, hall, theirs, talk)?);
+    if watch.is_late() {
+        return Err(Fail::new("the disk waited in vain"));
+    }
+    Ok(())
+}
+
 // Serves a hall over a new disk with this trouble.
 fn tell<R>(rt: R, trouble: Trouble, talk: Talk) -> Result<(), Fail>
 where
@@ -147,14 +175,7 @@ where
         + Sync
         + 'static,
 {
-    let watch = Arc::new(rt.alloc(), Watch::new(trouble))?;
-    let theirs = Arc::try_clone(&watch)?;
-    let hall = hall(rt.alloc(), &watch)?;
-    drop(serve_hall::<R, Gone, TestDisk>(rt, hall, theirs, talk)?);
-    if watch.is_late() {
-        return Err(Fail::new("the disk waited in vain"));
-    }
-    Ok(())
+    tell_by::<R, Gone>(rt, trouble, talk)
 }
 
 #[test]
@@ -244,6 +265,29 @@ fn a_front_ends_though_an_extension_goes_after_the_fault(rt: HostRuntime) -> Res
     )
 }
 
+// Serves a disk to the end of a talk: what a client was told.
+fn serve_disk<R, T, D>(rt: R, disk: D, talk: Talk) -> Result<Told, Fail>
+where
+    R: Abort
+        + Threads
+        + Wait
+        + Clock
+        + Net<Listener = TcpListener, Stream = TcpStream>
+        + RandomSource
+        + AllocGlobal
+        + Copy
+        + Drop
+        + Send
+        + Sync
+        + 'static,
+    T: SharedTrace + 'static,
+    T::Opening: SharedOpening + 'static,
+    D: Disk + Drop,
+{
+    let watch = Arc::new(rt.alloc(), Watch::new(NO_TROUBLE))?;
+    serve_hall::<R, T, D>(rt, hall_over(rt.alloc(), disk)?, watch, talk)
+}
+
 // Serves the disk in a file to the end of a talk: what a client was told.
 fn serve_file<R>(rt: R, path: &str, talk: Talk) -> Result<Told, Fail>
 where
@@ -264,8 +308,7 @@ where
     let Ok(disk) = FileDisk::open(&rt, path) else {
         return Err(Fail::new("the file is not opened"));
     };
-    let watch = Arc::new(rt.alloc(), Watch::new(NO_TROUBLE))?;
-    serve_hall::<R, Gone, FileDisk>(rt, hall_over(rt.alloc(), disk)?, watch, talk)
+    serve_disk::<R, Gone, FileDisk>(rt, disk, talk)
 }
 
 // Formats a disk in a new file.
