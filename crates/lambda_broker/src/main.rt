@@ -6,6 +6,7 @@
 
 mod auditing;
 mod command_line;
+mod configuring;
 mod formatting;
 mod serving;
 mod trial;
