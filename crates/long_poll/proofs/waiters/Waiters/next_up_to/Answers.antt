@@ -1,4 +1,4 @@
-use Rattle.std.proofs.Common.{rules, arith}
+use Rattle.std.proofs.Common.{arith}
 use Rattle.std.specs.BTreeMap as tree
 use Rattle.std.specs.Prelude.{slice_index_or}
 use Rattle.long_poll.proofs.Above.{above_least}
