@@ -11,6 +11,7 @@ ghost use Rattle.http_front.specs.laws.Learned.{learned_nothing, learned_more};
 
 use crate::asking::{NotCommitted, ask};
 use crate::front::Front;
+use crate::gathering::{Gathering, instant};
 use commit_loop::{Committing, Gate, commit_all};
 use front_board::Seated;
 use group_commit::{DiskHalf, Durable};
@@ -18,6 +19,7 @@ use receipts::{Desk, Trace};
 use sector_disk::Disk;
 use std::sync::Wait;
 use std::sync::ledger::Ledger;
+use std::time::Clock;
 
 /// What the committer works with: a desk, the half of the broker over the disk, and a seat of the board.
 #[derive(Drop)]
@@ -33,9 +35,10 @@ struct AtFront<'a, R, L: Ledger, T: Trace, D: Disk> {
     rt: &'a R,
     front: &'a Front<L, T>,
     committer: Committer<L, T, D>,
+    gathering: Gathering,
 }
 
-impl<R: Wait, L: Ledger, T: Trace, D: Disk> Committing for AtFront<'_, R, L, T, D> {
+impl<R: Wait + Clock, L: Ledger, T: Trace, D: Disk> Committing for AtFront<'_, R, L, T, D> {
     type Durable = Durable;
 
     type Failure = NotCommitted;
@@ -55,12 +58,18 @@ impl<R: Wait, L: Ledger, T: Trace, D: Disk> Committing for AtFront<'_, R, L, T, 
     }
 
     fn commit(&mut self) -> Result<Durable, NotCommitted> {
-        ask(
+        self.gathering.wait(self.rt, self.front);
+        let start = instant(self.rt);
+        let took = self.front.pending(self.rt);
+        let outcome = ask(
             self.rt,
             &self.front.office,
             &mut self.committer.desk,
             &mut self.committer.half,
-        )
+        );
+        let left = self.front.pending(self.rt);
+        self.gathering = Gathering::after(self.rt, start, took, left);
+        outcome
     }
 
     fn is_broken_by(&self, why: &NotCommitted) -> bool {
@@ -118,7 +127,12 @@ impl<L: Ledger, T: Trace, D: Disk + Drop> Committer<L, T, D> {
     /// or the ticker's next turn; where the gate skips what is pending, it is asked again.
     ///
     /// At each moment a stop leaves a legal stop of the half's list with what it took.
-    pub fn run<R: Wait, G: Gate>(self, rt: &R, front: &Front<L, T>, gate: &G) -> Committer<L, T, D>
+    pub fn run<R: Wait + Clock, G: Gate>(
+        self,
+        rt: &R,
+        front: &Front<L, T>,
+        gate: &G,
+    ) -> Committer<L, T, D>
         ensures learned { IsRun HasLearned (G.says gate.now)
             (known self.desk.told (seen_by self.seated))
             (known result.desk.told (seen_by result.seated)) }
@@ -128,6 +142,7 @@ impl<L: Ledger, T: Trace, D: Disk + Drop> Committer<L, T, D> {
             rt,
             front,
             committer: self,
+            gathering: Gathering::new(),
         };
         commit_all(rt, gate, &mut at);
         let AtFront { committer, .. } = at;

@@ -10,6 +10,7 @@ mod asking;
 mod committing;
 mod error;
 mod front;
+mod gathering;
 mod moment;
 mod opening;
 mod port_application;

@@ -70,7 +70,7 @@ impl<R: Wait, L: Ledger, T: Trace, G: Gate> Gate for UntilOver<'_, R, L, T, G> {
     ghost says = { λ gate pending said. (said ≡ turn.End) ⊎ G.says gate.inner.now pending said };
 
     fn turn(&self, pending: usize) -> Turn {
-        if self.front.ending.is_cancelled() || self.front.is_over(self.rt) {
+        if self.front.ending.is_cancelled() || pending == 0 && self.front.is_over(self.rt) {
             Turn::End
         } else {
             self.inner.turn(pending)
