@@ -4,7 +4,10 @@ ghost use Rattle.std.specs.Prelude.{◌≡◌, [], length, IfOk};
 use std::alloc::{AllocError, Global};
 use std::marker::Model;
 
-/// How many bytes a payload, a response or an error body may have.
+/// How many bytes a payload may have.
+pub const MOST_PAYLOAD: u32 = 1048576;
+
+/// How many bytes a response or an error body may have.
 pub const MOST_BYTES: u32 = 262144;
 
 /// Bytes that a record carries: a payload, a response or an error body.

@@ -9,7 +9,7 @@ ghost use Rattle.invoke_records.specs.declared.error.RecordError.TheVariants.{Ou
 use crate::command::GREATEST_MOMENT;
 use crate::reader::Reader;
 use crate::row_fields::{Counts, Life};
-use crate::{Answer, Bytes, EventRow, MOST_BYTES, Outcome, RecordError, Standing};
+use crate::{Answer, Bytes, EventRow, MOST_BYTES, MOST_PAYLOAD, Outcome, RecordError, Standing};
 use std::alloc::Global;
 
 fn read_life(reader: &mut Reader) -> Life
@@ -35,7 +35,8 @@ fn read_counts(reader: &mut Reader) -> Counts
         failures: reader.u32(),
         push_backs: reader.u32(),
         answer: reader.small(0, 2),
-        payload_size: reader.sized(1, MOST_BYTES),
+        policy: reader.policy(),
+        payload_size: reader.sized(1, MOST_PAYLOAD),
         answer_size: reader.sized(0, MOST_BYTES),
     }
 }
@@ -126,6 +127,7 @@ fn row_of<'a>(
         starts: counts.starts,
         failures: counts.failures,
         push_backs: counts.push_backs,
+        policy: counts.policy,
         payload,
         answer,
     };
