@@ -79,7 +79,8 @@ impl<'a> Planner<'a> {
             | Kind::Throttle
             | Kind::Interrupt
             | Kind::Expire
-            | Kind::Collect => Plan::does(self.bare(kind, id), Made::Nothing),
+            | Kind::Collect
+            | Kind::Configure(_) => Plan::does(self.bare(kind, id), Made::Nothing),
         }
     }
 

@@ -78,6 +78,18 @@ named_id id c named = bytes_eq-true id c.id (and_parts (kind_names c.kind) (byte
 pub named_kind : (id : List ℕ) (c : Command) → names id c ≡ true → kind_names c.kind ≡ true
 named_kind id c named = (and_parts (kind_names c.kind) (bytes_eq id c.id) named).0
 
+-- another id is not named
+pub unnamed : (id : List ℕ) (c : Command) → bytes_eq id c.id ≡ false → names id c ≡ false
+unnamed id c apart = neither (kind_names c.kind) (bytes_eq id c.id) apart
+  where
+    neither : (a b : Bool) → b ≡ false → (a && b) ≡ false
+    neither true b h = h
+    neither false b h = refl
+
+-- and this one is, if the command is of an event
+pub named_by : (id : List ℕ) (c : Command) → kind_names c.kind ≡ true → bytes_eq id c.id ≡ true → names id c ≡ true
+named_by id c event same = rw event same
+
 -- ## Known events
 
 abbrev pub size : List Command → ℕ

@@ -23,7 +23,7 @@ use Rattle.async_core.specs.laws.Refusals.{NoneFails, shape_passes, clock_passes
 use Rattle.async_core.specs.Checks.{shape_checks}
 use Rattle.async_core.specs.laws.Shapes.{limits}
 use Rattle.async_core.specs.laws.Pace.{Paced, Paced-later, runs_failing, paced_start, paced_throttle, paced_interrupt, paced_failure}
-use Rattle.async_core.specs.laws.Held.{times_held, size, is_nil, bytes_eq-refl, bytes_eq-sym, named_id, named_kind, IsLegal-take, held_once, nil_before, legally}
+use Rattle.async_core.specs.laws.Held.{times_held, size, is_nil, bytes_eq-refl, bytes_eq-sym, named_id, named_kind, unnamed, named_by, IsLegal-take, held_once, nil_before, legally}
 
 pub times_held-cons : (id : List ℕ) (e : ℕ × List ℕ) (events : List (ℕ × List ℕ)) (b : Bool) → bytes_eq id e.1 ≡ b → times_held id (e ∷ events) ≡ cond b 1 0 + times_held id events
 times_held-cons id e events b same = count_by-cons (λ (e : ℕ × List ℕ). bytes_eq id e.1) e events ∙ ap (λ v. cond v 1 0 + times_held id events) same
@@ -56,7 +56,7 @@ no_accept false named h = refl
 
 module _ (s : Settings) (h : List Command) (c : Command) (id : List ℕ) where
   -- an event that the command does not name is judged as before
-  judged_kept : names id c ≡ false → judged_by s (h ++ c ∷ []) id ≡ judged_by s h id
+  pub judged_kept : names id c ≡ false → judged_by s (h ++ c ∷ []) id ≡ judged_by s h id
   unfolding judged_by
   judged_kept other =
       judged_by-snoc s h c id
@@ -129,12 +129,11 @@ row_of-by : (s : Settings) (h : List Command) (e : ℕ × List ℕ) → row_of s
 unfolding standing_in row_by
 row_of-by s h e = refl
 
--- another id than that of the command is not named
 not_named : (id : List ℕ) (c : Command) → bytes_eq c.id id ≡ false → names id c ≡ false
-not_named id c apart = no_accept (kind_names c.kind) (bytes_eq id c.id) (bytes_eq-sym id c.id ∙ apart)
+not_named id c apart = unnamed id c (bytes_eq-sym id c.id ∙ apart)
 
 is_named : (id : List ℕ) (c : Command) → kind_names c.kind ≡ true → bytes_eq c.id id ≡ true → names id c ≡ true
-is_named id c event same = rw event (bytes_eq-sym id c.id ∙ same)
+is_named id c event same = named_by id c event (bytes_eq-sym id c.id ∙ same)
 
 module _ (s : Settings) (h : List Command) (c : Command) where
   -- an event that the command does not name keeps its row
@@ -306,12 +305,16 @@ module _ (s : Settings) (h : List Command) (c : Command) (id : List ℕ) (passes
       (Paced-later (rules_of s h id) (last_moment h) c.time (accepted l) (starts l) (failures l) (push_backs l) (standing_of (rules_of s h id) l) clock p)
 
   paced_collected : kind_is_collect c.kind ≡ true → names id c ≡ true → PacedLife (rules_of s (h ++ c ∷ []) id) c.time (life id (h ++ c ∷ []))
-  paced_collected goes named = rw (life-snoc id h c ∙ rw (goes, named) refl) (paced_nil (rules_of s (h ++ c ∷ []) id) c.time)
+  paced_collected goes named =
+      let gone : life id (h ++ c ∷ []) ≡ [] = life-snoc id h c ∙ rw (goes, named) refl in
+      rw gone (paced_nil (rules_of s (h ++ c ∷ []) id) c.time)
 
   paced_new : c.kind ≡ Accept → names id c ≡ true → PacedLife (rules_of s (h ++ c ∷ []) id) c.time (life id (h ++ c ∷ []))
   paced_new is named =
       let none : life id h ≡ [] = nil_is (life id h) (nil_before s h c passes id named ∙ ap kind_is_accept is) in
-      rw (life-snoc id h c ∙ rw (is, named, none) refl) (paced_accept (rules_of s (h ++ c ∷ []) id) c is)
+      let stays : kind_is_collect c.kind ≡ false = ap kind_is_collect is in
+      let grown : life id (h ++ c ∷ []) ≡ c ∷ [] = life-snoc id h c ∙ rw (stays, named, none) refl in
+      rw grown (paced_accept (rules_of s (h ++ c ∷ []) id) c is)
 
   paced_more : is_accept c ≡ false → kind_is_collect c.kind ≡ false → names id c ≡ true → PacedLife (rules_of s (h ++ c ∷ []) id) c.time (life id (h ++ c ∷ []))
   paced_more known stays named =

@@ -23,8 +23,10 @@ table_after-is s n last policy next rows changed c p h = rw (p, h) refl
 
 pub returns-clause-applied : goal.returns-clause-applied
 returns-clause-applied c =
-    ap (λ (t : Snapshot). record { settings = c.args.self.now.settings; table = t })
-    (table_after-is c.args.self.now.settings c.args.self.now.table.number c.args.self.now.table.last_moment c.args.self.now.table.policy c.policy_after.result c.args.self.now.table.rows c.change.new.held c.args.command.now c.policy_after.ensures c.in_ok-change.ensures.ok)
+    let inside = c.self.inside in
+    rw (← c.self.view_is)
+    (ap (λ (t : Snapshot). record { settings = inside.settings; table = t })
+    (table_after-is inside.settings inside.number inside.last_moment inside.policy c.policy_after-self-inside.result inside.held c.change.new.held c.args.command.now c.policy_after-self-inside.ensures c.in_ok-change.ensures.ok))
 
 pub returns-clause-by_history : goal.returns-clause-by_history
 unfolding table_after

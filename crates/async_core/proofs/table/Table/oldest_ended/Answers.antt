@@ -7,5 +7,5 @@ use Rattle.async_core.proofs.table.Table.oldest_ended.Goals as goal
 
 pub returns : goal.returns
 returns c =
-    let chosen : IsChosenAs (order.Ended c.args.side) c.args.self.now.table.rows (λ (r : EventRow). r.id) c.first_ended.result = c.first_ended.ensures in
+    let chosen : IsChosenAs (order.Ended c.args.side) c.args.self.now.table.rows (λ (r : EventRow). r.id) c.first_ended.result = rw (← c.self.view_is) c.first_ended.ensures in
     record { by_row = chosen; by_history = λ history is. oldest_ended-by_history _ _ history is c.args.side _ chosen }
