@@ -114,12 +114,7 @@ fn running_rank(above: u64, row: &EventRow) -> Option<(u128, u64)> {
     None
 }
 
-fn moving_rank(
-    now: u64,
-    has_ready: bool,
-    is_full: bool,
-    row: &EventRow,
-) -> Option<(u128, u64)> {
+fn moving_rank(now: u64, has_ready: bool, is_full: bool, row: &EventRow) -> Option<(u128, u64)> {
     let too_old = expiry_of(row);
     match move_by(is_full, has_ready, too_old, now, row.standing) {
         Some(_) => Some((ripe_by(too_old, row.standing), row.number)),

@@ -17,12 +17,7 @@ fn environment_for(ready_env: Option<u16>, kind: Kind) -> u16 {
     }
 }
 
-fn move_of_row(
-    row: &EventRow,
-    is_full: bool,
-    now: u64,
-    ready_env: Option<u16>,
-) -> Option<Move> {
+fn move_of_row(row: &EventRow, is_full: bool, now: u64, ready_env: Option<u16>) -> Option<Move> {
     let too_old = expiry_of(row);
     match move_by(is_full, ready_env.is_some(), too_old, now, row.standing) {
         Some(kind) => Some(Move {
