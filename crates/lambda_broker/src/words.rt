@@ -81,7 +81,7 @@ fn with_rules<'a>(alloc: Global, command: Command<'a>) -> Result<Command<'a>, Al
 fn with_limits<'a>(alloc: Global, command: Command<'a>) -> Result<Command<'a>, AllocError> {
     let environments = "Environments, 1 to 16";
     let events = "Events that may be held at once, 1 to 1024";
-    let payload = "Greatest payload in bytes, 2 to 262144";
+    let payload = "Greatest payload in bytes, 2 to 1048576";
     let response = "Greatest response in bytes, 2 to 262144";
     command
         .arg(number(alloc, "environments", environments, "1", value_parser!(u8)))?
