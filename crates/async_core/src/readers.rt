@@ -1,7 +1,7 @@
 // What a table says of one event. No reader takes memory.
 ghost use Rattle.std.specs.Prelude.{◌≡◌, Some, find, option_map};
 ghost use Rattle.std.specs.Option.{option_copied};
-ghost use Rattle.async_core.specs.Readers.{told, outcome_by, accepted_at, accepted_after, payload_at, payload_after, counts_at, counts_after, ending_at, ending_after};
+ghost use Rattle.async_core.specs.Readers.{told, outcome_by, accepted_at, accepted_after, payload_at, payload_after, counts_at, counts_after, judge_at, judge_after, ending_at, ending_after};
 ghost use Rattle.async_core.specs.Rules.{has_id, row_at, standing_at};
 ghost use Rattle.async_core.specs.History.{standing_in, in_force};
 ghost use Rattle.async_core.specs.Policies.{pair_of};
@@ -48,6 +48,15 @@ fn counts_in_rows(held: &Held, id: &[u8; 16]) -> Option<(u32, u32, u32)>
 {
     match held.find(id) {
         Some(row) => Some((row.starts, row.failures, row.push_backs)),
+        None => None,
+    }
+}
+
+fn judge_in(held: &Held, id: &[u8; 16]) -> Option<(u8, u32)>
+    ensures { result ≡ judge_at (find (has_id id.now) held.now) }
+{
+    match held.find(id) {
+        Some(row) => Some((row.policy.retries, row.policy.age)),
         None => None,
     }
 }
@@ -121,6 +130,14 @@ impl Table {
         ensures by_history { ForEachLegalHistory self.now (λ s history. result ≡ counts_after id.now history) }
     {
         counts_in_rows(&self.held, id)
+    }
+
+    /// The retries and the age, in seconds, by which an event is judged: what was in force just before it was accepted.
+    pub fn judged_by(&self, id: &[u8; 16]) -> Option<(u8, u32)>
+        ensures by_row { result ≡ judge_at (row_at self.now.table id.now) }
+        ensures by_history { ForEachLegalHistory self.now (λ s history. result ≡ judge_after s id.now history) }
+    {
+        judge_in(&self.held, id)
     }
 
     /// What an event that has ended leaves, if it is held and has ended.

@@ -19,11 +19,11 @@ use Rattle.invoke_records.specs.declared.row.EventRow.{EventRow}
 use Rattle.invoke_records.specs.declared.snapshot.Snapshot.{Snapshot}
 use Rattle.async_core.specs.Lives.{life, accepted, accepts, payload_of}
 use Rattle.async_core.specs.Standings.{is_running, runs_in}
-use Rattle.async_core.specs.Policies.{in_force, judged_by, of_life, before_last}
+use Rattle.async_core.specs.Policies.{in_force, judged_by, of_life, before_last, pair_of}
 use Rattle.async_core.specs.Checks.{refusal_in, shape_checks}
 use Rattle.async_core.specs.History.{held, standing_in, standing_of, rules_of, too_old_from, row_of, table_of, refusal_of, situation_of, IsLegal}
 use Rattle.async_core.specs.Rules.{has_id, row_at, standing_or_unknown, too_old_or_zero, standing_at, situation_at, refusal_at, table_after, empty_table, replay}
-use Rattle.async_core.specs.Readers.{where_held, counts_of, counts_in, ending_at, ending_in}
+use Rattle.async_core.specs.Readers.{where_held, counts_of, counts_in, judge_at, ending_at, ending_in}
 use Rattle.async_core.specs.laws.Lives.{last_moment-snoc, in_force-snoc, in_force-nil, held-nil}
 use Rattle.async_core.specs.laws.Rows.{times_held-cons, rows_by}
 use Rattle.async_core.specs.laws.Refusals.{NoneFails, shape_passes}
@@ -195,6 +195,9 @@ module _ (s : Settings) (table : Snapshot) (h : List Command) (id : List ℕ) (l
 
   pub counts-by_history : option_map counts_of (row_at table id) ≡ where_held (life id h) (counts_in (life id h))
   counts-by_history = read_by (λ o. option_map counts_of o) (λ l. where_held l (counts_in l)) refl (λ n known. known_held _ (life id h) known)
+
+  pub judge-by_history : judge_at (row_at table id) ≡ where_held (life id h) (pair_of (judged_by s h id))
+  judge-by_history = read_by judge_at (λ l. where_held l (pair_of (judged_by s h id))) refl (λ n known. known_held _ (life id h) known)
 
   pub ending-by_history : ending_at (row_at table id) ≡ ending_in id (life id h) (standing_in s h id)
   unfolding standing_in
