@@ -22,9 +22,12 @@ impl Order<'_> {
     /// The command of one of the events.
     pub fn command(self, alloc: Global, number: u64) -> Result<Command, Reply> {
         let bytes = if self.body.is_empty() {
-            Bytes::empty(alloc)
+            Bytes::empty()
         } else {
-            Bytes::from_vec(body(alloc, self.body)?)
+            let Ok(bytes) = Bytes::from_vec(body(alloc, self.body)?) else {
+                return Err(Reply::NoMemory);
+            };
+            bytes
         };
         let id = match self.kind {
             Kind::Configure(_) => [0; 16],

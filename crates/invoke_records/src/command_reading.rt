@@ -167,14 +167,14 @@ fn command_of<'a>(
     ensures { Gives (λ x. (x.0, x.1.now)) result (with_rest (command_of head body.now) rest.now) }
 {
     let (kind, carried) = body_of(head.kind, body)?;
-    let carried = Vec::from_slice(alloc, carried)?;
+    let bytes = Bytes::from_slice(alloc, carried)?;
     let id = head.id;
     let command = Command {
         kind,
         id,
         environment: head.environment,
         time: head.time,
-        bytes: Bytes::from_vec(carried),
+        bytes,
     };
     Ok((command, rest))
 }

@@ -96,7 +96,7 @@ fn read_answer(alloc: Global, byte: u8, bytes: &[u8]) -> Result<Answer, RecordEr
         }
         return Ok(Answer::None);
     }
-    let text = Bytes::from_vec(Vec::from_slice(alloc, bytes)?);
+    let text = Bytes::from_slice(alloc, bytes)?;
     if byte == 1 {
         return Ok(Answer::Response(text));
     }
@@ -115,7 +115,7 @@ fn row_of<'a>(
     ensures { Gives (λ x. (x.0, x.1.now)) result (with_rest (row_of life counts payload.now text.now) rest.now) }
 {
     let standing = read_standing(&life)?;
-    let payload = Bytes::from_vec(Vec::from_slice(alloc, payload)?);
+    let payload = Bytes::from_slice(alloc, payload)?;
     let answer = read_answer(alloc, counts.answer, text)?;
     let id = life.id;
     let row = EventRow {

@@ -105,7 +105,7 @@ fn issue<D: Disk>(
         id: [0; 16],
         environment: 0,
         time,
-        bytes: Bytes::from_vec(Vec::new(alloc)),
+        bytes: Bytes::empty(),
     })?;
     Ok(())
 }

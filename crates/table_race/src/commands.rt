@@ -129,6 +129,6 @@ pub fn command(
         id,
         environment,
         time,
-        bytes: Bytes::from_vec(bytes),
+        bytes: Bytes::from_vec(bytes)?,
     })
 }
