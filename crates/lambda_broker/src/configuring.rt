@@ -1,5 +1,5 @@
 // Setting the retry policy of a disk.
-ghost use Rattle.std.specs.Prelude.{◌≡◌, [], IfOk, OnOk, ok_or_unit};
+ghost use Rattle.std.specs.Prelude.{◌≡◌, [], OnOk};
 ghost use Rattle.group_commit.specs.Broker.{pending_of};
 ghost use Rattle.group_commit.specs.Promises.{ForEachHistory};
 ghost use Rattle.lambda_broker.specs.Configuring.{bad_option, policy_for, IsConfigured, is_device_fault};
@@ -10,7 +10,7 @@ use http_front::now;
 use invoke_records::{Bytes, Command, Kind};
 use retry_rules::{BadSettings, Field, RetryPolicy};
 use sector_disk::{Disk, FileDisk, FileError};
-use std::alloc::{AllocError, Global};
+use std::alloc::{AllocError, AllocGlobal, Global};
 use std::fs::File;
 use std::io;
 use std::rt::Files;
