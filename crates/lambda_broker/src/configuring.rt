@@ -10,7 +10,7 @@ use http_front::now;
 use invoke_records::{Bytes, Command, Kind};
 use retry_rules::{BadSettings, Field, RetryPolicy};
 use sector_disk::{Disk, FileDisk, FileError};
-use std::alloc::{AllocError, AllocGlobal, Global};
+use std::alloc::{AllocError, Global};
 use std::fs::File;
 use std::io;
 use std::rt::Files;
