@@ -154,10 +154,8 @@ next_to (Ok done) rest = rest
 
 -- each command is of a kind that this version has; else the gate of the first that is not is damaged
 abbrev pub kinds_in : Version → List (ℕ × Command) → Result (Unit {0}) OpenError
-kinds_in Two commands = Ok tt
-kinds_in (One policy) [] = Ok tt
-kinds_in (One policy) (c ∷ commands) =
-    if has_kind (One policy) c.1.kind then kinds_in (One policy) commands else Err (Damaged c.0)
+kinds_in version [] = Ok tt
+kinds_in version (c ∷ commands) = if has_kind version c.1.kind then kinds_in version commands else Err (Damaged c.0)
 
 -- the table after the commands of a segment of this version
 abbrev pub folded_in : Version → Settings → Snapshot → List (ℕ × Command) → Result Snapshot OpenError

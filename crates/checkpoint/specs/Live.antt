@@ -151,14 +151,20 @@ pub is_new : (s : Settings) (table : Snapshot) (image : List ℕ) → RecoversTo
 unfolding recovered
 is_new s table image is = if_new_ok (read_as image) (record { settings = s; table = table }) is
 
+-- an image that holds this reads to it
+pub reads_as :
+    (version : Version) (s : Settings) (image : List ℕ) (what : DiskImage) (table : Snapshot) → read_image image ≡ Ok what
+    → what.live.version ≡ version → what.live.settings ≡ s → what.live.table ≡ table → ReadsAs version s table image
+reads_as version s image what table reads version_is settings is =
+    ap live_in reads ∙ (λ i. Ok (version_is i, record { settings = settings i; table = is i }))
+
 -- each image of a live disk reads to its table, in its version
 pub live_reads :
     (version : Version) (disk : DiskView) (opened : Opened) (table : Snapshot) → IsLiveIn version disk opened table
     → (image : List ℕ) → disk.may_leave image → ReadsAs version (settings_of opened) table image
 live_reads version disk opened table live image left =
-    ap read_as (live.settled image left)
-    ∙ ap live_in live.reads
-    ∙ (λ i. Ok (live.version_is i, record { settings = live.settings i; table = live.table_is i }))
+    ap read_as (live.settled image left) ∙ reads_as version (settings_of opened) disk.content live.image table live.reads live.version_is
+    live.settings live.table_is
 
 -- each image of a live disk of version 2 recovers to its table
 pub live_recovers :

@@ -4,7 +4,7 @@ ghost use Rattle.retry_rules.specs.Settings.{bad_field};
 ghost use Rattle.invoke_records.specs.Spelling.{settings_text};
 ghost use Rattle.gate_journal.specs.Frames.{sectors_for};
 ghost use Rattle.checkpoint.specs.OpenSteps.{IsSoundHeader};
-ghost use Rattle.checkpoint.specs.Image.{header_with, header_at, version_byte, version_named};
+ghost use Rattle.checkpoint.specs.Image.{header_with, header_at, is_version, version_named};
 
 use crate::reading::{are_zeros, u32_at, u64_at, unread};
 use crate::sizes::{allows, most_snapshot_in, segment_sectors_in};
@@ -33,7 +33,14 @@ pub(crate) struct Header {
     pub(crate) settings: Settings,
 }
 
-// The version that this byte, which is 1 or 2, names.
+// Whether this byte names a version.
+fn is_version(byte: u8) -> bool
+    ensures { result ≡ is_version byte }
+{
+    byte == 1 || byte == 2
+}
+
+// The version that such a byte names.
 fn version_named(byte: u8, policy: RetryPolicy) -> Version
     ensures { result ≡ version_named byte policy }
 {
@@ -85,9 +92,8 @@ pub(crate) fn read_header(
     ensures sound { IfOk result (λ found. IfSome found (IsSoundHeader sectors)) }
 {
     let generation = u64_at(bytes, 8);
-    let is_version = bytes[7] == 1 || bytes[7] == 2;
     if !bytes.starts_with(&LETTERS)
-        || !is_version
+        || !is_version(bytes[7])
         || generation < 1
         || generation > MOST_GENERATIONS
     {

@@ -1,5 +1,5 @@
 // Whether the commands behind a snapshot are legal, each after those before it.
-ghost use Rattle.std.specs.Prelude.{◌≡◌, ◌+◌, ◌≤◌, ◌^◌, length, map, IfOk, IfErr, IsOk, OnOk};
+ghost use Rattle.std.specs.Prelude.{◌≡◌, ◌×◌, ◌+◌, ◌≤◌, ◌^◌, length, map, IfOk, IfErr, IsOk, OnOk};
 ghost use Rattle.checkpoint.specs.Image.{folded, kinds_in, folded_in};
 ghost use Rattle.checkpoint.specs.Opening.{Refuses};
 ghost use Rattle.checkpoint.specs.declared.error.OpenError.TheVariants as open_error;
@@ -31,7 +31,8 @@ fn check_legal(table: Table, behind: &[(u64, Command)]) -> Result<(), OpenError>
 
 // Each command, behind its gate, is of a kind that the version has; else its gate is where the damage is.
 fn check_kinds(version: Version, behind: &[(u64, Command)]) -> Result<(), OpenError>
-    ensures { result ≡ kinds_in version behind.now }
+    ensures exact { result ≡ kinds_in version behind.now }
+    ensures damage { IfErr result (λ why. (why ≡ open_error.Fault → ⊥) × (why ≡ open_error.OldVersion → ⊥)) }
 {
     for (gate, command) in behind {
         if !version.has_kind(command.kind) {
@@ -51,8 +52,28 @@ fn table_from(alloc: Global, settings: &Settings, snapshot: Snapshot) -> Result<
     Ok(Table::from_snapshot(alloc, snapshot, settings)?)
 }
 
-// The snapshot again, where each command behind it is of the version's kinds, and then each is legal; else the gate of the
-// first that is not is where the damage is.
+// The snapshot again, where each command behind it is legal; else the gate of the first that is not is where the damage
+// is.
+fn judge_legal(
+    alloc: Global,
+    settings: &Settings,
+    snapshot: Snapshot,
+    behind: &[(u64, Command)],
+) -> Result<Snapshot, OpenError>
+    requires { snapshot.number + length behind.now ≤ 2 ^ 62 }
+    ensures same { IfOk result (λ again. again ≡ snapshot) }
+    ensures legal { OnOk result (IsOk (folded settings.now snapshot behind.now)) }
+    ensures refused { IfErr result (λ why. Refuses why (folded settings.now snapshot behind.now)) }
+    ensures fault { IfErr result (λ why. why ≡ open_error.Fault → ⊥) }
+    ensures old { IfErr result (λ why. why ≡ open_error.OldVersion → ⊥) }
+{
+    let table = table_from(alloc, settings, snapshot)?;
+    let again = table.snapshot()?;
+    check_legal(table, behind)?;
+    Ok(again)
+}
+
+// The same of a version, whose kinds are judged before anything is applied.
 pub(crate) fn judge(
     alloc: Global,
     version: Version,
@@ -68,10 +89,7 @@ pub(crate) fn judge(
     ensures old { IfErr result (λ why. why ≡ open_error.OldVersion → ⊥) }
 {
     check_kinds(version, behind)?;
-    let table = table_from(alloc, settings, snapshot)?;
-    let again = table.snapshot()?;
-    check_legal(table, behind)?;
-    Ok(again)
+    judge_legal(alloc, settings, snapshot, behind)
 }
 
 // The commands without their gates.
