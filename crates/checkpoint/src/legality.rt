@@ -1,5 +1,5 @@
 // Whether the commands behind a snapshot are legal, each after those before it.
-ghost use Rattle.std.specs.Prelude.{◌≡◌, ◌×◌, ◌+◌, ◌≤◌, ◌^◌, length, map, IfOk, IfErr, IsOk, OnOk};
+ghost use Rattle.std.specs.Prelude.{◌≡◌, ◌+◌, ◌≤◌, ◌^◌, length, map, IfOk, IfErr, IsOk, OnOk};
 ghost use Rattle.checkpoint.specs.Image.{folded, kinds_in, folded_in};
 ghost use Rattle.checkpoint.specs.Opening.{Refuses};
 ghost use Rattle.checkpoint.specs.declared.error.OpenError.TheVariants as open_error;
