@@ -17,7 +17,7 @@ use Rattle.std.proofs.Common.{ap, ◌∙◌}
 use Rattle.async_core.specs.Limits.{is_within}
 use Rattle.async_core.specs.State.{State}
 use Rattle.checkpoint.specs.declared.error.OpenError.{OpenError}
-use Rattle.checkpoint.specs.Image.{DiskImage, read_image, read_as, live_in, if_new, recovered, least_sectors, segment_sectors_in}
+use Rattle.checkpoint.specs.Image.{DiskImage, read_image, read_as, live_in, if_new, recovered, segment_sectors_in}
 
 -- the settings of the live segment
 abbrev pub settings_of : Opened → Settings

@@ -1,5 +1,5 @@
 -- What migrating a disk of version 1 of the format promises: what a stop leaves meanwhile, what Ok says, and when it is refused.
-use Rattle.std.specs.Prelude.{◌≡◌, ◌⊎◌, ◌×◌, ℕ, ◌+◌, ◌<◌, ◌≤◌, ◌^◌, false, List, Ok, Err}
+use Rattle.std.specs.Prelude.{◌≡◌, ◌⊎◌, ℕ, ◌+◌, ◌<◌, ◌≤◌, ◌^◌, false, List, Ok, Err}
 use Rattle.sector_disk.specs.Disk.{DiskView}
 use Rattle.retry_rules.specs.declared.policy.RetryPolicy.{RetryPolicy}
 use Rattle.retry_rules.specs.declared.settings.Settings.{Settings}
