@@ -26,13 +26,13 @@ pub returns-then-not-is_old-clause-reason : goal.returns-then-not-is_old-clause-
 returns-then-not-is_old-clause-reason g c honest =
     not_old (g.D.Disk.view c.args.disk.now) (g.D.Disk.view c.recover_either.new.disk) c.in-Ok.opened c.in-Ok.table.table (sym c.is_old.ensures ∙ c.if-not-is_old.true) (c.in-Ok.ensures.live honest)
 
-pub returns-then-sectors-lt-least-clause-reason : goal.returns-then-sectors-lt-least-clause-reason
-returns-then-sectors-lt-least-clause-reason g c honest =
+pub returns-then-sectors-least-clause-reason : goal.returns-then-sectors-least-clause-reason
+returns-then-sectors-least-clause-reason g c honest =
     let old = g.D.Disk.view c.args.disk.now in
     let mid = g.D.Disk.view c.recover_either.new.disk in
     let was = old_disk old mid c.in-Ok.opened c.in-Ok.table.table (c.recover_either.ensures.content honest) (sym c.is_old.ensures ∙ c.if-not-is_old.false) (c.in-Ok.ensures.live honest) in
     (_, c.in-Ok.table.table, _, was, omega (arith, c.least_sectors-least.ensures.exact, c.settings.ensures),
-    omega (arith, c.if-sectors-lt-least.true, c.sectors-sectors.ensures, c.recover_either.ensures.same.sectors))
+    omega (arith, c.if-sectors-least.true, c.sectors-sectors.ensures, c.recover_either.ensures.same.sectors))
 
 pub returns-then-generation-ge-MOST_GENERATIONS-clause-reason : goal.returns-then-generation-ge-MOST_GENERATIONS-clause-reason
 returns-then-generation-ge-MOST_GENERATIONS-clause-reason g c honest =
@@ -40,12 +40,12 @@ returns-then-generation-ge-MOST_GENERATIONS-clause-reason g c honest =
     let mid = g.D.Disk.view c.recover_either.new.disk in
     let was = old_disk old mid c.in-Ok.opened c.in-Ok.table.table (c.recover_either.ensures.content honest) (sym c.is_old.ensures ∙ c.if-not-is_old.false) (c.in-Ok.ensures.live honest) in
     (_, c.in-Ok.table.table, _, was,
-    omega (arith, c.if-sectors-lt-least.false, c.least_sectors-least.ensures.exact, c.sectors-sectors.ensures, c.recover_either.ensures.same.sectors),
+    omega (arith, c.if-sectors-least.false, c.least_sectors-least.ensures.exact, c.sectors-sectors.ensures, c.recover_either.ensures.same.sectors),
     omega (arith, c.if-generation-ge-MOST_GENERATIONS.true, c.generation-generation.ensures))
 
 pub returns-clause-room : goal.returns-clause-room
 returns-clause-room g c = record {
-  least = omega (arith, c.if-sectors-lt-least.false, c.least_sectors-least.ensures.exact, c.sectors-sectors.ensures);
+  least = omega (arith, c.if-sectors-least.false, c.least_sectors-least.ensures.exact, c.sectors-sectors.ensures);
   end = c.in-Ok.ensures.room.end;
 }
 
