@@ -1,6 +1,5 @@
 -- What the version of an opened disk says of what the disk recovers to.
 use Rattle.std.proofs.Common.{◌≡◌, ℕ, true, false, List, Result, Ok, Err, refl, ap, subst, ◌∙◌}
-use Rattle.std.specs.Prelude.{IsErrOf}
 use Rattle.sector_disk.specs.Disk.{DiskView}
 use Rattle.invoke_records.specs.declared.command.Command.{Command}
 use Rattle.invoke_records.specs.declared.snapshot.Snapshot.{Snapshot}
@@ -49,19 +48,16 @@ refused : (content : List ℕ) (why : OpenError) → Refuses why (read_as conten
 unfolding recovered
 refused content why = refuses_along why (read_as content) (if_new (read_as content)) (λ e is. ap if_new is)
 
-abbrev failed : {A : Type 0} → OpenError → Result A OpenError
-failed why = Err why
-
-same_cause : {A : Type 0} (a b : OpenError) → failed {A} a ≡ failed {A} b → a ≡ b
+same_cause : {A : Type 0} (a b : OpenError) → ◌≡◌ {A = Result A OpenError} (Err a) (Err b) → a ≡ b
 same_cause a b is = cc
 
-pub tells_not_formatted : {A : Type 0} (disk : DiskView) (why : OpenError) → (disk.honest → Refuses why (read_as disk.content)) → TellsNotFormatted disk (failed {A} why)
+pub tells_not_formatted : {A : Type 0} (disk : DiskView) (why : OpenError) → (disk.honest → Refuses why (read_as disk.content)) → TellsNotFormatted {A = A} disk (Err why)
 tells_not_formatted {A} disk why told honest is =
-    subst (λ (e : OpenError). Refuses e (recovered disk.content)) (same_cause {A} why NotFormatted is) (refused disk.content why (told honest))
+    subst (λ (e : OpenError). Refuses e (recovered disk.content)) (same_cause {A = A} why NotFormatted is) (refused disk.content why (told honest))
 
-pub tells_damage : {A : Type 0} (disk : DiskView) (why : OpenError) → (disk.honest → Refuses why (read_as disk.content)) → TellsDamage disk (failed {A} why)
+pub tells_damage : {A : Type 0} (disk : DiskView) (why : OpenError) → (disk.honest → Refuses why (read_as disk.content)) → TellsDamage {A = A} disk (Err why)
 tells_damage {A} disk why told honest sector is =
-    subst (λ (e : OpenError). Refuses e (recovered disk.content)) (same_cause {A} why (Damaged sector) is) (refused disk.content why (told honest))
+    subst (λ (e : OpenError). Refuses e (recovered disk.content)) (same_cause {A = A} why (Damaged sector) is) (refused disk.content why (told honest))
 
-pub tells_no_old : {A : Type 0} (disk : DiskView) (why : OpenError) → (IsErrOf (failed {A} why) OldVersion → ⊥) → TellsOld disk (failed {A} why)
+pub tells_no_old : {A : Type 0} (disk : DiskView) (why : OpenError) → (◌≡◌ {A = Result A OpenError} (Err why) (Err OldVersion) → ⊥) → TellsOld {A = A} disk (Err why)
 tells_no_old disk why none honest is = absurd (none is)
