@@ -1,5 +1,5 @@
 -- What a migration leaves at each moment, and what it makes of a disk.
-use Rattle.std.proofs.Common.{◌≡◌, ◌⊎◌, inl, inr, ⊎_elim, ℕ, ◌+◌, ◌≤◌, ◌^◌, true, false, is_none, None, List, length, Result, Ok, Err, refl, sym, ap, subst, ◌∙◌, arith}
+use Rattle.std.proofs.Common.{◌≡◌, ◌⊎◌, inl, inr, ⊎_elim, ℕ, ◌+◌, ◌≤◌, ◌^◌, Bool, true, false, is_none, None, List, length, Result, Ok, Err, refl, sym, ap, subst, ◌∙◌, arith}
 use Rattle.std.specs.Prelude.{OnOk}
 use Rattle.std.specs.Result.{IsOkAnd}
 use Rattle.std.proofs.lemmas.Bool.{and_from}
@@ -125,7 +125,7 @@ stands_of content version other s r table history reads is good legal below =
     (λ i. may_stand (settings i) (table_is i))
     ∙ and_from (is_none (snapshot_fault (table_of r history))) (is_within r (table_of r history)) (ap is_none fit.fault) fit.within
 
-bad_never : {A : Type 0} (b : _) → b ≡ true → b ≡ false → A
+bad_never : {A : Type 0} (b : Bool) → b ≡ true → b ≡ false → A
 bad_never b is bad = absurd (let no = sym is ∙ bad in cc)
 
 pub sound_unwritten : (disk : DiskView) (s : Settings) (table : Snapshot) (generation : ℕ) (why : MigrateError) → disk.may_leave disk.content → HoldsHistories disk → IsOldDisk disk s table generation

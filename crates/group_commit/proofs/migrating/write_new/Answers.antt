@@ -1,13 +1,14 @@
-use Rattle.std.proofs.Common.{◌≡◌, false, subst}
+use Rattle.std.proofs.Common.{subst}
 use Rattle.sector_disk.specs.laws.Moments.{started, leaves_weaker}
 use Rattle.invoke_records.specs.declared.snapshot.Snapshot.{Snapshot}
-use Rattle.checkpoint.specs.Live.{IsLive, may_stand, settings_of, live_reads}
+use Rattle.checkpoint.specs.Live.{IsLive, settings_of, live_reads}
+use Rattle.group_commit.specs.Migrating.{ReadsTo}
 use Rattle.group_commit.proofs.Migrated.{reads_to}
 use Rattle.group_commit.proofs.migrating.write_new.Goals as goal
 
 pub returns-in_default-clause-any_moment : goal.returns-in_default-clause-any_moment
 returns-in_default-clause-any_moment g c honest version live =
-    (started g.D.Disk.view g.met.D.Disk.laws c.args.disk.now _ honest (λ image left. (version, live_reads version _ _ _ live image left))).leaves
+    (started g.D.Disk.view g.met.D.Disk.laws c.args.disk.now (ReadsTo (settings_of c.args.opened.now) c.args.table.now.table) honest (λ image left. (version, live_reads version _ _ _ live image left))).leaves
 
 pub returns-in-Ok-switch-clause-any_moment : goal.returns-in-Ok-switch-clause-any_moment
 returns-in-Ok-switch-clause-any_moment g c honest version live =
