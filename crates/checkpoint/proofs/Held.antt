@@ -1,5 +1,5 @@
 -- What an image recovers to that holds a segment which a switch wrote.
-use Rattle.std.proofs.Common.{◌≡◌, ⊎_elim, ℕ, ◌+◌, ◌/◌, ◌^◌, ◌<◌, ◌≤◌, true, List, [], length, Option, Some, None, Ok, refl, sym, ◌∙◌, ap, arith, mul-le-mul_right}
+use Rattle.std.proofs.Common.{◌≡◌, ⊎_elim, ℕ, ◌+◌, ◌/◌, ◌^◌, ◌<◌, ◌≤◌, true, List, length, Option, Some, None, Ok, refl, arith, mul-le-mul_right}
 use Rattle.retry_rules.specs.declared.settings.Settings.{Settings}
 use Rattle.retry_rules.specs.Settings.{bad_field}
 use Rattle.invoke_records.specs.declared.snapshot.Snapshot.{Snapshot}

@@ -9,7 +9,6 @@ use Rattle.retry_rules.specs.declared.settings.Settings.{Settings}
 use Rattle.retry_rules.specs.Settings.{bad_field, policy_of}
 use Rattle.invoke_records.specs.declared.snapshot.Snapshot.{Snapshot}
 use Rattle.invoke_records.specs.Spelling.{settings_text, snapshot_text}
-use Rattle.invoke_records.specs.declared.version.Version.{Version}
 use Rattle.invoke_records.specs.declared.version.Version.TheVariants.{Two}
 use Rattle.invoke_records.specs.Reading.{settings_at, whole_at}
 use Rattle.invoke_records.specs.laws.Settings.{settings_again, settings_length_most}

@@ -1,5 +1,5 @@
 -- What an image reads while the other segment is made the live one, and once it is.
-use Rattle.std.proofs.Common.{◌≡◌, ◌⊎◌, inl, inr, ⊎_elim, ℕ, ◌+◌, ◌-◌, ◌*◌, ◌/◌, ◌^◌, ◌<◌, ◌≤◌, true, false, List, [], length, take, drop, Option, Some, None, is_some, is_none, Ok, refl, sym, ◌∙◌, ap, subst, arith}
+use Rattle.std.proofs.Common.{◌≡◌, ◌⊎◌, inl, inr, ⊎_elim, ℕ, ◌+◌, ◌-◌, ◌*◌, ◌/◌, ◌^◌, ◌<◌, ◌≤◌, true, false, List, length, take, drop, Option, Some, None, is_some, is_none, Ok, refl, sym, ◌∙◌, ap, subst, arith}
 use Rattle.std.proofs.lemmas.Bool.{cases_Bool, and_parts, eq-eqb, ne_eqb, cond-true, cond-false}
 use Rattle.sector_disk.specs.laws.Written.{same_part}
 use Rattle.sector_disk.specs.Disk.{DiskView, IsDisk, HasOneImage}

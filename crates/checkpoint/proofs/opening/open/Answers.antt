@@ -1,4 +1,4 @@
-use Rattle.std.proofs.Common.{sym, ◌∙◌, ap}
+use Rattle.std.proofs.Common.{sym, ◌∙◌}
 use Rattle.std.proofs.lemmas.Result.{err_from_is_err_and}
 use Rattle.checkpoint.proofs.Versions.{version_two, told_old, is_recovered, tells_not_formatted, tells_damage, tells_no_old, new_room}
 use Rattle.checkpoint.proofs.opening.open.Goals as goal

@@ -1,7 +1,6 @@
 use Rattle.std.proofs.Common.{sym, ◌∙◌, ap}
 use Rattle.std.proofs.lemmas.Result.{IfOk-weaker, IfErr-weaker}
 use Rattle.checkpoint.specs.Image.{read_image, read_as, live_in}
-use Rattle.checkpoint.specs.declared.error.OpenError.{OpenError}
 use Rattle.checkpoint.specs.Live.{live_reads}
 use Rattle.checkpoint.proofs.Refusals.{refuses_along}
 use Rattle.checkpoint.proofs.Lives.{is_live}

@@ -1,5 +1,4 @@
 use Rattle.std.proofs.Common.{sym, ap, subst, ◌∙◌, arith, Err}
-use Rattle.sector_disk.specs.Disk.{HasRisen}
 use Rattle.group_commit.specs.declared.error.MigrateError.{MigrateError}
 use Rattle.group_commit.specs.Migrating.{IsMigrateReason, IsSoundRefusal}
 use Rattle.group_commit.proofs.Migrated.{unopened, fault_of, sound_unopened, not_old, old_disk}
