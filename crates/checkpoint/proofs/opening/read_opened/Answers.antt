@@ -1,4 +1,4 @@
-use Rattle.std.proofs.Common.{◌∙◌, length, ap, arith, is_some}
+use Rattle.std.proofs.Common.{◌≡◌, ◌∙◌, length, ap, arith, is_some}
 use Rattle.std.proofs.lemmas.List.{length-map}
 use Rattle.std.proofs.lemmas.Result.{IfOk-weaker, IfErr-weaker}
 use Rattle.invoke_records.specs.declared.snapshot.Snapshot.{Snapshot}
@@ -17,7 +17,9 @@ returns-clause-room g c = IfOk-weaker c.judged.result _ _
       least =
           let version = opens.version ∙ c.in_ok-segment.ensures.version in
           let settings = opens.settings ∙ c.in_ok-segment.ensures.settings in
-          omega (arith, (λ i. segment_sectors_in (version i) (settings i)), c.requires.sound.header.least, c.requires.inside);
+          let header = c.args.found.header in
+          let same : segment_sectors_in r.0.version r.0.settings ≡ segment_sectors_in header.version header.settings = λ i. segment_sectors_in (version i) (settings i) in
+          omega (arith, same, c.requires.sound.header.least, c.requires.inside);
       end = omega (arith, ap journal.end_of opens.journal, c.in_ok-segment.ensures.end, c.requires.sound.base, c.requires.inside);
     })
     c.judged.ensures.opens
