@@ -1,5 +1,5 @@
 // Replies and refusals as HTTP responses.
-ghost use Rattle.std.specs.Prelude.{◌≡◌, ◌==◌, ◌⊎◌, length, None, Some, IfSome, if◌then◌else◌};
+ghost use Rattle.std.specs.Prelude.{◌≡◌, ◌⊎◌, IfSome};
 ghost use Rattle.http.specs.Response.{head_of, body_of};
 ghost use Rattle.api_core.specs.Refusals.{fault_of};
 
@@ -7,7 +7,6 @@ use api_core::{Answer, Refusal, Reply, reply_text};
 use bytes::Bytes;
 use hall_core::Released;
 use http::response::Builder;
-use http_body_util::Full;
 use http_port::{Answered, Refused, Told};
 use hyper::{Response, StatusCode};
 use retry_rules::Settings;
@@ -26,12 +25,12 @@ fn with_headers(builder: Builder, reply: &Reply) -> Builder {
 
 fn response_of(alloc: Global, reply: Reply) -> Option<Answered>
     ensures status { IfSome result (λ r. (head_of r).status ≡ reply.status) }
-    ensures body { IfSome result (λ r. (body_of r).buf ≡ (if length reply.body == 0 then None else Some reply.body)) }
+    ensures body { IfSome result (λ r. body_of r ≡ reply.body) }
 {
     let builder = with_headers(Response::builder(alloc), &reply);
     let Reply { status, body, .. } = reply;
     let bytes = Bytes::from_vec(body.into_vec()).ok()?;
-    builder.status(status).body(Full::new(bytes)).ok()
+    builder.status(status).body(bytes).ok()
 }
 
 /// A reply that was released, to be told to a client.

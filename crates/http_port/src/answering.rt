@@ -3,16 +3,12 @@ ghost use Rattle.std.specs.Prelude.{◌≡◌, ◌≤◌, ℕ, IfSome};
 ghost use Rattle.http_port.specs.Answering.{status_of, IsStatusOf};
 
 use bytes::Bytes;
-use http_body_util::Full;
 use hyper::{Response, StatusCode};
 use std::alloc::Global;
 use std::marker::Model;
 
-/// The body of a response.
-pub type Body = Full<Bytes>;
-
-/// What a port answers with.
-pub type Answered = Response<Body>;
+/// What a port answers with: a head, and the bytes of the body.
+pub type Answered = Response<Bytes>;
 
 /// What may be told to a client, which has a status of its own.
 pub trait Told: Drop {
@@ -52,30 +48,17 @@ impl Refused {
         requires { 400 ≤ status }
         ensures { result ≡ status }
     {
-        let mut response = Response::new(alloc, Full::new(Bytes::new()));
+        let mut response = Response::new(alloc, Bytes::new());
         *response.status_mut() = status;
         Refused { response }
     }
 
-    // The status of a request that is late, with the word that its connection ends. None where memory is wanting.
-    fn late_response(alloc: Global) -> Option<Answered>
-        ensures { IfSome result (λ response. status_of response ≡ 408) }
-    {
-        Response::builder(alloc)
-            .status(StatusCode::REQUEST_TIMEOUT)
-            .header("connection", "close")
-            .body(Full::new(Bytes::new()))
-            .ok()
-    }
-
-    /// What a client is told whose body has not come in time. Its connection ends then.
+    /// What a client is told whose body has not come in time. As with each body that was not read to its end, its connection
+    /// ends then.
     pub(crate) fn late(alloc: Global) -> Refused
         ensures { result ≡ 408 }
     {
-        match Refused::late_response(alloc) {
-            Some(response) => Refused::new(response),
-            None => Refused::bare(alloc, StatusCode::REQUEST_TIMEOUT),
-        }
+        Refused::bare(alloc, StatusCode::REQUEST_TIMEOUT)
     }
 
     /// Its response.

@@ -15,7 +15,8 @@ pub trait Application: Drop {
     /// The reply of a request, which may be waited for.
     type Reply: Future<Output = Self::Given>;
 
-    /// How many bytes of a body are read. One that is larger is given as so many bytes.
+    /// How many bytes of a body are read. One that is larger is given as so many bytes, and nothing of it is asked for where
+    /// its head says so.
     fn most(&self) -> usize;
 
     /// The reply of a request with this head, whose body was read or was not; or its refusal, which is told at once.

@@ -1,17 +1,18 @@
 // HTTP/1.1 at the door of a port.
 ghost use Rattle.std.specs.Prelude.{IfSome};
 
-use crate::answering::Body;
 use crate::application::Application;
 use crate::connections::Door;
 use crate::limits::Limits;
 use crate::noted::Noted;
+use crate::outgoing::Outgoing;
 use crate::requests::Requests;
+use crate::rest::Alarm;
 use crate::seats::Seat;
 use crate::served::Served;
 use crate::timer::Timer;
 use crate::watch::Watch;
-use hyper::rt::NoTimer;
+use hyper::rt::TokioTimer;
 use hyper::server::conn::http1::{Builder, Connection};
 use hyper::server::graceful::{Graceful, until};
 use std::alloc::Global;
@@ -23,8 +24,8 @@ use tokio::time;
 use tokio_util::sync::{CancellationToken, WaitForCancellationFuture};
 
 // A connection that ends after its exchange once the port ends.
-type Ending<A> = Graceful<
-    Connection<Noted<TcpStream>, Requests<A>, Body, NoTimer>,
+type Ending<R, A> = Graceful<
+    Connection<Noted<TcpStream>, Requests<R, A>, Outgoing<Noted<TcpStream>>, TokioTimer<R>>,
     WaitForCancellationFuture,
 >;
 
@@ -33,15 +34,17 @@ type Ending<A> = Graceful<
 pub(crate) struct HttpDoor<R, A> {
     pub(crate) rt: R,
     pub(crate) alloc: Global,
-    pub(crate) http: Builder,
+    /// It tells the date of each reply, and no time of its own passes.
+    pub(crate) http: Builder<TokioTimer<R>>,
     pub(crate) application: Arc<A>,
     pub(crate) timers: time::Handle,
+    pub(crate) alarm: Rc<Alarm<R>>,
     pub(crate) limits: Limits,
     pub(crate) ending: CancellationToken,
 }
 
 impl<R: Clock + Copy + Drop, A: Application> Door for HttpDoor<R, A> {
-    type Served = Served<Ending<A>, R>;
+    type Served = Served<Ending<R, A>, R>;
 
     fn serve(&self, socket: TcpStream, seat: Seat) -> Option<Self::Served> {
         let watch = Rc::new(self.alloc, Watch::new()).ok()?;
@@ -49,6 +52,7 @@ impl<R: Clock + Copy + Drop, A: Application> Door for HttpDoor<R, A> {
             alloc: self.alloc,
             application: Arc::try_clone(&self.application).ok()?,
             watch: Rc::clone(&watch).ok()?,
+            alarm: Rc::clone(&self.alarm).ok()?,
         };
         let noted = Noted {
             io: socket,

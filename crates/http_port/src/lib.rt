@@ -1,8 +1,9 @@
 //! HTTP/1.1 on one port: the requests of its connections are read and handed to an application, which answers each.
 //!
 //! A thread serves a port by `serve`, on a runtime of its own. Each request is a hand-written future: its body is read,
-//! up to as many bytes as the application wants, and then its reply is waited for. `Limits` say how long a client may take,
-//! and how many connections are open at once.
+//! up to as many bytes as the application wants, and then its reply is waited for. Where the body was not read to its end,
+//! the reply says that the connection ends, and the rest is read behind it and thrown away, so that the client sees the reply
+//! and not a connection that fails. `Limits` say how long a client may take, and how many connections are open at once.
 #![tactic(auto)]
 
 mod answering;
@@ -11,15 +12,17 @@ mod connections;
 mod door;
 mod limits;
 mod noted;
+mod outgoing;
 mod port;
 mod reading;
 mod requests;
+mod rest;
 mod seats;
 mod served;
 mod timer;
 mod watch;
 
-pub use answering::{Answered, Body, Refused, Told};
+pub use answering::{Answered, Refused, Told};
 pub use application::Application;
 pub use limits::Limits;
 pub use port::serve;

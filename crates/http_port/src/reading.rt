@@ -1,12 +1,11 @@
 // The body of a request, as it comes.
-ghost use Rattle.std.specs.Prelude.{◌≡◌, vec_len, IfOk};
+ghost use Rattle.std.specs.Prelude.{◌≡◌, vec_len, IfOk, None, Some, false, if◌then◌else◌};
 ghost use Rattle.futures.specs.Task.{IsArmed, Keeps};
 ghost use Rattle.futures.specs.Poll.{OnPending};
 
 use bytes::Bytes;
 use futures::task::{Context, Poll};
 use http_body::{Body, Frame};
-use http_body_util::{Limited, LimitedError};
 use hyper::body::Incoming;
 use std::alloc::Global;
 use std::mem;
@@ -27,10 +26,12 @@ pub enum ReadError {
 #[derive(Drop)]
 pub(crate) struct Reading<I: Drop> {
     alloc: Global,
-    body: Limited<Incoming<I>>,
+    body: Incoming<I>,
     bytes: Vec<u8>,
     frames: u32,
     most: usize,
+    // Whether the end of the body was read.
+    has_ended: bool,
 }
 
 // What a frame is followed by.
@@ -42,20 +43,46 @@ enum Step {
 }
 
 impl<I: Drop> Reading<I> {
-    pub(crate) fn new(alloc: Global, body: Incoming<I>, most: usize) -> Reading<I> {
+    pub(crate) fn new(alloc: Global, body: Incoming<I>, most: usize) -> Reading<I>
+        ensures { result.has_ended ≡ false }
+    {
         Reading {
             alloc,
-            body: Limited::new(body, most),
+            body,
             bytes: Vec::new(alloc),
             frames: 0,
             most,
+            has_ended: false,
         }
     }
 
-    fn take_frame(&mut self, frame: &Frame<Bytes>) -> Step {
+    /// What is left of the body. None where it was read to its end.
+    pub(crate) fn into_rest(self) -> Option<Incoming<I>>
+        ensures { result ≡ (if self.has_ended then None else Some self.body) }
+    {
+        let Reading {
+            body, has_ended, ..
+        } = self;
+        if has_ended { None } else { Some(body) }
+    }
+
+    // Whether the head says that more comes than is read.
+    fn is_too_long(&self) -> bool {
+        match self.body.size_hint().exact() {
+            Some(length) => length > self.most as u64,
+            None => false,
+        }
+    }
+
+    fn take_frame(&mut self, frame: &Frame<Bytes>) -> Step
+        ensures { self.new.has_ended ≡ self.old.has_ended }
+    {
         let Some(data) = frame.data_ref() else {
             return Step::Goes;
         };
+        if data.len() > self.most.saturating_sub(self.bytes.len()) {
+            return Step::TooMuch;
+        }
         match self.bytes.extend_from_slice(data.as_slice()) {
             Ok(()) => Step::Goes,
             Err(_) => Step::Failed(ReadError::OutOfMemory),
@@ -71,10 +98,7 @@ impl<I: Drop> Reading<I> {
             Poll::Pending => Poll::Pending,
             Poll::Ready(None) => Poll::Ready(Step::Ended),
             Poll::Ready(Some(Ok(frame))) => Poll::Ready(self.take_frame(&frame)),
-            Poll::Ready(Some(Err(LimitedError::LengthLimit))) => Poll::Ready(Step::TooMuch),
-            Poll::Ready(Some(Err(LimitedError::Body(_)))) => {
-                Poll::Ready(Step::Failed(ReadError::CutOff))
-            }
+            Poll::Ready(Some(Err(_))) => Poll::Ready(Step::Failed(ReadError::CutOff)),
         }
     }
 
@@ -90,11 +114,15 @@ impl<I: Drop> Reading<I> {
     }
 
     /// Reads on. A body that is larger than what is read, or that has not ended after 65536 frames, is given as so many
-    /// bytes as are read at most.
+    /// bytes as are read at most. Where the head says that it is larger, nothing of it is asked for: a client that waits to be
+    /// asked for its body is then refused in place of sending it.
     pub(crate) fn poll(&mut self, cx: &mut Context<'_>) -> Poll<Result<Vec<u8>, ReadError>>
         ensures armed { OnPending result (IsArmed cx.new) }
         ensures kept { Keeps cx.old cx.new }
     {
+        if self.is_too_long() {
+            return Poll::Ready(self.too_large());
+        }
         for frame in self.frames..MOST_FRAMES {
             match self.step(cx) {
                 Poll::Pending => {
@@ -103,6 +131,7 @@ impl<I: Drop> Reading<I> {
                 }
                 Poll::Ready(Step::Goes) => {}
                 Poll::Ready(Step::Ended) => {
+                    self.has_ended = true;
                     let none = Vec::new(self.alloc);
                     return Poll::Ready(Ok(mem::replace(&mut self.bytes, none)));
                 }

@@ -2,35 +2,50 @@
 ghost use Rattle.std.specs.Prelude.{◌≡◌, IfOk, IfSome, None};
 ghost use Rattle.futures.specs.Task.{IsArmed, Keeps};
 ghost use Rattle.futures.specs.Poll.{IfReady, OnPending};
-ghost use Rattle.http_port.specs.Answering.{SendsAnswer, SendsGiven};
+ghost use Rattle.http_port.specs.Answering.{status_of, SendsAnswer, SendsGiven};
 
 use crate::answering::{Answered, Refused, tell};
 use crate::application::Application;
+use crate::outgoing::Outgoing;
 use crate::reading::{ReadError, Reading};
+use crate::rest::{Alarm, Rest};
 use crate::watch::{Phase, Watch};
 use futures::Future;
 use futures::task::{Context, Poll};
 use http::request::Parts;
+use http::{HeaderValue, header, response};
 use hyper::body::Incoming;
 use hyper::service::Service;
-use hyper::{Request, StatusCode};
+use hyper::{Request, Response, StatusCode};
 use std::alloc::Global;
 use std::convert::Infallible;
 use std::rc::Rc;
 use std::sync::Arc;
+use std::time::Clock;
+
+// The response says that its connection ends. Where there is no memory to say so, it ends all the same.
+fn say_close(head: &mut response::Parts)
+    ensures { head.new.status ≡ head.old.status }
+{
+    let close = HeaderValue::from_static("close");
+    let _ = head.headers.insert(header::CONNECTION, close);
+}
 
 /// The future of one request. First its body is read; where it has a reply, that waits.
 #[derive(Drop)]
-pub(crate) struct Serving<A: Application, I: Drop> {
+pub(crate) struct Serving<R, A: Application, I: Drop> {
     alloc: Global,
     application: Option<Arc<A>>,
     watch: Option<Rc<Watch>>,
+    alarm: Option<Rc<Alarm<R>>>,
     head: Parts,
     reading: Option<Reading<I>>,
+    // A body that was not read to its end.
+    unread: Option<Incoming<I>>,
     reply: Option<A::Reply>,
 }
 
-impl<A: Application, I: Drop> Serving<A, I> {
+impl<R: Clock + Drop, A: Application, I: Drop> Serving<R, A, I> {
     // Another phase of its connection begins.
     fn enter(&self, phase: Phase) {
         if let Some(watch) = &self.watch {
@@ -57,6 +72,40 @@ impl<A: Application, I: Drop> Serving<A, I> {
         }
     }
 
+    // Nothing more of the body is read before the response is sent.
+    fn stop_reading(&mut self)
+        ensures { self.new.reply ≡ self.old.reply }
+    {
+        if let Some(reading) = self.reading.take() {
+            self.unread = reading.into_rest();
+        }
+    }
+
+    // The rest of a body that was not read to its end. None where it is not read on.
+    fn rest_of(&self, body: Incoming<I>) -> Option<Rest<I>> {
+        let alarm = match &self.alarm {
+            Some(alarm) => alarm.set()?,
+            None => return None,
+        };
+        Some(Rest::new(body, alarm))
+    }
+
+    // A response as it is sent. Where the body of its request was not read to its end, it says that the connection ends, and
+    // the rest is read behind it.
+    fn send(&mut self, answered: Answered) -> Response<Outgoing<I>>
+        ensures { status_of result ≡ status_of answered }
+    {
+        let (mut head, bytes) = answered.into_parts();
+        let rest = match self.unread.take() {
+            Some(body) => {
+                say_close(&mut head);
+                self.rest_of(body)
+            }
+            None => None,
+        };
+        Response::from_parts(head, Outgoing::new(bytes, rest))
+    }
+
     // Reads on, up to the reply that waits.
     fn poll_body(&mut self, cx: &mut Context<'_>) -> Poll<Result<A::Reply, Refused>>
         requires { IfSome self.old.reply A.Reply.can_poll }
@@ -69,6 +118,7 @@ impl<A: Application, I: Drop> Serving<A, I> {
             return Poll::Ready(Ok(reply));
         }
         if self.is_late() {
+            self.stop_reading();
             return Poll::Ready(Err(Refused::late(self.alloc)));
         }
         let Some(mut reading) = self.reading.take() else {
@@ -80,7 +130,10 @@ impl<A: Application, I: Drop> Serving<A, I> {
                 self.reading = Some(reading);
                 Poll::Pending
             }
-            Poll::Ready(body) => Poll::Ready(self.answer(body)),
+            Poll::Ready(body) => {
+                self.unread = reading.into_rest();
+                Poll::Ready(self.answer(body))
+            }
         }
     }
 
@@ -88,7 +141,7 @@ impl<A: Application, I: Drop> Serving<A, I> {
         &mut self,
         mut reply: A::Reply,
         cx: &mut Context<'_>,
-    ) -> Poll<Result<Answered, Infallible>>
+    ) -> Poll<Result<Response<Outgoing<I>>, Infallible>>
         requires { A.Reply.can_poll reply }
         ensures given { IfReady result (SendsGiven (A.Reply.gives reply) A.Given.status) }
         ensures status { IfReady result (SendsAnswer A.Given.status) }
@@ -101,23 +154,26 @@ impl<A: Application, I: Drop> Serving<A, I> {
                 self.reply = Some(reply);
                 Poll::Pending
             }
-            Poll::Ready(told) => Poll::Ready(Ok(tell(self.alloc, told))),
+            Poll::Ready(told) => {
+                let answered = tell(self.alloc, told);
+                Poll::Ready(Ok(self.send(answered)))
+            }
         }
     }
 }
 
-impl<A: Application, I: Drop> Future for Serving<A, I> {
-    type Output = Result<Answered, Infallible>;
+impl<R: Clock + Drop, A: Application, I: Drop> Future for Serving<R, A, I> {
+    type Output = Result<Response<Outgoing<I>>, Infallible>;
 
     ghost can_poll = { λ s. IfSome s.reply A.Reply.can_poll };
 
     ghost gives = { λ _ sent. SendsAnswer A.Given.status sent };
 
-    fn poll(&mut self, cx: &mut Context<'_>) -> Poll<Result<Answered, Infallible>> {
+    fn poll(&mut self, cx: &mut Context<'_>) -> Poll<Result<Response<Outgoing<I>>, Infallible>> {
         let polled = match self.poll_body(cx) {
             Poll::Pending => Poll::Pending,
             Poll::Ready(Ok(reply)) => self.poll_reply(reply, cx),
-            Poll::Ready(Err(refused)) => Poll::Ready(Ok(refused.into_response())),
+            Poll::Ready(Err(refused)) => Poll::Ready(Ok(self.send(refused.into_response()))),
         };
         if polled.is_ready() {
             self.enter(Phase::Idle);
@@ -128,28 +184,31 @@ impl<A: Application, I: Drop> Future for Serving<A, I> {
 
 /// Serves the requests of a connection.
 #[derive(Drop)]
-pub(crate) struct Requests<A> {
+pub(crate) struct Requests<R, A> {
     pub(crate) alloc: Global,
     pub(crate) application: Arc<A>,
     pub(crate) watch: Rc<Watch>,
+    pub(crate) alarm: Rc<Alarm<R>>,
 }
 
-impl<A: Application, I: Drop> Service<Request<Incoming<I>>> for Requests<A> {
-    type Response = Answered;
+impl<R: Clock + Drop, A: Application, I: Drop> Service<Request<Incoming<I>>> for Requests<R, A> {
+    type Response = Response<Outgoing<I>>;
 
     type Error = Infallible;
 
-    type Future = Serving<A, I>;
+    type Future = Serving<R, A, I>;
 
-    fn call(&self, req: Request<Incoming<I>>) -> Serving<A, I> {
+    fn call(&self, req: Request<Incoming<I>>) -> Serving<R, A, I> {
         let (head, body) = req.into_parts();
         self.watch.enter(Phase::Body);
         Serving {
             alloc: self.alloc,
             application: Arc::try_clone(&self.application).ok(),
             watch: Rc::clone(&self.watch).ok(),
+            alarm: Rc::clone(&self.alarm).ok(),
             head,
             reading: Some(Reading::new(self.alloc, body, self.application.most())),
+            unread: None,
             reply: None,
         }
     }

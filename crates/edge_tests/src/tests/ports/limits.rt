@@ -51,11 +51,26 @@ const HALF_A_HEAD: &str = "GET /now HTTP/1.1\r\nhos";
 
 const HALF_A_BODY: &str = "POST /now HTTP/1.1\r\nhost: h\r\ncontent-length: 9\r\n\r\n{}";
 
+// More is announced than is read, and less of it comes.
+const HALF_A_LARGE_BODY: &str = "POST /now HTTP/1.1\r\nhost: h\r\ncontent-length: 100\r\n\r\n{}";
+
+// More is announced than is read, by a client that waits to be asked for it.
+const ASKS_FIRST: &str =
+    "POST /now HTTP/1.1\r\nhost: h\r\nexpect: 100-continue\r\ncontent-length: 100\r\n\r\n";
+
+// More comes than is read, and then another request.
+const A_LARGE_BODY: &str =
+    "POST /now HTTP/1.1\r\nhost: h\r\ntransfer-encoding: chunked\r\n\r\n30\r\n\
+    ................................................\r\n30\r\n\
+    ................................................\r\n0\r\n\r\nGET /now HTTP/1.1\r\nhost: h\r\n\r\n";
+
 // Who comes to a port.
 #[derive(Clone, Copy)]
 enum Visit {
     /// A client who sends this and no more, and is told this status before its connection is closed.
     Late(&'static str, &'static str),
+    /// A client who sends this, of whose body not all is read.
+    Unread(&'static str),
     /// A client whose reply waits for longer than the limits.
     Parked,
     /// More clients than there are seats.
@@ -147,6 +162,13 @@ where
             expect(rt, is_told(&told, status), "its status is told");
             Ok(())
         }
+        Visit::Unread(request) => {
+            let told = ask(rt, rt.alloc(), to, [request, "", ""]);
+            expect(rt, told.has("200"), "one reply is told, and no other");
+            expect(rt, told.header("connection: ") == "close", "it is the last");
+            expect(rt, !told.header("date: ").is_empty(), "it has a date");
+            Ok(())
+        }
         Visit::Parked => park(rt, to, replies),
         Visit::Crowd => crowd(rt, to),
     }
@@ -222,6 +244,23 @@ fn a_connection_after_its_request_is_closed(rt: HostRuntime) -> Result<(), Fail>
         ..limits()
     };
     serve_visit(rt, limits, Visit::Late(NOW, "200"))
+}
+
+#[test]
+fn a_body_that_is_not_read_is_the_last_of_its_connection(rt: HostRuntime) -> Result<(), Fail> {
+    serve_visit(rt, limits(), Visit::Unread(A_LARGE_BODY))
+}
+
+#[test]
+fn a_rest_that_does_not_come_is_waited_for_no_longer_than_its_time(
+    rt: HostRuntime,
+) -> Result<(), Fail> {
+    serve_visit(rt, limits(), Visit::Unread(HALF_A_LARGE_BODY))
+}
+
+#[test]
+fn a_body_that_is_too_large_is_not_asked_for(rt: HostRuntime) -> Result<(), Fail> {
+    serve_visit(rt, limits(), Visit::Unread(ASKS_FIRST))
 }
 
 #[test]

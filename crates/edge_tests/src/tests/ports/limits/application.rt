@@ -3,7 +3,6 @@ use bytes::Bytes;
 use futures::Future;
 use futures::task::{Context, Poll};
 use http::request::Parts;
-use http_body_util::Full;
 use http_port::{Answered, Application, ReadError, Refused, Told};
 use hyper::{Response, StatusCode};
 use std::alloc::Global;
@@ -19,7 +18,7 @@ impl Told for Fine {
     fn into_response(self, alloc: Global) -> Option<Answered> {
         Response::builder(alloc)
             .status(StatusCode::OK)
-            .body(Full::new(Bytes::new()))
+            .body(Bytes::new())
             .ok()
     }
 }
