@@ -1,15 +1,20 @@
 -- Worked examples: requests and what they ask, and replies as they are sent.
-use Rattle.std.specs.Prelude.{ℕ, List, [], ◌∷◌, ◌++◌, Result, codes, replicate}
+use Rattle.std.specs.Prelude.{ℕ, List, [], ◌∷◌, ◌++◌, Bool, true, false, Result, codes, replicate}
 use Prim.Native.String.{String}
 use Rattle.http_header.specs.FieldValue.{plain_value}
 use Rattle.retry_rules.specs.declared.settings.Settings.{Settings}
-use Rattle.destination_json.specs.Examples.{usual}
+use Rattle.destination_json.specs.Examples.{usual, id}
 use Rattle.api_core.specs.declared.call.Call.{Call}
 use Rattle.api_core.specs.declared.refusal.Refusal.{Refusal}
+use Rattle.api_core.specs.declared.reply.Matter.{Matter}
+use Rattle.api_core.specs.declared.reply.Matter.TheVariants as matter
 use Rattle.api_core.specs.declared.reply.Reply.{Reply}
+use Rattle.api_core.specs.declared.dialect.Dialect.TheVariants.{Profile, Aws}
+use Rattle.api_core.specs.declared.dialect.Hearer.{Hearer}
 use Rattle.api_core.specs.Headers.{RequestHeaders}
 use Rattle.api_core.specs.Requests.{call_of}
-use Rattle.api_core.specs.Replies.{reply_of_told, refused}
+use Rattle.api_core.specs.Replies.{Told, about, reply_of_told, refused}
+use Rattle.api_core.specs.Dialects.{told_to}
 
 -- ## Headers
 
@@ -40,7 +45,7 @@ small = record usual { payload = 8; response = 8 }
 
 -- a request on a port
 abbrev pub on : ℕ → String → String → RequestHeaders → List ℕ → Result Call Refusal
-on port method target headers body = call_of usual port (codes method) (codes target) headers body
+on port method target headers body = call_of Profile usual port (codes method) (codes target) headers body
 
 -- the same without headers and body
 abbrev pub asks : ℕ → String → String → Result Call Refusal
@@ -51,11 +56,11 @@ abbrev pub invocations : String → String → List ℕ
 invocations name query = codes "/2015-03-31/functions/" ++ (codes name ++ (codes "/invocations" ++ codes query))
 
 abbrev pub invoke_as : String → String → Result Call Refusal
-invoke_as name query = call_of usual 0 (codes "POST") (invocations name query) event []
+invoke_as name query = call_of Profile usual 0 (codes "POST") (invocations name query) event []
 
 -- of the function that is there, with these headers and this body
 abbrev pub invoke_with : Settings → RequestHeaders → List ℕ → Result Call Refusal
-invoke_with s headers body = call_of s 0 (codes "POST") (invocations "my-function" "") headers body
+invoke_with s headers body = call_of Profile s 0 (codes "POST") (invocations "my-function" "") headers body
 
 abbrev pub invoke : List ℕ → Result Call Refusal
 invoke body = invoke_with usual event body
@@ -65,10 +70,17 @@ abbrev pub told_of : String → String → List ℕ
 told_of id what = codes "/2018-06-01/runtime/invocation/" ++ (codes id ++ codes what)
 
 abbrev pub tells_in : Settings → String → List ℕ → Result Call Refusal
-tells_in s what body = call_of s 1 (codes "POST") (told_of "00000000-0000-4000-8000-000000000003" what) [] body
+tells_in s what body = call_of Profile s 1 (codes "POST") (told_of "00000000-0000-4000-8000-000000000003" what) [] body
 
 abbrev pub tells : String → List ℕ → Result Call Refusal
 tells what body = tells_in usual what body
+
+-- a request on a port in the dialect of AWS's services, and an invocation of a function
+abbrev pub asks_aws : ℕ → String → String → List ℕ → Result Call Refusal
+asks_aws port method target body = call_of Aws usual port (codes method) (codes target) [] body
+
+abbrev pub invoke_aws : String → Result Call Refusal
+invoke_aws name = call_of Aws usual 0 (codes "POST") (invocations name "") event []
 
 -- an extension registers with this body
 abbrev pub register : List ℕ → Result Call Refusal
@@ -84,11 +96,27 @@ abbrev pub header : String → String → List ℕ × List ℕ
 header name value = (codes name, codes value)
 
 abbrev pub empty_reply : ℕ → List (List ℕ × List ℕ) → Reply
-empty_reply status headers = record { status = status; headers = headers; body = [] }
+empty_reply status headers = record { status = status; headers = headers; body = []; matter = matter.Plain }
 
 abbrev pub json_reply : ℕ → List (List ℕ × List ℕ) → List ℕ → Reply
 json_reply status headers body =
-    record { status = status; headers = headers ++ header "Content-Type" "application/json" ∷ []; body = body }
+    record {
+      status = status;
+      headers = headers ++ header "Content-Type" "application/json" ∷ [];
+      body = body;
+      matter = matter.Plain
+    }
+
+-- what is sent of a reply: its matter is not
+abbrev pub plainly : Reply → Reply
+plainly r = about matter.Plain r
+
+abbrev pub matter_of : Told → Matter
+matter_of told = (reply_of_told usual told).matter
+
+-- what is told in the broker's own dialect
+abbrev pub reply_to : Told → Reply
+reply_to told = plainly (reply_of_told usual told)
 
 abbrev pub accepted_headers : List (List ℕ × List ℕ)
 accepted_headers = header "X-Amzn-RequestId" "00000000-0000-4000-8000-000000000001" ∷ []
@@ -126,7 +154,7 @@ failure_text = codes "{\"eventType\":\"SHUTDOWN\",\"shutdownReason\":\"FAILURE\"
 
 -- what is told where a request is refused, and how it is to be told
 abbrev pub refusal : Refusal → Reply
-refusal why = reply_of_told usual (refused why)
+refusal why = reply_to (refused why)
 
 abbrev pub error_reply : ℕ → String → String → Reply
 error_reply status error_type message =
@@ -135,3 +163,44 @@ error_reply status error_type message =
 
 abbrev pub not_found_text : List ℕ
 not_found_text = codes "{\"errorMessage\":\"no such path or function\",\"errorType\":\"NotFound\"}"
+
+-- ## The dialect of AWS's services
+
+-- a caller whose request is called by the id 9, and an extension
+abbrev pub caller : Hearer
+caller = record { dialect = Aws; is_caller = true; wants_account = false; drawn = id 9 }
+
+abbrev pub extension : Bool → Hearer
+extension wants_account = record { dialect = Aws; is_caller = false; wants_account = wants_account; drawn = id 9 }
+
+abbrev pub caller_hears : Told → Reply
+caller_hears told = plainly (told_to usual caller (reply_of_told usual told))
+
+abbrev pub extension_hears : Bool → Told → Reply
+extension_hears wants_account told = plainly (told_to usual (extension wants_account) (reply_of_told usual told))
+
+-- how a caller is to be told of an exception
+abbrev pub exception_reply : ℕ → String → String → String → Reply
+exception_reply status exception side message = record {
+    status = status;
+    headers = header "X-Amzn-ErrorType" exception ∷ header "Content-Type" "application/json"
+        ∷ header "X-Amzn-RequestId" "00000000-0000-4000-8000-000000000009" ∷ [];
+    body = codes "{\"Type\":\"" ++ (codes side ++ (codes "\",\"message\":\"" ++ (codes message
+        ++ (codes "\",\"Message\":\"" ++ (codes message ++ codes "\"}")))));
+    matter = matter.Plain
+  }
+
+abbrev pub caller_refused : Refusal → Reply
+caller_refused why = caller_hears (refused why)
+
+-- headers with the id by which a request is called
+abbrev pub called_headers : List (List ℕ × List ℕ)
+called_headers = header "X-Amzn-RequestId" "00000000-0000-4000-8000-000000000009" ∷ []
+
+abbrev pub account_text : List ℕ
+account_text =
+    codes "{\"functionName\":\"my-function\",\"functionVersion\":\"$LATEST\",\"handler\":\"app.main\","
+    ++ codes "\"accountId\":\"123456789012\"}"
+
+abbrev pub lower_text : String → List ℕ
+lower_text word = codes "{\"eventType\":\"SHUTDOWN\",\"shutdownReason\":\"" ++ (codes word ++ codes "\",\"deadlineMs\":2000}")

@@ -1,8 +1,10 @@
+pub mod Arns
 pub mod Ids
 pub mod Says
 pub mod Paths
 pub mod Headers
 pub mod Bodies
+pub mod Dialects
 pub mod Requests
 pub mod Refusals
 pub mod Reply

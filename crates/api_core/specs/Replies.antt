@@ -1,4 +1,4 @@
--- The reply of an answer: its status, its headers in their order, and the bytes of its body.
+-- The reply of an answer: its status, its headers in their order, the bytes of its body, and what matter it tells of.
 use Rattle.std.specs.Prelude.{ℕ, ◌≤◌, List, [], ◌∷◌, ◌++◌, codes, decimal}
 use Prim.Native.String.{String}
 use Rattle.retry_rules.specs.declared.settings.Settings.{Settings}
@@ -7,12 +7,14 @@ use Rattle.async_core.specs.Readers.{Ending, told}
 use Rattle.destination_json.specs.Json.{in_quotes, member, object}
 use Rattle.destination_json.specs.Record.{id_text, latest, record_text}
 use Rattle.api_core.specs.declared.refusal.Refusal.{Refusal}
+use Rattle.api_core.specs.declared.reply.Matter.{Matter}
+use Rattle.api_core.specs.declared.reply.Matter.TheVariants as matter
 use Rattle.api_core.specs.declared.reply.Reply.{Reply}
 use Rattle.api_core.specs.declared.answer.Answer.{Answer}
 use Rattle.api_core.specs.declared.answer.Answer.TheVariants as answer
 use Rattle.api_core.specs.declared.answer.ShutdownReason.{ShutdownReason}
 use Rattle.api_core.specs.declared.answer.ShutdownReason.TheVariants.{Spindown, Timeout, Failure}
-use Rattle.api_core.specs.Refusals.{Fault, fault_of, error_text}
+use Rattle.api_core.specs.Refusals.{fault_of, error_text}
 
 -- ## What is told, without references
 
@@ -52,15 +54,24 @@ header name value = (codes name, value)
 
 -- a reply without a body
 abbrev pub bare : ℕ → List (List ℕ × List ℕ) → Reply
-bare status headers = record { status = status; headers = headers; body = [] }
+bare status headers = record { status = status; headers = headers; body = []; matter = matter.Plain }
 
 -- a reply with a body, whose type is the last header
 abbrev pub with_json : ℕ → List (List ℕ × List ℕ) → List ℕ → Reply
 with_json status headers body =
-    record { status = status; headers = headers ++ header "Content-Type" (codes "application/json") ∷ []; body = body }
+    record {
+      status = status;
+      headers = headers ++ header "Content-Type" (codes "application/json") ∷ [];
+      body = body;
+      matter = matter.Plain
+    }
 
-abbrev pub refusing : Fault → Reply
-refusing f = with_json f.status [] (error_text f)
+-- a reply that tells of a matter for which a dialect has words of its own
+abbrev pub about : Matter → Reply → Reply
+about m r = record r { matter = m }
+
+abbrev pub refusing : Refusal → Reply
+refusing why = about (matter.Refused why) (with_json (fault_of why).status [] (error_text (fault_of why)))
 
 abbrev pub ok_body : List ℕ
 ok_body = object (member "status" (in_quotes (codes "OK")) ∷ [])
@@ -99,36 +110,44 @@ reason_text Spindown = codes "SPINDOWN"
 reason_text Timeout = codes "TIMEOUT"
 reason_text Failure = codes "FAILURE"
 
-abbrev pub shutdown_text : ShutdownReason → ℕ → List ℕ
-shutdown_text reason deadline = object (
+-- by the word for the reason
+abbrev pub shutdown_by : List ℕ → ℕ → List ℕ
+shutdown_by word deadline = object (
     member "eventType" (in_quotes (codes "SHUTDOWN"))
-    ∷ member "shutdownReason" (in_quotes (reason_text reason))
+    ∷ member "shutdownReason" (in_quotes word)
     ∷ member "deadlineMs" (decimal deadline)
     ∷ []
     )
 
+abbrev pub shutdown_text : ShutdownReason → ℕ → List ℕ
+shutdown_text reason deadline = shutdown_by (reason_text reason) deadline
+
 -- what a registered extension is told of the function
-abbrev pub function_text : Settings → List ℕ
-function_text s = object (
+abbrev pub function_members : Settings → List (List ℕ)
+function_members s =
     member "functionName" (in_quotes s.name)
     ∷ member "functionVersion" (in_quotes latest)
     ∷ member "handler" (in_quotes s.handler)
     ∷ []
-    )
+
+abbrev pub function_text : Settings → List ℕ
+function_text s = object (function_members s)
 
 -- ## The reply
 
 abbrev pub reply_of_told : Settings → Told → Reply
-reply_of_told s (accepted id) = bare 202 (header "X-Amzn-RequestId" (id_text id) ∷ [])
+reply_of_told s (accepted id) = about matter.Accepted (bare 202 (header "X-Amzn-RequestId" (id_text id) ∷ []))
 reply_of_told s (record_of e) = with_json 200 [] (record_text s e)
 reply_of_told s no_record = bare 204 []
 reply_of_told s deleted = bare 204 []
 reply_of_told s taken = with_json 202 [] ok_body
-reply_of_told s (registered identifier) = with_json 200 (header "Lambda-Extension-Identifier" (id_text identifier) ∷ []) (function_text s)
+reply_of_told s (registered identifier) =
+    about matter.Registered (with_json 200 (header "Lambda-Extension-Identifier" (id_text identifier) ∷ []) (function_text s))
 reply_of_told s (runtime_event id deadline payload) = with_json 200 (runtime_headers s id deadline) payload
 reply_of_told s (invoke_event id deadline) = with_json 200 [] (invoke_text s id deadline)
-reply_of_told s (shutdown_event reason deadline) = with_json 200 [] (shutdown_text reason deadline)
-reply_of_told s (refused why) = refusing (fault_of why)
+reply_of_told s (shutdown_event reason deadline) =
+    about (matter.Shutdown reason deadline) (with_json 200 [] (shutdown_text reason deadline))
+reply_of_told s (refused why) = refusing why
 
 abbrev pub reply_text : Settings → Answer → Reply
 reply_text s a = reply_of_told s (told_by a)

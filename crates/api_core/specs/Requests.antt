@@ -1,5 +1,5 @@
--- Which call a request is, or the first check that refuses it.
-use Rattle.std.specs.Prelude.{ℕ, List, [], ◌∷◌, length, Bool, false, not, ◌&&◌, ◌||◌, nat_lt, is_none, Option, Some, None, unwrap_or, replicate, Result, Ok, Err, if◌then◌else◌, codes, bytes_eq}
+-- Which call a request is in a dialect, or the first check that refuses it.
+use Rattle.std.specs.Prelude.{ℕ, List, [], ◌∷◌, length, Bool, false, true, not, ◌&&◌, ◌||◌, nat_lt, is_none, Option, Some, None, unwrap_or, replicate, Result, Ok, Err, if◌then◌else◌, codes, bytes_eq}
 use Rattle.std.specs.List.{list_all, list_any}
 use Rattle.retry_rules.specs.declared.settings.Settings.{Settings}
 use Rattle.async_core.specs.declared.choice.Side.TheVariants as side
@@ -8,13 +8,16 @@ use Rattle.destination_json.specs.Record.{latest, with_version}
 use Rattle.api_core.specs.declared.call.Call.{Call}
 use Rattle.api_core.specs.declared.call.Call.TheVariants as call
 use Rattle.api_core.specs.declared.route.Route.{Route}
-use Rattle.api_core.specs.declared.route.Route.TheVariants.{Invoke, OldestSuccess, OldestFailure, Delete, StopBroker, RuntimeNext, Response, RuntimeError, RuntimeInitError, Register, ExtensionNext, ExtensionInitError, ExtensionExitError}
+use Rattle.api_core.specs.declared.route.Route.TheVariants.{Invoke, OldestSuccess, OldestFailure, Delete, StopBroker, RuntimeNext, Response, RuntimeError, RuntimeInitError, Register, ExtensionNext, ExtensionInitError, ExtensionExitError, Telemetry, Logs}
 use Rattle.api_core.specs.declared.refusal.Refusal.{Refusal}
-use Rattle.api_core.specs.declared.refusal.Refusal.TheVariants.{NotFound, UnsupportedInvocationType, InvalidExtensionHeader, TooLarge, InvalidRequestContent, BadSubscription}
+use Rattle.api_core.specs.declared.refusal.Refusal.TheVariants.{NotFound, UnsupportedInvocationType, InvalidExtensionHeader, TooLarge, InvalidRequestContent, BadSubscription, TelemetryNotSupported, LogsNotSupported}
+use Rattle.api_core.specs.declared.dialect.Dialect.{Dialect}
+use Rattle.api_core.specs.declared.dialect.Dialect.TheVariants.{Profile, Aws}
 use Rattle.api_core.specs.Ids.{id_of}
 use Rattle.api_core.specs.Paths.{query_pairs, segments_of, in_hole, route_of}
 use Rattle.api_core.specs.Headers.{RequestHeaders, is_event, has_extension_name, extension_name, extension_identifier}
 use Rattle.api_core.specs.Bodies.{or_empty_object, subscription_of}
+use Rattle.api_core.specs.Arns.{from_account, from_kind}
 
 -- ## The checks behind that of the line, each with its refusal
 
@@ -22,16 +25,25 @@ use Rattle.api_core.specs.Bodies.{or_empty_object, subscription_of}
 abbrev pub function_names : Settings → List (List ℕ)
 function_names s = s.name ∷ with_version s.name ∷ s.arn ∷ with_version s.arn ∷ []
 
-abbrev pub is_function : Settings → List ℕ → Bool
-is_function s name = list_any (bytes_eq name) (function_names s)
+-- called by this name, or by it and the only version. Nothing is called by an empty one
+abbrev pub is_called : List ℕ → List ℕ → Bool
+is_called name plain = not (bytes_eq [] plain) && (bytes_eq name plain || bytes_eq name (with_version plain))
+
+-- the end of the ARN, from the account or from `function` on
+abbrev pub is_partial_arn : Settings → List ℕ → Bool
+is_partial_arn s name = is_called name (from_account s.arn) || is_called name (from_kind s.arn)
+
+abbrev pub is_function : Dialect → Settings → List ℕ → Bool
+is_function Profile s name = list_any (bytes_eq name) (function_names s)
+is_function Aws s name = list_any (bytes_eq name) (function_names s) || is_partial_arn s name
 
 -- a pair that names a qualifier names the only version
 abbrev pub is_good_pair : List ℕ × List ℕ → Bool
 is_good_pair pair = not (bytes_eq (codes "Qualifier") pair.0) || bytes_eq latest pair.1
 
-abbrev pub function_check : Settings → List ℕ → List ℕ → Route → Bool × Refusal
-function_check s target name Invoke = (not (is_function s name && list_all is_good_pair (query_pairs target)), NotFound)
-function_check s target name route = (false, NotFound)
+abbrev pub function_check : Dialect → Settings → List ℕ → List ℕ → Route → Bool × Refusal
+function_check d s target name Invoke = (not (is_function d s name && list_all is_good_pair (query_pairs target)), NotFound)
+function_check d s target name route = (false, NotFound)
 
 abbrev pub header_check : RequestHeaders → Route → Bool × Refusal
 header_check headers Invoke = (not (is_event headers), UnsupportedInvocationType)
@@ -51,15 +63,18 @@ most_bytes s route = 4096
 abbrev pub size_check : Settings → List ℕ → Route → Bool × Refusal
 size_check s body route = (nat_lt (most_bytes s route) (length body), TooLarge)
 
+-- there is nothing to subscribe to but events
 abbrev pub content_check : List ℕ → Route → Bool × Refusal
 content_check body Invoke = (not (is_json (or_empty_object body)), InvalidRequestContent)
 content_check body Register = (is_none (subscription_of body), BadSubscription)
+content_check body Telemetry = (true, TelemetryNotSupported)
+content_check body Logs = (true, LogsNotSupported)
 content_check body route = (false, BadSubscription)
 
 -- in their order
-abbrev pub checks : Settings → List ℕ → RequestHeaders → List ℕ → List ℕ → Route → List (Bool × Refusal)
-checks s target headers body name route =
-    function_check s target name route
+abbrev pub checks : Dialect → Settings → List ℕ → RequestHeaders → List ℕ → List ℕ → Route → List (Bool × Refusal)
+checks d s target headers body name route =
+    function_check d s target name route
     ∷ header_check headers route
     ∷ size_check s body route
     ∷ content_check body route
@@ -92,6 +107,9 @@ call_by port headers body hole Register =
 call_by port headers body hole ExtensionNext = call.ExtensionNext port (identifier_or_zeros headers)
 call_by port headers body hole ExtensionInitError = call.ExtensionInitError port (identifier_or_zeros headers)
 call_by port headers body hole ExtensionExitError = call.ExtensionExitError port (identifier_or_zeros headers)
+-- no request passes the checks of these
+call_by port headers body hole Telemetry = call.RuntimeNext port
+call_by port headers body hole Logs = call.RuntimeNext port
 
 -- what a check refuses by
 abbrev pub failed : Bool × Refusal → Option Refusal
@@ -107,19 +125,19 @@ first_failed [] = None
 first_failed (check ∷ later) = or_later (failed check) (first_failed later)
 
 -- the first check behind the line that refuses a request, by the segment in its hole
-abbrev pub refusal_of : Settings → List ℕ → RequestHeaders → List ℕ → List ℕ → Route → Option Refusal
-refusal_of s target headers body hole route = first_failed (checks s target headers body hole route)
+abbrev pub refusal_of : Dialect → Settings → List ℕ → RequestHeaders → List ℕ → List ℕ → Route → Option Refusal
+refusal_of d s target headers body hole route = first_failed (checks d s target headers body hole route)
 
 abbrev pub unless_refused : Option Refusal → Call → Result Call Refusal
 unless_refused None c = Ok c
 unless_refused (Some why) c = Err why
 
-abbrev pub call_on : Settings → ℕ → List ℕ → RequestHeaders → List ℕ → Result Route Refusal → Result Call Refusal
-call_on s port target headers body (Err why) = Err why
-call_on s port target headers body (Ok route) =
-    unless_refused (refusal_of s target headers body (in_hole route (segments_of target)) route)
+abbrev pub call_on : Dialect → Settings → ℕ → List ℕ → RequestHeaders → List ℕ → Result Route Refusal → Result Call Refusal
+call_on d s port target headers body (Err why) = Err why
+call_on d s port target headers body (Ok route) =
+    unless_refused (refusal_of d s target headers body (in_hole route (segments_of target)) route)
     (call_by port headers body (in_hole route (segments_of target)) route)
 
 -- the call of a request, or the first check that refuses it: path, method, function and qualifier, headers, size, content
-abbrev pub call_of : Settings → ℕ → List ℕ → List ℕ → RequestHeaders → List ℕ → Result Call Refusal
-call_of s port method target headers body = call_on s port target headers body (route_of s port method target)
+abbrev pub call_of : Dialect → Settings → ℕ → List ℕ → List ℕ → RequestHeaders → List ℕ → Result Call Refusal
+call_of d s port method target headers body = call_on d s port target headers body (route_of d s port method target)

@@ -147,5 +147,7 @@ pub(crate) fn call_by(
             environment,
             identifier,
         }),
+        // No request passes the checks of these.
+        Route::Telemetry | Route::Logs => Ok(Call::RuntimeNext { environment }),
     }
 }

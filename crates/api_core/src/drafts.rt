@@ -4,7 +4,7 @@ ghost use Rattle.api_core.specs.Reply.{pairs};
 ghost use Rattle.api_core.specs.Steps.{AddsHeader};
 ghost use Rattle.api_core.specs.Replies.{bare, with_json};
 
-use crate::reply::Header;
+use crate::reply::{Header, Matter};
 use crate::{Headers, Reply};
 use invoke_records::Bytes;
 use std::alloc::{AllocError, Global};
@@ -67,6 +67,7 @@ impl HeaderDraft {
             status,
             headers,
             body,
+            matter: Matter::Plain,
         })
     }
 
@@ -81,6 +82,7 @@ impl HeaderDraft {
             status,
             headers,
             body,
+            matter: Matter::Plain,
         })
     }
 }

@@ -4,12 +4,14 @@ ghost use Rattle.destination_json.specs.Examples.{usual, id, grown_old, grown_ol
 ghost use Rattle.api_core.specs.Examples.{with_header, of_type, event, identified, third, named, small};
 ghost use Rattle.api_core.specs.Examples.{on, asks, invoke_as, invoke_with, invoke, tells_in, tells, register, nested};
 ghost use Rattle.api_core.specs.Examples.{empty_reply, json_reply, accepted_headers, registered_headers, next_headers};
-ghost use Rattle.api_core.specs.Examples.{refusal, error_reply};
+ghost use Rattle.api_core.specs.Examples.{reply_to, matter_of, refusal, error_reply};
+ghost use Rattle.api_core.specs.Examples.{asks_aws, invoke_aws, caller_hears, extension_hears, caller_refused};
+ghost use Rattle.api_core.specs.Examples.{exception_reply, called_headers, account_text, lower_text};
 ghost use Rattle.api_core.specs.Examples.{registered_text, invoked_text, spindown_text, timeout_text, failure_text, not_found_text};
-ghost use Rattle.api_core.specs.Replies.{reply_of_told, accepted, record_of, no_record, deleted, taken, registered};
-ghost use Rattle.api_core.specs.Replies.{runtime_event, invoke_event, shutdown_event};
+ghost use Rattle.api_core.specs.Replies.{accepted, record_of, no_record, deleted, taken, registered};
+ghost use Rattle.api_core.specs.Replies.{runtime_event, invoke_event, shutdown_event, refused};
 
-use crate::{Call, Refusal, ShutdownReason};
+use crate::{Call, Matter, Refusal, ShutdownReason};
 use async_core::Side;
 
 /// One of each line of the table of requests.
@@ -127,17 +129,26 @@ pub fn registrations()
 
 /// The replies of the table of requests.
 pub fn replies()
-    ensures accepted { reply_of_told usual (accepted (id 1)) ≡ empty_reply 202 accepted_headers }
-    ensures oldest { reply_of_told usual (record_of grown_old) ≡ json_reply 200 [] grown_old_text }
-    ensures no_record { reply_of_told usual no_record ≡ empty_reply 204 [] }
-    ensures deleted { reply_of_told usual deleted ≡ empty_reply 204 [] }
-    ensures taken { reply_of_told usual taken ≡ json_reply 202 [] (codes "{\"status\":\"OK\"}") }
-    ensures registered { reply_of_told usual (registered (id 3)) ≡ json_reply 200 registered_headers registered_text }
-    ensures next { reply_of_told usual (runtime_event (id 1) 1573755368568 (codes "{}")) ≡ json_reply 200 next_headers (codes "{}") }
-    ensures invoke { reply_of_told usual (invoke_event (id 1) 1573755368568) ≡ json_reply 200 [] invoked_text }
-    ensures spindown { reply_of_told usual (shutdown_event ShutdownReason.Spindown 2000) ≡ json_reply 200 [] spindown_text }
-    ensures timeout { reply_of_told usual (shutdown_event ShutdownReason.Timeout 2000) ≡ json_reply 200 [] timeout_text }
-    ensures failure { reply_of_told usual (shutdown_event ShutdownReason.Failure 2000) ≡ json_reply 200 [] failure_text }
+    ensures accepted { reply_to (accepted (id 1)) ≡ empty_reply 202 accepted_headers }
+    ensures oldest { reply_to (record_of grown_old) ≡ json_reply 200 [] grown_old_text }
+    ensures no_record { reply_to no_record ≡ empty_reply 204 [] }
+    ensures deleted { reply_to deleted ≡ empty_reply 204 [] }
+    ensures taken { reply_to taken ≡ json_reply 202 [] (codes "{\"status\":\"OK\"}") }
+    ensures registered { reply_to (registered (id 3)) ≡ json_reply 200 registered_headers registered_text }
+    ensures next { reply_to (runtime_event (id 1) 1573755368568 (codes "{}")) ≡ json_reply 200 next_headers (codes "{}") }
+    ensures invoke { reply_to (invoke_event (id 1) 1573755368568) ≡ json_reply 200 [] invoked_text }
+    ensures spindown { reply_to (shutdown_event ShutdownReason.Spindown 2000) ≡ json_reply 200 [] spindown_text }
+    ensures timeout { reply_to (shutdown_event ShutdownReason.Timeout 2000) ≡ json_reply 200 [] timeout_text }
+    ensures failure { reply_to (shutdown_event ShutdownReason.Failure 2000) ≡ json_reply 200 [] failure_text }
+{}
+
+/// What each reply tells of.
+pub fn matters()
+    ensures accepted { matter_of (accepted (id 1)) ≡ Matter.Accepted }
+    ensures registered { matter_of (registered (id 3)) ≡ Matter.Registered }
+    ensures shutdown { matter_of (shutdown_event ShutdownReason.Timeout 2000) ≡ Matter.Shutdown ShutdownReason.Timeout 2000 }
+    ensures refused { matter_of (refused Refusal.TooLarge) ≡ Matter.Refused Refusal.TooLarge }
+    ensures others { matter_of taken ≡ Matter.Plain }
 {}
 
 /// The replies that refuse.
@@ -162,4 +173,59 @@ pub fn refusals()
     ensures environment_reset { refusal Refusal.EnvironmentReset ≡ error_reply 500 "EnvironmentReset" "environment was reset" }
     ensures id_in_use { refusal Refusal.IdInUse ≡ error_reply 500 "IdInUse" "drawn id is in use" }
     ensures unavailable { refusal Refusal.Unavailable ≡ error_reply 503 "Unavailable" "broker is not available" }
+    ensures no_telemetry { refusal Refusal.TelemetryNotSupported
+        ≡ error_reply 202 "Telemetry.NotSupported" "Telemetry API is not supported" }
+    ensures no_logs { refusal Refusal.LogsNotSupported ≡ error_reply 202 "Logs.NotSupported" "Logs API is not supported" }
+{}
+
+/// Requests in the dialect of AWS's services.
+pub fn aws_requests()
+    ensures name { invoke_aws "my-function" ≡ Ok (Call.Invoke (codes "{}")) }
+    ensures arn { invoke_aws "arn:aws:lambda:us-east-2:123456789012:function:my-function" ≡ Ok (Call.Invoke (codes "{}")) }
+    ensures account { invoke_aws "123456789012%3Afunction%3Amy-function" ≡ Ok (Call.Invoke (codes "{}")) }
+    ensures account_version { invoke_aws "123456789012:function:my-function:$LATEST" ≡ Ok (Call.Invoke (codes "{}")) }
+    ensures kind { invoke_aws "function:my-function" ≡ Ok (Call.Invoke (codes "{}")) }
+    ensures other_account { invoke_aws "123456789013:function:my-function" ≡ Err Refusal.NotFound }
+    ensures other_version { invoke_aws "123456789012:function:my-function:1" ≡ Err Refusal.NotFound }
+    ensures own_dialect { invoke_as "function:my-function" "" ≡ Err Refusal.NotFound }
+    ensures telemetry { asks_aws 1 "PUT" "/2022-07-01/telemetry" (codes "{}") ≡ Err Refusal.TelemetryNotSupported }
+    ensures logs { asks_aws 1 "PUT" "/2020-08-15/logs" (codes "{}") ≡ Err Refusal.LogsNotSupported }
+    ensures callers_port { asks_aws 0 "PUT" "/2020-08-15/logs" [] ≡ Err Refusal.NotFound }
+    ensures other_method { asks_aws 1 "POST" "/2020-08-15/logs" [] ≡ Err Refusal.MethodNotAllowed }
+    ensures not_own { asks 1 "PUT" "/2020-08-15/logs" ≡ Err Refusal.NotFound }
+{}
+
+/// Replies in the dialect of AWS's services.
+pub fn aws_replies()
+    ensures accepted { caller_hears (accepted (id 1)) ≡ empty_reply 202 accepted_headers }
+    ensures deleted { caller_hears deleted ≡ empty_reply 204 called_headers }
+    ensures registered { extension_hears false (registered (id 3)) ≡ json_reply 200 registered_headers registered_text }
+    ensures account { extension_hears true (registered (id 3)) ≡ json_reply 200 registered_headers account_text }
+    ensures spindown { extension_hears false (shutdown_event ShutdownReason.Spindown 2000) ≡ json_reply 200 [] (lower_text "spindown") }
+    ensures timeout { extension_hears true (shutdown_event ShutdownReason.Timeout 2000) ≡ json_reply 200 [] (lower_text "timeout") }
+    ensures failure { extension_hears false (shutdown_event ShutdownReason.Failure 2000) ≡ json_reply 200 [] (lower_text "failure") }
+    ensures own_errors { extension_hears false (refused Refusal.NotFound) ≡ json_reply 404 [] not_found_text }
+{}
+
+/// The exceptions that callers are told in the dialect of AWS's services.
+pub fn aws_refusals()
+    ensures mode { caller_refused Refusal.UnsupportedInvocationType
+        ≡ exception_reply 400 "InvalidParameterValueException" "User" "only Event is supported" }
+    ensures content { caller_refused Refusal.InvalidRequestContent
+        ≡ exception_reply 400 "InvalidRequestContentException" "User" "payload is not JSON" }
+    ensures not_found { caller_refused Refusal.NotFound
+        ≡ exception_reply 404 "ResourceNotFoundException" "User" "no such path or function" }
+    ensures unknown { caller_refused Refusal.UnknownEvent
+        ≡ exception_reply 404 "ResourceNotFoundException" "User" "no such event is held" }
+    ensures method { caller_refused Refusal.MethodNotAllowed
+        ≡ exception_reply 405 "InvalidParameterValueException" "User" "method not allowed" }
+    ensures not_ended { caller_refused Refusal.NotEnded
+        ≡ exception_reply 409 "ResourceConflictException" "User" "event has not ended" }
+    ensures large { caller_refused Refusal.TooLarge
+        ≡ exception_reply 413 "RequestTooLargeException" "User" "body is too large" }
+    ensures many { caller_refused Refusal.TooManyEvents
+        ≡ exception_reply 429 "TooManyRequestsException" "User" "table is full" }
+    ensures in_use { caller_refused Refusal.IdInUse ≡ exception_reply 500 "ServiceException" "Service" "drawn id is in use" }
+    ensures unavailable { caller_refused Refusal.Unavailable
+        ≡ exception_reply 503 "ServiceException" "Service" "broker is not available" }
 {}

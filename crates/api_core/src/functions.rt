@@ -1,12 +1,14 @@
 // Whether a request names the function.
 ghost use Rattle.std.specs.Prelude.{◌≡◌, ◌==◌, ◌&&◌, not, map, IfOk, bytes_eq};
-ghost use Rattle.std.specs.List.{before_first, after_first, list_all};
+ghost use Rattle.std.specs.List.{before_first, after_first, list_all, list_any};
 ghost use Rattle.percent_encoding.specs.Percent.{percent_decode};
 ghost use Rattle.destination_json.specs.Record.{with_version};
 ghost use Rattle.api_core.specs.Paths.{between_ands, pair_of, query_pairs};
-ghost use Rattle.api_core.specs.Requests.{is_function, is_good_pair};
+ghost use Rattle.api_core.specs.Requests.{function_names, is_called, is_partial_arn, is_function, is_good_pair};
 ghost use Rattle.api_core.specs.Steps.{texts};
 
+use crate::Dialect;
+use crate::arns::{from_account, from_kind};
 use crate::paths::{is_word, query_of};
 use percent_encoding::percent_decode;
 use retry_rules::Settings;
@@ -20,8 +22,32 @@ fn is_versioned(alloc: Global, name: &[u8], plain: &[u8]) -> Result<bool, AllocE
     Ok(name == versioned.as_slice())
 }
 
-fn is_named(alloc: Global, settings: &Settings, name: &[u8]) -> Result<bool, AllocError>
-    ensures { IfOk result (λ answer. answer ≡ is_function settings.now name.now) }
+// Whether a function is called by this name, or by it and the only version. Nothing is called by an empty one.
+fn is_called(alloc: Global, name: &[u8], plain: &[u8]) -> Result<bool, AllocError>
+    ensures { IfOk result (λ answer. answer ≡ is_called name.now plain.now) }
+{
+    if plain.is_empty() {
+        return Ok(false);
+    }
+    if name == plain {
+        return Ok(true);
+    }
+    is_versioned(alloc, name, plain)
+}
+
+// Whether it is the end of the ARN, from the account or from `function` on.
+fn is_partial(alloc: Global, settings: &Settings, name: &[u8]) -> Result<bool, AllocError>
+    ensures { IfOk result (λ answer. answer ≡ is_partial_arn settings.now name.now) }
+{
+    if is_called(alloc, name, from_account(settings.arn.as_bytes()))? {
+        return Ok(true);
+    }
+    is_called(alloc, name, from_kind(settings.arn.as_bytes()))
+}
+
+// Whether it is the name or the ARN.
+fn is_whole(alloc: Global, settings: &Settings, name: &[u8]) -> Result<bool, AllocError>
+    ensures { IfOk result (λ answer. answer ≡ list_any (bytes_eq name.now) (function_names settings.now)) }
 {
     if name == settings.name.as_bytes() {
         return Ok(true);
@@ -35,16 +61,35 @@ fn is_named(alloc: Global, settings: &Settings, name: &[u8]) -> Result<bool, All
     is_versioned(alloc, name, settings.arn.as_bytes())
 }
 
-/// Whether a part of a path is the function's name or ARN, with or without its version.
+fn is_named(
+    alloc: Global,
+    dialect: Dialect,
+    settings: &Settings,
+    name: &[u8],
+) -> Result<bool, AllocError>
+    ensures { IfOk result (λ answer. answer ≡ is_function dialect settings.now name.now) }
+{
+    if is_whole(alloc, settings, name)? {
+        return Ok(true);
+    }
+    match dialect {
+        Dialect::Profile => Ok(false),
+        Dialect::Aws => is_partial(alloc, settings, name),
+    }
+}
+
+/// Whether a part of a path is the function's name or ARN, with or without its version; or in the dialect of AWS's services
+/// the end of the ARN.
 pub(crate) fn is_function(
     alloc: Global,
+    dialect: Dialect,
     settings: &Settings,
     part: &str,
 ) -> Result<bool, AllocError>
-    ensures { IfOk result (λ answer. answer ≡ is_function settings.now (percent_decode part.now)) }
+    ensures { IfOk result (λ answer. answer ≡ is_function dialect settings.now (percent_decode part.now)) }
 {
     let name = percent_decode(part.as_bytes()).into_cow(alloc)?;
-    is_named(alloc, settings, &name)
+    is_named(alloc, dialect, settings, &name)
 }
 
 fn name_of(pair: &str) -> &str

@@ -47,11 +47,15 @@ pub enum Refusal {
     IdInUse,
     /// The broker is broken or stopping: 503.
     Unavailable,
+    /// There is no telemetry to subscribe to. It is told with the status 202, so that an extension goes on without.
+    TelemetryNotSupported,
+    /// There are no logs to subscribe to. It is told with the status 202, as above.
+    LogsNotSupported,
 }
 
 impl Refusal {
     /// Its status.
-    pub(crate) fn status(self) -> u16
+    pub fn status(self) -> u16
         ensures { result ≡ (fault_of self).status }
     {
         match self {
@@ -71,6 +75,7 @@ impl Refusal {
             Refusal::TooManyEvents => 429,
             Refusal::EnvironmentReset | Refusal::IdInUse => 500,
             Refusal::Unavailable => 503,
+            Refusal::TelemetryNotSupported | Refusal::LogsNotSupported => 202,
         }
     }
 
@@ -105,6 +110,11 @@ impl Refusal {
             Refusal::EnvironmentReset => ("EnvironmentReset", "environment was reset"),
             Refusal::IdInUse => ("IdInUse", "drawn id is in use"),
             Refusal::Unavailable => ("Unavailable", "broker is not available"),
+            Refusal::TelemetryNotSupported => (
+                "Telemetry.NotSupported",
+                "Telemetry API is not supported",
+            ),
+            Refusal::LogsNotSupported => ("Logs.NotSupported", "Logs API is not supported"),
         }
     }
 }

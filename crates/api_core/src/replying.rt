@@ -1,15 +1,15 @@
 // The reply of an answer.
 ghost use Rattle.std.specs.Prelude.{◌≡◌, [], ◌∷◌, IfOk};
-ghost use Rattle.api_core.specs.Refusals.{fault_of};
-ghost use Rattle.api_core.specs.Replies.{bare, with_json, header, refusing, IsTellable, reply_text};
+ghost use Rattle.api_core.specs.Replies.{bare, with_json, header, about, refusing, shutdown_text, IsTellable, reply_text};
 ghost use Rattle.api_core.specs.Replies.{reply_of_told, registered, runtime_event};
 ghost use Rattle.destination_json.specs.Record.{id_text};
 
 use crate::drafts::HeaderDraft;
+use crate::reply::Matter;
 use crate::texts::{
     OK_BODY, TRACE_ID, digits, error_text, function_text, invoke_text, shutdown_text,
 };
-use crate::{Answer, Refusal, Reply};
+use crate::{Answer, Refusal, Reply, ShutdownReason};
 use destination_json::{id_text, record};
 use retry_rules::Settings;
 use std::alloc::{AllocError, Global};
@@ -29,12 +29,13 @@ fn json(alloc: Global, status: u16, text: Vec<u8>) -> Result<Reply, AllocError>
 }
 
 fn accepted(alloc: Global, id: &[u8; 16]) -> Result<Reply, AllocError>
-    ensures { IfOk result (λ reply. reply ≡ bare 202 (header "X-Amzn-RequestId" (id_text id.now) ∷ [])) }
+    ensures { IfOk result (λ reply. reply ≡ about Matter.Accepted (bare 202 (header "X-Amzn-RequestId" (id_text id.now) ∷ []))) }
 {
     let id = id_text(alloc, id)?;
     let mut headers = HeaderDraft::new(alloc);
     headers.add("X-Amzn-RequestId", id.as_bytes());
-    headers.bare(202)
+    let reply = headers.bare(202)?;
+    Ok(reply.about(Matter::Accepted))
 }
 
 fn registered(
@@ -48,7 +49,8 @@ fn registered(
     let text = function_text(alloc, settings)?;
     let mut headers = HeaderDraft::new(alloc);
     headers.add("Lambda-Extension-Identifier", identifier.as_bytes());
-    headers.with_json(200, text)
+    let reply = headers.with_json(200, text)?;
+    Ok(reply.about(Matter::Registered))
 }
 
 // The payload is copied once.
@@ -75,11 +77,21 @@ fn runtime_event(
     headers.with_json(200, payload)
 }
 
+fn shutdown(alloc: Global, reason: ShutdownReason, deadline: u64) -> Result<Reply, AllocError>
+    ensures { IfOk result (λ reply. reply
+        ≡ about (Matter.Shutdown reason deadline) (with_json 200 [] (shutdown_text reason deadline))) }
+{
+    let _settings = settings;
+    let reply = json(alloc, 200, shutdown_text(alloc, reason, deadline)?)?;
+    Ok(reply.about(Matter::Shutdown { reason, deadline }))
+}
+
 fn refusing(alloc: Global, why: Refusal) -> Result<Reply, AllocError>
-    ensures { IfOk result (λ reply. reply ≡ refusing (fault_of why)) }
+    ensures { IfOk result (λ reply. reply ≡ refusing why) }
 {
     let text = error_text(alloc, why)?;
-    json(alloc, why.status(), text)
+    let reply = json(alloc, why.status(), text)?;
+    Ok(reply.about(Matter::Refused(why)))
 }
 
 /// The reply of an answer: its status, its headers in their order, and the bytes of its body.
@@ -109,9 +121,7 @@ pub fn reply_text(
         Answer::Invoke { id, deadline } => {
             json(alloc, 200, invoke_text(alloc, settings, id, *deadline)?)
         }
-        Answer::Shutdown { reason, deadline } => {
-            json(alloc, 200, shutdown_text(alloc, *reason, *deadline)?)
-        }
+        Answer::Shutdown { reason, deadline } => shutdown(alloc, *reason, *deadline),
         Answer::Refusal(why) => refusing(alloc, *why),
     }
 }

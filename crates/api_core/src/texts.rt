@@ -1,8 +1,10 @@
 // The bodies of replies.
 ghost use Rattle.std.specs.Prelude.{◌≡◌, IfOk, decimal, string_bytes};
 ghost use Rattle.api_core.specs.Refusals.{error_text, fault_of};
-ghost use Rattle.api_core.specs.Replies.{ok_body, trace_id, tracing, invoke_text, reason_text, shutdown_text, function_text};
+ghost use Rattle.api_core.specs.Replies.{ok_body, trace_id, tracing, invoke_text, reason_text, shutdown_by, shutdown_text, function_text};
+ghost use Rattle.api_core.specs.Dialects.{account_text, aws_reason, side_of, exception_text};
 
+use crate::arns::account_of;
 use crate::object::Object;
 use crate::{Refusal, ShutdownReason};
 use destination_json::id_text;
@@ -25,6 +27,24 @@ pub(crate) fn digits(alloc: Global, n: u64) -> Result<String, AllocError>
     format!(in alloc; "{n}")
 }
 
+// Whose fault a refusal with this status is.
+fn side_of(status: u16) -> &'static str
+    ensures { result.now ≡ side_of status }
+{
+    if status >= 500 { "Service" } else { "User" }
+}
+
+/// What a caller is told of a refusal in the dialect of AWS's services.
+pub(crate) fn exception_text(alloc: Global, why: Refusal) -> Result<Vec<u8>, AllocError>
+    ensures { IfOk result (λ text. text.items ≡ exception_text (fault_of why)) }
+{
+    let (_, message) = why.words();
+    let mut object = Object::of_text(alloc, "Type", side_of(why.status()).as_bytes());
+    object.add_text("message", message.as_bytes());
+    object.add_text("Message", message.as_bytes());
+    object.end()
+}
+
 /// What is told of a refusal.
 pub(crate) fn error_text(alloc: Global, why: Refusal) -> Result<Vec<u8>, AllocError>
     ensures { IfOk result (λ text. text.items ≡ error_text (fault_of why)) }
@@ -42,6 +62,17 @@ pub(crate) fn function_text(alloc: Global, settings: &Settings) -> Result<Vec<u8
     let mut object = Object::of_text(alloc, "functionName", settings.name.as_bytes());
     object.add_text("functionVersion", b"$LATEST");
     object.add_text("handler", settings.handler.as_bytes());
+    object.end()
+}
+
+/// The same for an extension that asks for the account of the function.
+pub(crate) fn account_text(alloc: Global, settings: &Settings) -> Result<Vec<u8>, AllocError>
+    ensures { IfOk result (λ text. text.items ≡ account_text settings.now) }
+{
+    let mut object = Object::of_text(alloc, "functionName", settings.name.as_bytes());
+    object.add_text("functionVersion", b"$LATEST");
+    object.add_text("handler", settings.handler.as_bytes());
+    object.add_text("accountId", account_of(settings.arn.as_bytes()));
     object.end()
 }
 
@@ -74,6 +105,28 @@ fn reason_text(reason: ShutdownReason) -> &'static str
     }
 }
 
+// The same in the dialect of AWS's services.
+fn aws_reason(reason: ShutdownReason) -> &'static str
+    ensures { result.now ≡ aws_reason reason }
+{
+    match reason {
+        ShutdownReason::Spindown => "spindown",
+        ShutdownReason::Timeout => "timeout",
+        ShutdownReason::Failure => "failure",
+    }
+}
+
+// What an extension is told of its environment's end, by the word for the reason.
+fn shutdown_by(alloc: Global, word: &str, deadline: u64) -> Result<Vec<u8>, AllocError>
+    ensures { IfOk result (λ text. text.items ≡ shutdown_by word.now deadline) }
+{
+    let deadline = digits(alloc, deadline)?;
+    let mut object = Object::of_text(alloc, "eventType", b"SHUTDOWN");
+    object.add_text("shutdownReason", word.as_bytes());
+    object.add_member("deadlineMs", deadline.as_bytes());
+    object.end()
+}
+
 /// What an extension is told of its environment's end.
 pub(crate) fn shutdown_text(
     alloc: Global,
@@ -82,9 +135,16 @@ pub(crate) fn shutdown_text(
 ) -> Result<Vec<u8>, AllocError>
     ensures { IfOk result (λ text. text.items ≡ shutdown_text reason deadline) }
 {
-    let deadline = digits(alloc, deadline)?;
-    let mut object = Object::of_text(alloc, "eventType", b"SHUTDOWN");
-    object.add_text("shutdownReason", reason_text(reason).as_bytes());
-    object.add_member("deadlineMs", deadline.as_bytes());
-    object.end()
+    shutdown_by(alloc, reason_text(reason), deadline)
+}
+
+/// The same in the dialect of AWS's services.
+pub(crate) fn aws_shutdown_text(
+    alloc: Global,
+    reason: ShutdownReason,
+    deadline: u64,
+) -> Result<Vec<u8>, AllocError>
+    ensures { IfOk result (λ text. text.items ≡ shutdown_by (aws_reason reason) deadline) }
+{
+    shutdown_by(alloc, aws_reason(reason), deadline)
 }

@@ -1,4 +1,5 @@
 // Steps of a hall: requests and ticks, commits, and the replies that are told.
+use api_core::Dialect;
 use case_runner::{Reply, Text, Words, kind_word, number_of_id};
 use group_commit::{Broker, Issuer};
 use hall_core::{Hall, HallError, Issued};
@@ -58,7 +59,7 @@ fn ask<I: Issuer>(
     } else {
         0
     };
-    let call = match read_call(alloc, settings, words) {
+    let call = match read_call(alloc, Dialect::Profile, settings, words) {
         Ok(call) => call,
         Err(reply) => return reply,
     };

@@ -6,5 +6,5 @@ mod replies;
 mod requests;
 
 pub use environments::environment_step;
-pub use replies::{reply_step, tell_reply};
+pub use replies::{hearer_of, reply_step, tell_reply};
 pub use requests::{read_call, request_step};

@@ -1,12 +1,12 @@
 // Steps on replies alone: the status, the headers and the body that tell an answer.
 use crate::requests::type_of;
-use api_core::{Answer, Refusal, ShutdownReason, reply_text};
+use api_core::{Answer, Dialect, Hearer, Refusal, ShutdownReason, reply_text, retell};
 use case_runner::{Reply, Text, Words, body, id_of};
 use retry_rules::Settings;
 use std::alloc::{AllocError, Global};
 
-/// The refusals, in the order of their statuses.
-const REFUSALS: [Refusal; 19] = [
+/// The refusals, in the order of their statuses; then those that are told with 202.
+const REFUSALS: [Refusal; 21] = [
     Refusal::UnsupportedInvocationType,
     Refusal::InvalidRequestContent,
     Refusal::InvalidRequestId,
@@ -26,6 +26,8 @@ const REFUSALS: [Refusal; 19] = [
     Refusal::EnvironmentReset,
     Refusal::IdInUse,
     Refusal::Unavailable,
+    Refusal::TelemetryNotSupported,
+    Refusal::LogsNotSupported,
 ];
 
 /// `STATUS NAME: VALUE .. BODY`
@@ -47,6 +49,20 @@ pub fn tell_reply(replied: Result<api_core::Reply, AllocError>, answer: &mut Tex
         answer.add_body(replied.body.as_slice());
     }
     Reply::Told
+}
+
+// The same as its hearer is told it.
+fn tell_to(
+    alloc: Global,
+    settings: &Settings,
+    hearer: &Hearer,
+    answered: &Answer,
+    answer: &mut Text,
+) -> Reply {
+    match reply_text(alloc, answered, settings) {
+        Ok(replied) => tell_reply(retell(alloc, settings, hearer, replied), answer),
+        Err(_) => Reply::Refused("out of memory"),
+    }
 }
 
 // The refusal of this type.
@@ -78,7 +94,13 @@ fn deadline(words: &mut Words) -> u64 {
 }
 
 // `ID until MOMENT BYTES`
-fn tell_event(alloc: Global, settings: &Settings, words: &mut Words, answer: &mut Text) -> Reply {
+fn tell_event(
+    alloc: Global,
+    settings: &Settings,
+    hearer: &Hearer,
+    words: &mut Words,
+    answer: &mut Text,
+) -> Reply {
     let id = id_of(words.number());
     let deadline = deadline(words);
     let payload = match body(alloc, words.rest()) {
@@ -93,7 +115,7 @@ fn tell_event(alloc: Global, settings: &Settings, words: &mut Words, answer: &mu
         deadline,
         payload: &payload,
     };
-    tell_reply(reply_text(alloc, &event, settings), answer)
+    tell_to(alloc, settings, hearer, &event, answer)
 }
 
 // The answer that these words name, but for records and events.
@@ -121,27 +143,53 @@ fn plain_answer(words: &mut Words) -> Answer<'static> {
 }
 
 // The reply of an answer that is no record.
-fn tell_plain(alloc: Global, settings: &Settings, plain: &Answer, answer: &mut Text) -> Reply {
+fn tell_plain(
+    alloc: Global,
+    settings: &Settings,
+    hearer: &Hearer,
+    plain: &Answer,
+    answer: &mut Text,
+) -> Reply {
     match plain {
         Answer::Record(_) => Reply::Unreadable,
-        _ => tell_reply(reply_text(alloc, plain, settings), answer),
+        _ => tell_to(alloc, settings, hearer, plain, answer),
     }
 }
 
 /// `accepted ID`, `no-record`, `deleted`, `taken`, `registered N`, `event ID until MOMENT BYTES`, `invoke ID until MOMENT`,
-/// `shutdown REASON until MOMENT` or `refusal TYPE`: the reply.
+/// `shutdown REASON until MOMENT` or `refusal TYPE`: the reply, as its hearer is told it.
 pub fn reply_step(
     alloc: Global,
     settings: &Settings,
+    hearer: &Hearer,
     words: &mut Words,
     answer: &mut Text,
 ) -> Reply {
     if words.takes("event") {
-        return tell_event(alloc, settings, words, answer);
+        return tell_event(alloc, settings, hearer, words, answer);
     }
     let plain = plain_answer(words);
     if words.are_bad() {
         return Reply::Unreadable;
     }
-    tell_plain(alloc, settings, &plain, answer)
+    tell_plain(alloc, settings, hearer, &plain, answer)
+}
+
+/// `caller N` (N is the drawn id's number), `extension` or `registrant` (who asks for the account): who hears a reply in the
+/// dialect of AWS's services.
+pub fn hearer_of(words: &mut Words) -> Hearer {
+    let mut hearer = Hearer {
+        dialect: Dialect::Aws,
+        ..Hearer::of_profile()
+    };
+    match words.word() {
+        "caller" => {
+            hearer.is_caller = true;
+            hearer.drawn = id_of(words.number());
+        }
+        "registrant" => hearer.wants_account = true,
+        "extension" => {}
+        _ => words.refuse(),
+    }
+    hearer
 }

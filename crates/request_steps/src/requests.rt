@@ -1,5 +1,5 @@
 // Steps on requests alone: which call one is, or which check refuses it.
-use api_core::{Call, Refusal, RequestError, read_request};
+use api_core::{Call, Dialect, Refusal, RequestError, read_request};
 use async_core::Side;
 use case_runner::{Reply, Text, Words, body, number_of_id};
 use http::Method;
@@ -29,6 +29,8 @@ pub fn type_of(why: Refusal) -> &'static str {
         Refusal::EnvironmentReset => "EnvironmentReset",
         Refusal::IdInUse => "IdInUse",
         Refusal::Unavailable => "Unavailable",
+        Refusal::TelemetryNotSupported => "Telemetry.NotSupported",
+        Refusal::LogsNotSupported => "Logs.NotSupported",
     }
 }
 
@@ -161,8 +163,13 @@ fn add_header(alloc: Global, headers: &mut HeaderMap, pair: &str) -> Reply {
     }
 }
 
-/// The call of the request `PORT METHOD TARGET [NAME=VALUE ..] [body BYTES]`, or what is answered at once.
-pub fn read_call(alloc: Global, settings: &Settings, words: &mut Words) -> Result<Call, Reply> {
+/// The call of the request `PORT METHOD TARGET [NAME=VALUE ..] [body BYTES]` in a dialect, or what is answered at once.
+pub fn read_call(
+    alloc: Global,
+    dialect: Dialect,
+    settings: &Settings,
+    words: &mut Words,
+) -> Result<Call, Reply> {
     let port = u16::try_from(words.number_to(65535)).unwrap_or(0);
     let Ok(method) = Method::from_bytes(alloc, words.word().as_bytes()) else {
         return Err(Reply::Unreadable);
@@ -180,7 +187,9 @@ pub fn read_call(alloc: Global, settings: &Settings, words: &mut Words) -> Resul
     if words.are_bad() {
         return Err(Reply::Unreadable);
     }
-    match read_request(alloc, settings, port, &method, target, &headers, body) {
+    match read_request(
+        alloc, dialect, settings, port, &method, target, &headers, body,
+    ) {
         Ok(call) => Ok(call),
         Err(RequestError::Refused(why)) => Err(Reply::Refused(type_of(why))),
         Err(RequestError::OutOfMemory) => Err(Reply::Refused("out of memory")),
@@ -195,14 +204,15 @@ fn parts_of_rest(rest: &str) -> (&str, &str) {
     }
 }
 
-/// `PORT METHOD TARGET [NAME=VALUE ..] [body BYTES]`: the call, or why it is refused.
+/// `PORT METHOD TARGET [NAME=VALUE ..] [body BYTES]`: the call in a dialect, or why it is refused.
 pub fn request_step(
     alloc: Global,
+    dialect: Dialect,
     settings: &Settings,
     words: &mut Words,
     answer: &mut Text,
 ) -> Reply {
-    match read_call(alloc, settings, words) {
+    match read_call(alloc, dialect, settings, words) {
         Ok(call) => tell_call(&call, answer),
         Err(reply) => reply,
     }

@@ -1,11 +1,13 @@
 // What a case of this program has of a disk: the disk, or a broker that is open on it.
 use crate::drilling::drill_step;
 use crate::events::whole_broker_step;
+use api_core::{Dialect, Hearer};
 use case_runner::{Reply, Text, Words};
 use disk_steps::{Base, CaseDisk, Stage, disk_step, open_broker};
 use env_phase::Env;
 use group_commit::{Broker, Ticket};
-use request_steps::{environment_step, reply_step, request_step};
+use request_steps::{environment_step, hearer_of, reply_step, request_step};
+use retry_rules::Settings;
 use sector_disk::MemDisk;
 use std::alloc::Global;
 use std::mem;
@@ -29,6 +31,17 @@ pub struct BrokerStage {
     record: Vec<u8>,
     // An environment, which needs no disk.
     environment: Option<Env>,
+}
+
+// In the dialect of AWS's services: `request ..`, or `reply to HEARER ..`.
+fn aws_step(alloc: Global, settings: &Settings, words: &mut Words, answer: &mut Text) -> Reply {
+    if words.takes("request") {
+        return request_step(alloc, Dialect::Aws, settings, words, answer);
+    }
+    words.expect("reply");
+    words.expect("to");
+    let hearer = hearer_of(words);
+    reply_step(alloc, settings, &hearer, words, answer)
 }
 
 impl BrokerStage {
@@ -125,8 +138,9 @@ impl Stage for BrokerStage {
     ) -> Reply {
         match word {
             "record" => self.tell_record(alloc, words, answer),
-            "request" => request_step(alloc, &base.settings, words, answer),
-            "reply" => reply_step(alloc, &base.settings, words, answer),
+            "request" => request_step(alloc, Dialect::Profile, &base.settings, words, answer),
+            "reply" => reply_step(alloc, &base.settings, &Hearer::of_profile(), words, answer),
+            "aws" => aws_step(alloc, &base.settings, words, answer),
             "env" => environment_step(alloc, &mut self.environment, words, answer),
             "member" => tell_member(alloc, &self.record, words, answer),
             _ => {

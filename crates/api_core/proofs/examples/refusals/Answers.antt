@@ -24,4 +24,6 @@ returns c = record {
   environment_reset = refl;
   id_in_use = refl;
   unavailable = refl;
+  no_telemetry = refl;
+  no_logs = refl;
 }
