@@ -1,4 +1,5 @@
 // In which dialect the broker speaks, and to whom.
+ghost use Rattle.std.specs.Prelude.{◌≡◌};
 
 /// How requests are read and replies are told beyond what the references of Lambda's APIs fix.
 #[derive(Clone, Copy, Debug, PartialEq, Eq)]
@@ -25,7 +26,9 @@ pub struct Hearer {
 
 impl Hearer {
     /// Who hears a reply as it is.
-    pub fn of_profile() -> Hearer {
+    pub fn of_profile() -> Hearer
+        ensures { result.dialect ≡ Dialect.Profile }
+    {
         Hearer {
             dialect: Dialect::Profile,
             is_caller: false,

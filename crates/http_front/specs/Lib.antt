@@ -1,4 +1,5 @@
 pub mod Learning
 pub mod Marking
 pub mod Refusals
+pub mod Telling
 pub mod laws

@@ -1,12 +1,17 @@
 // A port of the front, whose requests become calls.
-ghost use Rattle.std.specs.Prelude.{◌≡◌};
-ghost use Rattle.hall_core.specs.Hall.{slot_told};
+ghost use Rattle.std.specs.Prelude.{◌≡◌, ◌⊎◌, IfSome};
+ghost use Rattle.api_core.specs.Refusals.{fault_of};
+ghost use Rattle.http_front.specs.Telling.{status_told};
+ghost use Rattle.http_front.specs.Telling.{IsReleasedTo};
 
 use crate::front::Front;
-use crate::replying::{Telling, refuse};
-use api_core::{Refusal, RequestError, read_request};
+use crate::moment::words;
+use crate::replying::{Retelling, Telling, refuse};
+use api_core::{Dialect, Hearer, Refusal, RequestError, read_request, wants_account};
 use futures::Future;
+use futures::future::{Either, Ready};
 use futures::task::{Context, Poll};
+use hall_core::drawn_id;
 use http::request::Parts;
 use http_port::{Application, ReadError, Refused};
 use hyper::StatusCode;
@@ -21,20 +26,25 @@ use std::time::Clock;
 #[derive(Drop)]
 pub(crate) struct Replying<R: Wait, L: Ledger, T: Trace> {
     waiting: Waiting<R, L, T>,
+    retelling: Option<Retelling<L, T>>,
 }
 
 impl<R: Wait + Drop, L: Ledger, T: Trace> Future for Replying<R, L, T> {
-    type Output = Telling;
+    type Output = Telling<L, T>;
 
-    ghost gives = { λ replying telling. slot_told telling.released ≡ replying.waiting.slot };
+    ghost gives = { λ replying telling. IsReleasedTo replying.waiting.slot telling.spoken };
 
-    fn poll(&mut self, cx: &mut Context<'_>) -> Poll<Telling> {
+    fn poll(&mut self, cx: &mut Context<'_>) -> Poll<Telling<L, T>> {
         match self.waiting.poll(cx) {
             Poll::Pending => Poll::Pending,
-            Poll::Ready(released) => Poll::Ready(Telling::new(released)),
+            Poll::Ready(released) => Poll::Ready(Telling::new(released, self.retelling.take())),
         }
     }
 }
+
+/// What a request is answered with that is not refused: the reply of its call, or at once that there is nothing to subscribe
+/// to.
+pub(crate) type Answering<R, L, T> = Either<Replying<R, L, T>, Ready<Telling<L, T>>>;
 
 /// A port: its number, the desk and the seat of its requests, and what it shares with the others.
 #[derive(Drop)]
@@ -55,6 +65,7 @@ impl<R: Wait + Clock + RandomSource + Copy, L: Ledger, T: Trace> PortApplication
         };
         let call = match read_request(
             front.alloc,
+            front.dialect,
             &front.settings,
             self.number,
             &head.method,
@@ -74,13 +85,70 @@ impl<R: Wait + Clock + RandomSource + Copy, L: Ledger, T: Trace> PortApplication
         };
         Ok(Waiting::new(self.rt, port, arrived))
     }
+
+    // What a caller's request is called that has no event. Zeros where there are no random words.
+    fn draw(&self) -> [u8; 16] {
+        match words(&self.rt) {
+            Ok(words) => drawn_id(words),
+            Err(_) => [0; 16],
+        }
+    }
+
+    // Who hears the reply of a request with this head.
+    fn hearer(&self, head: &Parts) -> Hearer
+        ensures { result.dialect ≡ self.now.front.dialect }
+    {
+        let dialect = self.front.dialect;
+        let is_caller = self.number == 0;
+        match dialect {
+            Dialect::Profile => Hearer::of_profile(),
+            Dialect::Aws => Hearer {
+                dialect,
+                is_caller,
+                wants_account: wants_account(&head.headers),
+                drawn: if is_caller { self.draw() } else { [0; 16] },
+            },
+        }
+    }
+
+    // In which words a hearer is told a reply. None where it is told as it is.
+    fn retelling(&self, hearer: Hearer) -> Option<Retelling<L, T>> {
+        match hearer.dialect {
+            Dialect::Profile => None,
+            Dialect::Aws => {
+                let front = Arc::try_clone(&self.front).ok()?;
+                Some(Retelling { front, hearer })
+            }
+        }
+    }
+
+    // What is told at once where there is nothing to subscribe to. None where it is a refusal, or where memory is wanting.
+    fn unsupported(&self, why: Refusal) -> Option<Telling<L, T>>
+        ensures { IfSome result (λ telling. status_told telling.spoken ≡ (fault_of why).status) }
+    {
+        if why.status() >= 400 {
+            return None;
+        }
+        Telling::unsupported(self.front.alloc, &self.front.settings, why)
+    }
+
+    // What its hearer is told of a refusal.
+    fn refuse(&self, hearer: &Hearer, why: Refusal) -> Refused
+        ensures { (result ≡ (fault_of why).status) ⊎ (result ≡ 503) }
+    {
+        let front = &self.front;
+        if why.status() < 400 {
+            return Refused::bare(front.alloc, StatusCode::SERVICE_UNAVAILABLE);
+        }
+        refuse(front.alloc, &front.settings, hearer, why)
+    }
 }
 
 impl<R: Wait + Clock + RandomSource + Drop + Copy, L: Ledger, T: Trace> Application
     for PortApplication<R, L, T> {
-    type Given = Telling;
+    type Given = Telling<L, T>;
 
-    type Reply = Replying<R, L, T>;
+    type Reply = Answering<R, L, T>;
 
     fn most(&self) -> usize {
         self.front.most
@@ -90,16 +158,24 @@ impl<R: Wait + Clock + RandomSource + Drop + Copy, L: Ledger, T: Trace> Applicat
         &self,
         head: &Parts,
         body: Result<Vec<u8>, ReadError>,
-    ) -> Result<Replying<R, L, T>, Refused> {
-        let alloc = self.front.alloc;
+    ) -> Result<Answering<R, L, T>, Refused> {
+        let hearer = self.hearer(head);
         let arrived = match body {
             Ok(body) => self.arrive(head, body),
             Err(ReadError::OutOfMemory) => Err(Refusal::Unavailable),
-            Err(ReadError::CutOff) => return Err(Refused::bare(alloc, StatusCode::BAD_REQUEST)),
+            Err(ReadError::CutOff) => {
+                return Err(Refused::bare(self.front.alloc, StatusCode::BAD_REQUEST));
+            }
         };
         match arrived {
-            Ok(waiting) => Ok(Replying { waiting }),
-            Err(why) => Err(refuse(alloc, &self.front.settings, why)),
+            Ok(waiting) => {
+                let retelling = self.retelling(hearer);
+                Ok(Either::Left(Replying { waiting, retelling }))
+            }
+            Err(why) => match self.unsupported(why) {
+                Some(telling) => Ok(Either::Right(futures::future::ready(telling))),
+                None => Err(self.refuse(&hearer, why)),
+            },
         }
     }
 }

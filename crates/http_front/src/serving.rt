@@ -13,6 +13,7 @@ use crate::front::Front;
 use crate::opening::{Opened, open};
 use crate::port_application::PortApplication;
 use crate::ticking::tick_all;
+use api_core::Dialect;
 use commit_loop::{Gate, Turn};
 use group_commit::{Broker, DiskHalf};
 use hall_core::Hall;
@@ -284,7 +285,8 @@ fn port_count(settings: &Settings) -> u64
 }
 
 /// Serves a hall, in which nothing has come yet and nothing is pending, with a ledger of as many parts as there are desks:
-/// the callers' port at the first listener, that of environment n at the listener n behind it. It returns once the broker
+/// the callers' port at the first listener, that of environment n at the listener n behind it. Requests are read and replies
+/// told in the dialect. It returns once the broker
 /// was stopped or its device failed and every open request was answered or its client has gone. The committer, on the
 /// calling thread, is asked by the gate beside that.
 ///
@@ -298,6 +300,7 @@ pub fn serve<R, L, T, D, G>(
     hall: Hall<Broker<D>>,
     blank: Blank,
     listeners: Vec<TcpListener>,
+    dialect: Dialect,
     gate: &G,
 ) -> Result<Served<D>, ServeError>
 where
@@ -327,6 +330,6 @@ where
     if listeners.len() as u64 > port_count(hall.table().settings()) {
         return Err(ServeError::TooManyPorts);
     }
-    let opened = open::<L, T, D>(rt.alloc(), hall, blank)?;
+    let opened = open::<L, T, D>(rt.alloc(), hall, blank, dialect)?;
     Ok(run(rt, opened, listeners, gate)?)
 }

@@ -5,6 +5,7 @@ ghost use Rattle.group_commit.specs.Promises.{ForEachHistory};
 ghost use Rattle.lambda_broker.specs.Serving.{ComesToRest};
 ghost use Rattle.hall_core.specs.Fresh.{IsFresh};
 
+use api_core::Dialect;
 use group_commit::{Broker, CommitError, IssueError, OpenError, without_disk};
 use hall_core::{Hall, HallFailure};
 use http_front::{Ending, ServeError, WhenPending, now, serve};
@@ -24,12 +25,15 @@ use std::thread::Threads;
 use std::time::Clock;
 use thiserror::Error;
 
-/// A disk that is to be served, and the port of its callers.
+/// A disk that is to be served, and how.
 #[derive(Clone, Copy, Debug)]
 pub struct Address<'a> {
     /// A file or a block device.
     pub path: &'a str,
+    /// The port of its callers.
     pub port: u16,
+    /// How requests are read and replies told.
+    pub dialect: Dialect,
 }
 
 /// Why a disk was not served, or not to its end.
@@ -162,6 +166,7 @@ fn serve_hall<R, T, D>(
     rt: R,
     hall: Hall<Broker<D>>,
     listeners: Vec<TcpListener>,
+    dialect: Dialect,
 ) -> Result<(), ServingError>
 where
     R: Threads
@@ -181,7 +186,8 @@ where
     requires fresh { IsFresh (settings_of hall.issuer) hall }
 {
     let blank = Blank::new(desks(hall.table().settings()));
-    let served = serve::<R, Brand, T, D, WhenPending>(rt, hall, blank, listeners, &WhenPending)?;
+    let gate = WhenPending;
+    let served = serve::<R, Brand, T, D, WhenPending>(rt, hall, blank, listeners, dialect, &gate)?;
     match served.ending {
         Ending::Stopped => Ok(()),
         Ending::Broken => Err(ServingError::Broken),
@@ -189,7 +195,12 @@ where
 }
 
 // Serves what is on a disk: the ports first, then the attempts that the last stop cut off.
-fn serve_on<R, T, D, W>(rt: R, disk: D, port: u16, out: &mut W) -> Result<(), ServingError>
+fn serve_on<R, T, D, W>(
+    rt: R,
+    disk: D,
+    at: &Address<'_>,
+    out: &mut W,
+) -> Result<(), ServingError>
 where
     R: Threads
         + Wait
@@ -208,11 +219,11 @@ where
 {
     let mut broker = open(rt.alloc(), disk)?;
     let environments = broker.table().settings().environments;
-    let listeners = listen(&rt, port, environments)?;
+    let listeners = listen(&rt, at.port, environments)?;
     resume(&rt, &mut broker)?;
     let hall = hall_over(rt.alloc(), broker)?;
-    announce(port, out)?;
-    serve_hall::<R, T, D>(rt, hall, listeners)
+    announce(at.port, out)?;
+    serve_hall::<R, T, D>(rt, hall, listeners, at.dialect)
 }
 
 /// Serves a disk: callers on a port of this machine and environment n on the port n behind it, from the line that is
@@ -233,5 +244,5 @@ where
     W: Write,
 {
     let disk = FileDisk::open(&rt, at.path)?;
-    serve_on::<R, Gone, FileDisk, W>(rt, disk, at.port, out)
+    serve_on::<R, Gone, FileDisk, W>(rt, disk, at, out)
 }

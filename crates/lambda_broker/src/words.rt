@@ -2,6 +2,7 @@
 use crate::auditing::OldDisk;
 use crate::formatting::{Function, NewDisk, Numbers};
 use crate::serving::Address;
+use api_core::Dialect;
 use clap::builder::ValueParser;
 use clap::error::ErrorKind;
 use clap::{Arg, ArgAction, ArgMatches, Command, Error, value_parser};
@@ -112,13 +113,16 @@ fn audit_command<'a>(alloc: Global) -> Result<Command<'a>, AllocError> {
 fn serve_command<'a>(alloc: Global) -> Result<Command<'a>, AllocError> {
     let help = "Port of the callers, 1024 to 65519; environment n has the port n behind it";
     let port = option(alloc, "port", help);
+    let help = "How requests are read and replies told: profile, the broker's own way, or aws";
+    let dialect = option(alloc, "dialect", help);
     Command::new(alloc, "serve")
         .about("Serve a disk until POST /broker/stop")
         .arg(disk(alloc))?
         .arg(
             port.value_parser(value_parser!(u16).range(1024..65520))
                 .required(true),
-        )
+        )?
+        .arg(dialect.value_name("DIALECT").default_value("profile"))
 }
 
 fn commands<'a>(alloc: Global) -> Result<Command<'a>, AllocError> {
@@ -186,11 +190,34 @@ fn old_disk<'a>(alloc: Global, matches: &ArgMatches<'a>) -> Result<Option<Task<'
     }
 }
 
-fn address<'a>(matches: &ArgMatches<'a>) -> Option<Address<'a>> {
+// The fault of a dialect that is none.
+fn bad_dialect(alloc: Global, word: &str) -> Result<Error, AllocError> {
+    let message =
+        format!(in alloc; "invalid value '{word}' for '--dialect <DIALECT>': profile or aws")?;
+    serve_command(alloc)?.error(ErrorKind::ValueValidation, message.as_str())
+}
+
+// The dialect that is asked for.
+fn dialect(alloc: Global, matches: &ArgMatches<'_>) -> Result<Dialect, Error> {
+    match matches.get_str("dialect") {
+        None | Some("profile") => Ok(Dialect::Profile),
+        Some("aws") => Ok(Dialect::Aws),
+        Some(word) => Err(bad_dialect(alloc, word)?),
+    }
+}
+
+fn address<'a>(matches: &ArgMatches<'a>, dialect: Dialect) -> Option<Address<'a>> {
     Some(Address {
         path: matches.get_str("disk")?,
         port: matches.get_one("port")?,
+        dialect,
     })
+}
+
+// The disk that is to be served, and how.
+fn serving<'a>(alloc: Global, matches: &ArgMatches<'a>) -> Result<Option<Task<'a>>, Error> {
+    let dialect = dialect(alloc, matches)?;
+    Ok(address(matches, dialect).map(Task::Serve))
 }
 
 /// The command that the words are, the first of which is the program's name.
@@ -202,7 +229,7 @@ pub fn read_task<'a>(alloc: Global, words: &'a [String]) -> Result<Option<Task<'
     match name {
         "trial" => Ok(Some(Task::Job(Job::Trial))),
         "format" => Ok(new_disk(told).map(Job::Format).map(Task::Job)),
-        "serve" => Ok(address(told).map(Task::Serve)),
+        "serve" => serving(alloc, told),
         "audit" => old_disk(alloc, told),
         _ => Ok(None),
     }
