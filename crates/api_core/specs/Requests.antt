@@ -98,7 +98,7 @@ call_by port headers body hole OldestSuccess = call.Oldest side.Success
 call_by port headers body hole OldestFailure = call.Oldest side.Failure
 call_by port headers body hole Delete = call.Delete (id_of hole)
 call_by port headers body hole StopBroker = call.StopBroker
-call_by port headers body hole RuntimeNext = call.RuntimeNext port
+call_by port headers body hole RuntimeNext = call.RuntimeNext port 0
 call_by port headers body hole Response = call.Response port (id_of hole) body
 call_by port headers body hole RuntimeError = call.RuntimeError port (id_of hole) body
 call_by port headers body hole RuntimeInitError = call.RuntimeInitError port
@@ -108,8 +108,13 @@ call_by port headers body hole ExtensionNext = call.ExtensionNext port (identifi
 call_by port headers body hole ExtensionInitError = call.ExtensionInitError port (identifier_or_zeros headers)
 call_by port headers body hole ExtensionExitError = call.ExtensionExitError port (identifier_or_zeros headers)
 -- no request passes the checks of these
-call_by port headers body hole Telemetry = call.RuntimeNext port
-call_by port headers body hole Logs = call.RuntimeNext port
+call_by port headers body hole Telemetry = call.RuntimeNext port 0
+call_by port headers body hole Logs = call.RuntimeNext port 0
+
+-- the same call, in which a runtime waits beside so many extensions
+abbrev pub waiting_beside : ℕ → Call → Call
+waiting_beside n (call.RuntimeNext environment beside) = call.RuntimeNext environment n
+waiting_beside n c = c
 
 -- what a check refuses by
 abbrev pub failed : Bool × Refusal → Option Refusal

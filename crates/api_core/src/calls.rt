@@ -130,7 +130,10 @@ pub(crate) fn call_by(
         Route::OldestFailure => Ok(Call::Oldest(Side::Failure)),
         Route::Delete => Ok(Call::Delete(id_in(alloc, part)?)),
         Route::StopBroker => Ok(Call::StopBroker),
-        Route::RuntimeNext => Ok(Call::RuntimeNext { environment }),
+        Route::RuntimeNext => Ok(Call::RuntimeNext {
+            environment,
+            beside: 0,
+        }),
         Route::Response => response(alloc, environment, part, body),
         Route::RuntimeError => runtime_error(alloc, environment, part, body),
         Route::RuntimeInitError => Ok(Call::RuntimeInitError { environment }),
@@ -148,6 +151,9 @@ pub(crate) fn call_by(
             identifier,
         }),
         // No request passes the checks of these.
-        Route::Telemetry | Route::Logs => Ok(Call::RuntimeNext { environment }),
+        Route::Telemetry | Route::Logs => Ok(Call::RuntimeNext {
+            environment,
+            beside: 0,
+        }),
     }
 }

@@ -21,7 +21,7 @@ pub fn requests()
     ensures oldest_failure { asks 0 "GET" "/broker/destinations/failure" ≡ Ok (Call.Oldest Side.Failure) }
     ensures delete { asks 0 "DELETE" "/broker/destinations/00000000-0000-4000-8000-000000000003" ≡ Ok (Call.Delete (Some (id 3))) }
     ensures stop { asks 0 "POST" "/broker/stop" ≡ Ok Call.StopBroker }
-    ensures runtime_next { asks 1 "GET" "/2018-06-01/runtime/invocation/next" ≡ Ok (Call.RuntimeNext 1) }
+    ensures runtime_next { asks 1 "GET" "/2018-06-01/runtime/invocation/next" ≡ Ok (Call.RuntimeNext 1 0) }
     ensures response { tells "/response" (codes "ok") ≡ Ok (Call.Response 1 (Some (id 3)) (codes "ok")) }
     ensures runtime_error { tells "/error" (codes "{") ≡ Ok (Call.RuntimeError 1 (Some (id 3)) (codes "{")) }
     ensures runtime_init_error { on 1 "POST" "/2018-06-01/runtime/init/error" [] (codes "why") ≡ Ok (Call.RuntimeInitError 1) }

@@ -49,9 +49,14 @@ is_known identifier extensions = list_any (λ (party : Party). has_identifier id
 
 -- the slot of a Next, if it is one of this party
 abbrev pub slot_by : Option (List ℕ) → EnvCall → Option ℕ
-slot_by own (RuntimeNext slot) = if is_none own then Some slot else None
+slot_by own (RuntimeNext slot beside) = if is_none own then Some slot else None
 slot_by own (ExtensionNext identifier slot) = if has_identifier identifier own then Some slot else None
 slot_by own call = None
+
+-- beside how many extensions the runtime waits, by a Next of it
+abbrev pub beside_by : EnvCall → Option ℕ
+beside_by (RuntimeNext slot beside) = Some beside
+beside_by call = None
 
 -- a call after which the party no longer waits
 abbrev pub releases : Party → EnvCall → Bool

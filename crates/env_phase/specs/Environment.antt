@@ -1,9 +1,9 @@
 -- What the calls of one environment say of it. The list is of all the calls that it accepted, the oldest first.
-use Rattle.std.specs.Prelude.{ℕ, Bool, true, false, ◌&&◌, List, [], ◌∷◌, map, filter_map, Option, None, is_some, is_none, if◌then◌else◌, IsTrue}
+use Rattle.std.specs.Prelude.{ℕ, Bool, true, false, ◌&&◌, List, [], ◌∷◌, map, filter_map, Option, None, is_some, is_none, unwrap_or, nat_le, length, if◌then◌else◌, IsTrue}
 use Rattle.std.specs.List.{after_last, last_or, list_any, list_all}
 use Rattle.env_phase.specs.declared.call.Party.{Party}
 use Rattle.env_phase.specs.declared.call.EnvCall.{EnvCall}
-use Rattle.env_phase.specs.Calls.{is_reset, is_shutdown, clears, runtime, registration, has_identifier, is_known, slot_by, releases, given_by, ends_event, deadline_by}
+use Rattle.env_phase.specs.Calls.{is_reset, is_shutdown, clears, runtime, registration, has_identifier, is_known, slot_by, beside_by, releases, given_by, ends_event, deadline_by}
 
 -- the era: what follows the last reset
 unfoldable pub era : List EnvCall → List EnvCall
@@ -26,6 +26,10 @@ parties calls = runtime ∷ registered calls
 -- the slot on which a party is parked: that of its last Next which nothing released
 unfoldable pub slot_of : List EnvCall → Party → Option ℕ
 slot_of calls party = last_or None (filter_map (slot_by party.identifier) (after_last (releases party) calls))
+
+-- beside how many extensions the runtime is parked: as its last Next says that nothing released
+unfoldable pub wanted : List EnvCall → ℕ
+wanted calls = unwrap_or (last_or None (filter_map beside_by (after_last (releases runtime) calls))) 0
 
 abbrev pub is_parked : List EnvCall → Party → Bool
 is_parked calls party = is_some (slot_of calls party)
@@ -50,9 +54,13 @@ runs calls id = has_identifier id (running calls)
 
 -- ## Phases
 
--- the calls are met: no event is unanswered, and the runtime and all that are registered are parked
+-- as many extensions are registered as the runtime waits beside
+abbrev pub has_enough : List EnvCall → Bool
+has_enough calls = nat_le (wanted calls) (length (registered calls))
+
+-- the calls are met: no event is unanswered, enough extensions are registered, and the runtime and all of them are parked
 unfoldable pub is_met : List EnvCall → Bool
-is_met calls = is_none (unanswered calls) && list_all (is_parked calls) (parties calls)
+is_met calls = is_none (unanswered calls) && (has_enough calls && list_all (is_parked calls) (parties calls))
 
 -- every prefix of a list, the empty one first
 abbrev pub prefixes : {A : Type 0} → List A → List (List A)

@@ -13,7 +13,7 @@ id n = 0 ∷ 0 ∷ 0 ∷ 0 ∷ 0 ∷ 0 ∷ 64 ∷ 0 ∷ 128 ∷ 0 ∷ 0 ∷ 0 �
 
 -- the runtime alone, with an event that runs until 4000
 abbrev pub alone : List EnvCall
-alone = RuntimeNext 1 ∷ Give (id 1) 4000 ∷ []
+alone = RuntimeNext 1 0 ∷ Give (id 1) 4000 ∷ []
 
 -- extension 21 is told of events and of the end, extension 22 of the end alone
 abbrev pub two_register : List EnvCall
@@ -21,7 +21,7 @@ two_register = Register (id 21) true true ∷ Register (id 22) false true ∷ []
 
 -- the runtime and the first of them have asked
 abbrev pub two_asked : List EnvCall
-two_asked = two_register ++ RuntimeNext 1 ∷ ExtensionNext (id 21) 2 ∷ []
+two_asked = two_register ++ RuntimeNext 1 0 ∷ ExtensionNext (id 21) 2 ∷ []
 
 -- and the second
 abbrev pub all_asked : List EnvCall
@@ -40,7 +40,15 @@ joins n = Register (id n) true true
 
 -- an extension and the runtime
 abbrev pub first_asked : List EnvCall
-first_asked = joins 21 ∷ RuntimeNext 1 ∷ ExtensionNext (id 21) 2 ∷ []
+first_asked = joins 21 ∷ RuntimeNext 1 0 ∷ ExtensionNext (id 21) 2 ∷ []
+
+-- the runtime waits beside two extensions, and one has come and asked
+abbrev pub one_of_two : List EnvCall
+one_of_two = RuntimeNext 1 2 ∷ joins 21 ∷ ExtensionNext (id 21) 2 ∷ []
+
+-- and the other
+abbrev pub both_of_two : List EnvCall
+both_of_two = one_of_two ++ joins 22 ∷ ExtensionNext (id 22) 3 ∷ []
 
 -- ten extensions
 abbrev pub ten_register : List EnvCall
@@ -49,7 +57,7 @@ ten_register =
 
 -- both have asked again
 abbrev pub asked_again : List EnvCall
-asked_again = answered ++ RuntimeNext 4 ∷ ExtensionNext (id 21) 5 ∷ []
+asked_again = answered ++ RuntimeNext 4 0 ∷ ExtensionNext (id 21) 5 ∷ []
 
 -- ## What a slot is answered
 

@@ -24,7 +24,7 @@ first_failed (check ∷ checks) = if check.0 then Some check.1 else first_failed
 
 -- the checks of a call in their order, by the phase, the event that runs and the extensions that are registered
 abbrev pub checks : Phase → Option (List ℕ) → List Party → EnvCall → List (Bool × Refusal)
-checks phase event extensions (RuntimeNext slot) = (phase_is_closing phase || is_some event, refusal.WrongPhase) ∷ []
+checks phase event extensions (RuntimeNext slot beside) = (phase_is_closing phase || is_some event, refusal.WrongPhase) ∷ []
 checks phase event extensions (Register identifier events end) =
     (not (phase_is_init phase), refusal.RegistrationClosed)
     ∷ (nat_le 10 (length extensions), refusal.TooManyExtensions)
@@ -72,7 +72,7 @@ replaced_by (Some slot) = Some told.Replaced
 
 -- what a call tells a party that is parked
 abbrev pub told_by : EnvCall → Party → Option PollAnswer
-told_by (RuntimeNext slot) party = replaced_by (slot_by party.identifier (RuntimeNext slot))
+told_by (RuntimeNext slot beside) party = replaced_by (slot_by party.identifier (RuntimeNext slot beside))
 told_by (Register identifier events end) party = None
 told_by (ExtensionNext identifier slot) party = replaced_by (slot_by party.identifier (ExtensionNext identifier slot))
 told_by (Give id deadline) party = if party.gets_events then Some (event_for party.identifier id deadline) else None

@@ -9,7 +9,7 @@ use Rattle.env_phase.specs.Polls.{waiter_of, answered_by}
 
 -- a Next on this slot
 abbrev pub polls_on : ℕ → EnvCall → Bool
-polls_on slot (RuntimeNext other) = slot == other
+polls_on slot (RuntimeNext other beside) = slot == other
 polls_on slot (ExtensionNext identifier other) = slot == other
 polls_on slot call = false
 

@@ -7,7 +7,7 @@ use Rattle.env_phase.specs.declared.refusal.EnvError.TheVariants.{Refused, OutOf
 use Rattle.env_phase.specs.declared.call.Waiter.{Waiter}
 use Rattle.env_phase.specs.declared.call.EnvCall.{EnvCall}
 use Rattle.env_phase.specs.Calls.{is_shutdown, runtime}
-use Rattle.env_phase.specs.Environment.{registered, slot_of, unanswered, was_met}
+use Rattle.env_phase.specs.Environment.{registered, slot_of, wanted, unanswered, was_met}
 use Rattle.env_phase.specs.Polls.{refusal_of, IsLegal, waiter_of, answered_by}
 
 pub record EnvState : Type 0 where
@@ -20,6 +20,8 @@ pub record EnvState : Type 0 where
   pub event : Option (List ℕ)
   -- the slot on which the runtime is parked
   pub runtime_slot : Option ℕ
+  -- beside how many extensions it waits there
+  pub beside : ℕ
   -- the extensions that are registered, in that order
   pub extensions : List Waiter
 
@@ -31,6 +33,7 @@ state_of number calls = record {
   has_met = was_met calls;
   event = unanswered calls;
   runtime_slot = slot_of calls runtime;
+  beside = wanted calls;
   extensions = map (waiter_of calls) (registered calls);
 }
 

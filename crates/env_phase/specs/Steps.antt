@@ -1,5 +1,5 @@
 -- Words for the steps of the body, which keeps what the calls left: what one call more changes in it.
-use Rattle.std.specs.Prelude.{ℕ, Bool, false, not, ◌&&◌, ◌||◌, List, [], ◌∷◌, ◌++◌, map, filter_map, Option, Some, None, is_some, is_none, cond, length, nat_le}
+use Rattle.std.specs.Prelude.{ℕ, Bool, false, not, ◌&&◌, ◌||◌, List, [], ◌∷◌, ◌++◌, map, filter_map, Option, Some, None, is_some, is_none, unwrap_or, cond, length, nat_le}
 use Rattle.std.specs.List.{list_all}
 use Rattle.std.specs.Option.{option_or}
 use Rattle.env_phase.specs.declared.answer.PollAnswer.{PollAnswer}
@@ -8,7 +8,7 @@ use Rattle.env_phase.specs.declared.refusal.Refusal.TheVariants as refusal
 use Rattle.env_phase.specs.declared.call.Party.{Party}
 use Rattle.env_phase.specs.declared.call.Waiter.{Waiter}
 use Rattle.env_phase.specs.declared.call.EnvCall.{EnvCall}
-use Rattle.env_phase.specs.Calls.{is_reset, is_shutdown, clears, runtime, registration, has_identifier, is_known, slot_by, releases, given_by, ends_event}
+use Rattle.env_phase.specs.Calls.{is_reset, is_shutdown, clears, runtime, registration, has_identifier, is_known, slot_by, beside_by, releases, given_by, ends_event}
 use Rattle.env_phase.specs.Environment.{Phase, phase_by, phase_is_init, phase_is_ready, phase_is_busy, phase_is_closing}
 use Rattle.env_phase.specs.Polls.{first_failed, checks, answered}
 use Rattle.env_phase.specs.State.{EnvState}
@@ -16,14 +16,17 @@ use Rattle.env_phase.specs.State.{EnvState}
 abbrev pub is_parked_at : Waiter → Bool
 is_parked_at waiter = is_some waiter.slot
 
+abbrev pub party_at : Waiter → Party
+party_at waiter = waiter.party
+
+abbrev pub has_enough_in : EnvState → Bool
+has_enough_in e = nat_le e.beside (length (map party_at e.extensions))
+
 abbrev pub is_met_in : EnvState → Bool
-is_met_in e = is_none e.event && (is_some e.runtime_slot && list_all is_parked_at e.extensions)
+is_met_in e = is_none e.event && (has_enough_in e && (is_some e.runtime_slot && list_all is_parked_at e.extensions))
 
 abbrev pub phase_in : EnvState → Phase
 phase_in e = phase_by e.is_shut (is_met_in e) e.has_met
-
-abbrev pub party_at : Waiter → Party
-party_at waiter = waiter.party
 
 abbrev pub has_party : List ℕ → Waiter → Bool
 has_party identifier waiter = has_identifier identifier waiter.party.identifier
@@ -43,6 +46,10 @@ answered_in e call = filter_map (answered call) (runtime_in e ∷ e.extensions)
 -- the slot on which a party is parked after a call
 abbrev pub slot_after : EnvCall → Party → Option ℕ → Option ℕ
 slot_after call party slot = cond (releases party call) None (option_or (slot_by party.identifier call) slot)
+
+-- beside how many extensions the runtime waits after a call
+abbrev pub beside_after : EnvCall → ℕ → ℕ
+beside_after call before = cond (releases runtime call) 0 (unwrap_or (beside_by call) before)
 
 abbrev pub waiter_after : EnvCall → Waiter → Waiter
 waiter_after call waiter = record waiter { slot = slot_after call waiter.party waiter.slot }
@@ -64,6 +71,7 @@ moved e call = record e {
   is_shut = e.is_shut || is_shutdown call;
   event = event_after call e.event;
   runtime_slot = slot_after call runtime e.runtime_slot;
+  beside = beside_after call e.beside;
   extensions = extensions_after call e.extensions;
 }
 

@@ -19,9 +19,10 @@ pub struct Waiter {
 /// A call that changes an environment. Slots name requests that wait; moments are milliseconds since 1970.
 #[derive(Clone, Copy, Debug, PartialEq, Eq)]
 pub enum EnvCall {
-    /// The runtime asks for the next event.
+    /// The runtime asks for the next event, beside so many extensions: it is given none before as many have registered.
     RuntimeNext {
         slot: u64,
+        beside: u8,
     },
     /// An extension registers for events, for the end of the environment, for both or neither.
     Register {

@@ -9,7 +9,7 @@ use crate::call::{EnvCall, Waiter};
 use crate::env::Env;
 use crate::refusal::EnvError;
 use crate::steps::{
-    RUNTIME, clears, event_after, is_reset, is_shutdown, move_slots, registration, slot_after, told,
+    RUNTIME, beside_after, clears, event_after, is_reset, is_shutdown, move_slots, registration, slot_after, told,
 };
 use std::alloc::{AllocError, Global};
 
@@ -79,6 +79,7 @@ impl Env {
     {
         change_extensions(&mut self.extensions, call)?;
         self.runtime_slot = slot_after(call, &RUNTIME, self.runtime_slot);
+        self.beside = beside_after(call, self.beside);
         self.event = event_after(call, self.event);
         self.is_shut = self.is_shut || is_shutdown(call);
         self.has_met = !is_reset(call) && (self.has_met || self.is_met());
@@ -117,15 +118,16 @@ impl Env {
         Ok(answers)
     }
 
-    /// The runtime asks for the next event, on this slot; an older poll of it is answered `Replaced`.
+    /// The runtime asks for the next event, on this slot; an older poll of it is answered `Replaced`. It is given none before
+    /// so many extensions have registered and asked too, and until then registration is open.
     ///
     /// `WrongPhase` while an event is unanswered, and once the environment was shut down. Runtime API, Next invocation.
-    pub fn runtime_next(&mut self, slot: u64) -> Result<Answered, EnvError>
-        ensures ok { IfOk result (λ answers. Accepts self.old (RuntimeNext slot) self.new answers.items) }
-        ensures refused { IfErr result (λ why. Refuses self.old (RuntimeNext slot) why) }
+    pub fn runtime_next(&mut self, slot: u64, beside: u8) -> Result<Answered, EnvError>
+        ensures ok { IfOk result (λ answers. Accepts self.old (RuntimeNext slot beside) self.new answers.items) }
+        ensures refused { IfErr result (λ why. Refuses self.old (RuntimeNext slot beside) why) }
         ensures err { OnErr result (self.new ≡ self.old) }
     {
-        self.call(EnvCall::RuntimeNext { slot })
+        self.call(EnvCall::RuntimeNext { slot, beside })
     }
 
     /// An extension registers under an identifier, for events, for the end of the environment, for both or neither.

@@ -19,6 +19,8 @@ pub struct Env {
     pub(crate) event: Option<[u8; 16]>,
     /// Where the runtime waits.
     pub(crate) runtime_slot: Option<u64>,
+    /// Beside how many extensions it waits there.
+    pub(crate) beside: u8,
     /// In the order of their registration.
     pub(crate) extensions: Vec<Waiter>,
 }
@@ -34,6 +36,7 @@ impl Model for Env {
       has_met = e.has_met;
       event = e.event;
       runtime_slot = e.runtime_slot;
+      beside = e.beside;
       extensions = e.extensions.items;
     } };
 }
@@ -57,6 +60,7 @@ impl Env {
             has_met: false,
             event: None,
             runtime_slot: None,
+            beside: 0,
             extensions: Vec::new(alloc),
         }
     }
@@ -68,11 +72,21 @@ impl Env {
         self.number
     }
 
-    // Whether no event is unanswered, and the runtime and each registered extension wait.
+    // Whether as many extensions are registered as the runtime waits beside.
+    fn has_enough(&self) -> bool
+        ensures { result ≡ step.has_enough_in self.now }
+    {
+        usize::from(self.beside) <= self.extensions.len()
+    }
+
+    // Whether no event is unanswered, enough extensions are registered, and the runtime and each of them wait.
     pub(crate) fn is_met(&self) -> bool
         ensures { result ≡ step.is_met_in self.now }
     {
-        self.event.is_none() && self.runtime_slot.is_some() && all_wait(&self.extensions)
+        self.event.is_none()
+            && self.has_enough()
+            && self.runtime_slot.is_some()
+            && all_wait(&self.extensions)
     }
 
     pub(crate) fn is_init(&self) -> bool
@@ -94,7 +108,8 @@ impl Env {
         !self.is_shut && !self.is_met() && self.has_met
     }
 
-    /// Whether an event can be given: it was not shut down, no event is unanswered, and the runtime and each registered extension wait.
+    /// Whether an event can be given: it was not shut down, no event is unanswered, as many extensions are registered as the
+    /// runtime waits beside, and the runtime and each of them wait.
     #[tactic(auto, using(crate::specs::laws::States::is_ready_kept))]
     pub fn ready(&self) -> bool
         ensures by_state { result ≡ is_ready_in self.now }
@@ -123,6 +138,7 @@ impl Env {
             has_met: self.has_met,
             event: self.event,
             runtime_slot: self.runtime_slot,
+            beside: self.beside,
             extensions,
         })
     }

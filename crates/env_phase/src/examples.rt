@@ -1,5 +1,5 @@
 // Worked examples of what is meant, computed by the check: a definition that changes one is refused.
-#![tactic(auto, unfolding(crate::specs::Environment::era, crate::specs::Environment::registered, crate::specs::Environment::slot_of, crate::specs::Environment::unanswered, crate::specs::Environment::is_met, crate::specs::Environment::phase_of, crate::specs::Polls::refusal_of, crate::specs::Polls::answered_by,))]
+#![tactic(auto, unfolding(crate::specs::Environment::era, crate::specs::Environment::registered, crate::specs::Environment::slot_of, crate::specs::Environment::wanted, crate::specs::Environment::unanswered, crate::specs::Environment::is_met, crate::specs::Environment::phase_of, crate::specs::Polls::refusal_of, crate::specs::Polls::answered_by,))]
 
 ghost use Rattle.std.specs.Prelude.{◌≡◌, [], ◌∷◌, ◌++◌, None, Some, true, false};
 ghost use Rattle.env_phase.specs.declared.call.EnvCall.TheVariants.{RuntimeNext, Register, ExtensionNext, Give, Answer};
@@ -7,7 +7,7 @@ ghost use Rattle.env_phase.specs.declared.call.EnvCall.TheVariants.{InitError, E
 ghost use Rattle.env_phase.specs.Calls.{runtime, extension};
 ghost use Rattle.env_phase.specs.Environment.{init, ready, busy, closing, era, registered, slot_of, unanswered, phase_of, is_ready};
 ghost use Rattle.env_phase.specs.Polls.{refusal_of, answered_by};
-ghost use Rattle.env_phase.specs.Examples.{id, alone, first_asked, two_asked, all_asked, given, answered, asked_again, joins, ten_register};
+ghost use Rattle.env_phase.specs.Examples.{id, alone, first_asked, two_asked, all_asked, given, answered, asked_again, joins, ten_register, one_of_two, both_of_two};
 ghost use Rattle.env_phase.specs.Examples.{event_on, invoke_on, end_on, spindown_on, reset_on, replaced_on};
 
 use crate::{Reason, Refusal};
@@ -15,8 +15,8 @@ use crate::{Reason, Refusal};
 /// An event that is answered in time, and one whose time is over.
 pub fn one_event()
     ensures nobody { phase_of [] ≡ init }
-    ensures asked { phase_of (RuntimeNext 1 ∷ []) ≡ ready }
-    ensures taken { answered_by (RuntimeNext 1 ∷ []) (Give (id 1) 4000) ≡ event_on 1 (id 1) 4000 ∷ [] }
+    ensures asked { phase_of (RuntimeNext 1 0 ∷ []) ≡ ready }
+    ensures taken { answered_by (RuntimeNext 1 0 ∷ []) (Give (id 1) 4000) ≡ event_on 1 (id 1) 4000 ∷ [] }
     ensures runs { unanswered alone ≡ Some (id 1) }
     ensures works { phase_of alone ≡ busy }
     ensures in_time { refusal_of alone (Answer (id 1)) ≡ None }
@@ -27,7 +27,7 @@ pub fn one_event()
     ensures nobody_waits { answered_by alone (Timeout 4000) ≡ [] }
     ensures anew { phase_of (alone ++ Timeout 4000 ∷ []) ≡ init }
     ensures nothing_runs { unanswered (alone ++ Timeout 4000 ∷ []) ≡ None }
-    ensures second_poll { refusal_of alone (RuntimeNext 2) ≡ Some Refusal.WrongPhase }
+    ensures second_poll { refusal_of alone (RuntimeNext 2 0) ≡ Some Refusal.WrongPhase }
 {}
 
 /// An extension that is given events and one that is only told of the end, from registration to the next event.
@@ -40,15 +40,31 @@ pub fn two_extensions()
     ensures first_left { slot_of given (extension (id 21) true true) ≡ None }
     ensures second_stays { slot_of given (extension (id 22) false true) ≡ Some 3 }
     ensures busy { phase_of given ≡ busy }
-    ensures runtime_asks_early { refusal_of given (RuntimeNext 4) ≡ Some Refusal.WrongPhase }
+    ensures runtime_asks_early { refusal_of given (RuntimeNext 4 0) ≡ Some Refusal.WrongPhase }
     ensures extension_asks_early { refusal_of given (ExtensionNext (id 21) 4) ≡ None }
     ensures answers_none { answered_by given (Answer (id 1)) ≡ [] }
-    ensures runtime_asks { is_ready (answered ++ RuntimeNext 4 ∷ []) ≡ false }
-    ensures still_busy { phase_of (answered ++ RuntimeNext 4 ∷ []) ≡ busy }
+    ensures runtime_asks { is_ready (answered ++ RuntimeNext 4 0 ∷ []) ≡ false }
+    ensures still_busy { phase_of (answered ++ RuntimeNext 4 0 ∷ []) ≡ busy }
     ensures first_asks { is_ready asked_again ≡ true }
     ensures ready_again { answered_by asked_again (Give (id 2) 9000) ≡ event_on 4 (id 2) 9000 ∷ invoke_on 5 (id 2) 9000 ∷ [] }
     ensures closed { refusal_of given (joins 23) ≡ Some Refusal.RegistrationClosed }
     ensures closed_when_ready { refusal_of all_asked (joins 23) ≡ Some Refusal.RegistrationClosed }
+{}
+
+/// A runtime that comes first, and waits beside two extensions.
+pub fn in_any_order()
+    ensures nobody_else { phase_of (RuntimeNext 1 2 ∷ []) ≡ init }
+    ensures open { refusal_of (RuntimeNext 1 2 ∷ []) (joins 21) ≡ None }
+    ensures one { phase_of one_of_two ≡ init }
+    ensures still_open { refusal_of one_of_two (joins 22) ≡ None }
+    ensures not_asked { phase_of (one_of_two ++ joins 22 ∷ []) ≡ init }
+    ensures both { phase_of both_of_two ≡ ready }
+    ensures closed { refusal_of both_of_two (joins 23) ≡ Some Refusal.RegistrationClosed }
+    ensures given { answered_by both_of_two (Give (id 1) 4000)
+        ≡ event_on 1 (id 1) 4000 ∷ invoke_on 2 (id 1) 4000 ∷ invoke_on 3 (id 1) 4000 ∷ [] }
+    ensures asks_again { phase_of (both_of_two ++ Give (id 1) 4000 ∷ Answer (id 1) ∷ RuntimeNext 4 2 ∷ []) ≡ busy }
+    ensures anew { phase_of (both_of_two ++ Give (id 1) 4000 ∷ Timeout 4000 ∷ RuntimeNext 4 2 ∷ []) ≡ init }
+    ensures by_the_last { phase_of (RuntimeNext 1 2 ∷ RuntimeNext 2 0 ∷ []) ≡ ready }
 {}
 
 /// Registrations, and polls that a newer one replaces.
@@ -59,13 +75,13 @@ pub fn registrations()
     ensures anew { refusal_of (ten_register ++ InitError 1000 ∷ []) (joins 31) ≡ None }
     ensures alone { registered (ten_register ++ InitError 1000 ∷ joins 31 ∷ []) ≡ extension (id 31) true true ∷ [] }
     ensures twice { refusal_of (joins 21 ∷ []) (joins 21) ≡ Some Refusal.InUse }
-    ensures after_the_runtime { refusal_of (RuntimeNext 1 ∷ []) (joins 21) ≡ Some Refusal.RegistrationClosed }
+    ensures after_the_runtime { refusal_of (RuntimeNext 1 0 ∷ []) (joins 21) ≡ Some Refusal.RegistrationClosed }
     ensures unknown { refusal_of (joins 21 ∷ []) (ExtensionNext (id 22) 1) ≡ Some Refusal.UnknownExtension }
     ensures void { refusal_of (joins 21 ∷ InitError 1000 ∷ []) (ExtensionNext (id 21) 1) ≡ Some Refusal.UnknownExtension }
-    ensures runtime_replaced { answered_by (joins 21 ∷ RuntimeNext 1 ∷ []) (RuntimeNext 2) ≡ replaced_on 1 ∷ [] }
-    ensures newer_stays { slot_of (joins 21 ∷ RuntimeNext 1 ∷ RuntimeNext 2 ∷ []) runtime ≡ Some 2 }
+    ensures runtime_replaced { answered_by (joins 21 ∷ RuntimeNext 1 0 ∷ []) (RuntimeNext 2 0) ≡ replaced_on 1 ∷ [] }
+    ensures newer_stays { slot_of (joins 21 ∷ RuntimeNext 1 0 ∷ RuntimeNext 2 0 ∷ []) runtime ≡ Some 2 }
     ensures extension_replaced { answered_by first_asked (ExtensionNext (id 21) 3) ≡ replaced_on 2 ∷ [] }
-    ensures replaced_when_ready { is_ready (joins 21 ∷ RuntimeNext 1 ∷ ExtensionNext (id 21) 2 ∷ ExtensionNext (id 21) 3 ∷ []) ≡ true }
+    ensures replaced_when_ready { is_ready (joins 21 ∷ RuntimeNext 1 0 ∷ ExtensionNext (id 21) 2 ∷ ExtensionNext (id 21) 3 ∷ []) ≡ true }
 {}
 
 /// Errors, timeouts and the shutdown: who is told what, and what is left.
@@ -84,11 +100,11 @@ pub fn ends()
     ensures timeout_tells { answered_by given (Timeout 4000) ≡ end_on 3 Reason.Timeout 6000 ∷ [] }
     ensures timeout_leaves { phase_of (given ++ Timeout 4000 ∷ []) ≡ init }
     ensures no_timeout { refusal_of answered (Timeout 4000) ≡ Some Refusal.WrongPhase }
-    ensures era_begins { era (given ++ Timeout 4000 ∷ RuntimeNext 4 ∷ []) ≡ RuntimeNext 4 ∷ [] }
+    ensures era_begins { era (given ++ Timeout 4000 ∷ RuntimeNext 4 0 ∷ []) ≡ RuntimeNext 4 0 ∷ [] }
     ensures shutdown_tells { answered_by all_asked (Shutdown 1000) ≡ reset_on 1 ∷ spindown_on 2 3000 ∷ spindown_on 3 3000 ∷ [] }
     ensures closes { phase_of (all_asked ++ Shutdown 1000 ∷ []) ≡ closing }
     ensures not_ready { is_ready (all_asked ++ Shutdown 1000 ∷ []) ≡ false }
-    ensures no_poll { refusal_of (all_asked ++ Shutdown 1000 ∷ []) (RuntimeNext 4) ≡ Some Refusal.WrongPhase }
+    ensures no_poll { refusal_of (all_asked ++ Shutdown 1000 ∷ []) (RuntimeNext 4 0) ≡ Some Refusal.WrongPhase }
     ensures no_registration { refusal_of (all_asked ++ Shutdown 1000 ∷ []) (joins 23) ≡ Some Refusal.RegistrationClosed }
     ensures no_answer { refusal_of (given ++ Shutdown 1000 ∷ []) (Answer (id 1)) ≡ Some Refusal.WrongPhase }
     ensures nobody_known { refusal_of (all_asked ++ Shutdown 1000 ∷ []) (ExtensionNext (id 21) 4) ≡ Some Refusal.UnknownExtension }

@@ -72,7 +72,7 @@ fn slot_by(own: Option<[u8; 16]>, call: EnvCall) -> Option<u64>
     ensures { result ≡ meant.slot_by own call }
 {
     match call {
-        EnvCall::RuntimeNext { slot } if own.is_none() => Some(slot),
+        EnvCall::RuntimeNext { slot, .. } if own.is_none() => Some(slot),
         EnvCall::ExtensionNext { identifier, slot } if has_identifier(&identifier, own) => {
             Some(slot)
         }
@@ -98,6 +98,17 @@ pub fn slot_after(call: EnvCall, party: &Party, slot: Option<u64>) -> Option<u64
         None
     } else {
         slot_by(party.identifier, call).or(slot)
+    }
+}
+
+/// Beside how many extensions the runtime waits after the call.
+pub fn beside_after(call: EnvCall, before: u8) -> u8
+    ensures { result ≡ step.beside_after call before }
+{
+    match call {
+        EnvCall::RuntimeNext { beside, .. } => beside,
+        EnvCall::Give { .. } => 0,
+        _ => { if clears(call) { 0 } else { before } }
     }
 }
 

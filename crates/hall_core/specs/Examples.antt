@@ -43,7 +43,7 @@ abbrev pub invokes : ℕ → ℕ → ℕ → HallCall
 invokes slot now n = asks slot now n (calls.Invoke braces)
 
 abbrev pub runtime_asks : ℕ → ℕ → HallCall
-runtime_asks slot now = asks slot now 0 (calls.RuntimeNext 1)
+runtime_asks slot now = asks slot now 0 (calls.RuntimeNext 1 0)
 
 abbrev pub responds : ℕ → ℕ → ℕ → List ℕ → HallCall
 responds slot now n body = asks slot now 0 (calls.Response 1 (Some (id n)) body)
@@ -221,7 +221,7 @@ two_environments = record usual { environments = 2 }
 
 -- the runtime of environment 2 asks before that of environment 1
 abbrev pub second_then_first : List HallCall
-second_then_first = invokes 1 t 1 ∷ asks 2 t 0 (calls.RuntimeNext 2) ∷ runtime_asks 3 t ∷ []
+second_then_first = invokes 1 t 1 ∷ asks 2 t 0 (calls.RuntimeNext 2 0) ∷ runtime_asks 3 t ∷ []
 
 -- ## Extensions
 

@@ -95,7 +95,7 @@ PlansTick table environments stopping now effect =
 
 -- the environment of a request is one of these, if it is to one
 abbrev pub IsToOneOf : List EnvState → Call → Type 0
-IsToOneOf environments (calls.RuntimeNext environment) = IsNumberIn environments environment
+IsToOneOf environments (calls.RuntimeNext environment beside) = IsNumberIn environments environment
 IsToOneOf environments (calls.Response environment id body) = IsNumberIn environments environment
 IsToOneOf environments (calls.RuntimeError environment id body) = IsNumberIn environments environment
 IsToOneOf environments (calls.RuntimeInitError environment) = IsNumberIn environments environment

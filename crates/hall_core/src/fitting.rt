@@ -28,7 +28,7 @@ impl Environments {
         ensures { IsTrue result ↔ IsToOneOf self.now call.now }
     {
         match call {
-            Call::RuntimeNext { environment }
+            Call::RuntimeNext { environment, .. }
             | Call::Response { environment, .. }
             | Call::RuntimeError { environment, .. }
             | Call::RuntimeInitError { environment }

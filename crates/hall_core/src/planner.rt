@@ -92,7 +92,10 @@ impl<'a> Planner<'a> {
             Call::Oldest(side) => self.oldest(side),
             Call::Delete(id) => self.collect(id),
             Call::StopBroker => self.stop(),
-            Call::RuntimeNext { environment } => self.runtime_next(environment, slot),
+            Call::RuntimeNext {
+                environment,
+                beside,
+            } => self.runtime_next(environment, slot, beside),
             Call::Response {
                 environment,
                 id,

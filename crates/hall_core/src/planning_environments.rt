@@ -167,14 +167,14 @@ impl<'a> Planner<'a> {
         self.request(environment, call, None, None)
     }
 
-    /// The runtime asks for the next event.
-    pub(crate) fn runtime_next(&self, environment: u16, slot: u64) -> Plan<'a>
+    /// The runtime asks for the next event, beside so many extensions.
+    pub(crate) fn runtime_next(&self, environment: u16, slot: u64, beside: u8) -> Plan<'a>
         requires { IsNumberIn self.now.environments.now environment }
-        ensures effect { ForEachScene self.now (λ x. result.effect ≡ parks x environment (RuntimeNext slot)) }
+        ensures effect { ForEachScene self.now (λ x. result.effect ≡ parks x environment (RuntimeNext slot beside)) }
         ensures within { AreCallable self.now.environments.now result.called }
         ensures none { result.effect.command ≡ None }
     {
-        self.park(environment, EnvCall::RuntimeNext { slot })
+        self.park(environment, EnvCall::RuntimeNext { slot, beside })
     }
 
     /// An extension asks for the next event.

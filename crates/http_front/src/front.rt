@@ -18,6 +18,29 @@ use std::sync::{Arc, Wait};
 use std::time::Clock;
 use tokio_util::sync::CancellationToken;
 
+/// How a front serves its ports.
+#[derive(Clone, Copy, Debug)]
+pub struct Manner {
+    /// How requests are read and replies are told.
+    pub dialect: Dialect,
+    /// Beside how many extensions each runtime waits: it is given no event before as many have registered and asked too, and
+    /// until then registration is open. With none registration is open until the runtime and all that have registered asked.
+    pub extensions: u8,
+}
+
+impl Manner {
+    /// The broker's own: its own dialect, and no extension is waited for.
+    pub fn own() -> Manner
+        ensures dialect { result.dialect ≡ Dialect.Profile }
+        ensures extensions { result.extensions ≡ 0 }
+    {
+        Manner {
+            dialect: Dialect::Profile,
+            extensions: 0,
+        }
+    }
+}
+
 /// The greatest body of a request that carries no payload, response or error.
 const MOST_OTHER: u32 = 4096;
 
@@ -37,25 +60,25 @@ pub struct Front<L: Ledger, T: Trace> {
     pub(crate) wake: Wake,
     pub(crate) ending: CancellationToken,
     pub(crate) settings: Settings,
-    /// How requests are read and replies are told.
-    pub(crate) dialect: Dialect,
+    /// How requests are read and replies are told, and beside how many extensions a runtime waits.
+    pub(crate) manner: Manner,
     /// How many bytes of a body are read.
     pub(crate) most: usize,
 }
 
 impl<L: Ledger, T: Trace> Front<L, T> {
-    /// A front over an office with these settings, of which so much is durable, which speaks this dialect and which no thread
+    /// A front over an office with these settings, of which so much is durable, which serves in this manner and which no thread
     /// serves yet.
     pub fn new(
         alloc: Global,
         office: Arc<Office<L, T>>,
         settings: Settings,
         durable: Durable,
-        dialect: Dialect,
+        manner: Manner,
     ) -> Result<Front<L, T>, AllocError>
         ensures office { IfOk result (λ front. front.office ≡ office) }
         ensures settings { IfOk result (λ front. front.settings ≡ settings) }
-        ensures dialect { IfOk result (λ front. front.dialect ≡ dialect) }
+        ensures manner { IfOk result (λ front. front.manner ≡ manner) }
     {
         let most = most_read(&settings);
         Ok(Front {
@@ -65,7 +88,7 @@ impl<L: Ledger, T: Trace> Front<L, T> {
             wake: Wake::new(),
             ending: CancellationToken::new(alloc)?,
             settings,
-            dialect,
+            manner,
             most,
         })
     }

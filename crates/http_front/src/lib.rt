@@ -21,7 +21,7 @@ mod wake;
 pub use commit_loop::{Gate, Turn, WhenPending};
 pub use committing::Committer;
 pub use error::ServeError;
-pub use front::Front;
+pub use front::{Front, Manner};
 pub use moment::now;
 pub use serving::{Ending, Served, serve};
 pub use ticking::tick_all;

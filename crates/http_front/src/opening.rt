@@ -7,8 +7,7 @@ ghost use Rattle.receipts.specs.Desks.{desk_count};
 
 use crate::committing::Committer;
 use crate::error::ServeError;
-use crate::front::Front;
-use api_core::Dialect;
+use crate::front::{Front, Manner};
 use front_board::Seated;
 use group_commit::{Broker, DiskHalf, Durable};
 use hall_core::Hall;
@@ -64,10 +63,10 @@ fn shared<L: Ledger, T: Trace>(
     office: Office<L, T>,
     settings: Settings,
     durable: Durable,
-    dialect: Dialect,
+    manner: Manner,
 ) -> Result<Arc<Front<L, T>>, AllocError> {
     let office = Arc::new(alloc, office)?;
-    let front = Front::new(alloc, office, settings, durable, dialect)?;
+    let front = Front::new(alloc, office, settings, durable, manner)?;
     Ok(Arc::new(alloc, front)?)
 }
 
@@ -95,13 +94,13 @@ fn furnish<L: Ledger, T: Trace, D: Disk + Drop>(
     })
 }
 
-/// Opens a front over a hall, which speaks a dialect: its office, its board, and the ports. The committer has the half of the
+/// Opens a front over a hall, which serves in a manner: its office, its board, and the ports. The committer has the half of the
 /// hall's broker.
 pub(crate) fn open<L: Ledger, T: Trace, D: Disk + Drop>(
     alloc: Global,
     hall: Hall<Broker<D>>,
     blank: Blank,
-    dialect: Dialect,
+    manner: Manner,
 ) -> Result<Opened<L, T, D>, ServeError>
     requires nothing { pending_of hall.issuer ≡ [] }
     requires fresh { IsFresh (settings_of hall.issuer) hall }
@@ -115,7 +114,7 @@ pub(crate) fn open<L: Ledger, T: Trace, D: Disk + Drop>(
     match Office::<L, T>::new(alloc, hall, blank) {
         Ok((office, desks, half)) => {
             let seats = Seated::open(alloc, durable, desks.len())?;
-            let front = shared(alloc, office, settings, durable, dialect)?;
+            let front = shared(alloc, office, settings, durable, manner)?;
             furnish(alloc, front, desks, seats, half)
         }
         Err(failure) => Err(ServeError::Office(failure.cause)),

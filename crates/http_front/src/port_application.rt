@@ -65,7 +65,7 @@ impl<R: Wait + Clock + RandomSource + Copy, L: Ledger, T: Trace> PortApplication
         };
         let call = match read_request(
             front.alloc,
-            front.dialect,
+            front.manner.dialect,
             &front.settings,
             self.number,
             &head.method,
@@ -73,7 +73,7 @@ impl<R: Wait + Clock + RandomSource + Copy, L: Ledger, T: Trace> PortApplication
             &head.headers,
             body,
         ) {
-            Ok(call) => call,
+            Ok(call) => call.beside(front.manner.extensions),
             Err(RequestError::Refused(why)) => return Err(why),
             Err(RequestError::OutOfMemory) => return Err(Refusal::Unavailable),
         };
@@ -96,9 +96,9 @@ impl<R: Wait + Clock + RandomSource + Copy, L: Ledger, T: Trace> PortApplication
 
     // Who hears the reply of a request with this head.
     fn hearer(&self, head: &Parts) -> Hearer
-        ensures { result.dialect ≡ self.now.front.dialect }
+        ensures { result.dialect ≡ self.now.front.manner.dialect }
     {
-        let dialect = self.front.dialect;
+        let dialect = self.front.manner.dialect;
         let is_caller = self.number == 0;
         match dialect {
             Dialect::Profile => Hearer::of_profile(),

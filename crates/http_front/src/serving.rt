@@ -9,11 +9,10 @@ ghost use Rattle.receipts.specs.Serving.{HasServed};
 
 use crate::committing::Committer;
 use crate::error::ServeError;
-use crate::front::Front;
+use crate::front::{Front, Manner};
 use crate::opening::{Opened, open};
 use crate::port_application::PortApplication;
 use crate::ticking::tick_all;
-use api_core::Dialect;
 use commit_loop::{Gate, Turn};
 use group_commit::{Broker, DiskHalf};
 use hall_core::Hall;
@@ -286,7 +285,7 @@ fn port_count(settings: &Settings) -> u64
 
 /// Serves a hall, in which nothing has come yet and nothing is pending, with a ledger of as many parts as there are desks:
 /// the callers' port at the first listener, that of environment n at the listener n behind it. Requests are read and replies
-/// told in the dialect. It returns once the broker
+/// told in the manner's dialect, and runtimes wait beside as many extensions as it says. It returns once the broker
 /// was stopped or its device failed and every open request was answered or its client has gone. The committer, on the
 /// calling thread, is asked by the gate beside that.
 ///
@@ -300,7 +299,7 @@ pub fn serve<R, L, T, D, G>(
     hall: Hall<Broker<D>>,
     blank: Blank,
     listeners: Vec<TcpListener>,
-    dialect: Dialect,
+    manner: Manner,
     gate: &G,
 ) -> Result<Served<D>, ServeError>
 where
@@ -330,6 +329,6 @@ where
     if listeners.len() as u64 > port_count(hall.table().settings()) {
         return Err(ServeError::TooManyPorts);
     }
-    let opened = open::<L, T, D>(rt.alloc(), hall, blank, dialect)?;
+    let opened = open::<L, T, D>(rt.alloc(), hall, blank, manner)?;
     Ok(run(rt, opened, listeners, gate)?)
 }

@@ -5,10 +5,9 @@ ghost use Rattle.group_commit.specs.Promises.{ForEachHistory};
 ghost use Rattle.lambda_broker.specs.Serving.{ComesToRest};
 ghost use Rattle.hall_core.specs.Fresh.{IsFresh};
 
-use api_core::Dialect;
 use group_commit::{Broker, CommitError, IssueError, OpenError, without_disk};
 use hall_core::{Hall, HallFailure};
-use http_front::{Ending, ServeError, WhenPending, now, serve};
+use http_front::{Ending, Manner, ServeError, WhenPending, now, serve};
 use receipts::{Gone, SharedOpening, SharedTrace, desks};
 use sector_disk::{Disk, FileDisk, FileError};
 use std::alloc::{AllocError, AllocGlobal, Global};
@@ -32,8 +31,8 @@ pub struct Address<'a> {
     pub path: &'a str,
     /// The port of its callers.
     pub port: u16,
-    /// How requests are read and replies told.
-    pub dialect: Dialect,
+    /// In which dialect, and beside how many extensions runtimes wait.
+    pub manner: Manner,
 }
 
 /// Why a disk was not served, or not to its end.
@@ -166,7 +165,7 @@ fn serve_hall<R, T, D>(
     rt: R,
     hall: Hall<Broker<D>>,
     listeners: Vec<TcpListener>,
-    dialect: Dialect,
+    manner: Manner,
 ) -> Result<(), ServingError>
 where
     R: Threads
@@ -187,7 +186,7 @@ where
 {
     let blank = Blank::new(desks(hall.table().settings()));
     let gate = WhenPending;
-    let served = serve::<R, Brand, T, D, WhenPending>(rt, hall, blank, listeners, dialect, &gate)?;
+    let served = serve::<R, Brand, T, D, WhenPending>(rt, hall, blank, listeners, manner, &gate)?;
     match served.ending {
         Ending::Stopped => Ok(()),
         Ending::Broken => Err(ServingError::Broken),
@@ -223,7 +222,7 @@ where
     resume(&rt, &mut broker)?;
     let hall = hall_over(rt.alloc(), broker)?;
     announce(at.port, out)?;
-    serve_hall::<R, T, D>(rt, hall, listeners, at.dialect)
+    serve_hall::<R, T, D>(rt, hall, listeners, at.manner)
 }
 
 /// Serves a disk: callers on a port of this machine and environment n on the port n behind it, from the line that is

@@ -6,6 +6,7 @@ use api_core::Dialect;
 use clap::builder::ValueParser;
 use clap::error::ErrorKind;
 use clap::{Arg, ArgAction, ArgMatches, Command, Error, value_parser};
+use http_front::Manner;
 use std::alloc::{AllocError, Global};
 use uuid::Uuid;
 
@@ -115,6 +116,7 @@ fn serve_command<'a>(alloc: Global) -> Result<Command<'a>, AllocError> {
     let port = option(alloc, "port", help);
     let help = "How requests are read and replies told: profile, the broker's own way, or aws";
     let dialect = option(alloc, "dialect", help);
+    let extensions = "Extensions that each runtime waits beside, 0 to 10";
     Command::new(alloc, "serve")
         .about("Serve a disk until POST /broker/stop")
         .arg(disk(alloc))?
@@ -122,7 +124,8 @@ fn serve_command<'a>(alloc: Global) -> Result<Command<'a>, AllocError> {
             port.value_parser(value_parser!(u16).range(1024..65520))
                 .required(true),
         )?
-        .arg(dialect.value_name("DIALECT").default_value("profile"))
+        .arg(dialect.value_name("DIALECT").default_value("profile"))?
+        .arg(number(alloc, "extensions", extensions, "0", value_parser!(u8).range(0..11)))
 }
 
 fn commands<'a>(alloc: Global) -> Result<Command<'a>, AllocError> {
@@ -207,10 +210,14 @@ fn dialect(alloc: Global, matches: &ArgMatches<'_>) -> Result<Dialect, Error> {
 }
 
 fn address<'a>(matches: &ArgMatches<'a>, dialect: Dialect) -> Option<Address<'a>> {
+    let extensions = matches.get_one("extensions")?;
     Some(Address {
         path: matches.get_str("disk")?,
         port: matches.get_one("port")?,
-        dialect,
+        manner: Manner {
+            dialect,
+            extensions,
+        },
     })
 }
 

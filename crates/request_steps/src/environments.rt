@@ -82,15 +82,25 @@ fn register(env: &mut Env, words: &mut Words, answer: &mut Text) -> Reply {
     tell_answered(env.register(&identifier, b"name", invoke, shutdown), answer)
 }
 
-// `on SLOT`, or `N on SLOT` of an extension.
+// `beside N`, where it is said.
+fn beside(words: &mut Words) -> u8 {
+    if words.takes("beside") {
+        u8::try_from(words.number_to(255)).unwrap_or(0)
+    } else {
+        0
+    }
+}
+
+// `on SLOT [beside N]`, or `N on SLOT` of an extension.
 fn next(env: &mut Env, is_runtime: bool, words: &mut Words, answer: &mut Text) -> Reply {
     let identifier = id_of(if is_runtime { 0 } else { words.number() });
     let slot = slot(words);
+    let beside = if is_runtime { beside(words) } else { 0 };
     if words.are_bad() {
         return Reply::Unreadable;
     }
     let answered = if is_runtime {
-        env.runtime_next(slot)
+        env.runtime_next(slot, beside)
     } else {
         env.extension_next(&identifier, slot)
     };

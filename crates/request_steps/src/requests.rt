@@ -79,7 +79,9 @@ fn tell_registration(
 // A call of a runtime or of an extension.
 fn tell_environment_call(call: &Call, answer: &mut Text) {
     match call {
-        Call::RuntimeNext { environment } => answer.add_with("runtime next ", *environment as u64),
+        Call::RuntimeNext { environment, .. } => {
+            answer.add_with("runtime next ", *environment as u64)
+        }
         Call::Response {
             environment,
             id,

@@ -17,7 +17,10 @@ use std::test::Fail;
 use std::thread;
 use std::thread::Threads;
 
-const RUNTIME_NEXT: Call = Call::RuntimeNext { environment: 1 };
+const RUNTIME_NEXT: Call = Call::RuntimeNext {
+    environment: 1,
+    beside: 0,
+};
 
 /// What is polled.
 #[derive(Clone, Copy)]

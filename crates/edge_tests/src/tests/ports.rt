@@ -17,10 +17,9 @@ use crate::tests::gate::AtLeast;
 use crate::tests::house::expect;
 use crate::tests::ports::clients::{Doors, Told, listen};
 use crate::tests::ports::talks::{Leaving, Party, Talk, talk_at};
-use api_core::Dialect;
 use group_commit::Broker;
 use hall_core::Hall;
-use http_front::serve;
+use http_front::{Manner, serve};
 use receipts::{Gone, SharedOpening, SharedTrace, desks};
 use sector_disk::{Disk, FileDisk};
 use std::alloc::{AllocGlobal, Global};
@@ -90,7 +89,7 @@ where
     let (listeners, doors) = doors(&rt, rt.alloc()).ok()?;
     let clients = thread::spawn(&rt, move || talk_at(&rt, doors, &watch, talk)).ok()?;
     let gate = AtLeast::new(talk.pending());
-    let served = serve::<R, L, T, D, AtLeast>(rt, hall, blank, listeners, Dialect::Profile, &gate).ok();
+    let served = serve::<R, L, T, D, AtLeast>(rt, hall, blank, listeners, Manner::own(), &gate).ok();
     let told = clients.join(&rt);
     if served?.ending == talk.ending() {
         Some(told)

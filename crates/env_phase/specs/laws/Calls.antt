@@ -1,5 +1,6 @@
 -- Laws: what one call more changes in what the calls of an environment say.
 use Rattle.std.proofs.Common.{◌≡◌, ℕ, ◌+◌, ◌-◌, ◌≤◌, List, [], ◌∷◌, ◌++◌, length, Bool, true, false, not, cond, refl, ap, ◌∙◌, arith, length-append, drop, Option, Some, None}
+use Rattle.std.specs.Prelude.{unwrap_or}
 use Rattle.std.specs.Option.{option_or}
 use Rattle.std.specs.List.{after_last, suffix_len, last_or, filter_map, cons_option}
 use Rattle.std.proofs.lemmas.List.{reverse-append, drop-append-le}
@@ -7,8 +8,8 @@ use Rattle.std.proofs.lemmas.List.Sums.{suffix_len-le-length}
 use Rattle.std.proofs.Math.ListN.{drop_of_length-le}
 use Rattle.env_phase.specs.declared.call.Party.{Party}
 use Rattle.env_phase.specs.declared.call.EnvCall.{EnvCall}
-use Rattle.env_phase.specs.Calls.{is_reset, clears, registration, releases, slot_by, given_by, ends_event, deadline_by}
-use Rattle.env_phase.specs.Environment.{era, registered, slot_of, unanswered, deadline_of}
+use Rattle.env_phase.specs.Calls.{is_reset, clears, runtime, registration, releases, slot_by, beside_by, given_by, ends_event, deadline_by}
+use Rattle.env_phase.specs.Environment.{era, registered, slot_of, wanted, unanswered, deadline_of}
 
 -- ## Lists
 
@@ -77,6 +78,18 @@ pub slot_of_snoc : (calls : List EnvCall) (c : EnvCall) (party : Party)
     → slot_of (calls ++ c ∷ []) party ≡ cond (releases party c) None (option_or (slot_by party.identifier c) (slot_of calls party))
 unfolding slot_of
 slot_of_snoc calls c party = last_since-snoc (releases party) (slot_by party.identifier) calls c
+
+or_none : (b : Bool) (x y : Option ℕ) → unwrap_or (cond b None (option_or x y)) 0 ≡ cond b 0 (unwrap_or x (unwrap_or y 0))
+or_none true x y = refl
+or_none false None y = refl
+or_none false (Some n) y = refl
+
+pub wanted_snoc : (calls : List EnvCall) (c : EnvCall)
+    → wanted (calls ++ c ∷ []) ≡ cond (releases runtime c) 0 (unwrap_or (beside_by c) (wanted calls))
+unfolding wanted
+wanted_snoc calls c =
+    ap (λ o. unwrap_or o 0) (last_since-snoc (releases runtime) beside_by calls c)
+    ∙ or_none (releases runtime c) (beside_by c) (last_or None (filter_map beside_by (after_last (releases runtime) calls)))
 
 pub unanswered_snoc : (calls : List EnvCall) (c : EnvCall) → unanswered (calls ++ c ∷ []) ≡ cond (ends_event c) None (option_or (given_by c) (unanswered calls))
 unfolding unanswered

@@ -1,6 +1,6 @@
 -- Laws: the era alone decides what is met, and what one call more changes in that.
 use Rattle.std.proofs.Common.{◌≡◌, List, [], ◌∷◌, ◌++◌, map, reverse, Bool, true, false, ◌&&◌, ◌||◌, cond, refl, sym, subst, ap, ◌∙◌, None}
-use Rattle.std.specs.Prelude.{is_some, is_none}
+use Rattle.std.specs.Prelude.{is_some, is_none, unwrap_or}
 use Rattle.std.specs.List.{list_any, list_all, after_last, last_or, filter_map}
 use Rattle.std.proofs.lemmas.List.{reverse-append, reverse-reverse, map-append}
 use Rattle.std.proofs.lemmas.Bool.{true≢false}
@@ -8,8 +8,8 @@ use Rattle.std.proofs.lemmas.List.Folds.{list_any-append}
 use Rattle.env_phase.specs.declared.call.Party.{Party}
 use Rattle.env_phase.specs.declared.call.EnvCall.{EnvCall}
 use Rattle.env_phase.specs.declared.call.EnvCall.TheVariants.{Give, Answer, Shutdown}
-use Rattle.env_phase.specs.Calls.{is_reset, clears, registration, releases, slot_by, given_by, ends_event}
-use Rattle.env_phase.specs.Environment.{era, registered, slot_of, unanswered, is_parked, parties, is_met, was_met, prefixes}
+use Rattle.env_phase.specs.Calls.{is_reset, clears, runtime, registration, releases, slot_by, beside_by, given_by, ends_event}
+use Rattle.env_phase.specs.Environment.{era, registered, slot_of, wanted, unanswered, has_enough, is_parked, parties, is_met, was_met, prefixes}
 use Rattle.env_phase.specs.laws.Calls.{after_last-snoc, era-snoc}
 
 -- ## What the era alone says
@@ -53,6 +53,12 @@ unfolding era slot_of
 slot_of-era calls party =
     ap (λ l. last_or None (filter_map (slot_by party.identifier) l)) (after_last_of_after_last is_reset (releases party) (resets_release party) calls)
 
+pub wanted-era : (calls : List EnvCall) → wanted (era calls) ≡ wanted calls
+unfolding era wanted
+wanted-era calls =
+    ap (λ l. unwrap_or (last_or None (filter_map beside_by l)) 0)
+    (after_last_of_after_last is_reset (releases runtime) (resets_release runtime) calls)
+
 pub unanswered-era : (calls : List EnvCall) → unanswered (era calls) ≡ unanswered calls
 unfolding era unanswered
 unanswered-era calls = ap (λ l. last_or None (filter_map given_by l)) (after_last_of_after_last is_reset ends_event resets_end calls)
@@ -65,8 +71,8 @@ list_all-same p q h (x ∷ xs) = rw (h x, list_all-same p q h xs) refl
 pub is_met_era : (calls : List EnvCall) → is_met (era calls) ≡ is_met calls
 unfolding is_met
 is_met_era calls =
-    rw (unanswered-era calls, registered-era calls)
-    (ap (λ b. is_none (unanswered calls) && b) (list_all-same (is_parked (era calls)) (is_parked calls) (λ party. ap is_some (slot_of-era calls party)) (parties calls)))
+    rw (unanswered-era calls, wanted-era calls, registered-era calls)
+    (ap (λ b. is_none (unanswered calls) && (has_enough calls && b)) (list_all-same (is_parked (era calls)) (is_parked calls) (λ party. ap is_some (slot_of-era calls party)) (parties calls)))
 
 -- ## Whether the era was met
 
@@ -81,7 +87,7 @@ or-false false = refl
 
 was_met_if : (b : Bool) (calls : List EnvCall) (c : EnvCall)
     → list_any is_met (prefixes (cond b [] (calls ++ c ∷ []))) ≡ cond b false (list_any is_met (prefixes calls) || is_met (calls ++ c ∷ []))
-unfolding is_met unanswered registered slot_of
+unfolding is_met unanswered registered slot_of wanted
 was_met_if true calls c = refl
 was_met_if false calls c =
     ap (list_any is_met) (prefixes-snoc calls c)

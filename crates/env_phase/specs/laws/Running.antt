@@ -1,5 +1,5 @@
 -- Laws: what runs makes an environment busy, and what is ready or in init runs nothing.
-use Rattle.std.proofs.Common.{◌≡◌, ℕ, List, [], ◌∷◌, ◌++◌, map, Bool, true, false, not, ◌||◌, refl, sym, ap, ◌∙◌, Option, Some, None}
+use Rattle.std.proofs.Common.{◌≡◌, ℕ, List, [], ◌∷◌, ◌++◌, map, Bool, true, false, not, ◌&&◌, ◌||◌, refl, sym, ap, ◌∙◌, Option, Some, None}
 use Rattle.std.specs.Prelude.{is_some, is_none}
 use Rattle.std.specs.List.{list_any, list_all}
 use Rattle.std.proofs.lemmas.Option.{none-some}
@@ -9,7 +9,7 @@ use Rattle.env_phase.specs.declared.call.EnvCall.{EnvCall}
 use Rattle.env_phase.specs.declared.call.EnvCall.TheVariants.{RuntimeNext, Register, ExtensionNext, Give, Answer, InitError, ExtensionError, Timeout, Shutdown}
 use Rattle.env_phase.specs.declared.refusal.Refusal.{Refusal}
 use Rattle.env_phase.specs.Calls.{is_reset, is_shutdown, given_by, ends_event}
-use Rattle.env_phase.specs.Environment.{era, unanswered, is_parked, parties, is_met, was_met, prefixes, phase_of, phase_by, phase_is_init, phase_is_ready, is_ready, busy, knows}
+use Rattle.env_phase.specs.Environment.{era, unanswered, has_enough, is_parked, parties, is_met, was_met, prefixes, phase_of, phase_by, phase_is_init, phase_is_ready, is_ready, busy, knows}
 use Rattle.env_phase.specs.Polls.{first_failed, refusal_of, IsLegal}
 use Rattle.env_phase.specs.laws.Calls.{unanswered_snoc}
 use Rattle.env_phase.specs.laws.Eras.{is_met_era, was_met_snoc}
@@ -63,7 +63,7 @@ ending_call calls c ends some =
     absurd (true≢false (sym (ap is_some (sym gone) ∙ some)))
 
 runs_step : (calls : List EnvCall) (c : EnvCall) → refusal_of calls c ≡ None → RunsWhereMet calls → RunsWhereMet (calls ++ c ∷ [])
-runs_step calls (RuntimeNext slot) ok was = other_call calls (RuntimeNext slot) refl refl refl was
+runs_step calls (RuntimeNext slot beside) ok was = other_call calls (RuntimeNext slot beside) refl refl refl was
 runs_step calls (Register identifier events end) ok was = other_call calls (Register identifier events end) refl refl refl was
 runs_step calls (ExtensionNext identifier slot) ok was = other_call calls (ExtensionNext identifier slot) refl refl refl was
 runs_step calls (Give id deadline) ok was = λ some.
@@ -111,7 +111,9 @@ nothing_unanswered (Some id) h = absurd (true≢false (sym h))
 
 met_runs_nothing : (calls : List EnvCall) → is_met calls ≡ true → unanswered calls ≡ None
 unfolding is_met
-met_runs_nothing calls met = nothing_unanswered (unanswered calls) (and_parts (is_none (unanswered calls)) (list_all (is_parked calls) (parties calls)) met).0
+met_runs_nothing calls met =
+    nothing_unanswered (unanswered calls)
+    (and_parts (is_none (unanswered calls)) (has_enough calls && list_all (is_parked calls) (parties calls)) met).0
 
 -- an environment that is ready runs nothing
 pub ready_runs_nothing : (calls : List EnvCall) → is_ready calls ≡ true → unanswered calls ≡ None
@@ -160,10 +162,24 @@ extension_init_error_ends_nothing calls identifier now legal h = init_runs_nothi
 
 met_all_wait : (calls : List EnvCall) → is_met calls ≡ true → list_all (is_parked calls) (parties calls) ≡ true
 unfolding is_met
-met_all_wait calls met = (and_parts (is_none (unanswered calls)) (list_all (is_parked calls) (parties calls)) met).1
+met_all_wait calls met =
+    let waits = list_all (is_parked calls) (parties calls) in
+    (and_parts (has_enough calls) waits (and_parts (is_none (unanswered calls)) (has_enough calls && waits) met).1).1
+
+met_has_enough : (calls : List EnvCall) → is_met calls ≡ true → has_enough calls ≡ true
+unfolding is_met
+met_has_enough calls met =
+    let waits = list_all (is_parked calls) (parties calls) in
+    (and_parts (has_enough calls) waits (and_parts (is_none (unanswered calls)) (has_enough calls && waits) met).1).0
 
 -- where one is ready the runtime and each registered extension wait
 pub ready_all_wait : (calls : List EnvCall) → is_ready calls ≡ true → list_all (is_parked calls) (parties calls) ≡ true
 unfolding phase_of
 ready_all_wait calls h =
     met_all_wait calls (sym (is_met_era calls) ∙ ready_is_met (list_any is_shutdown calls) (is_met (era calls)) (was_met calls) h)
+
+-- and as many are registered as the runtime waits beside
+pub ready_has_enough : (calls : List EnvCall) → is_ready calls ≡ true → has_enough calls ≡ true
+unfolding phase_of
+ready_has_enough calls h =
+    met_has_enough calls (sym (is_met_era calls) ∙ ready_is_met (list_any is_shutdown calls) (is_met (era calls)) (was_met calls) h)

@@ -75,7 +75,7 @@ by_a_give slot true answer at = by_an_answer slot answer at
 by_a_give slot false answer at = by_nothing slot at
 
 balances : (slot : ℕ) (c : EnvCall) (w : Waiter) → Balances slot c w
-balances slot (RuntimeNext own) w = by_a_next slot (slot_by w.party.identifier (RuntimeNext own)) w.slot
+balances slot (RuntimeNext own beside) w = by_a_next slot (slot_by w.party.identifier (RuntimeNext own beside)) w.slot
 balances slot (Register identifier events end) w = by_nothing slot w.slot
 balances slot (ExtensionNext identifier own) w = by_a_next slot (slot_by w.party.identifier (ExtensionNext identifier own)) w.slot
 balances slot (Give id deadline) w = by_a_give slot w.party.gets_events _ w.slot
@@ -109,15 +109,15 @@ all_balance slot c (w ∷ ws) =
 -- ## Who polls by a call
 
 -- no extension polls by a Next of the runtime
-no_extension : (slot own : ℕ) (calls : List EnvCall) → count_by (λ (p : Party). polled_by slot (RuntimeNext own) p.identifier) (filter_map registration calls) ≡ 0
-no_extension slot own [] = refl
-no_extension slot own (Register identifier events end ∷ calls) =
+no_extension : (slot own beside : ℕ) (calls : List EnvCall) → count_by (λ (p : Party). polled_by slot (RuntimeNext own beside) p.identifier) (filter_map registration calls) ≡ 0
+no_extension slot own beside [] = refl
+no_extension slot own beside (Register identifier events end ∷ calls) =
     omega (
       arith,
-      no_extension slot own calls,
-      count_cons (λ (p : Party). polled_by slot (RuntimeNext own) p.identifier) (extension identifier events end) (filter_map registration calls),
+      no_extension slot own beside calls,
+      count_cons (λ (p : Party). polled_by slot (RuntimeNext own beside) p.identifier) (extension identifier events end) (filter_map registration calls),
     )
-no_extension slot own (call ∷ calls) = no_extension slot own calls
+no_extension slot own beside (call ∷ calls) = no_extension slot own beside calls
 
 one_if : (same : Bool) (own slot : ℕ) (has : Bool) → (slot == own) ≡ same → one (is_slot slot (cond has (Some own) None)) ≡ cond same (one has) 0
 one_if true own slot true e = rw e refl
@@ -202,7 +202,7 @@ all_leave calls c clear identifier =
     rw nobody refl
 
 known_once_more : (calls : List EnvCall) (c : EnvCall) → refusal_of calls c ≡ None → KnownOnce calls → KnownOnce (calls ++ c ∷ [])
-known_once_more calls (RuntimeNext slot) ok once = none_joins calls (RuntimeNext slot) refl refl once
+known_once_more calls (RuntimeNext slot beside) ok once = none_joins calls (RuntimeNext slot beside) refl refl once
 known_once_more calls (Register identifier events end) ok once = one_joins_once calls identifier events end ok once
 known_once_more calls (ExtensionNext identifier slot) ok once = none_joins calls (ExtensionNext identifier slot) refl refl once
 known_once_more calls (Give id deadline) ok once = none_joins calls (Give id deadline) refl refl once
@@ -251,9 +251,9 @@ waiting_snoc slot calls c legal ok =
 
 -- ## All polls
 
-no_extension_registered : (slot own : ℕ) (calls : List EnvCall) → count_by (λ (p : Party). polled_by slot (RuntimeNext own) p.identifier) (registered calls) ≡ 0
+no_extension_registered : (slot own beside : ℕ) (calls : List EnvCall) → count_by (λ (p : Party). polled_by slot (RuntimeNext own beside) p.identifier) (registered calls) ≡ 0
 unfolding registered
-no_extension_registered slot own calls = no_extension slot own (after_last clears calls)
+no_extension_registered slot own beside calls = no_extension slot own beside (after_last clears calls)
 
 nobody_polls : (ps : List Party) → count_by (λ (p : Party). false) ps ≡ 0
 nobody_polls [] = refl
@@ -261,8 +261,8 @@ nobody_polls (p ∷ ps) = count_cons (λ (p : Party). false) p ps ∙ omega (ari
 
 polled_by_call : (slot : ℕ) (calls : List EnvCall) (c : EnvCall) → IsLegal calls → refusal_of calls c ≡ None
     → count_by (λ (p : Party). polled_by slot c p.identifier) (parties calls) ≡ one (polls_on slot c)
-polled_by_call slot calls (RuntimeNext own) legal ok =
-    omega (arith, count_cons (λ (p : Party). polled_by slot (RuntimeNext own) p.identifier) runtime (registered calls), no_extension_registered slot own calls)
+polled_by_call slot calls (RuntimeNext own beside) legal ok =
+    omega (arith, count_cons (λ (p : Party). polled_by slot (RuntimeNext own beside) p.identifier) runtime (registered calls), no_extension_registered slot own beside calls)
 polled_by_call slot calls (ExtensionNext identifier own) legal ok =
     let once : times_known calls identifier ≡ 1 = known_once calls legal identifier ∙ ap one (asks_known calls identifier own ok) in
     count_cons (λ (p : Party). polled_by slot (ExtensionNext identifier own) p.identifier) runtime (registered calls)

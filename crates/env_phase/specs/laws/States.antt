@@ -15,11 +15,11 @@ use Rattle.env_phase.specs.declared.call.EnvCall.TheVariants.{Register, Extensio
 use Rattle.env_phase.specs.declared.refusal.Refusal.{Refusal}
 use Rattle.env_phase.specs.declared.refusal.Refusal.TheVariants as refusal
 use Rattle.env_phase.specs.Calls.{is_reset, is_shutdown, clears, runtime, extension, registration, has_identifier, is_known, releases, slot_by}
-use Rattle.env_phase.specs.Environment.{era, registered, slot_of, unanswered, is_parked, is_met, was_met, knows, phase_of, phase_by, phase_is_init, phase_is_ready, phase_is_closing, is_ready, running}
+use Rattle.env_phase.specs.Environment.{era, registered, slot_of, wanted, unanswered, is_parked, is_met, was_met, knows, phase_of, phase_by, phase_is_init, phase_is_ready, phase_is_closing, is_ready, running}
 use Rattle.env_phase.specs.Polls.{first_failed, checks, refusal_of, IsLegal, waiter_of, answered_by}
 use Rattle.env_phase.specs.State.{EnvState, state_of, StandsFor, IsAccepted}
 use Rattle.env_phase.specs.Steps.{is_parked_at, is_met_in, phase_in, party_at, refusal_in, answered_in, is_ready_in, waiter_after, joined, extensions_after, moved, has_met_after, state_after}
-use Rattle.env_phase.specs.laws.Calls.{more, era-snoc, registered_snoc, slot_of_snoc, unanswered_snoc}
+use Rattle.env_phase.specs.laws.Calls.{more, era-snoc, registered_snoc, slot_of_snoc, wanted_snoc, unanswered_snoc}
 use Rattle.env_phase.specs.laws.Eras.{is_met_era, was_met_snoc}
 use Rattle.env_phase.specs.laws.Accepted.{legally, legal_more, legal_nil}
 
@@ -35,7 +35,7 @@ parked_kept calls (p ∷ ps) = ap (λ b. is_parked calls p && b) (parked_kept ca
 
 pub met_kept : (number : ℕ) (calls : List EnvCall) → is_met_in (state_of number calls) ≡ is_met calls
 unfolding state_of is_met
-met_kept number calls = rw (parked_kept calls (registered calls)) refl
+met_kept number calls = rw (parties_kept calls (registered calls), parked_kept calls (registered calls)) refl
 
 phase_with : (number : ℕ) (calls : List EnvCall) → is_met_in (state_of number calls) ≡ is_met calls → phase_in (state_of number calls) ≡ phase_by (list_any is_shutdown calls) (is_met (era calls)) (was_met calls)
 unfolding state_of
@@ -184,7 +184,13 @@ moved_snoc : (number : ℕ) (calls : List EnvCall) (c : EnvCall) → IsLegal cal
     → state_of number (calls ++ c ∷ []) ≡ record (moved (state_of number calls) c) { has_met = was_met (calls ++ c ∷ []) }
 unfolding state_of
 moved_snoc number calls c legal ok =
-    rw (any_snoc is_shutdown calls c, unanswered_snoc calls c, slot_of_snoc calls c runtime, extensions_snoc calls c legal ok) refl
+    rw (
+      any_snoc is_shutdown calls c,
+      unanswered_snoc calls c,
+      slot_of_snoc calls c runtime,
+      wanted_snoc calls c,
+      extensions_snoc calls c legal ok
+    ) refl
 
 met_after : (b : Bool) (number : ℕ) (calls : List EnvCall) (c : EnvCall) → is_reset c ≡ b → is_met_in (moved (state_of number calls) c) ≡ is_met (calls ++ c ∷ [])
     → cond b false (was_met calls || is_met (era calls ++ c ∷ [])) ≡ cond b false (was_met calls || is_met_in (moved (state_of number calls) c))
@@ -225,8 +231,9 @@ is_accepted e calls c stands passes =
     (ok, (legal_more calls c stands.0 ok, after), polls)
 
 -- an environment in which nobody has asked for anything
-pub first_state : (number : ℕ) → StandsFor (record { number = number; is_shut = false; has_met = false; event = None; runtime_slot = None; extensions = [] }) []
-unfolding state_of era registered slot_of unanswered is_met
+pub first_state : (number : ℕ)
+    → StandsFor (record { number = number; is_shut = false; has_met = false; event = None; runtime_slot = None; beside = 0; extensions = [] }) []
+unfolding state_of era registered slot_of wanted unanswered is_met
 first_state number = (legal_nil, refl)
 
 pub is_ready_kept : (e : EnvState) (calls : List EnvCall) → StandsFor e calls → is_ready_in e ≡ is_ready calls

@@ -78,7 +78,7 @@ agrees_after_command s h c environment calls never agreed = record {
 }
 
 no_deadline : (c : EnvCall) → given_by c ≡ None → deadline_by c ≡ None
-no_deadline (env.RuntimeNext slot) h = refl
+no_deadline (env.RuntimeNext slot beside) h = refl
 no_deadline (env.Register identifier events end) h = refl
 no_deadline (env.ExtensionNext identifier slot) h = refl
 no_deadline (env.Give id deadline) h = absurd (none-some id (sym h))

@@ -236,7 +236,8 @@ module _ (x : Scene) (all : AllAgree x.settings x.past.history (calls_of x.past)
       request_is_fine slot drawn (calls.Oldest side) fits runs_on = telling _
       request_is_fine slot drawn (calls.Delete id) fits runs_on = deleting id
       request_is_fine slot drawn calls.StopBroker fits runs_on = absurd (true≢false runs_on)
-      request_is_fine slot drawn (calls.RuntimeNext environment) fits runs_on = asking environment (env.RuntimeNext slot) None refl refl (no_end environment (env.RuntimeNext slot) refl)
+      request_is_fine slot drawn (calls.RuntimeNext environment beside) fits runs_on =
+          asking environment (env.RuntimeNext slot beside) None refl refl (no_end environment (env.RuntimeNext slot beside) refl)
       request_is_fine slot drawn (calls.Response environment id body) fits runs_on =
           responding environment Succeed id body refl refl (λ id running_it late. legal_response x.settings x.past.history x.now id clock bound body fits running_it late)
       request_is_fine slot drawn (calls.RuntimeError environment id body) fits runs_on =

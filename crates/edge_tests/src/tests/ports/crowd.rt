@@ -6,10 +6,9 @@ ghost use Rattle.receipts.specs.Desks.{desk_count};
 
 use crate::tests::disks::{NO_TROUBLE, TestDisk, Watch, hall};
 use crate::tests::ports::clients::listen;
-use api_core::Dialect;
 use group_commit::Broker;
 use hall_core::Hall;
-use http_front::{ServeError, WhenPending, serve};
+use http_front::{Manner, ServeError, WhenPending, serve};
 use receipts::{Gone, SharedOpening, SharedTrace, desks};
 use sector_disk::Disk;
 use std::alloc::{AllocGlobal, Global};
@@ -67,7 +66,7 @@ where
     };
     let gate = WhenPending;
     let ending =
-        serve::<R, L, T, D, WhenPending>(rt, hall, blank, listeners, Dialect::Profile, &gate);
+        serve::<R, L, T, D, WhenPending>(rt, hall, blank, listeners, Manner::own(), &gate);
     matches!(ending, Err(ServeError::TooManyPorts))
 }
 
