@@ -210,13 +210,12 @@ fn dialect(alloc: Global, matches: &ArgMatches<'_>) -> Result<Dialect, Error> {
 }
 
 fn address<'a>(matches: &ArgMatches<'a>, dialect: Dialect) -> Option<Address<'a>> {
-    let extensions = matches.get_one("extensions")?;
     Some(Address {
         path: matches.get_str("disk")?,
         port: matches.get_one("port")?,
         manner: Manner {
             dialect,
-            extensions,
+            extensions: matches.get_one("extensions")?,
         },
     })
 }
