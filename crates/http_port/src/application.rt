@@ -19,6 +19,9 @@ pub trait Application: Drop {
     /// its head says so.
     fn most(&self) -> usize;
 
+    /// The header, in small letters, whose value is not read. A head may be longer by it than others: up to 1,100,000 bytes.
+    fn unread_header(&self) -> Option<&'static str>;
+
     /// The reply of a request with this head, whose body was read or was not; or its refusal, which is told at once.
     fn answer(&self, head: &Parts, body: Result<Vec<u8>, ReadError>) -> Result<Self::Reply, Refused>
         ensures { IfOk result Self.Reply.can_poll };

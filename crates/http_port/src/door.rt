@@ -10,6 +10,8 @@ use crate::requests::Requests;
 use crate::rest::Alarm;
 use crate::seats::Seat;
 use crate::served::Served;
+use crate::sieve::Sieve;
+use crate::sieved::Sieved;
 use crate::timer::Timer;
 use crate::watch::Watch;
 use hyper::rt::TokioTimer;
@@ -23,9 +25,12 @@ use tokio::net::TcpStream;
 use tokio::time;
 use tokio_util::sync::{CancellationToken, WaitForCancellationFuture};
 
+// What a connection reads from and writes to.
+type Socket = Noted<Sieved<TcpStream>>;
+
 // A connection that ends after its exchange once the port ends.
 type Ending<R, A> = Graceful<
-    Connection<Noted<TcpStream>, Requests<R, A>, Outgoing<Noted<TcpStream>>, TokioTimer<R>>,
+    Connection<Socket, Requests<R, A>, Outgoing<Socket>, TokioTimer<R>>,
     WaitForCancellationFuture,
 >;
 
@@ -54,8 +59,12 @@ impl<R: Clock + Copy + Drop, A: Application> Door for HttpDoor<R, A> {
             watch: Rc::clone(&watch).ok()?,
             alarm: Rc::clone(&self.alarm).ok()?,
         };
+        let sieve = match self.application.unread_header() {
+            Some(name) => Some(Sieve::new(name)),
+            None => None,
+        };
         let noted = Noted {
-            io: socket,
+            io: Sieved { io: socket, sieve },
             watch: Rc::clone(&watch).ok()?,
         };
         let ending = self.ending.cancelled().ok()?;

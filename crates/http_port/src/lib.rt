@@ -19,6 +19,8 @@ mod requests;
 mod rest;
 mod seats;
 mod served;
+mod sieve;
+mod sieved;
 mod timer;
 mod watch;
 

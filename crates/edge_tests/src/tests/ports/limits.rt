@@ -6,7 +6,7 @@ use crate::tests::ports::clients::{Told, ask, hear, listen, send};
 use crate::tests::ports::limits::application::Patient;
 use http_port::{Limits, serve};
 use std::alloc::AllocGlobal;
-use std::io::Read;
+use std::io::{Read, Write};
 use std::net::{Net, SocketAddr, TcpListener, TcpStream};
 use std::process::Abort;
 use std::random::RandomSource;
@@ -64,6 +64,14 @@ const A_LARGE_BODY: &str =
     ................................................\r\n30\r\n\
     ................................................\r\n0\r\n\r\nGET /now HTTP/1.1\r\nhost: h\r\n\r\n";
 
+// The head of two requests on one connection, up to a value that is not read, and what stands behind it each time.
+const WITH_A_CAUSE: &str = "POST /now HTTP/1.1\r\nhost: h\r\nX-Cause: ";
+
+const BEHIND_A_CAUSE: &str = "\r\ncontent-length: 12\r\n\r\nX-Cause: ok\r";
+
+// How often a hundred bytes stand in the value.
+const CAUSES: usize = 9_000;
+
 // Who comes to a port.
 #[derive(Clone, Copy)]
 enum Visit {
@@ -71,6 +79,8 @@ enum Visit {
     Late(&'static str, &'static str),
     /// A client who sends this, of whose body not all is read.
     Unread(&'static str),
+    /// A client whose heads have a long value that is not read.
+    Causes,
     /// A client whose reply waits for longer than the limits.
     Parked,
     /// More clients than there are seats.
@@ -146,6 +156,23 @@ fn is_told(told: &Told, status: &str) -> bool {
     }
 }
 
+// Two requests whose heads have a long value that is not read, and one more.
+fn tell_causes<R>(rt: &R, to: SocketAddr) -> Result<(), Fail>
+where
+    R: Abort + Clock + AllocGlobal + Net<Listener = TcpListener, Stream = TcpStream>,
+{
+    let alloc = rt.alloc();
+    let cause = "0123456789".repeat(alloc, 10)?.as_str().repeat(alloc, CAUSES)?;
+    let mut client = send(rt, to, [WITH_A_CAUSE, cause.as_str(), BEHIND_A_CAUSE]);
+    if let Some(socket) = &mut client {
+        for part in [WITH_A_CAUSE, cause.as_str(), BEHIND_A_CAUSE, LAST] {
+            socket.write_all(part.as_bytes())?;
+        }
+    }
+    expect(rt, hear(alloc, client).has("200 200 200"), "all are answered");
+    Ok(())
+}
+
 // Visits a port, whose waiting replies are released by `replies`.
 fn visit_at<R>(
     rt: &R,
@@ -169,6 +196,7 @@ where
             expect(rt, !told.header("date: ").is_empty(), "it has a date");
             Ok(())
         }
+        Visit::Causes => tell_causes(rt, to),
         Visit::Parked => park(rt, to, replies),
         Visit::Crowd => crowd(rt, to),
     }
@@ -261,6 +289,11 @@ fn a_rest_that_does_not_come_is_waited_for_no_longer_than_its_time(
 #[test]
 fn a_body_that_is_too_large_is_not_asked_for(rt: HostRuntime) -> Result<(), Fail> {
     serve_visit(rt, limits(), Visit::Unread(ASKS_FIRST))
+}
+
+#[test]
+fn a_long_value_that_is_not_read_is_no_part_of_a_head(rt: HostRuntime) -> Result<(), Fail> {
+    serve_visit(rt, limits(), Visit::Causes)
 }
 
 #[test]
