@@ -4,6 +4,7 @@ ghost use Rattle.std.specs.Prelude.{IfSome};
 use crate::application::Application;
 use crate::connections::Door;
 use crate::limits::Limits;
+use crate::lingering::Lingering;
 use crate::noted::Noted;
 use crate::outgoing::Outgoing;
 use crate::requests::Requests;
@@ -26,11 +27,11 @@ use tokio::time;
 use tokio_util::sync::{CancellationToken, WaitForCancellationFuture};
 
 // What a connection reads from and writes to.
-type Socket = Noted<Sieved<TcpStream>>;
+type Socket<R> = Noted<Sieved<Lingering<R, TcpStream>>>;
 
 // A connection that ends after its exchange once the port ends.
 type Ending<R, A> = Graceful<
-    Connection<Socket, Requests<R, A>, Outgoing<Socket>, TokioTimer<R>>,
+    Connection<Socket<R>, Requests<R, A>, Outgoing<Socket<R>>, TokioTimer<R>>,
     WaitForCancellationFuture,
 >;
 
@@ -48,28 +49,42 @@ pub(crate) struct HttpDoor<R, A> {
     pub(crate) ending: CancellationToken,
 }
 
+impl<R: Clock + Copy + Drop, A: Application> HttpDoor<R, A> {
+    // A socket as a connection reads it.
+    fn socket(&self, socket: TcpStream, watch: &Rc<Watch>) -> Option<Socket<R>> {
+        let sieve = match self.application.unread_header() {
+            Some(name) => Some(Sieve::new(name)),
+            None => None,
+        };
+        let alarm = Rc::clone(&self.alarm).ok()?;
+        let io = Lingering::new(socket, Rc::clone(watch).ok()?, alarm);
+        Some(Noted {
+            io: Sieved { io, sieve },
+            watch: Rc::clone(watch).ok()?,
+        })
+    }
+
+    // What answers the requests of a connection.
+    fn requests(&self, watch: &Rc<Watch>) -> Option<Requests<R, A>> {
+        Some(Requests {
+            alloc: self.alloc,
+            application: Arc::try_clone(&self.application).ok()?,
+            watch: Rc::clone(watch).ok()?,
+            alarm: Rc::clone(&self.alarm).ok()?,
+        })
+    }
+}
+
 impl<R: Clock + Copy + Drop, A: Application> Door for HttpDoor<R, A> {
     type Served = Served<Ending<R, A>, R>;
 
     fn serve(&self, socket: TcpStream, seat: Seat) -> Option<Self::Served> {
         let watch = Rc::new(self.alloc, Watch::new()).ok()?;
-        let requests = Requests {
-            alloc: self.alloc,
-            application: Arc::try_clone(&self.application).ok()?,
-            watch: Rc::clone(&watch).ok()?,
-            alarm: Rc::clone(&self.alarm).ok()?,
-        };
-        let sieve = match self.application.unread_header() {
-            Some(name) => Some(Sieve::new(name)),
-            None => None,
-        };
-        let noted = Noted {
-            io: Sieved { io: socket, sieve },
-            watch: Rc::clone(&watch).ok()?,
-        };
+        let requests = self.requests(&watch)?;
+        let socket = self.socket(socket, &watch)?;
         let ending = self.ending.cancelled().ok()?;
         let timer = Timer::new(self.rt, &self.timers, self.limits, watch)?;
-        let conn = until(self.http.serve_connection(noted, requests), ending);
+        let conn = until(self.http.serve_connection(socket, requests), ending);
         Some(Served::new(conn, timer, seat))
     }
 }

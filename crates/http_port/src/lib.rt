@@ -11,6 +11,7 @@ mod application;
 mod connections;
 mod door;
 mod limits;
+mod lingering;
 mod noted;
 mod outgoing;
 mod port;

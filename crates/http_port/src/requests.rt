@@ -90,18 +90,22 @@ impl<R: Clock + Drop, A: Application, I: Drop> Serving<R, A, I> {
         Some(Rest::new(body, alarm))
     }
 
-    // A response as it is sent. Where the body of its request was not read to its end, it says that the connection ends, and
-    // the rest is read behind it.
+    // A response as it is sent. Where the body of its request was not read to its end, it is the last of its connection: it
+    // says so, and the rest is read behind it.
     fn send(&mut self, answered: Answered) -> Response<Outgoing<I>>
         ensures { status_of result ≡ status_of answered }
     {
         let (mut head, bytes) = answered.into_parts();
         let rest = match self.unread.take() {
             Some(body) => {
+                self.enter(Phase::Last);
                 say_close(&mut head);
                 self.rest_of(body)
             }
-            None => None,
+            None => {
+                self.enter(Phase::Idle);
+                None
+            }
         };
         Response::from_parts(head, Outgoing::new(bytes, rest))
     }
@@ -170,15 +174,11 @@ impl<R: Clock + Drop, A: Application, I: Drop> Future for Serving<R, A, I> {
     ghost gives = { λ _ sent. SendsAnswer A.Given.status sent };
 
     fn poll(&mut self, cx: &mut Context<'_>) -> Poll<Result<Response<Outgoing<I>>, Infallible>> {
-        let polled = match self.poll_body(cx) {
+        match self.poll_body(cx) {
             Poll::Pending => Poll::Pending,
             Poll::Ready(Ok(reply)) => self.poll_reply(reply, cx),
             Poll::Ready(Err(refused)) => Poll::Ready(Ok(self.send(refused.into_response()))),
-        };
-        if polled.is_ready() {
-            self.enter(Phase::Idle);
         }
-        polled
     }
 }
 
@@ -200,7 +200,7 @@ impl<R: Clock + Drop, A: Application, I: Drop> Service<Request<Incoming<I>>> for
 
     fn call(&self, req: Request<Incoming<I>>) -> Serving<R, A, I> {
         let (head, body) = req.into_parts();
-        self.watch.enter(Phase::Body);
+        self.watch.begin_body();
         Serving {
             alloc: self.alloc,
             application: Arc::try_clone(&self.application).ok(),

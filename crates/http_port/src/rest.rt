@@ -13,7 +13,7 @@ use tokio::time;
 use tokio::time::Sleep;
 
 /// How many bytes of a rest are thrown away at most.
-const MOST_THROWN: usize = 8388608;
+pub(crate) const MOST_THROWN: usize = 8388608;
 
 /// How long a rest is read at most, in seconds.
 const REST_SECONDS: u64 = 2;

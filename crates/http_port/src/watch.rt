@@ -18,6 +18,8 @@ pub(crate) enum Phase {
     Late,
     /// A reply.
     Reply,
+    /// The end of the connection, behind its last reply.
+    Last,
 }
 
 impl Phase {
@@ -28,9 +30,10 @@ impl Phase {
         ensures body { self ≡ Phase.Body → result ≡ Some limits.now.body }
         ensures late { self ≡ Phase.Late → result ≡ Some limits.now.body }
         ensures reply { self ≡ Phase.Reply → result ≡ None }
+        ensures last { self ≡ Phase.Last → result ≡ Some limits.now.idle }
     {
         match self {
-            Phase::Idle => Some(limits.idle),
+            Phase::Idle | Phase::Last => Some(limits.idle),
             Phase::Head => Some(limits.head),
             Phase::Body | Phase::Late => Some(limits.body),
             Phase::Reply => None,
@@ -42,6 +45,8 @@ impl Phase {
 #[derive(Drop)]
 pub(crate) struct Watch {
     phase: Cell<Phase>,
+    // Whether some bytes were read since the last head was whole.
+    has_bytes: Cell<bool>,
     // Whether it was entered since that was asked last.
     is_new: Cell<bool>,
 }
@@ -51,6 +56,7 @@ impl Watch {
     pub(crate) fn new() -> Watch {
         Watch {
             phase: Cell::new(Phase::Head),
+            has_bytes: Cell::new(false),
             is_new: Cell::new(true),
         }
     }
@@ -61,8 +67,20 @@ impl Watch {
         self.is_new.set(true);
     }
 
+    /// A head is whole, and its body begins.
+    pub(crate) fn begin_body(&self) {
+        self.has_bytes.set(false);
+        self.enter(Phase::Body);
+    }
+
+    /// Whether some bytes of a head have come, and not all of it.
+    pub(crate) fn is_within_head(&self) -> bool {
+        self.phase.get() == Phase::Head && self.has_bytes.get()
+    }
+
     /// Some bytes were read.
     pub(crate) fn note_bytes(&self) {
+        self.has_bytes.set(true);
         if self.phase.get() == Phase::Idle {
             self.enter(Phase::Head);
         }
