@@ -11,7 +11,7 @@ use Rattle.api_core.specs.declared.dialect.Hearer.{Hearer}
 use Rattle.api_core.specs.declared.refusal.Refusal.{Refusal}
 use Rattle.api_core.specs.declared.refusal.Refusal.TheVariants as refusal
 use Rattle.api_core.specs.declared.reply.Matter.{Matter}
-use Rattle.api_core.specs.declared.reply.Matter.TheVariants as matter
+use Rattle.api_core.specs.declared.reply.Matter.TheVariants as concern
 use Rattle.api_core.specs.declared.reply.Reply.{Reply}
 use Rattle.api_core.specs.Arns.{account_of}
 use Rattle.api_core.specs.Refusals.{Fault, fault_of}
@@ -52,13 +52,13 @@ called id r = record r { headers = r.headers ++ header "X-Amzn-RequestId" (id_te
 
 -- what is told of a refusal in place of its reply
 abbrev pub exception : ℕ → Refusal → Reply
-exception status why = about (matter.Refused why)
+exception status why = about (concern.Refused why)
     (with_json status (header "X-Amzn-ErrorType" (exception_of why) ∷ []) (exception_text (fault_of why)))
 
 -- an event that was accepted has the request's id already
 abbrev pub to_caller : List ℕ → Matter → Reply → Reply
-to_caller id matter.Accepted r = r
-to_caller id (matter.Refused why) r = called id (exception r.status why)
+to_caller id concern.Accepted r = r
+to_caller id (concern.Refused why) r = called id (exception r.status why)
 to_caller id other r = called id r
 
 -- ## What runtimes and extensions are told
@@ -73,8 +73,8 @@ abbrev pub account_text : Settings → List ℕ
 account_text s = object (function_members s ++ member "accountId" (in_quotes (account_of s.arn)) ∷ [])
 
 abbrev pub to_environment : Settings → Bool → Matter → Reply → Reply
-to_environment s wants_account (matter.Shutdown reason deadline) r = record r { body = shutdown_by (aws_reason reason) deadline }
-to_environment s true matter.Registered r = record r { body = account_text s }
+to_environment s wants_account (concern.Shutdown reason deadline) r = record r { body = shutdown_by (aws_reason reason) deadline }
+to_environment s true concern.Registered r = record r { body = account_text s }
 to_environment s wants_account other r = r
 
 -- ## A reply as it is told

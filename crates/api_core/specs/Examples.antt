@@ -7,7 +7,7 @@ use Rattle.destination_json.specs.Examples.{usual, id}
 use Rattle.api_core.specs.declared.call.Call.{Call}
 use Rattle.api_core.specs.declared.refusal.Refusal.{Refusal}
 use Rattle.api_core.specs.declared.reply.Matter.{Matter}
-use Rattle.api_core.specs.declared.reply.Matter.TheVariants as matter
+use Rattle.api_core.specs.declared.reply.Matter.TheVariants as concern
 use Rattle.api_core.specs.declared.reply.Reply.{Reply}
 use Rattle.api_core.specs.declared.dialect.Dialect.TheVariants.{Profile, Aws}
 use Rattle.api_core.specs.declared.dialect.Hearer.{Hearer}
@@ -96,7 +96,7 @@ abbrev pub header : String → String → List ℕ × List ℕ
 header name value = (codes name, codes value)
 
 abbrev pub empty_reply : ℕ → List (List ℕ × List ℕ) → Reply
-empty_reply status headers = record { status = status; headers = headers; body = []; matter = matter.Plain }
+empty_reply status headers = record { status = status; headers = headers; body = []; matter = concern.Plain }
 
 abbrev pub json_reply : ℕ → List (List ℕ × List ℕ) → List ℕ → Reply
 json_reply status headers body =
@@ -104,12 +104,12 @@ json_reply status headers body =
       status = status;
       headers = headers ++ header "Content-Type" "application/json" ∷ [];
       body = body;
-      matter = matter.Plain
+      matter = concern.Plain
     }
 
 -- what is sent of a reply: its matter is not
 abbrev pub plainly : Reply → Reply
-plainly r = about matter.Plain r
+plainly r = about concern.Plain r
 
 abbrev pub matter_of : Told → Matter
 matter_of told = (reply_of_told usual told).matter
@@ -187,7 +187,7 @@ exception_reply status exception side message = record {
         ∷ header "X-Amzn-RequestId" "00000000-0000-4000-8000-000000000009" ∷ [];
     body = codes "{\"Type\":\"" ++ (codes side ++ (codes "\",\"message\":\"" ++ (codes message
         ++ (codes "\",\"Message\":\"" ++ (codes message ++ codes "\"}")))));
-    matter = matter.Plain
+    matter = concern.Plain
   }
 
 abbrev pub caller_refused : Refusal → Reply

@@ -8,7 +8,7 @@ use Rattle.destination_json.specs.Json.{in_quotes, member, object}
 use Rattle.destination_json.specs.Record.{id_text, latest, record_text}
 use Rattle.api_core.specs.declared.refusal.Refusal.{Refusal}
 use Rattle.api_core.specs.declared.reply.Matter.{Matter}
-use Rattle.api_core.specs.declared.reply.Matter.TheVariants as matter
+use Rattle.api_core.specs.declared.reply.Matter.TheVariants as concern
 use Rattle.api_core.specs.declared.reply.Reply.{Reply}
 use Rattle.api_core.specs.declared.answer.Answer.{Answer}
 use Rattle.api_core.specs.declared.answer.Answer.TheVariants as answer
@@ -54,7 +54,7 @@ header name value = (codes name, value)
 
 -- a reply without a body
 abbrev pub bare : ℕ → List (List ℕ × List ℕ) → Reply
-bare status headers = record { status = status; headers = headers; body = []; matter = matter.Plain }
+bare status headers = record { status = status; headers = headers; body = []; matter = concern.Plain }
 
 -- a reply with a body, whose type is the last header
 abbrev pub with_json : ℕ → List (List ℕ × List ℕ) → List ℕ → Reply
@@ -63,7 +63,7 @@ with_json status headers body =
       status = status;
       headers = headers ++ header "Content-Type" (codes "application/json") ∷ [];
       body = body;
-      matter = matter.Plain
+      matter = concern.Plain
     }
 
 -- a reply that tells of a matter for which a dialect has words of its own
@@ -71,7 +71,7 @@ abbrev pub about : Matter → Reply → Reply
 about m r = record r { matter = m }
 
 abbrev pub refusing : Refusal → Reply
-refusing why = about (matter.Refused why) (with_json (fault_of why).status [] (error_text (fault_of why)))
+refusing why = about (concern.Refused why) (with_json (fault_of why).status [] (error_text (fault_of why)))
 
 abbrev pub ok_body : List ℕ
 ok_body = object (member "status" (in_quotes (codes "OK")) ∷ [])
@@ -136,17 +136,17 @@ function_text s = object (function_members s)
 -- ## The reply
 
 abbrev pub reply_of_told : Settings → Told → Reply
-reply_of_told s (accepted id) = about matter.Accepted (bare 202 (header "X-Amzn-RequestId" (id_text id) ∷ []))
+reply_of_told s (accepted id) = about concern.Accepted (bare 202 (header "X-Amzn-RequestId" (id_text id) ∷ []))
 reply_of_told s (record_of e) = with_json 200 [] (record_text s e)
 reply_of_told s no_record = bare 204 []
 reply_of_told s deleted = bare 204 []
 reply_of_told s taken = with_json 202 [] ok_body
 reply_of_told s (registered identifier) =
-    about matter.Registered (with_json 200 (header "Lambda-Extension-Identifier" (id_text identifier) ∷ []) (function_text s))
+    about concern.Registered (with_json 200 (header "Lambda-Extension-Identifier" (id_text identifier) ∷ []) (function_text s))
 reply_of_told s (runtime_event id deadline payload) = with_json 200 (runtime_headers s id deadline) payload
 reply_of_told s (invoke_event id deadline) = with_json 200 [] (invoke_text s id deadline)
 reply_of_told s (shutdown_event reason deadline) =
-    about (matter.Shutdown reason deadline) (with_json 200 [] (shutdown_text reason deadline))
+    about (concern.Shutdown reason deadline) (with_json 200 [] (shutdown_text reason deadline))
 reply_of_told s (refused why) = refusing why
 
 abbrev pub reply_text : Settings → Answer → Reply

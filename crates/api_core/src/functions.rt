@@ -26,7 +26,7 @@ fn is_versioned(alloc: Global, name: &[u8], plain: &[u8]) -> Result<bool, AllocE
 fn is_called(alloc: Global, name: &[u8], plain: &[u8]) -> Result<bool, AllocError>
     ensures { IfOk result (λ answer. answer ≡ is_called name.now plain.now) }
 {
-    if plain.is_empty() {
+    if b"".as_slice() == plain {
         return Ok(false);
     }
     if name == plain {

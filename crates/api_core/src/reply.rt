@@ -1,7 +1,4 @@
 // A reply before it is sent.
-ghost use Rattle.std.specs.Prelude.{◌≡◌};
-ghost use Rattle.api_core.specs.Replies.{about};
-
 use crate::{Refusal, ShutdownReason};
 use invoke_records::Bytes;
 use std::alloc::{AllocError, Global};
@@ -30,7 +27,7 @@ impl Model for Headers {
 }
 
 impl Headers {
-    ghost use Rattle.std.specs.Prelude.{◌++◌, ◌∷◌, [], IfOk, length, option_map, slice_get};
+    ghost use Rattle.std.specs.Prelude.{◌≡◌, ◌++◌, ◌∷◌, [], IfOk, length, option_map, slice_get};
     ghost use Rattle.api_core.specs.Reply.{pairs};
 
     pub(crate) fn from_list(list: Vec<Header>) -> Headers
@@ -40,7 +37,7 @@ impl Headers {
     }
 
     /// The same with a further header behind them.
-    pub(crate) fn with(
+    pub(crate) fn followed_by(
         self,
         alloc: Global,
         name: &'static str,
@@ -101,6 +98,9 @@ pub struct Reply {
 }
 
 impl Reply {
+    ghost use Rattle.std.specs.Prelude.{◌≡◌};
+    ghost use Rattle.api_core.specs.Replies.{about};
+
     // The same, which tells of this matter.
     pub(crate) fn about(self, matter: Matter) -> Reply
         ensures { result ≡ about matter self }

@@ -49,7 +49,7 @@ fn called(alloc: Global, id: &[u8; 16], reply: Reply) -> Result<Reply, AllocErro
         body,
         matter,
     } = reply;
-    let headers = headers.with(alloc, "X-Amzn-RequestId", id.as_bytes())?;
+    let headers = headers.followed_by(alloc, "X-Amzn-RequestId", id.as_bytes())?;
     Ok(Reply {
         status,
         headers,

@@ -1,5 +1,5 @@
 // Which bytes of a connection are read: all but the value of one header.
-ghost use Rattle.std.specs.Prelude.{◌≤◌, length};
+ghost use Rattle.std.specs.Prelude.{◌≡◌, ◌≤◌, length, IsFalse};
 
 /// How many bytes of the value are left out of one head at most. With the 64 KiB that are read, a head has 1,100,000 at most.
 const MOST_CUT: u32 = 1034464;
@@ -183,8 +183,10 @@ impl Sieve {
         }
     }
 
-    // A byte comes: whether it is read.
-    fn take(&mut self, byte: u8) -> bool {
+    // A byte comes: whether it is read. None is left out but one of the value.
+    fn take(&mut self, byte: u8) -> bool
+        ensures { IsFalse result → self.old.place ≡ Place.Value }
+    {
         match self.place {
             Place::Line {
                 column,

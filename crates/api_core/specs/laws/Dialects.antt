@@ -5,28 +5,28 @@ use Rattle.api_core.specs.declared.dialect.Dialect.{Dialect}
 use Rattle.api_core.specs.declared.dialect.Dialect.TheVariants.{Profile, Aws}
 use Rattle.api_core.specs.declared.dialect.Hearer.{Hearer}
 use Rattle.api_core.specs.declared.reply.Matter.{Matter}
-use Rattle.api_core.specs.declared.reply.Matter.TheVariants as matter
+use Rattle.api_core.specs.declared.reply.Matter.TheVariants as concern
 use Rattle.api_core.specs.declared.reply.Reply.{Reply}
 use Rattle.api_core.specs.Dialects.{to_caller, to_environment, told_in, told_to}
 
 callers : (id : List ℕ) (m : Matter) (r : Reply) → (to_caller id m r).status ≡ r.status
-callers id matter.Plain r = refl
-callers id matter.Accepted r = refl
-callers id matter.Registered r = refl
-callers id (matter.Shutdown reason deadline) r = refl
-callers id (matter.Refused why) r = refl
+callers id concern.Plain r = refl
+callers id concern.Accepted r = refl
+callers id concern.Registered r = refl
+callers id (concern.Shutdown reason deadline) r = refl
+callers id (concern.Refused why) r = refl
 
 environments : (s : Settings) (wants_account : Bool) (m : Matter) (r : Reply) → (to_environment s wants_account m r).status ≡ r.status
-environments s true matter.Plain r = refl
-environments s false matter.Plain r = refl
-environments s true matter.Accepted r = refl
-environments s false matter.Accepted r = refl
-environments s true matter.Registered r = refl
-environments s false matter.Registered r = refl
-environments s true (matter.Shutdown reason deadline) r = refl
-environments s false (matter.Shutdown reason deadline) r = refl
-environments s true (matter.Refused why) r = refl
-environments s false (matter.Refused why) r = refl
+environments s true concern.Plain r = refl
+environments s false concern.Plain r = refl
+environments s true concern.Accepted r = refl
+environments s false concern.Accepted r = refl
+environments s true concern.Registered r = refl
+environments s false concern.Registered r = refl
+environments s true (concern.Shutdown reason deadline) r = refl
+environments s false (concern.Shutdown reason deadline) r = refl
+environments s true (concern.Refused why) r = refl
+environments s false (concern.Refused why) r = refl
 
 in_aws : (s : Settings) (is_caller wants_account : Bool) (id : List ℕ) (m : Matter) (r : Reply)
     → (if is_caller then to_caller id m r else to_environment s wants_account m r).status ≡ r.status
