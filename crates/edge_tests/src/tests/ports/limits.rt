@@ -162,7 +162,8 @@ where
     R: Abort + Clock + AllocGlobal + Net<Listener = TcpListener, Stream = TcpStream>,
 {
     let alloc = rt.alloc();
-    let cause = "0123456789".repeat(alloc, 10)?.as_str().repeat(alloc, CAUSES)?;
+    let hundred = "0123456789".repeat(alloc, 10)?;
+    let cause = hundred.as_str().repeat(alloc, CAUSES)?;
     let mut client = send(rt, to, [WITH_A_CAUSE, cause.as_str(), BEHIND_A_CAUSE]);
     if let Some(socket) = &mut client {
         for part in [WITH_A_CAUSE, cause.as_str(), BEHIND_A_CAUSE, LAST] {
