@@ -1,6 +1,6 @@
 // The parts of an ARN, `arn:aws:lambda:REGION:ACCOUNT:function:NAME`.
-ghost use Rattle.std.specs.Prelude.{◌≡◌, ◌==◌, ◌≤◌, length, take};
-ghost use Rattle.std.specs.List.{before_first};
+ghost use Rattle.std.specs.Prelude.{◌≡◌, ◌==◌, ◌≤◌, length};
+ghost use Rattle.std.specs.List.{position_or_len};
 ghost use Rattle.api_core.specs.Arns.{behind_colon, from_account, from_kind, account_of};
 
 // What stands behind the first colon, or nothing where there is none.
@@ -22,7 +22,7 @@ fn behind_colon(text: &[u8]) -> &[u8]
 // How many bytes stand before the first colon, or how many there are where there is none.
 fn colon_at(text: &[u8]) -> usize
     ensures within { result ≤ length text.now }
-    ensures front { take result text.now ≡ before_first (λ b. b == 58) text.now }
+    ensures place { result ≡ position_or_len (λ b. b == 58) text.now }
 {
     match text {
         [] => 0,
@@ -30,7 +30,7 @@ fn colon_at(text: &[u8]) -> usize
             if *b == b':' {
                 0
             } else {
-                colon_at(rest) + 1
+                1 + colon_at(rest)
             }
         }
     }
