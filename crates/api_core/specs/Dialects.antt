@@ -72,10 +72,10 @@ aws_reason Failure = codes "failure"
 abbrev pub account_text : Settings → List ℕ
 account_text s = object (function_members s ++ member "accountId" (in_quotes (account_of s.arn)) ∷ [])
 
-abbrev pub to_environment : Settings → Bool → Matter → Reply → Reply
-to_environment s wants_account (concern.Shutdown reason deadline) r = record r { body = shutdown_by (aws_reason reason) deadline }
-to_environment s true concern.Registered r = record r { body = account_text s }
-to_environment s wants_account other r = r
+abbrev pub to_environment : Settings → Matter → Bool → Reply → Reply
+to_environment s (concern.Shutdown reason deadline) wants_account r = record r { body = shutdown_by (aws_reason reason) deadline }
+to_environment s concern.Registered true r = record r { body = account_text s }
+to_environment s other wants_account r = r
 
 -- ## A reply as it is told
 
@@ -83,7 +83,7 @@ abbrev pub told_in : Dialect → Settings → Hearer → Reply → Reply
 told_in Profile s hearer r = r
 told_in Aws s hearer r =
     if hearer.is_caller then to_caller hearer.drawn r.matter r
-    else to_environment s hearer.wants_account r.matter r
+    else to_environment s r.matter hearer.wants_account r
 
 -- who hears a reply is told it so
 abbrev pub told_to : Settings → Hearer → Reply → Reply

@@ -92,7 +92,7 @@ fn to_environment(
     wants_account: bool,
     reply: Reply,
 ) -> Result<Reply, AllocError>
-    ensures { IfOk result (λ told. told ≡ to_environment settings.now wants_account reply.matter reply) }
+    ensures { IfOk result (λ told. told ≡ to_environment settings.now reply.matter wants_account reply) }
 {
     match reply.matter {
         Matter::Shutdown { reason, deadline } => {

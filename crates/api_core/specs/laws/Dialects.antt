@@ -16,22 +16,22 @@ callers id concern.Registered r = refl
 callers id (concern.Shutdown reason deadline) r = refl
 callers id (concern.Refused why) r = refl
 
-environments : (s : Settings) (wants_account : Bool) (m : Matter) (r : Reply) → (to_environment s wants_account m r).status ≡ r.status
-environments s true concern.Plain r = refl
-environments s false concern.Plain r = refl
-environments s true concern.Accepted r = refl
-environments s false concern.Accepted r = refl
-environments s true concern.Registered r = refl
-environments s false concern.Registered r = refl
-environments s true (concern.Shutdown reason deadline) r = refl
-environments s false (concern.Shutdown reason deadline) r = refl
-environments s true (concern.Refused why) r = refl
-environments s false (concern.Refused why) r = refl
+environments : (s : Settings) (m : Matter) (wants_account : Bool) (r : Reply) → (to_environment s m wants_account r).status ≡ r.status
+environments s concern.Plain true r = refl
+environments s concern.Plain false r = refl
+environments s concern.Accepted true r = refl
+environments s concern.Accepted false r = refl
+environments s concern.Registered true r = refl
+environments s concern.Registered false r = refl
+environments s (concern.Shutdown reason deadline) true r = refl
+environments s (concern.Shutdown reason deadline) false r = refl
+environments s (concern.Refused why) true r = refl
+environments s (concern.Refused why) false r = refl
 
 in_aws : (s : Settings) (is_caller wants_account : Bool) (id : List ℕ) (m : Matter) (r : Reply)
-    → (if is_caller then to_caller id m r else to_environment s wants_account m r).status ≡ r.status
+    → (if is_caller then to_caller id m r else to_environment s m wants_account r).status ≡ r.status
 in_aws s true wants_account id m r = callers id m r
-in_aws s false wants_account id m r = environments s wants_account m r
+in_aws s false wants_account id m r = environments s m wants_account r
 
 by_dialect : (d : Dialect) (s : Settings) (hearer : Hearer) (r : Reply) → (told_in d s hearer r).status ≡ r.status
 by_dialect Profile s hearer r = refl
