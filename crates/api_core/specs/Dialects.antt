@@ -1,5 +1,5 @@
 -- How a reply is told in a dialect. In the broker's own it is told as it is.
-use Rattle.std.specs.Prelude.{ℕ, List, [], ◌∷◌, ◌++◌, Bool, true, false, nat_le, codes, if◌then◌else◌}
+use Rattle.std.specs.Prelude.{ℕ, List, [], ◌∷◌, ◌++◌, Bool, true, nat_le, codes, if◌then◌else◌}
 use Rattle.retry_rules.specs.declared.settings.Settings.{Settings}
 use Rattle.destination_json.specs.Json.{in_quotes, member, object}
 use Rattle.destination_json.specs.Record.{id_text}

@@ -60,9 +60,7 @@ const ASKS_FIRST: &str =
 
 // More comes than is read, and then another request.
 const A_LARGE_BODY: &str =
-    "POST /now HTTP/1.1\r\nhost: h\r\ntransfer-encoding: chunked\r\n\r\n30\r\n\
-    ................................................\r\n30\r\n\
-    ................................................\r\n0\r\n\r\nGET /now HTTP/1.1\r\nhost: h\r\n\r\n";
+    "POST /now HTTP/1.1\r\nhost: h\r\ntransfer-encoding: chunked\r\n\r\n30\r\n................................................\r\n30\r\n................................................\r\n0\r\n\r\nGET /now HTTP/1.1\r\nhost: h\r\n\r\n";
 
 // The head of two requests on one connection, up to a value that is not read, and what stands behind it each time.
 const WITH_A_CAUSE: &str = "POST /now HTTP/1.1\r\nhost: h\r\nX-Cause: ";
