@@ -1,5 +1,5 @@
 // A port of the front, whose requests become calls.
-ghost use Rattle.std.specs.Prelude.{◌≡◌, ◌⊎◌, IfSome};
+ghost use Rattle.std.specs.Prelude.{◌≡◌, ◌⊎◌, None, IfSome};
 ghost use Rattle.api_core.specs.Refusals.{fault_of};
 ghost use Rattle.http_front.specs.Telling.{status_told};
 ghost use Rattle.http_front.specs.Telling.{IsReleasedTo};
@@ -98,9 +98,7 @@ impl<R: Wait + Clock + RandomSource + Copy, L: Ledger, T: Trace> PortApplication
     }
 
     // Who hears the reply of a request with this head.
-    fn hearer(&self, head: &Parts) -> Hearer
-        ensures { result.dialect ≡ self.now.front.manner.dialect }
-    {
+    fn hearer(&self, head: &Parts) -> Hearer {
         let dialect = self.front.manner.dialect;
         let is_caller = self.number == 0;
         match dialect {
@@ -115,7 +113,9 @@ impl<R: Wait + Clock + RandomSource + Copy, L: Ledger, T: Trace> PortApplication
     }
 
     // In which words a hearer is told a reply. None where it is told as it is.
-    fn retelling(&self, hearer: Hearer) -> Option<Retelling<L, T>> {
+    fn retelling(&self, hearer: Hearer) -> Option<Retelling<L, T>>
+        ensures { hearer.dialect ≡ Dialect.Profile → result ≡ None }
+    {
         match hearer.dialect {
             Dialect::Profile => None,
             Dialect::Aws => {
