@@ -3,8 +3,8 @@
 //! A thread serves a port by `serve`, on a runtime of its own. Each request is a hand-written future: its body is read,
 //! up to as many bytes as the application wants, and then its reply is waited for. Where the body was not read to its end,
 //! the reply says that the connection ends, and the rest is read behind it and thrown away, so that the client sees the reply
-//! and not a connection that fails. The value of one header may be
-//! left unread, so that heads may be longer by it. `Limits` say how long a client may take, and how many connections are open at once.
+//! and not a connection that fails. The value of one header may be left unread, so that heads may be longer by it. `Limits`
+//! say how long a client may take, and how many connections are open at once.
 #![tactic(auto)]
 
 mod answering;
