@@ -1,0 +1,9 @@
+pub mod Names
+pub mod Counts
+pub mod Pages
+pub mod Queries
+pub mod Health
+pub mod Listing
+pub mod Lines
+pub mod Metrics
+pub mod laws

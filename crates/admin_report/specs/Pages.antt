@@ -1,0 +1,102 @@
+-- Pages of a table: the events in the order of acceptance, and those that have ended in the order of their end. A page goes
+-- on behind a number of a command, so that it does not matter whether the event of that command is still held.
+use Rattle.std.specs.Prelude.{◌≡◌, ℕ, ◌<◌, Bool, ◌&&◌, List, [], ◌∷◌, ◌++◌, map, filter, find, take, Option, Some, None, nat_lt, option_map}
+use Rattle.std.specs.Prelude.{IsPermutation, IsSortedByKey}
+use Rattle.std.specs.Ordering.{nat_cmp}
+use Rattle.std.specs.List.{last_or}
+use Rattle.std.specs.Str.{bytes_eq}
+use Rattle.invoke_records.specs.declared.row.EventRow.{EventRow}
+use Rattle.retry_rules.specs.declared.settings.Settings.{Settings}
+use Rattle.invoke_records.specs.declared.command.Command.{Command}
+use Rattle.async_core.specs.declared.choice.Side.{Side}
+use Rattle.async_core.specs.Choice.{ended_on}
+use Rattle.async_core.specs.Rules.{has_id}
+use Rattle.async_core.specs.History.{held, row_of}
+use Rattle.admin_report.specs.declared.standing_name.StandingName.{StandingName}
+use Rattle.admin_report.specs.Names.{is_named}
+
+-- ## Events
+
+-- the event stands so, if a standing is asked for
+abbrev pub stands_so : Option StandingName → EventRow → Bool
+stands_so None row = nat_lt 0 1
+stands_so (Some name) row = is_named name row.standing
+
+-- it is listed behind this number: it was accepted behind it, and stands so
+abbrev pub is_listed : Option StandingName → ℕ → EventRow → Bool
+is_listed name after row = nat_lt after row.number && stands_so name row
+
+-- all that is listed behind a number, in the order of acceptance, which is that of the rows
+abbrev pub listed : Option StandingName → ℕ → List EventRow → List EventRow
+listed name after rows = filter (is_listed name after) rows
+
+-- the first of them, so many at most
+abbrev pub events_page : Option StandingName → ℕ → ℕ → List EventRow → List EventRow
+events_page name after limit rows = take limit (listed name after rows)
+
+-- the number to go on behind: that of the last event of a page, or the same again where the page is empty
+abbrev pub number_or : ℕ → Option EventRow → ℕ
+number_or after None = after
+number_or after (Some row) = row.number
+
+abbrev pub last_row : List EventRow → Option EventRow
+last_row [] = None
+last_row (row ∷ []) = Some row
+last_row (row ∷ next ∷ rows) = last_row (next ∷ rows)
+
+abbrev pub next_after : ℕ → List EventRow → ℕ
+next_after after page = number_or after (last_row page)
+
+-- ## Records
+
+-- it has ended on this side, by a command behind this number
+abbrev pub has_ended_behind : Side → ℕ → EventRow → Bool
+has_ended_behind side after row = nat_lt after row.last_number && ended_on side row.standing
+
+-- a page of those that have ended on a side behind a number, the one that ended first first, so many at most
+pub record IsRecordPage (side : Side) (after limit : ℕ) (rows page : List EventRow) : Type 0 where
+  pub ordered : List EventRow
+  pub all : IsPermutation (filter (has_ended_behind side after) rows) ordered
+  pub by_end : IsSortedByKey (λ (row : EventRow). row.last_number) nat_cmp ordered
+  pub first : page ≡ take limit ordered
+
+-- the number to go on behind: that of the command by which the last event of a page ended
+abbrev pub end_number_or : ℕ → Option EventRow → ℕ
+end_number_or after None = after
+end_number_or after (Some row) = row.last_number
+
+abbrev pub next_end_after : ℕ → List EventRow → ℕ
+next_end_after after page = end_number_or after (last_row page)
+
+-- ## Where a page goes on behind an event
+
+abbrev pub acceptance_of : List ℕ → List EventRow → Option ℕ
+acceptance_of id rows = option_map (λ (row : EventRow). row.number) (find (has_id id) rows)
+
+-- of an event that has ended on this side
+abbrev pub has_ended_as : List ℕ → Side → EventRow → Bool
+has_ended_as id side row = has_id id row && ended_on side row.standing
+
+abbrev pub end_of : List ℕ → Side → List EventRow → Option ℕ
+end_of id side rows = option_map (λ (row : EventRow). row.last_number) (find (has_ended_as id side) rows)
+
+-- ## By the history
+
+-- the events that are held after a history, and are listed: a page is the first of them
+abbrev pub events_page_after : Settings → List Command → Option StandingName → ℕ → ℕ → List EventRow
+events_page_after s history name after limit =
+    map (row_of s history) (take limit (filter (λ (event : ℕ × List ℕ). is_listed name after (row_of s history event)) (held history)))
+
+-- ## What no reader misses
+
+-- the rows stand by rising numbers of acceptance, as those of each history do
+abbrev pub AreRising : List EventRow → Type 0
+AreRising [] = Unit {0}
+AreRising (row ∷ []) = Unit {0}
+AreRising (row ∷ next ∷ rows) = (row.number < next.number) × AreRising (next ∷ rows)
+
+-- all that is listed is a page and what is listed behind it: nothing at its border is skipped, and nothing comes twice
+abbrev pub PageGoesOn : Option StandingName → ℕ → ℕ → List EventRow → Type 0
+PageGoesOn name after limit rows =
+    listed name after rows
+    ≡ events_page name after limit rows ++ listed name (next_after after (events_page name after limit rows)) rows
