@@ -6,7 +6,7 @@ use Rattle.invoke_records.specs.declared.row.Standing.{Standing}
 use Rattle.invoke_records.specs.declared.row.Standing.TheVariants.{Waiting, DueAgain, Ended}
 use Rattle.retry_rules.specs.declared.settings.Settings.{Settings}
 use Rattle.invoke_records.specs.declared.command.Command.{Command}
-use Rattle.async_core.specs.History.{held, standing_in, accepted, life}
+use Rattle.async_core.specs.History.{held, standing_in, accepted, life, table_of}
 use Rattle.admin_report.specs.declared.standing_name.StandingName.{StandingName}
 use Rattle.admin_report.specs.declared.standing_name.StandingName.TheVariants as name
 use Rattle.admin_report.specs.declared.tally.Tally.{Tally}
@@ -48,6 +48,10 @@ pub record AreCounts (rows : List EventRow) (tally : Tally) : Type 0 where
   pub oldest_record : IsEarliest (filter_map row_ended_since rows) tally.oldest_record
 
 -- ## By the history
+
+-- this holds of each history that leaves these rows
+abbrev pub ForEachHistoryOf : List EventRow → (Settings → List Command → Type 0) → Type 0
+ForEachHistoryOf rows holds = (s : Settings) (history : List Command) → rows ≡ (table_of s history).rows → holds s history
 
 -- an event that is held stands so after a history
 abbrev pub stands_after : Settings → List Command → StandingName → ℕ × List ℕ → Bool

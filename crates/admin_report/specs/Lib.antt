@@ -2,8 +2,12 @@ pub mod Names
 pub mod Counts
 pub mod Pages
 pub mod Queries
+pub mod Refusals
+pub mod Asking
+pub mod Steps
 pub mod Health
 pub mod Listing
 pub mod Lines
+pub mod Times
 pub mod Metrics
 pub mod laws

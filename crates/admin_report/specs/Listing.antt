@@ -8,11 +8,12 @@ use Rattle.invoke_records.specs.declared.row.Answer.{Answer}
 use Rattle.invoke_records.specs.declared.row.Answer.TheVariants as answer
 use Rattle.invoke_records.specs.declared.row.Standing.{Standing}
 use Rattle.invoke_records.specs.declared.row.Standing.TheVariants.{Running}
-use Rattle.invoke_records.specs.Spelling.{moment_in}
-use Rattle.async_core.specs.Readers.{Ending, ending_at}
+pub use Rattle.invoke_records.specs.Spelling.{moment_in}
+use Rattle.async_core.specs.Readers.{Ending}
 use Rattle.destination_json.specs.Record.{id_text, record_text}
 use Rattle.admin_report.specs.declared.standing_name.StandingName.{StandingName}
 use Rattle.admin_report.specs.Names.{name_of, name_text}
+use Rattle.admin_report.specs.Lines.{ending_of_row}
 
 -- ## One event
 
@@ -93,4 +94,4 @@ record_or_null s (Some ending) = record_text s ending
 abbrev pub detail_text : Settings → EventRow → List ℕ
 detail_text s row =
     codes "{\"event\":" ++ (event_text row ++ (codes ",\"payload\":" ++ (beginning_text row.payload
-    ++ (codes ",\"record\":" ++ (record_or_null s (ending_at (Some row)) ++ codes "}")))))
+    ++ (codes ",\"record\":" ++ (record_or_null s (ending_of_row row) ++ codes "}")))))

@@ -1,15 +1,13 @@
 -- Pages of a table: the events in the order of acceptance, and those that have ended in the order of their end. A page goes
 -- on behind a number of a command, so that it does not matter whether the event of that command is still held.
-use Rattle.std.specs.Prelude.{◌≡◌, ℕ, ◌<◌, Bool, ◌&&◌, List, [], ◌∷◌, ◌++◌, map, filter, find, take, Option, Some, None, nat_lt, option_map}
+use Rattle.std.specs.Prelude.{◌≡◌, ℕ, ◌<◌, Bool, true, ◌&&◌, List, [], ◌∷◌, ◌++◌, map, filter, find, take, Option, Some, None, nat_lt, option_map}
 use Rattle.std.specs.Prelude.{IsPermutation, IsSortedByKey}
 use Rattle.std.specs.Ordering.{nat_cmp}
-use Rattle.std.specs.List.{last_or}
-use Rattle.std.specs.Str.{bytes_eq}
 use Rattle.invoke_records.specs.declared.row.EventRow.{EventRow}
 use Rattle.retry_rules.specs.declared.settings.Settings.{Settings}
 use Rattle.invoke_records.specs.declared.command.Command.{Command}
 use Rattle.async_core.specs.declared.choice.Side.{Side}
-use Rattle.async_core.specs.Choice.{ended_on}
+pub use Rattle.async_core.specs.Choice.{ended_on}
 use Rattle.async_core.specs.Rules.{has_id}
 use Rattle.async_core.specs.History.{held, row_of}
 use Rattle.admin_report.specs.declared.standing_name.StandingName.{StandingName}
@@ -19,7 +17,7 @@ use Rattle.admin_report.specs.Names.{is_named}
 
 -- the event stands so, if a standing is asked for
 abbrev pub stands_so : Option StandingName → EventRow → Bool
-stands_so None row = nat_lt 0 1
+stands_so None row = true
 stands_so (Some name) row = is_named name row.standing
 
 -- it is listed behind this number: it was accepted behind it, and stands so
@@ -35,17 +33,9 @@ abbrev pub events_page : Option StandingName → ℕ → ℕ → List EventRow �
 events_page name after limit rows = take limit (listed name after rows)
 
 -- the number to go on behind: that of the last event of a page, or the same again where the page is empty
-abbrev pub number_or : ℕ → Option EventRow → ℕ
-number_or after None = after
-number_or after (Some row) = row.number
-
-abbrev pub last_row : List EventRow → Option EventRow
-last_row [] = None
-last_row (row ∷ []) = Some row
-last_row (row ∷ next ∷ rows) = last_row (next ∷ rows)
-
 abbrev pub next_after : ℕ → List EventRow → ℕ
-next_after after page = number_or after (last_row page)
+next_after after [] = after
+next_after after (row ∷ rows) = next_after row.number rows
 
 -- ## Records
 
@@ -53,20 +43,20 @@ next_after after page = number_or after (last_row page)
 abbrev pub has_ended_behind : Side → ℕ → EventRow → Bool
 has_ended_behind side after row = nat_lt after row.last_number && ended_on side row.standing
 
+abbrev pub ended_behind : Side → ℕ → List EventRow → List EventRow
+ended_behind side after rows = filter (has_ended_behind side after) rows
+
 -- a page of those that have ended on a side behind a number, the one that ended first first, so many at most
 pub record IsRecordPage (side : Side) (after limit : ℕ) (rows page : List EventRow) : Type 0 where
   pub ordered : List EventRow
-  pub all : IsPermutation (filter (has_ended_behind side after) rows) ordered
+  pub all : IsPermutation (ended_behind side after rows) ordered
   pub by_end : IsSortedByKey (λ (row : EventRow). row.last_number) nat_cmp ordered
   pub first : page ≡ take limit ordered
 
 -- the number to go on behind: that of the command by which the last event of a page ended
-abbrev pub end_number_or : ℕ → Option EventRow → ℕ
-end_number_or after None = after
-end_number_or after (Some row) = row.last_number
-
 abbrev pub next_end_after : ℕ → List EventRow → ℕ
-next_end_after after page = end_number_or after (last_row page)
+next_end_after after [] = after
+next_end_after after (row ∷ rows) = next_end_after row.last_number rows
 
 -- ## Where a page goes on behind an event
 
@@ -89,11 +79,13 @@ events_page_after s history name after limit =
 
 -- ## What no reader misses
 
--- the rows stand by rising numbers of acceptance, as those of each history do
+-- the rows stand by rising numbers of acceptance, each above this one; those of each history are above 0
+abbrev pub AreRisingFrom : ℕ → List EventRow → Type 0
+AreRisingFrom from [] = Unit {0}
+AreRisingFrom from (row ∷ rows) = (from < row.number) × AreRisingFrom row.number rows
+
 abbrev pub AreRising : List EventRow → Type 0
-AreRising [] = Unit {0}
-AreRising (row ∷ []) = Unit {0}
-AreRising (row ∷ next ∷ rows) = (row.number < next.number) × AreRising (next ∷ rows)
+AreRising rows = AreRisingFrom 0 rows
 
 -- all that is listed is a page and what is listed behind it: nothing at its border is skipped, and nothing comes twice
 abbrev pub PageGoesOn : Option StandingName → ℕ → ℕ → List EventRow → Type 0

@@ -1,9 +1,8 @@
 -- What a request asks the admin port for, by its method and its target, or the first check that refuses it.
-use Rattle.std.specs.Prelude.{◌≡◌, ℕ, ◌+◌, ◌-◌, ◌*◌, ◌^◌, nat_eq, nat_lt, nat_le, ◌==◌, Bool, true, false, not, ◌&&◌, ◌||◌, List, [], ◌∷◌, map, filter, find, drop}
-use Rattle.std.specs.Prelude.{Option, Some, None, option_map, is_none, Result, Ok, Err, if◌then◌else◌, codes, bytes_eq, length}
-use Rattle.std.specs.List.{before_first, after_first, slice_split, list_all, list_any, starts_with}
+use Rattle.std.specs.Prelude.{◌≡◌, ℕ, ◌+◌, ◌-◌, ◌*◌, ◌^◌, nat_lt, nat_le, ◌==◌, Bool, true, false, not, ◌&&◌, ◌||◌, List, [], ◌∷◌, find}
+use Rattle.std.specs.Prelude.{Option, Some, None, option_map, Result, Ok, Err, if◌then◌else◌, codes, bytes_eq}
+use Rattle.std.specs.List.{before_first, after_first, slice_split, list_all, list_any}
 use Rattle.std.specs.Str.{byte}
-use Rattle.std.specs.Result.{result_map}
 use Rattle.uuid.specs.Text.{parsed}
 use Rattle.async_core.specs.declared.choice.Side.{Side}
 use Rattle.async_core.specs.declared.choice.Side.TheVariants as side
@@ -26,10 +25,13 @@ path_of target = before_first (λ b. b == byte "?") target
 abbrev pub query_of : List ℕ → List ℕ
 query_of target = after_first (λ b. b == byte "?") target
 
--- the parameters of a query, each a name and behind its first `=` a value, as they stand
+-- the parameters of a query, each a name and behind its first `=` a value, as they stand; an empty query has none
+abbrev pub between_ands : List ℕ → List (List ℕ)
+between_ands query = slice_split (λ b. b == byte "&") query
+
 abbrev pub parameters_of : List ℕ → List (List ℕ)
 parameters_of [] = []
-parameters_of query = slice_split (λ b. b == byte "&") query
+parameters_of (b ∷ bytes) = between_ands (b ∷ bytes)
 
 abbrev pub name_in : List ℕ → List ℕ
 name_in parameter = before_first (λ b. b == byte "=") parameter
@@ -46,8 +48,20 @@ value_of name parameters = option_map value_in (find (is_called name) parameters
 
 -- ## Paths
 
-abbrev pub event_prefix : List ℕ
-event_prefix = codes "/events/"
+-- the first part of a path, and what stands behind the slash after it
+abbrev pub first_part : List ℕ → List ℕ
+first_part path = before_first (λ b. b == byte "/") path
+
+abbrev pub behind_slash : List ℕ → List ℕ
+behind_slash path = after_first (λ b. b == byte "/") path
+
+-- `/events/` and whatever stands behind it
+abbrev pub is_event_path : List ℕ → Bool
+is_event_path path = bytes_eq (first_part path) [] && bytes_eq (first_part (behind_slash path)) (codes "events")
+
+-- what stands behind `/events/`
+abbrev pub event_text : List ℕ → List ℕ
+event_text path = behind_slash (behind_slash path)
 
 abbrev pub route_of : List ℕ → Option Route
 route_of path =
@@ -57,7 +71,7 @@ route_of path =
     else if bytes_eq path (codes "/events") then Some route.Events
     else if bytes_eq path (codes "/records/success") then Some (route.Records side.Success)
     else if bytes_eq path (codes "/records/failure") then Some (route.Records side.Failure)
-    else if starts_with nat_eq path event_prefix then Some route.Event
+    else if is_event_path path then Some route.Event
     else None
 
 -- ## Parameters
@@ -149,19 +163,28 @@ abbrev pub event_of : Option (List ℕ) → Result Ask Fault
 event_of None = Err fault.BadId
 event_of (Some id) = Ok (ask.Event id)
 
+abbrev pub events_at : List (List ℕ) → Result Ask Fault
+events_at parameters =
+    events_of
+    (standing_of (value_of (codes "standing") parameters))
+    (after_of (value_of (codes "after") parameters))
+    (limit_of (value_of (codes "limit") parameters))
+
+abbrev pub records_at : Side → List (List ℕ) → Result Ask Fault
+records_at side parameters =
+    records_of side (after_of (value_of (codes "after") parameters)) (limit_of (value_of (codes "limit") parameters))
+
+abbrev pub event_at : List ℕ → Result Ask Fault
+event_at path = event_of (parsed (event_text path))
+
 -- what a path asks for, with these parameters, whose names are good
 abbrev pub ask_at : Route → List ℕ → List (List ℕ) → Result Ask Fault
 ask_at route.Page path parameters = Ok ask.Page
 ask_at route.Metrics path parameters = Ok ask.Metrics
 ask_at route.Health path parameters = Ok ask.Health
-ask_at route.Event path parameters = event_of (parsed (drop (length event_prefix) path))
-ask_at route.Events path parameters =
-    events_of
-    (standing_of (value_of (codes "standing") parameters))
-    (after_of (value_of (codes "after") parameters))
-    (limit_of (value_of (codes "limit") parameters))
-ask_at (route.Records side) path parameters =
-    records_of side (after_of (value_of (codes "after") parameters)) (limit_of (value_of (codes "limit") parameters))
+ask_at route.Event path parameters = event_at path
+ask_at route.Events path parameters = events_at parameters
+ask_at (route.Records side) path parameters = records_at side parameters
 
 -- where the names of the parameters are good
 abbrev pub ask_unless : Option Fault → Route → List ℕ → List (List ℕ) → Result Ask Fault
