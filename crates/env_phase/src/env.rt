@@ -1,7 +1,9 @@
 // One environment: who polls it, which event runs in it, and in which phase it is.
-ghost use Rattle.std.specs.Prelude.{◌≡◌, [], IfOk};
+ghost use Rattle.std.specs.Prelude.{◌≡◌, ◌≤◌, [], length, count_by, IfOk};
+ghost use Rattle.env_phase.specs.Phases.{waits};
 
 use crate::call::Waiter;
+use crate::phase::Phase;
 use crate::steps::all_wait;
 use std::alloc::{AllocError, Global};
 use std::marker::Model;
@@ -38,8 +40,20 @@ impl Model for Env {
     } };
 }
 
+// How many of them wait.
+fn waiting_count(extensions: &[Waiter]) -> usize
+    ensures waits { result ≡ count_by waits extensions.now }
+    ensures few { result ≤ length extensions.now }
+{
+    extensions
+        .iter()
+        .filter(|waiter| waiter.slot.is_some())
+        .count()
+}
+
 impl Env {
-    ghost use Rattle.env_phase.specs.Environment.{is_ready, running};
+    ghost use Rattle.env_phase.specs.Environment.{is_ready, running, phase_of};
+    ghost use Rattle.env_phase.specs.Phases.{phase_told, parked_in};
     ghost use Rattle.env_phase.specs.State.{StandsFor, ForEachList};
     ghost use Rattle.env_phase.specs.Steps as step;
     ghost use Rattle.env_phase.specs.Steps.{is_ready_in};
@@ -101,6 +115,31 @@ impl Env {
         ensures by_calls { ForEachList self.now (λ calls. result ≡ is_ready calls) }
     {
         !self.is_shut && self.is_met()
+    }
+
+    /// Its phase.
+    #[tactic(auto, using(crate::specs::laws::States::phase_told_kept))]
+    pub fn phase(&self) -> Phase
+        ensures by_state { result ≡ phase_told (step.phase_in self.now) }
+        ensures by_calls { ForEachList self.now (λ calls. result ≡ phase_told (phase_of calls)) }
+    {
+        if self.is_shut {
+            Phase::Closing
+        } else if self.is_met() {
+            Phase::Ready
+        } else if self.has_met {
+            Phase::Busy
+        } else {
+            Phase::Init
+        }
+    }
+
+    /// How many polls wait here that no event has answered.
+    pub fn parked(&self) -> usize
+        ensures { result ≡ parked_in self.now }
+    {
+        let theirs = waiting_count(&self.extensions);
+        if self.runtime_slot.is_some() { 1 + theirs } else { theirs }
     }
 
     /// The event that runs here: it was given and is not answered.

@@ -12,6 +12,7 @@ mod env;
 pub mod examples;
 mod judging;
 pub mod laws;
+mod phase;
 mod refusal;
 mod steps;
 
@@ -19,4 +20,5 @@ pub use answer::{PollAnswer, Reason};
 pub use call::{EnvCall, Party, Waiter};
 pub use calls::Answered;
 pub use env::Env;
+pub use phase::Phase;
 pub use refusal::{EnvError, Refusal};

@@ -74,6 +74,13 @@ impl Environments {
         Ok(Environments { alloc, list })
     }
 
+    /// All of them, in the order of their numbers.
+    pub fn list(&self) -> &[Env]
+        ensures { result.now ≡ self.now }
+    {
+        &self.list
+    }
+
     /// How many they are.
     pub fn count(&self) -> usize
         ensures { result ≡ length self.now }

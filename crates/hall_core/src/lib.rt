@@ -31,6 +31,7 @@ mod preparing;
 mod released;
 mod reporting;
 mod settling;
+mod sight;
 mod slots;
 mod waking;
 
@@ -40,3 +41,4 @@ pub use issuing::Issued;
 pub use over_broker::HallFailure;
 pub use over_half::{HallJoinFailure, HallSplitFailure};
 pub use released::Released;
+pub use sight::{PhaseCounts, Sight};

@@ -22,6 +22,7 @@ use Rattle.env_phase.specs.Steps.{is_parked_at, is_met_in, phase_in, party_at, r
 use Rattle.env_phase.specs.laws.Calls.{more, era-snoc, registered_snoc, slot_of_snoc, unanswered_snoc}
 use Rattle.env_phase.specs.laws.Eras.{is_met_era, was_met_snoc}
 use Rattle.env_phase.specs.laws.Accepted.{legally, legal_more, legal_nil}
+use Rattle.env_phase.specs.Phases.{phase_told}
 
 -- ## By what is kept
 
@@ -231,6 +232,9 @@ first_state number = (legal_nil, refl)
 
 pub is_ready_kept : (e : EnvState) (calls : List EnvCall) → StandsFor e calls → is_ready_in e ≡ is_ready calls
 is_ready_kept e calls stands = ap is_ready_in stands.1 ∙ ap phase_is_ready (phase_kept e.number calls)
+
+pub phase_told_kept : (e : EnvState) (calls : List EnvCall) → StandsFor e calls → phase_told (phase_in e) ≡ phase_told (phase_of calls)
+phase_told_kept e calls stands = ap (λ (s : EnvState). phase_told (phase_in s)) stands.1 ∙ ap phase_told (phase_kept e.number calls)
 
 pub running_kept : (e : EnvState) (calls : List EnvCall) → StandsFor e calls → e.event ≡ running calls
 unfolding state_of
