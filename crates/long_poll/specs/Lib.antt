@@ -1,3 +1,4 @@
 pub mod Bell
 pub mod Port
+pub mod Looking
 pub mod Waiting

@@ -2,6 +2,7 @@
 use Rattle.std.specs.Prelude.{ℕ, ◌<◌}
 use Rattle.hall_core.specs.declared.error.HallError.{HallError}
 use Rattle.receipts.specs.Answers.{IsSlotOf, IsArrivalRefusal, IsTickRefusal}
+use Rattle.receipts.specs.Sealing.{IsLookRefusal}
 
 -- the slot is one of some desk
 abbrev pub IsSlot : ℕ → Type 0
@@ -14,3 +15,7 @@ IsRequestRefusal why = (told : ℕ) × IsArrivalRefusal told why
 -- the same of a tick
 abbrev pub IsMoveRefusal : HallError → Type 0
 IsMoveRefusal why = (told : ℕ) × IsTickRefusal told why
+
+-- the same of a look
+abbrev pub IsSightRefusal : HallError → Type 0
+IsSightRefusal why = (told : ℕ) × IsLookRefusal told why

@@ -6,10 +6,12 @@
 #![tactic(auto)]
 
 mod bell;
+mod looking;
 mod port;
 mod waiters;
 mod waiting;
 
 pub use bell::Bell;
-pub use port::{Arrived, Port};
+pub use looking::Looking;
+pub use port::{Arrived, Port, Seen};
 pub use waiting::Waiting;

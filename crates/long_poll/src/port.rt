@@ -2,14 +2,15 @@
 ghost use Rattle.std.specs.Prelude.{◌≡◌, ◌≤◌, IfOk, IfErr, IfSome};
 ghost use Rattle.invoke_records.specs.Spelling.{greatest_moment};
 ghost use Rattle.hall_core.specs.Hall.{slot_told};
-ghost use Rattle.long_poll.specs.Port.{IsSlot, IsRequestRefusal, IsMoveRefusal};
+ghost use Rattle.receipts.specs.Sealing.{sealed_number};
+ghost use Rattle.long_poll.specs.Port.{IsSlot, IsRequestRefusal, IsMoveRefusal, IsSightRefusal};
 
 use crate::bell::Bell;
 use api_core::Call;
 use front_board::Seated;
 use group_commit::{Receipt, Ticket};
 use hall_core::{HallError, Released};
-use receipts::{Desk, Mark, Office, Trace};
+use receipts::{Desk, Mark, Office, Sealed, Trace};
 use std::sync::ledger::Ledger;
 use std::sync::{Arc, Mutex, Wait};
 
@@ -22,6 +23,17 @@ pub struct Arrived {
     pub slot: u64,
     /// Whether it issued a command, which has to be committed.
     pub has_command: bool,
+}
+
+/// What was seen of the hall, sealed.
+#[derive(Drop)]
+pub struct Seen {
+    /// Of all that it shows.
+    pub ticket: Ticket,
+    /// Under which its future waits.
+    pub slot: u64,
+    pub sealed: Sealed,
+    ghost one: { sealed_number sealed ≡ ticket },
 }
 
 /// One port of the front: a desk of the office and a seat of the board, each behind a lock, for all futures of the port.
@@ -88,6 +100,20 @@ impl<L: Ledger, T: Trace> Port<L, T> {
             ticket,
             slot,
             has_command,
+        })
+    }
+
+    /// What the hall holds, sealed, as `Office::look` shows it to the port's desk.
+    pub fn look<R: Wait>(&self, rt: &R) -> Result<Seen, HallError>
+        ensures slot { IfOk result (λ seen. IsSlot seen.slot) }
+        ensures refused { IfErr result IsSightRefusal }
+    {
+        let mut desk = self.desk.lock(rt);
+        let (ticket, slot, sealed) = self.office.look(rt, &mut desk)?;
+        Ok(Seen {
+            ticket,
+            slot,
+            sealed,
         })
     }
 

@@ -7,9 +7,9 @@ use Rattle.receipts.specs.declared.mark.Mark.{Mark}
 use Rattle.group_commit.specs.declared.error.JoinError.{JoinError}
 use Rattle.receipts.specs.Marks.{history_of_desk, AreNumberedFromSome}
 
--- for each environment one, and three more; at least eight
+-- for each environment one, and four more; at least eight
 abbrev pub desk_count : Settings → ℕ
-desk_count s = max 8 (s.environments + 3)
+desk_count s = max 8 (s.environments + 4)
 
 -- each number below this is the number of one
 abbrev pub IsEachOnce : {X : Type 0} → (X → ℕ) → ℕ → List X → Type 0

@@ -4,6 +4,7 @@ pub mod Answers
 pub mod Desks
 pub mod Kept
 pub mod UnderLock
+pub mod Sealing
 pub mod Running
 pub mod Serving
 pub mod laws

@@ -7,12 +7,12 @@ use retry_rules::Settings;
 use std::mem;
 use std::sync::ledger::{Ledger, Share};
 
-/// How many desks an office has: for each environment's port one, and three for the callers' port, the committer and the
-/// ticker; at least eight.
+/// How many desks an office has: for each environment's port one, and four for the callers' port, the admin port, the
+/// committer and the ticker; at least eight.
 pub fn desks(settings: &Settings) -> u64
     ensures { result ≡ desk_count settings.now }
 {
-    let wanted = u64::from(settings.environments) + 3;
+    let wanted = u64::from(settings.environments) + 4;
     if wanted < 8 { 8 } else { wanted }
 }
 

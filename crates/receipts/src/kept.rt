@@ -7,6 +7,7 @@ ghost use Rattle.receipts.specs.Answers.{AddsAtMostOne, AddsAnswered, IsToldMore
 ghost use Rattle.receipts.specs.Kept.{hall_in, issuer_in, IsToldByLoan, IsNotLentTo, number_of, either_number};
 ghost use Rattle.receipts.specs.UnderLock.{DoesAt, AnswersItsNumber, AddBoth, LendsAs, Counts, next_slot, IsNotMade, IsNotMoved, IsSameUnderLock, IsNoFault};
 ghost use Rattle.receipts.specs.Running.{HasRuns};
+ghost use Rattle.receipts.specs.Sealing.{SealsSightOf, IsNotShown, IsLookRefusal};
 ghost use Rattle.receipts.specs.Serving.{IsToldOf};
 ghost use Rattle.invoke_records.specs.Spelling.{greatest_moment};
 ghost use Rattle.group_commit.specs.Batch.{last_in};
@@ -25,6 +26,7 @@ use crate::desk::Desk;
 use crate::desk_count::DeskCount;
 use crate::mark::{Mark, Trace};
 use crate::marks::Marks;
+use crate::sealed::Sealed;
 use api_core::Call;
 use group_commit::{Batch, Durable, Failed, IssueHalf, Ticket, Written};
 use hall_core::{Hall, HallError, Issued, Released};
@@ -194,6 +196,39 @@ impl<L: Ledger, T: Trace> Kept<L, T> {
             }
             Err(why) => Err(why),
         }
+    }
+
+    /// What the hall holds, sealed, with a ticket of all that it issued and a slot of the desk's own, in which nothing comes.
+    pub(crate) fn look(&mut self, desk: &mut Desk<L, T>) -> Result<(Ticket, u64, Sealed), HallError>
+        ensures told { IfOk result (λ r. IsToldMore desk.old.told desk.new.told r.0) }
+        ensures slot { IfOk result (λ r. IsSlotOf desk.old.number r.1) }
+        ensures number { desk.new.number ≡ desk.old.number }
+        ensures own { desk.new.own.items ≡ desk.old.own.items }
+        ensures answered { desk.new.answered ≡ desk.old.answered }
+        ensures err { OnErr result (desk.new.told ≡ desk.old.told) }
+        ensures refused { IfErr result (IsLookRefusal desk.old.told) }
+
+        // It is what the hall holds now, and nothing was done but that a slot was counted.
+        ensures seals { IfOk result (λ r. SealsSightOf (hall_in self.old.hall) r.2) }
+        ensures ticket { IfOk result (λ r. r.0 ≡ issued_in (issuer_in self.new.hall)) }
+        ensures counts { IfOk result (λ r. Counts self.old.slots self.new.slots desk.old.number r.1) }
+        ensures uncounted { OnErr result (self.new.slots ≡ self.old.slots) }
+        ensures hall { self.new.hall ≡ self.old.hall }
+        ensures marks { self.new.marks.all.items ≡ self.old.marks.all.items }
+        ensures opening { self.new.opening ≡ self.old.opening }
+        ensures reason { IfErr result (IsNotShown (hall_in self.old.hall) self.old.slots desk.old.told) }
+    {
+        self.check(desk)?;
+        if self.hall.is_broken() {
+            return Err(HallError::Broken);
+        }
+        let slot = self.next_slot(desk)?;
+        let sight = self.hall.sight()?;
+        let ticket = self.hall.ticket();
+        self.slots += 1;
+        desk.told = ticket.number();
+        let sealed = Sealed::new(sight, ticket.number());
+        Ok((ticket, slot, sealed))
     }
 
     /// A move of the hall, and a mark of its command.

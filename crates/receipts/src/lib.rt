@@ -18,6 +18,7 @@ mod mark;
 mod marks;
 mod office;
 mod opening;
+mod sealed;
 mod unlocked;
 
 pub use desk::{Desk, desks};
@@ -26,4 +27,5 @@ pub use error::{FinishError, FinishFailure, OfficeFailure, UnlockedFailure};
 pub use mark::{Gone, Mark, SharedTrace, Trace};
 pub use office::Office;
 pub use opening::{GoneTable, OpeningTrace, SharedOpening};
+pub use sealed::Sealed;
 pub use unlocked::Unlocked;

@@ -14,6 +14,7 @@ ghost use Rattle.receipts.specs.Desks.{desk_count};
 ghost use Rattle.receipts.specs.Answers.{AddsAtMostOne, AddsAnswered, IsToldMore, IsToldIfAny, IsSlotOf};
 ghost use Rattle.receipts.specs.Answers.{AddsAsked, IsArrivalRefusal, IsTickRefusal, IsCommitRefusal};
 ghost use Rattle.receipts.specs.Serving.{CommitsTo};
+ghost use Rattle.receipts.specs.Sealing.{sealed_number, IsLookRefusal};
 ghost use Rattle.hall_core.specs.Plans.{drawn_by};
 
 use crate::desk::{Desk, desks};
@@ -23,6 +24,7 @@ use crate::kept::{Kept, Loan};
 use crate::mark::{Mark, Trace};
 use crate::marks::Marks;
 use crate::opening::OpeningTrace;
+use crate::sealed::Sealed;
 use api_core::Call;
 use group_commit::{Broker, DiskHalf, Durable, SplitError, Ticket};
 use hall_core::{Hall, HallError, Released};
@@ -208,6 +210,29 @@ impl<L: Ledger, T: Trace> Office<L, T> {
         ensures kept_answered { OnErr result (desk.new.answered.items ≡ desk.old.answered.items) }
     {
         self.kept.lock(rt).tick(desk, now)
+    }
+
+    /// What the hall holds, for whoever looks at it: sealed, with a ticket of all that was issued, and a slot under which the
+    /// desk's port may wait. It is told once the ticket is durable: `Sealed::open` wants a receipt of that number. Nothing is
+    /// done but that a slot was counted, and the lock is held for a time that does not grow with payloads and answers.
+    ///
+    /// It is refused, and changes nothing: `Mismatch` (fewer commands were issued than this desk was told), `Broken`,
+    /// `WornOut` (2^58 slots were counted), `OutOfMemory`, in this order.
+    pub fn look<R: Wait>(
+        &self,
+        rt: &R,
+        desk: &mut Desk<L, T>,
+    ) -> Result<(Ticket, u64, Sealed), HallError>
+        ensures sealed { IfOk result (λ r. sealed_number r.2 ≡ r.0) }
+        ensures told { IfOk result (λ r. IsToldMore desk.old.told desk.new.told r.0) }
+        ensures slot { IfOk result (λ r. IsSlotOf desk.old.number r.1) }
+        ensures number { desk.new.number ≡ desk.old.number }
+        ensures marks { desk.new.own.items ≡ desk.old.own.items }
+        ensures answered { desk.new.answered ≡ desk.old.answered }
+        ensures err { OnErr result (desk.new.told ≡ desk.old.told) }
+        ensures refused { IfErr result (IsLookRefusal desk.old.told) }
+    {
+        self.kept.lock(rt).look(desk)
     }
 
     /// Makes all that is pending durable: how many commands that is. The commands are lent under the lock, written outside
