@@ -10,4 +10,5 @@ pub mod Listing
 pub mod Lines
 pub mod Times
 pub mod Metrics
+pub mod Showing
 pub mod laws

@@ -19,6 +19,7 @@ mod pages;
 mod parameters;
 mod puts;
 mod reading;
+mod showing;
 mod standing_name;
 mod tally;
 
@@ -35,5 +36,6 @@ pub use pages::{
     acceptance_of, end_of, events_page, next_after, next_end_after, records_page, row_of,
 };
 pub use reading::read_ask;
+pub use showing::{Kind, Shown, View, show};
 pub use standing_name::StandingName;
 pub use tally::{Tally, tally_of};

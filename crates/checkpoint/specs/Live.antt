@@ -1,5 +1,5 @@
 -- An opened disk as contracts see it.
-use Rattle.std.specs.Prelude.{◌≡◌, ◌⊎◌, ℕ, ◌≤◌, Bool, ◌&&◌, List, Some, is_none, is_some, Result, Ok, OnOk}
+use Rattle.std.specs.Prelude.{◌≡◌, ◌⊎◌, ℕ, ◌-◌, ◌≤◌, Bool, ◌&&◌, List, Some, is_none, is_some, Result, Ok, OnOk}
 use Rattle.sector_disk.specs.Disk.{DiskView, HasOneImage}
 use Rattle.sector_disk.specs.Moments.{LeavesOnly}
 use Rattle.retry_rules.specs.declared.settings.Settings.{Settings}
@@ -30,6 +30,10 @@ number_of opened = journal.number_of opened.journal
 -- the sector behind the live segment
 abbrev pub end_of : Opened → ℕ
 end_of opened = journal.end_of opened.journal
+
+-- how many sectors it has left for frames
+abbrev pub free_in : Opened → ℕ
+free_in opened = journal.end_of opened.journal - journal.next_of opened.journal
 
 -- the gate of the other segment is open
 abbrev pub is_other_open : Opened → Bool

@@ -22,7 +22,7 @@ pub struct Opened {
 }
 
 impl Opened {
-    ghost use Rattle.checkpoint.specs.Live.{settings_of, generation_of, number_of, end_of, fits, Acknowledges, LeavesBeforeOrAfter};
+    ghost use Rattle.checkpoint.specs.Live.{settings_of, generation_of, number_of, end_of, free_in, fits, Acknowledges, LeavesBeforeOrAfter};
 
     /// The settings that the disk was formatted with.
     pub fn settings(&self) -> &Settings
@@ -36,6 +36,13 @@ impl Opened {
         ensures { result ≡ generation_of self.now }
     {
         self.generation
+    }
+
+    /// How many sectors the live segment has left for frames.
+    pub fn free_sectors(&self) -> u64
+        ensures { result ≡ free_in self.now }
+    {
+        self.journal.free_sectors()
     }
 
     /// Appends a batch of commands as one frame.

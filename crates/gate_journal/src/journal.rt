@@ -1,5 +1,5 @@
 // A journal: reading it whole, and a batch appended to it.
-ghost use Rattle.std.specs.Prelude.{◌≡◌, ◌↔◌, ◌+◌, ◌≤◌, ◌^◌, length, false, All, None, IsErrOf, OnOk, OnErr, IfOk};
+ghost use Rattle.std.specs.Prelude.{◌≡◌, ◌↔◌, ◌+◌, ◌-◌, ◌≤◌, ◌^◌, length, false, All, None, IsErrOf, OnOk, OnErr, IfOk};
 ghost use Rattle.sector_disk.specs.Disk.{IsSameDisk, HasRisen, IsUntouched};
 ghost use Rattle.invoke_records.specs.Spelling.{commands_text, command_fault};
 ghost use Rattle.gate_journal.specs.Journal.{generation_of, number_of, next_of, end_of, fits, IsFound, TellsDamage, Acknowledges, LeavesBeforeOrAfter};
@@ -37,6 +37,13 @@ impl Journal {
             next: area.start,
             end: area.end,
         }
+    }
+
+    /// How many sectors it has left behind the last frame.
+    pub fn free_sectors(&self) -> u64
+        ensures { result ≡ end_of self.now - next_of self.now }
+    {
+        self.end.saturating_sub(self.next)
     }
 
     /// Whether a frame of commands that fill so many bytes fits behind the last one.

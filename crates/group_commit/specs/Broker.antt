@@ -8,7 +8,7 @@ use Rattle.invoke_records.specs.declared.command.Command.{Command}
 use Rattle.async_core.specs.Rules.{refusal_at, table_after}
 use Rattle.async_core.specs.History.{IsLegal, table_of}
 use Rattle.checkpoint.specs.declared.opened.Opened.{Opened}
-use Rattle.checkpoint.specs.Live.{IsLive}
+use Rattle.checkpoint.specs.Live.{IsLive, generation_of, free_in}
 use Rattle.group_commit.specs.declared.broker.Broker.{Broker}
 use Rattle.group_commit.specs.declared.error.IssueError.{IssueError}
 use Rattle.group_commit.specs.declared.error.IssueError.TheVariants as issue_error
@@ -45,6 +45,13 @@ is_broken broker = broker.broken
 -- the live segment
 abbrev pub opened_of : {D : Type 0} {g : Ghosts D} → Broker D g → Opened
 opened_of broker = broker.opened
+
+-- the generation of the live segment, and how many sectors it has left for commands
+abbrev pub generation_in : {D : Type 0} {g : Ghosts D} → Broker D g → ℕ
+generation_in broker = generation_of (opened_of broker)
+
+abbrev pub free_sectors_in : {D : Type 0} {g : Ghosts D} → Broker D g → ℕ
+free_sectors_in broker = free_in (opened_of broker)
 
 -- A broker with this disk, this live segment, these settings, this table, these pending commands and this durable number
 -- stands for a history: the table is the history's, what is pending is the end of it behind the durable commands, every

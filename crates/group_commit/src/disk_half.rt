@@ -1,7 +1,7 @@
 // The half of a broker that writes: a broker of its own over the disk.
 ghost use Rattle.std.specs.Prelude.{◌≡◌, ◌≤◌, ◌++◌, false, true, Err, OnOk, IfErr};
 ghost use Rattle.sector_disk.specs.Disk.{IsSameDisk};
-ghost use Rattle.group_commit.specs.Broker.{disk_of, settings_of, issued_of, durable_of, is_broken, Stands, IsSameBroker};
+ghost use Rattle.group_commit.specs.Broker.{disk_of, settings_of, issued_of, durable_of, is_broken, generation_in, free_sectors_in, Stands, IsSameBroker};
 ghost use Rattle.group_commit.specs.Promises.{ForEachHistory, LeavesLegalStops};
 ghost use Rattle.group_commit.specs.Refusals.{FaultsHaveRisen};
 ghost use Rattle.group_commit.specs.Batch.{first_of, last_of, first_in, last_in, cause_of};
@@ -124,6 +124,27 @@ impl<D: Disk> DiskHalf<D> {
         ensures { result ≡ durable_of (broker_of self.now) }
     {
         self.broker.durable()
+    }
+
+    /// The generation of the live segment: it is one more with each switch.
+    pub fn generation(&self) -> u64
+        ensures { result ≡ generation_in (broker_of self.now) }
+    {
+        self.broker.opened.generation()
+    }
+
+    /// How many sectors the live segment has left for commands.
+    pub fn free_sectors(&self) -> u64
+        ensures { result ≡ free_sectors_in (broker_of self.now) }
+    {
+        self.broker.opened.free_sectors()
+    }
+
+    /// How many sectors the disk has.
+    pub fn sectors(&self) -> u64
+        ensures { result ≡ (D.view (disk_of (broker_of self.now))).sectors }
+    {
+        self.broker.disk.sectors()
     }
 
     /// The disk, also of a broken half. What is pending in it is given up.

@@ -9,7 +9,7 @@ use futures::Future;
 use futures::task::{Context, Poll};
 use group_commit::{Receipt, Ticket};
 use hall_core::Sight;
-use receipts::{Mark, Sealed, Trace};
+use receipts::{Counted, Mark, Sealed, Trace};
 use std::sync::ledger::Ledger;
 use std::sync::{Arc, Wait};
 
@@ -55,9 +55,9 @@ impl<R: Wait, L: Ledger, T: Trace> Looking<R, L, T> {
     }
 
     // What was seen, where it is durable as far as the board shows; else it waits on.
-    fn check(&mut self, waits: Waits) -> Option<Sight>
+    fn check(&mut self, waits: Waits) -> Option<(Sight, Counted)>
         ensures same { (self.new.slot ≡ self.old.slot) × (self.new.port ≡ self.old.port) }
-        ensures given { IfSome result (λ sight. sight ≡ sealed_sight waits.sealed) }
+        ensures given { IfSome result (λ given. given.0 ≡ sealed_sight waits.sealed) }
         ensures kept { result ≡ None → sight_at self.new.waits ≡ Some (sealed_sight waits.sealed) }
     {
         let Waits { ticket, sealed } = waits;
@@ -80,7 +80,7 @@ impl<R: Wait, L: Ledger, T: Trace> Looking<R, L, T> {
 }
 
 impl<R: Wait + Drop, L: Ledger, T: Trace> Future for Looking<R, L, T> {
-    type Output = Option<Sight>;
+    type Output = Option<(Sight, Counted)>;
 
     ghost use Rattle.long_poll.specs.Bell.{source_of};
     ghost use Rattle.long_poll.specs.Looking.{sight_at, GivesSight};
@@ -89,13 +89,13 @@ impl<R: Wait + Drop, L: Ledger, T: Trace> Future for Looking<R, L, T> {
 
     ghost gives = { λ looking given. GivesSight (sight_at looking.waits) given };
 
-    fn poll(&mut self, cx: &mut Context<'_>) -> Poll<Option<Sight>> {
+    fn poll(&mut self, cx: &mut Context<'_>) -> Poll<Option<(Sight, Counted)>> {
         let Some(waits) = self.waits.take() else {
             return Poll::Ready(None);
         };
         let number = waits.ticket.number();
-        if let Some(sight) = self.check(waits) {
-            return Poll::Ready(Some(sight));
+        if let Some(given) = self.check(waits) {
+            return Poll::Ready(Some(given));
         }
         if self.port.bell().has_broken() {
             return Poll::Ready(None);

@@ -5,6 +5,7 @@ pub mod Desks
 pub mod Kept
 pub mod UnderLock
 pub mod Sealing
+pub mod Counted
 pub mod Running
 pub mod Serving
 pub mod laws

@@ -120,6 +120,7 @@ impl<L: Ledger> Kept<L, Mark> {
             opening,
             marks,
             slots,
+            counted,
             desk_count,
         } = self;
         match hall.join(disk) {
@@ -130,6 +131,7 @@ impl<L: Ledger> Kept<L, Mark> {
                     opening,
                     marks,
                     slots,
+                    counted,
                     desk_count,
                 };
                 let cause = FinishError::NotJoined(failure.cause);

@@ -22,6 +22,7 @@ ghost use Rattle.hall_core.specs.declared.error.HallError.TheVariants.{WornOut};
 ghost use Rattle.group_commit.specs.IssuerHalf.{has_same_lent};
 ghost use Rattle.group_commit.specs.Lending.{SettlesBy};
 
+use crate::counted::Counted;
 use crate::desk::Desk;
 use crate::desk_count::DeskCount;
 use crate::mark::{Mark, Trace};
@@ -56,6 +57,8 @@ pub(crate) struct Kept<L: Ledger, T: Trace> {
     pub(crate) marks: Marks<L, T>,
     /// How many slots were counted.
     pub(crate) slots: u64,
+    /// How many events came and ended since the opening.
+    pub(crate) counted: Counted,
     /// How many desks there are.
     pub(crate) desk_count: DeskCount<L>,
     ghost numbered: { AreNumbered (T.Opening.table opening).number (map T.mark marks.all.items) },
@@ -91,6 +94,13 @@ fn told_by<L: Ledger, T: Trace>(desk: &mut Desk<L, T>, issued: Option<Issued>) -
             Some(issued.number)
         }
         None => None,
+    }
+}
+
+// Counts what a call issued, if it did.
+fn count(counted: &mut Counted, hall: &Hall<IssueHalf>, issued: Option<Issued>) {
+    if let Some(issued) = issued {
+        counted.note(issued.kind, hall.table().outcome(&issued.id));
     }
 }
 
@@ -183,11 +193,13 @@ impl<L: Ledger, T: Trace> Kept<L, T> {
             hall,
             marks,
             slots,
+            counted,
             ..
         } = self;
         match hall.arrive(slot, call, now, words) {
             Ok(issued) => {
                 *slots += 1;
+                count(counted, hall, issued);
                 note(marks, desk, issued);
                 let ticket = hall.ticket();
                 hand_out(hall, &mut desk.answered);
@@ -227,7 +239,7 @@ impl<L: Ledger, T: Trace> Kept<L, T> {
         let ticket = self.hall.ticket();
         self.slots += 1;
         desk.told = ticket.number();
-        let sealed = Sealed::new(sight, ticket.number());
+        let sealed = Sealed::new(sight, self.counted, ticket.number());
         Ok((ticket, slot, sealed))
     }
 
@@ -264,9 +276,15 @@ impl<L: Ledger, T: Trace> Kept<L, T> {
     {
         self.check(desk)?;
         self.marks.reserve(desk)?;
-        let Kept { hall, marks, .. } = self;
+        let Kept {
+            hall,
+            marks,
+            counted,
+            ..
+        } = self;
         match hall.tick(now) {
             Ok(issued) => {
+                count(counted, hall, issued);
                 note(marks, desk, issued);
                 let told = told_by(desk, issued);
                 hand_out(hall, &mut desk.answered);

@@ -7,6 +7,7 @@
 //! Whenever the lock is free the table tells what the marks tell.
 #![tactic(auto)]
 
+mod counted;
 mod desk;
 mod desk_count;
 mod drill;
@@ -21,6 +22,7 @@ mod opening;
 mod sealed;
 mod unlocked;
 
+pub use counted::Counted;
 pub use desk::{Desk, desks};
 pub use drill::{Ask, Step};
 pub use error::{FinishError, FinishFailure, OfficeFailure, UnlockedFailure};

@@ -17,6 +17,7 @@ ghost use Rattle.receipts.specs.Serving.{CommitsTo};
 ghost use Rattle.receipts.specs.Sealing.{sealed_number, IsLookRefusal};
 ghost use Rattle.hall_core.specs.Plans.{drawn_by};
 
+use crate::counted::Counted;
 use crate::desk::{Desk, desks};
 use crate::desk_count::DeskCount;
 use crate::error::OfficeFailure;
@@ -145,6 +146,7 @@ impl<L: Ledger, T: Trace> Office<L, T> {
                     opening,
                     marks: Marks::new(alloc, book),
                     slots: 0,
+                    counted: Counted::new(),
                     desk_count: DeskCount::new(count),
                 };
                 let office = Office {

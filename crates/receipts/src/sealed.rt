@@ -1,6 +1,7 @@
 // What an office shows, sealed until it may be told.
 ghost use Rattle.std.specs.Prelude.{◌≡◌, ◌≤◌};
 
+use crate::counted::Counted;
 use group_commit::Receipt;
 use hall_core::Sight;
 
@@ -9,17 +10,22 @@ use hall_core::Sight;
 #[derive(Drop)]
 pub struct Sealed {
     sight: Sight,
+    counted: Counted,
     number: u64,
 }
 
 impl Sealed {
     ghost use Rattle.receipts.specs.Sealing.{sealed_number, sealed_sight};
 
-    pub(crate) fn new(sight: Sight, number: u64) -> Sealed
+    pub(crate) fn new(sight: Sight, counted: Counted, number: u64) -> Sealed
         ensures sight { sealed_sight result ≡ sight }
         ensures number { sealed_number result ≡ number }
     {
-        Sealed { sight, number }
+        Sealed {
+            sight,
+            counted,
+            number,
+        }
     }
 
     /// How many commands have to be durable before it is told.
@@ -29,13 +35,13 @@ impl Sealed {
         self.number
     }
 
-    /// What was seen, which is durable by this receipt.
-    pub fn open(self, receipt: Receipt) -> Sight
+    /// What was seen, which is durable by this receipt, and how many events had come and ended since the office was opened.
+    pub fn open(self, receipt: Receipt) -> (Sight, Counted)
         requires { sealed_number self ≤ receipt }
-        ensures { result ≡ sealed_sight self }
+        ensures { result.0 ≡ sealed_sight self }
     {
         let _ = receipt;
-        let Sealed { sight, .. } = self;
-        sight
+        let Sealed { sight, counted, .. } = self;
+        (sight, counted)
     }
 }
