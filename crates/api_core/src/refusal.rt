@@ -51,7 +51,7 @@ pub enum Refusal {
 
 impl Refusal {
     /// Its status.
-    pub(crate) fn status(self) -> u16
+    pub fn status(self) -> u16
         ensures { result ≡ (fault_of self).status }
     {
         match self {

@@ -4,12 +4,14 @@ ghost use Rattle.group_commit.specs.Splitting.{broker_of};
 ghost use Rattle.receipts.specs.Answers.{IsToldMore, IsCommitRefusal};
 ghost use Rattle.receipts.specs.Serving.{HasServed};
 
+use crate::front::Front;
 use group_commit::{DiskHalf, Durable};
 use hall_core::HallError;
-use receipts::{Desk, Office, Trace};
+use receipts::{Desk, Trace};
 use sector_disk::Disk;
 use std::sync::Wait;
 use std::sync::ledger::Ledger;
+use std::time::{Clock, Instant};
 
 /// Why an office did not commit. Only asking one makes it: nobody else can say that a commit was refused.
 #[derive(Debug, Drop)]
@@ -28,10 +30,10 @@ impl NotCommitted {
     }
 }
 
-/// Makes all that is pending durable, as `Office::commit` says.
-pub(crate) fn ask<D: Disk, L: Ledger, T: Trace, R: Wait>(
+/// Makes all that is pending durable, as `Office::commit` says, and notes how long that took.
+pub(crate) fn ask<D: Disk, L: Ledger, T: Trace, R: Wait + Clock>(
     rt: &R,
-    office: &Office<L, T>,
+    front: &Front<L, T>,
     desk: &mut Desk<L, T>,
     half: &mut DiskHalf<D>,
 ) -> Result<Durable, NotCommitted>
@@ -40,8 +42,12 @@ pub(crate) fn ask<D: Disk, L: Ledger, T: Trace, R: Wait>(
     ensures refused { IfErr result (λ refused. IsCommitRefusal desk.old.told refused.why) }
     ensures served { HasServed D.view D.fault_count (broker_of half.old) (broker_of half.new) }
 {
-    match office.commit(rt, desk, half) {
-        Ok(durable) => Ok(durable),
+    let began = Instant::now(rt).ok();
+    match front.office.commit(rt, desk, half) {
+        Ok(durable) => {
+            front.note_commit(rt, began, half);
+            Ok(durable)
+        }
         Err(why) => Err(NotCommitted { why }),
     }
 }

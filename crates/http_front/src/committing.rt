@@ -18,6 +18,7 @@ use receipts::{Desk, Trace};
 use sector_disk::Disk;
 use std::sync::Wait;
 use std::sync::ledger::Ledger;
+use std::time::Clock;
 
 /// What the committer works with: a desk, the half of the broker over the disk, and a seat of the board.
 #[derive(Drop)]
@@ -35,7 +36,7 @@ struct AtFront<'a, R, L: Ledger, T: Trace, D: Disk> {
     committer: Committer<L, T, D>,
 }
 
-impl<R: Wait, L: Ledger, T: Trace, D: Disk> Committing for AtFront<'_, R, L, T, D> {
+impl<R: Wait + Clock, L: Ledger, T: Trace, D: Disk> Committing for AtFront<'_, R, L, T, D> {
     type Durable = Durable;
 
     type Failure = NotCommitted;
@@ -57,7 +58,7 @@ impl<R: Wait, L: Ledger, T: Trace, D: Disk> Committing for AtFront<'_, R, L, T, 
     fn commit(&mut self) -> Result<Durable, NotCommitted> {
         ask(
             self.rt,
-            &self.front.office,
+            self.front,
             &mut self.committer.desk,
             &mut self.committer.half,
         )
@@ -118,12 +119,13 @@ impl<L: Ledger, T: Trace, D: Disk + Drop> Committer<L, T, D> {
     /// or the ticker's next turn; where the gate skips what is pending, it is asked again.
     ///
     /// At each moment a stop leaves a legal stop of the half's list with what it took.
-    pub fn run<R: Wait, G: Gate>(self, rt: &R, front: &Front<L, T>, gate: &G) -> Committer<L, T, D>
+    pub fn run<R: Wait + Clock, G: Gate>(self, rt: &R, front: &Front<L, T>, gate: &G) -> Committer<L, T, D>
         ensures learned { IsRun HasLearned (G.says gate.now)
             (known self.desk.told (seen_by self.seated))
             (known result.desk.told (seen_by result.seated)) }
         ensures served { HasServed D.view D.fault_count (broker_of self.half) (broker_of result.half) }
     {
+        front.note_disk(rt, &self.half);
         let mut at = AtFront {
             rt,
             front,

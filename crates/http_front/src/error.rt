@@ -16,7 +16,7 @@ pub enum ServeError {
     /// No office was opened over the hall.
     #[error("{0}")]
     Office(#[from] SplitError),
-    /// There are more listeners than ports: one for callers and one for each environment, at least six.
+    /// There are more listeners than ports: one for callers and one for each environment, at least five.
     #[error("too many ports")]
     TooManyPorts,
     /// The system gave no thread, or nothing to wait for sockets with.

@@ -5,27 +5,38 @@ ghost use Rattle.http_front.specs.Refusals.{IsArrivalError};
 
 use crate::arriving::arrive;
 use crate::error::ArrivalError;
+use crate::meters::{Meters, Standing};
 use crate::wake::Wake;
 use api_core::Call;
-use group_commit::Durable;
+use group_commit::{DiskHalf, Durable};
 use long_poll::{Arrived, Bell, Port};
 use receipts::{Office, Trace};
 use retry_rules::Settings;
 use std::alloc::{AllocError, Global};
 use std::random::RandomSource;
 use std::sync::ledger::Ledger;
-use std::sync::{Arc, Wait};
-use std::time::Clock;
+use sector_disk::Disk;
+use std::sync::{Arc, Mutex, Wait};
+use std::time::{Clock, Instant};
 use tokio_util::sync::CancellationToken;
 
 /// The greatest body of a request that carries no payload, response or error.
 const MOST_OTHER: u32 = 4096;
+
+/// The least status that refuses.
+const LEAST_REFUSING: u16 = 400;
 
 // How much of a body is read: a byte more than the greatest that any call may have.
 fn most_read(settings: &Settings) -> usize
     ensures { result ≡ max (max settings.now.payload settings.now.response) 4096 + 1 }
 {
     settings.payload.max(settings.response).max(MOST_OTHER) as usize + 1
+}
+
+// How long ago that was, in microseconds, where the clock tells it.
+fn micros_since<C: Clock>(clock: &C, began: Instant) -> Option<u64> {
+    let passed = began.elapsed(clock).ok()?;
+    u64::try_from(passed.as_micros()).ok()
 }
 
 /// What the threads of a front share: the office and the bell, what the committer sleeps on, and whether the front ends.
@@ -39,6 +50,8 @@ pub struct Front<L: Ledger, T: Trace> {
     pub(crate) settings: Settings,
     /// How many bytes of a body are read.
     pub(crate) most: usize,
+    /// What its threads count.
+    pub(crate) meters: Mutex<Meters>,
 }
 
 impl<L: Ledger, T: Trace> Front<L, T> {
@@ -61,6 +74,7 @@ impl<L: Ledger, T: Trace> Front<L, T> {
             ending: CancellationToken::new(alloc)?,
             settings,
             most,
+            meters: Mutex::new(Meters::new()),
         })
     }
 
@@ -82,6 +96,31 @@ impl<L: Ledger, T: Trace> Front<L, T> {
             self.wake.call(rt);
         }
         Ok(arrived)
+    }
+
+    /// A commit that began then, where the clock told it, has ended, and left the disk so.
+    pub(crate) fn note_commit<R: Wait + Clock, D: Disk>(
+        &self,
+        rt: &R,
+        began: Option<Instant>,
+        half: &DiskHalf<D>,
+    ) {
+        let standing = Standing::of(half);
+        let micros = began.and_then(|began| micros_since(rt, began));
+        self.meters.lock(rt).note_commit(micros, standing);
+    }
+
+    /// The disk stands so.
+    pub(crate) fn note_disk<R: Wait, D: Disk>(&self, rt: &R, half: &DiskHalf<D>) {
+        let standing = Standing::of(half);
+        self.meters.lock(rt).note_disk(standing);
+    }
+
+    /// A reply was told to a caller with this status.
+    pub(crate) fn note_reply<R: Wait>(&self, rt: &R, status: u16) {
+        if status >= LEAST_REFUSING {
+            self.meters.lock(rt).note_reply(status);
+        }
     }
 
     /// How many commands wait to be written: none once the hall broke.

@@ -1,19 +1,24 @@
-//! The front: HTTP/1.1 on one port for callers and one for each environment.
+//! The front: HTTP/1.1 on one port for callers, one for each environment, and one that only looks.
 //!
 //! Each port has a thread of its own, on which each request becomes a call, is handed to the office and waits for its
 //! reply. A committer writes what is pending outside the office's lock, and a ticker makes the moves
 //! that are due. The crate above uses `serve`; the loops of committer and ticker are calls of their own.
 #![tactic(auto)]
 
+mod admin_application;
+mod admin_telling;
 mod arriving;
 mod asking;
 mod committing;
 mod error;
 mod front;
+mod meters;
 mod moment;
 mod opening;
+mod page;
 mod port_application;
 mod replying;
+mod resident;
 mod serving;
 mod ticking;
 mod wake;

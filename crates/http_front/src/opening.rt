@@ -24,6 +24,8 @@ use std::sync::ledger::{Blank, Ledger};
 pub(crate) struct Opened<L: Ledger, T: Trace, D: Disk> {
     pub(crate) front: Arc<Front<L, T>>,
     pub(crate) ports: Vec<Port<L, T>>,
+    /// The port that only looks.
+    pub(crate) admin: Port<L, T>,
     pub(crate) committer: Committer<L, T, D>,
     pub(crate) ticker: Desk<L, T>,
 }
@@ -84,10 +86,15 @@ fn furnish<L: Ledger, T: Trace, D: Disk + Drop>(
     let (Some(desk), Some(ticker), Some(seated)) = (desks.pop(), desks.pop(), seats.pop()) else {
         return Err(ServeError::TooManyPorts);
     };
+    let (Some(looks), Some(looks_from)) = (desks.pop(), seats.pop()) else {
+        return Err(ServeError::TooManyPorts);
+    };
+    let admin = port(&front, looks, looks_from)?;
     let ports = ports(alloc, &front, desks, seats)?;
     Ok(Opened {
         front,
         ports,
+        admin,
         committer: Committer::new(desk, half, seated),
         ticker,
     })

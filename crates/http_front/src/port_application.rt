@@ -20,7 +20,19 @@ use std::time::Clock;
 /// The reply of a call, which is told once it is released.
 #[derive(Drop)]
 pub(crate) struct Replying<R: Wait, L: Ledger, T: Trace> {
+    rt: R,
+    // Of the callers' port.
+    counted: Option<Arc<Front<L, T>>>,
     waiting: Waiting<R, L, T>,
+}
+
+impl<R: Wait, L: Ledger, T: Trace> Replying<R, L, T> {
+    // Counts a reply that is told to a caller.
+    fn note(&self, telling: &Telling) {
+        if let Some(front) = &self.counted {
+            front.note_reply(&self.rt, telling.status());
+        }
+    }
 }
 
 impl<R: Wait + Drop, L: Ledger, T: Trace> Future for Replying<R, L, T> {
@@ -31,7 +43,11 @@ impl<R: Wait + Drop, L: Ledger, T: Trace> Future for Replying<R, L, T> {
     fn poll(&mut self, cx: &mut Context<'_>) -> Poll<Telling> {
         match self.waiting.poll(cx) {
             Poll::Pending => Poll::Pending,
-            Poll::Ready(released) => Poll::Ready(Telling::new(released)),
+            Poll::Ready(released) => {
+                let telling = Telling::new(released);
+                self.note(&telling);
+                Poll::Ready(telling)
+            }
         }
     }
 }
@@ -76,6 +92,25 @@ impl<R: Wait + Clock + RandomSource + Copy, L: Ledger, T: Trace> PortApplication
     }
 }
 
+impl<R: Wait + Copy, L: Ledger, T: Trace> PortApplication<R, L, T> {
+    // The front, where this is the callers' port, whose refusals are counted.
+    fn counted(&self) -> Option<Arc<Front<L, T>>> {
+        if self.number == 0 {
+            Arc::try_clone(&self.front).ok()
+        } else {
+            None
+        }
+    }
+
+    // A refusal, counted where a caller is told it.
+    fn refuse(&self, why: Refusal) -> Refused {
+        if self.number == 0 {
+            self.front.note_reply(&self.rt, why.status());
+        }
+        refuse(self.front.alloc, &self.front.settings, why)
+    }
+}
+
 impl<R: Wait + Clock + RandomSource + Drop + Copy, L: Ledger, T: Trace> Application
     for PortApplication<R, L, T> {
     type Given = Telling;
@@ -98,8 +133,12 @@ impl<R: Wait + Clock + RandomSource + Drop + Copy, L: Ledger, T: Trace> Applicat
             Err(ReadError::CutOff) => return Err(Refused::bare(alloc, StatusCode::BAD_REQUEST)),
         };
         match arrived {
-            Ok(waiting) => Ok(Replying { waiting }),
-            Err(why) => Err(refuse(alloc, &self.front.settings, why)),
+            Ok(waiting) => Ok(Replying {
+                rt: self.rt,
+                counted: self.counted(),
+                waiting,
+            }),
+            Err(why) => Err(self.refuse(why)),
         }
     }
 }

@@ -48,6 +48,13 @@ impl Telling {
     {
         Telling { released }
     }
+
+    /// The status with which it is told.
+    pub(crate) fn status(&self) -> u16
+        ensures { result ≡ self.now.released.reply.status }
+    {
+        self.released.status()
+    }
 }
 
 impl Told for Telling {

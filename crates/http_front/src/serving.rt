@@ -7,6 +7,7 @@ ghost use Rattle.hall_core.specs.Fresh.{IsFresh};
 ghost use Rattle.receipts.specs.Desks.{desk_count};
 ghost use Rattle.receipts.specs.Serving.{HasServed};
 
+use crate::admin_application::AdminApplication;
 use crate::committing::Committer;
 use crate::error::ServeError;
 use crate::front::Front;
@@ -24,6 +25,7 @@ use sector_disk::Disk;
 use std::alloc::AllocGlobal;
 use std::net::{Net, TcpListener, TcpStream};
 use std::random::RandomSource;
+use std::rt::Files;
 use std::sync::ledger::{Blank, Ledger};
 use std::sync::{Arc, Wait};
 use std::thread::{JoinHandle, Threads};
@@ -155,6 +157,63 @@ where
     Ok(thread)
 }
 
+// Serves the admin port to its end, which ends nothing else.
+fn serve_admin<R, L, T>(
+    rt: R,
+    place: AdminApplication<R, L, T>,
+    listener: TcpListener,
+) -> io::Result<()>
+where
+    R: Wait
+        + Clock
+        + Net<Listener = TcpListener, Stream = TcpStream>
+        + RandomSource
+        + Files
+        + AllocGlobal
+        + Copy
+        + Drop,
+    L: Ledger,
+    T: Trace,
+{
+    let front = Arc::try_clone(&place.front)?;
+    http_port::serve(rt, place, listener, Limits::default(), &front.ending)
+}
+
+// Starts a thread that serves the admin port, where it has a listener.
+fn start_admin<R, L, T>(
+    rt: R,
+    front: &Arc<Front<L, T>>,
+    port: Port<L, T>,
+    listener: Option<TcpListener>,
+    threads: &mut Vec<JoinHandle<io::Result<()>>>,
+) -> io::Result<()>
+where
+    R: Threads
+        + Wait
+        + Clock
+        + Net<Listener = TcpListener, Stream = TcpStream>
+        + RandomSource
+        + Files
+        + AllocGlobal
+        + Copy
+        + Drop
+        + Send
+        + 'static,
+    L: Ledger + Send + Sync + 'static,
+    T: SharedTrace + 'static,
+    T::Opening: SharedOpening + 'static,
+{
+    let Some(listener) = listener else {
+        return Ok(());
+    };
+    let port = Arc::new(rt.alloc(), port)?;
+    let front = Arc::try_clone(front)?;
+    let place = AdminApplication { rt, front, port };
+    let thread = thread::spawn(&rt, move || serve_admin(rt, place, listener))?;
+    threads.push(thread)?;
+    Ok(())
+}
+
 // Starts a thread for each listener, with the next port.
 fn start<R, L, T>(
     rt: R,
@@ -184,6 +243,36 @@ where
         number = number.wrapping_add(1);
     }
     Ok(())
+}
+
+// Starts the threads of all ports.
+fn start_all<R, L, T>(
+    rt: R,
+    front: &Arc<Front<L, T>>,
+    ports: Vec<Port<L, T>>,
+    listeners: Vec<TcpListener>,
+    looks: Port<L, T>,
+    admin: Option<TcpListener>,
+    threads: &mut Vec<JoinHandle<io::Result<()>>>,
+) -> io::Result<()>
+where
+    R: Threads
+        + Wait
+        + Clock
+        + Net<Listener = TcpListener, Stream = TcpStream>
+        + RandomSource
+        + Files
+        + AllocGlobal
+        + Copy
+        + Drop
+        + Send
+        + 'static,
+    L: Ledger + Send + Sync + 'static,
+    T: SharedTrace + 'static,
+    T::Opening: SharedOpening + 'static,
+{
+    start(rt, front, ports, listeners, threads)?;
+    start_admin(rt, front, looks, admin, threads)
 }
 
 // Waits until all threads have ended: the first error that one ended with.
@@ -237,6 +326,7 @@ fn run<R, L, T, D, G>(
     rt: R,
     opened: Opened<L, T, D>,
     listeners: Vec<TcpListener>,
+    admin: Option<TcpListener>,
     gate: &G,
 ) -> io::Result<Served<D>>
 where
@@ -245,6 +335,7 @@ where
         + Clock
         + Net<Listener = TcpListener, Stream = TcpStream>
         + RandomSource
+        + Files
         + AllocGlobal
         + Copy
         + Drop
@@ -260,11 +351,12 @@ where
     let Opened {
         front,
         ports,
+        admin: looks,
         committer,
         ticker,
     } = opened;
     let mut threads = Vec::new(rt.alloc());
-    let outcome = match start(rt, &front, ports, listeners, &mut threads) {
+    let outcome = match start_all(rt, &front, ports, listeners, looks, admin, &mut threads) {
         Ok(()) => commit_and_tick(rt, &front, committer, ticker, gate),
         Err(why) => Err(why),
     };
@@ -276,15 +368,16 @@ where
     Ok(Served { ending, half })
 }
 
-// How many ports there are: the committer and the ticker have a desk too.
+// How many ports there are: the admin port, the committer and the ticker have a desk too.
 fn port_count(settings: &Settings) -> u64
-    ensures { result + 2 ≡ desk_count settings.now }
+    ensures { result + 3 ≡ desk_count settings.now }
 {
-    desks(settings) - 2
+    desks(settings) - 3
 }
 
 /// Serves a hall, in which nothing has come yet and nothing is pending, with a ledger of as many parts as there are desks:
-/// the callers' port at the first listener, that of environment n at the listener n behind it. It returns once the broker
+/// the callers' port at the first listener, that of environment n at the listener n behind it, and at the admin listener, if
+/// there is one, the port that only looks. It returns once the broker
 /// was stopped or its device failed and every open request was answered or its client has gone. The committer, on the
 /// calling thread, is asked by the gate beside that.
 ///
@@ -298,6 +391,7 @@ pub fn serve<R, L, T, D, G>(
     hall: Hall<Broker<D>>,
     blank: Blank,
     listeners: Vec<TcpListener>,
+    admin: Option<TcpListener>,
     gate: &G,
 ) -> Result<Served<D>, ServeError>
 where
@@ -306,6 +400,7 @@ where
         + Clock
         + Net<Listener = TcpListener, Stream = TcpStream>
         + RandomSource
+        + Files
         + AllocGlobal
         + Copy
         + Drop
@@ -321,12 +416,12 @@ where
     requires name { blank.name ≡ L.name }
     requires parts { blank.parts ≡ L.parts }
     requires seats { L.parts ≡ desk_count (settings_of hall.issuer) }
-    ensures ports { OnOk result (vec_len listeners + 2 ≤ desk_count (settings_of hall.issuer)) }
+    ensures ports { OnOk result (vec_len listeners + 3 ≤ desk_count (settings_of hall.issuer)) }
     ensures served { IfOk result (λ served. HasServed D.view D.fault_count hall.issuer (broker_of served.half)) }
 {
     if listeners.len() as u64 > port_count(hall.table().settings()) {
         return Err(ServeError::TooManyPorts);
     }
     let opened = open::<L, T, D>(rt.alloc(), hall, blank)?;
-    Ok(run(rt, opened, listeners, gate)?)
+    Ok(run(rt, opened, listeners, admin, gate)?)
 }
