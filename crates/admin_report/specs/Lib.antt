@@ -11,4 +11,5 @@ pub mod Lines
 pub mod Times
 pub mod Metrics
 pub mod Showing
+pub mod Rest
 pub mod laws

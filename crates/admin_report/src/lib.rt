@@ -19,6 +19,7 @@ mod pages;
 mod parameters;
 mod puts;
 mod reading;
+mod rest;
 mod showing;
 mod standing_name;
 mod tally;
@@ -36,6 +37,7 @@ pub use pages::{
     acceptance_of, end_of, events_page, next_after, next_end_after, records_page, row_of,
 };
 pub use reading::read_ask;
+pub use rest::{Rest, rest_json};
 pub use showing::{Kind, Shown, View, show};
 pub use standing_name::StandingName;
 pub use tally::{Tally, tally_of};

@@ -2,6 +2,8 @@
 ghost use Rattle.std.specs.Prelude.{◌≡◌};
 ghost use Rattle.lambda_broker.specs.Auditing.{is_device_fault};
 
+use admin_report::{Rest, record_lines, records_page, rest_json, tally_of};
+use async_core::{Side, Table};
 use audit_report::{Report, audit, explain, inspect};
 use group_commit::OpenError;
 use sector_disk::{Disk, FileDisk, FileError};
@@ -10,13 +12,25 @@ use std::fs::File;
 use std::rt::Files;
 use thiserror::Error;
 
+/// In which form an audit tells what a disk holds.
+#[derive(Clone, Copy, Debug, PartialEq, Eq)]
+pub enum Form {
+    /// In lines.
+    Lines,
+    /// In lines, with the event of this id.
+    WithEvent([u8; 16]),
+    /// As one line of JSON.
+    Json,
+    /// Its destination records, a line each.
+    Records,
+}
+
 /// A disk that is to be audited.
 #[derive(Clone, Copy, Debug)]
 pub struct OldDisk<'a> {
     /// A file or a block device.
     pub path: &'a str,
-    /// The event that is asked for, by its id.
-    pub event: Option<[u8; 16]>,
+    pub form: Form,
 }
 
 /// What an audit tells.
@@ -25,6 +39,8 @@ pub struct Audit {
     pub report: Report,
     /// The line of the event that is asked for.
     pub event: Option<String>,
+    /// What is told in place of the lines, with its ends.
+    pub text: Option<Vec<u8>>,
 }
 
 /// Why a disk was not audited.
@@ -57,6 +73,65 @@ fn with_event<D: Disk>(alloc: Global, disk: &mut D, id: &[u8; 16]) -> Result<Aud
     Ok(Audit {
         report,
         event: Some(event),
+        text: None,
+    })
+}
+
+// The numbers of a table as one line of JSON.
+fn numbers(alloc: Global, table: &Table, report: &Report) -> Result<Vec<u8>, AllocError> {
+    let snapshot = table.snapshot()?;
+    let tally = tally_of(snapshot.rows.as_slice());
+    let older = report.older;
+    let older = format!(in alloc; "{older}")?;
+    let rest = Rest {
+        generation: report.generation,
+        number: report.number,
+        policy: snapshot.policy,
+        tally,
+    };
+    let text = rest_json(alloc, &rest, older.as_str())?;
+    Ok(text.into_bytes())
+}
+
+// The destination records of one side, in the order of the ends of their events.
+fn records_of(alloc: Global, table: &Table, side: Side) -> Result<Vec<u8>, AllocError> {
+    let snapshot = table.snapshot()?;
+    let rows = snapshot.rows.into_vec();
+    let most = rows.len();
+    let page = records_page(alloc, rows, side, 0, most)?;
+    record_lines(alloc, &page, table.settings())
+}
+
+// The destination records of both sides, those of success first.
+fn records(alloc: Global, table: &Table) -> Result<Vec<u8>, AllocError> {
+    let mut lines = records_of(alloc, table, Side::Success)?;
+    let failures = records_of(alloc, table, Side::Failure)?;
+    lines.extend_from_slice(failures.as_slice())?;
+    Ok(lines)
+}
+
+// What a disk holds, as JSON, or its records.
+fn with_text<D: Disk>(alloc: Global, disk: &mut D, form: Form) -> Result<Audit, AuditError> {
+    let (table, report) = inspect(alloc, disk)?;
+    let text = if form == Form::Json {
+        numbers(alloc, &table, &report)?
+    } else {
+        records(alloc, &table)?
+    };
+    Ok(Audit {
+        report,
+        event: None,
+        text: Some(text),
+    })
+}
+
+// What a disk holds, in lines.
+fn lines<D: Disk + Drop>(alloc: Global, disk: D) -> Result<Audit, AuditError> {
+    let report = audit(alloc, disk)?;
+    Ok(Audit {
+        report,
+        event: None,
+        text: None,
     })
 }
 
@@ -66,14 +141,9 @@ pub fn audit_disk<R: Files<File = File> + AllocGlobal>(
     old: &OldDisk<'_>,
 ) -> Result<Audit, AuditError> {
     let mut disk = FileDisk::open_read_only(rt, old.path)?;
-    match old.event {
-        Some(id) => with_event(rt.alloc(), &mut disk, &id),
-        None => {
-            let report = audit(rt.alloc(), disk)?;
-            Ok(Audit {
-                report,
-                event: None,
-            })
-        }
+    match old.form {
+        Form::Lines => lines(rt.alloc(), disk),
+        Form::WithEvent(id) => with_event(rt.alloc(), &mut disk, &id),
+        form => with_text(rt.alloc(), &mut disk, form),
     }
 }

@@ -43,6 +43,7 @@ where
         + Clock
         + Net<Listener = TcpListener, Stream = TcpStream>
         + RandomSource
+        + Eprint
         + AllocGlobal
         + Copy
         + Drop
@@ -155,6 +156,7 @@ where
         + Clock
         + Net<Listener = TcpListener, Stream = TcpStream>
         + RandomSource
+        + Eprint
         + AllocGlobal
         + Copy
         + Drop
@@ -174,7 +176,10 @@ fn print_lines<W: Write>(audit: &Audit, out: &mut W) -> io::Result<u8>
     ensures { IfOk result (λ status. status ≡ status_for audit.now.report.older) }
 {
     let report = audit.report;
-    writeln!(out, "{report}")?;
+    match &audit.text {
+        Some(text) => out.write_all(text.as_slice())?,
+        None => writeln!(out, "{report}")?,
+    }
     if let Some(event) = &audit.event {
         writeln!(out, "{event}")?;
     }

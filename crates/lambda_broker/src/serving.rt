@@ -15,7 +15,7 @@ use std::fs::File;
 use std::io;
 use std::io::Write;
 use std::marker::Brand;
-use std::net::{Ipv4Addr, Net, SocketAddr, TcpListener, TcpStream};
+use std::net::{IpAddr, Ipv4Addr, Net, SocketAddr, TcpListener, TcpStream};
 use std::random::RandomSource;
 use std::rt::Files;
 use std::sync::Wait;
@@ -24,12 +24,18 @@ use std::thread::Threads;
 use std::time::Clock;
 use thiserror::Error;
 
-/// A disk that is to be served, and the port of its callers.
+/// A disk that is to be served, the port of its callers, and where the ports are.
 #[derive(Clone, Copy, Debug)]
 pub struct Address<'a> {
     /// A file or a block device.
     pub path: &'a str,
     pub port: u16,
+    /// Where callers and runtimes are served.
+    pub ip: IpAddr,
+    /// As it was written.
+    pub ip_text: &'a str,
+    /// The port that only looks, on the loopback address, if there is one.
+    pub admin: Option<u16>,
 }
 
 /// Why a disk was not served, or not to its end.
@@ -44,6 +50,9 @@ pub enum ServingError {
     /// A port is in use, or may not be used.
     #[error("port in use")]
     Port,
+    /// The admin port is in use, or may not be used.
+    #[error("admin port in use")]
+    AdminPort,
     /// The clock could not be read, or a line not be printed.
     #[error("{0}")]
     System(#[from] io::Error),
@@ -78,13 +87,13 @@ fn open<D: Disk + Drop>(alloc: Global, disk: D) -> Result<Broker<D>, OpenError> 
 }
 
 // Binds the port of the callers and one for each environment behind it.
-fn bind<R>(rt: &R, port: u16, environments: u8) -> io::Result<Vec<TcpListener>>
+fn bind<R>(rt: &R, ip: IpAddr, port: u16, environments: u8) -> io::Result<Vec<TcpListener>>
 where
     R: Net<Listener = TcpListener, Stream = TcpStream> + AllocGlobal,
 {
     let mut listeners = Vec::with_capacity(rt.alloc(), usize::from(environments) + 1)?;
     for number in 0..=u16::from(environments) {
-        let address = SocketAddr::from((Ipv4Addr::LOCALHOST, port.saturating_add(number)));
+        let address = SocketAddr::from((ip, port.saturating_add(number)));
         listeners.push(TcpListener::bind(rt, address)?)?;
     }
     Ok(listeners)
@@ -120,16 +129,36 @@ fn resume<R: Clock + Wait, D: Disk>(rt: &R, broker: &mut Broker<D>) -> Result<()
 }
 
 // Listens on the port of the callers and on one for each environment behind it.
-fn listen<R>(rt: &R, port: u16, environments: u8) -> Result<Vec<TcpListener>, ServingError>
+fn listen<R>(
+    rt: &R,
+    ip: IpAddr,
+    port: u16,
+    environments: u8,
+) -> Result<Vec<TcpListener>, ServingError>
 where
     R: Net<Listener = TcpListener, Stream = TcpStream> + AllocGlobal,
 {
-    match bind(rt, port, environments) {
+    match bind(rt, ip, port, environments) {
         Ok(listeners) => Ok(listeners),
         Err(why) if why.kind() == io::ErrorKind::OutOfMemory => {
             Err(ServingError::OutOfMemory(AllocError))
         }
         Err(_) => Err(ServingError::Port),
+    }
+}
+
+// Listens on the admin port, if there is to be one: on the loopback address, whatever the others have.
+fn listen_for_looks<R>(rt: &R, port: Option<u16>) -> Result<Option<TcpListener>, ServingError>
+where
+    R: Net<Listener = TcpListener, Stream = TcpStream>,
+{
+    let Some(port) = port else {
+        return Ok(None);
+    };
+    let address = SocketAddr::from((Ipv4Addr::LOCALHOST, port));
+    match TcpListener::bind(rt, address) {
+        Ok(listener) => Ok(Some(listener)),
+        Err(_) => Err(ServingError::AdminPort),
     }
 }
 
@@ -151,9 +180,27 @@ fn hall_over<D: Disk + Drop>(
     }
 }
 
-// Prints the line from which on callers are served.
-fn announce<W: Write>(port: u16, out: &mut W) -> io::Result<()> {
-    writeln!(out, "serving on 127.0.0.1:{port}")?;
+// Says to whom an address opens the ports that is not of this machine alone.
+fn warn<R: Eprint>(rt: &R, at: &Address<'_>) -> io::Result<()> {
+    if at.ip.is_loopback() {
+        return Ok(());
+    }
+    let ip = at.ip_text;
+    eprintln!(rt; "warning: whoever reaches {ip} can invoke, answer, collect and stop: nothing asks who they are")
+}
+
+// Prints the line from which on callers are served, and that of the admin port.
+fn announce<W: Write>(at: &Address<'_>, out: &mut W) -> io::Result<()> {
+    let port = at.port;
+    let ip = at.ip_text;
+    if at.ip.is_ipv6() {
+        writeln!(out, "serving on [{ip}]:{port}")?;
+    } else {
+        writeln!(out, "serving on {ip}:{port}")?;
+    }
+    if let Some(admin) = at.admin {
+        writeln!(out, "admin on 127.0.0.1:{admin}")?;
+    }
     out.flush()
 }
 
@@ -162,6 +209,7 @@ fn serve_hall<R, T, D>(
     rt: R,
     hall: Hall<Broker<D>>,
     listeners: Vec<TcpListener>,
+    admin: Option<TcpListener>,
 ) -> Result<(), ServingError>
 where
     R: Threads
@@ -169,6 +217,8 @@ where
         + Clock
         + Net<Listener = TcpListener, Stream = TcpStream>
         + RandomSource
+        + Files
+        + Eprint
         + AllocGlobal
         + Copy
         + Drop
@@ -181,7 +231,7 @@ where
     requires fresh { IsFresh (settings_of hall.issuer) hall }
 {
     let blank = Blank::new(desks(hall.table().settings()));
-    let served = serve::<R, Brand, T, D, WhenPending>(rt, hall, blank, listeners, &WhenPending)?;
+    let served = serve::<R, Brand, T, D, WhenPending>(rt, hall, blank, listeners, admin, &WhenPending)?;
     match served.ending {
         Ending::Stopped => Ok(()),
         Ending::Broken => Err(ServingError::Broken),
@@ -189,13 +239,15 @@ where
 }
 
 // Serves what is on a disk: the ports first, then the attempts that the last stop cut off.
-fn serve_on<R, T, D, W>(rt: R, disk: D, port: u16, out: &mut W) -> Result<(), ServingError>
+fn serve_on<R, T, D, W>(rt: R, disk: D, at: &Address<'_>, out: &mut W) -> Result<(), ServingError>
 where
     R: Threads
         + Wait
         + Clock
         + Net<Listener = TcpListener, Stream = TcpStream>
         + RandomSource
+        + Files
+        + Eprint
         + AllocGlobal
         + Copy
         + Drop
@@ -208,11 +260,13 @@ where
 {
     let mut broker = open(rt.alloc(), disk)?;
     let environments = broker.table().settings().environments;
-    let listeners = listen(&rt, port, environments)?;
+    let listeners = listen(&rt, at.ip, at.port, environments)?;
+    let admin = listen_for_looks(&rt, at.admin)?;
     resume(&rt, &mut broker)?;
     let hall = hall_over(rt.alloc(), broker)?;
-    announce(port, out)?;
-    serve_hall::<R, T, D>(rt, hall, listeners)
+    warn(&rt, at)?;
+    announce(at, out)?;
+    serve_hall::<R, T, D>(rt, hall, listeners, admin)
 }
 
 /// Serves a disk: callers on a port of this machine and environment n on the port n behind it, from the line that is
@@ -225,6 +279,7 @@ where
         + Clock
         + Net<Listener = TcpListener, Stream = TcpStream>
         + RandomSource
+        + Eprint
         + AllocGlobal
         + Copy
         + Drop
@@ -233,5 +288,5 @@ where
     W: Write,
 {
     let disk = FileDisk::open(&rt, at.path)?;
-    serve_on::<R, Gone, FileDisk, W>(rt, disk, at.port, out)
+    serve_on::<R, Gone, FileDisk, W>(rt, disk, at, out)
 }

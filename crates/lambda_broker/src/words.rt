@@ -1,5 +1,5 @@
 // The words of the command line: which command they are, and what it is told.
-use crate::auditing::OldDisk;
+use crate::auditing::{Form, OldDisk};
 use crate::configuring::NewPolicy;
 use crate::formatting::{Function, NewDisk, Numbers};
 use crate::serving::Address;
@@ -7,6 +7,7 @@ use clap::builder::ValueParser;
 use clap::error::ErrorKind;
 use clap::{Arg, ArgAction, ArgMatches, Command, Error, value_parser};
 use std::alloc::{AllocError, Global};
+use std::net::IpAddr;
 use uuid::Uuid;
 
 /// A command of the program.
@@ -31,6 +32,14 @@ fn option<'a>(alloc: Global, name: &'a str, help: &'a str) -> Arg<'a> {
     Arg::new(alloc, name)
         .long(name)
         .action(ArgAction::Set)
+        .help(help)
+}
+
+// An option without a value.
+fn flag<'a>(alloc: Global, name: &'a str, help: &'a str) -> Arg<'a> {
+    Arg::new(alloc, name)
+        .long(name)
+        .action(ArgAction::SetTrue)
         .help(help)
 }
 
@@ -108,10 +117,15 @@ fn format_command<'a>(alloc: Global) -> Result<Command<'a>, AllocError> {
 
 fn audit_command<'a>(alloc: Global) -> Result<Command<'a>, AllocError> {
     let event = option(alloc, "event", "Tell of the event with this id, too");
+    let json = flag(alloc, "json", "Tell the numbers as one line of JSON");
+    let help = "Tell the destination records of the events that have ended, a line each";
+    let records = flag(alloc, "records", help);
     Command::new(alloc, "audit")
         .about("Tell what a disk holds, and whether its two segments tell one story")
         .arg(disk(alloc))?
-        .arg(event.value_name("ID"))
+        .arg(event.value_name("ID"))?
+        .arg(json.conflicts_with("event")?)?
+        .arg(records.conflicts_with("event")?.conflicts_with("json")?)
 }
 
 fn configure_command<'a>(alloc: Global) -> Result<Command<'a>, AllocError> {
@@ -126,6 +140,20 @@ fn configure_command<'a>(alloc: Global) -> Result<Command<'a>, AllocError> {
         .arg(age.value_parser(value_parser!(u32)))
 }
 
+// The port that only looks.
+fn admin_option<'a>(alloc: Global) -> Arg<'a> {
+    let help = "Port of /metrics, /healthz, /events, /records and a page, on 127.0.0.1 alone, 1024 to 65535";
+    option(alloc, "admin", help).value_parser(value_parser!(u16).range(1024..))
+}
+
+// Where callers and runtimes are served.
+fn address_option<'a>(alloc: Global) -> Arg<'a> {
+    let help = "Address of the callers' and the environments' ports; any but 127.0.0.1 opens them to others";
+    option(alloc, "address", help)
+        .value_name("IP")
+        .default_value("127.0.0.1")
+}
+
 fn serve_command<'a>(alloc: Global) -> Result<Command<'a>, AllocError> {
     let help = "Port of the callers, 1024 to 65519; environment n has the port n behind it";
     let port = option(alloc, "port", help);
@@ -135,7 +163,9 @@ fn serve_command<'a>(alloc: Global) -> Result<Command<'a>, AllocError> {
         .arg(
             port.value_parser(value_parser!(u16).range(1024..65520))
                 .required(true),
-        )
+        )?
+        .arg(admin_option(alloc))?
+        .arg(address_option(alloc))
 }
 
 fn commands<'a>(alloc: Global) -> Result<Command<'a>, AllocError> {
@@ -188,17 +218,29 @@ fn bad_id(alloc: Global, id: &str) -> Result<Error, AllocError> {
     audit_command(alloc)?.error(ErrorKind::ValueValidation, message.as_str())
 }
 
+// In which form an audit tells what a disk holds.
+fn form(matches: &ArgMatches<'_>) -> Form {
+    if matches.get_flag("json") {
+        Form::Json
+    } else if matches.get_flag("records") {
+        Form::Records
+    } else {
+        Form::Lines
+    }
+}
+
 fn old_disk<'a>(alloc: Global, matches: &ArgMatches<'a>) -> Result<Option<Task<'a>>, Error> {
     let Some(path) = matches.get_str("disk") else {
         return Ok(None);
     };
     let Some(id) = matches.get_str("event") else {
-        return Ok(Some(Task::Job(Job::Audit(OldDisk { path, event: None }))));
+        let form = form(matches);
+        return Ok(Some(Task::Job(Job::Audit(OldDisk { path, form }))));
     };
     match Uuid::parse_str(id) {
         Ok(id) => {
-            let event = Some(id.into_bytes());
-            Ok(Some(Task::Job(Job::Audit(OldDisk { path, event }))))
+            let form = Form::WithEvent(id.into_bytes());
+            Ok(Some(Task::Job(Job::Audit(OldDisk { path, form }))))
         }
         Err(_) => Err(bad_id(alloc, id)?),
     }
@@ -212,11 +254,30 @@ fn new_policy<'a>(matches: &ArgMatches<'a>) -> Option<NewPolicy<'a>> {
     })
 }
 
-fn address<'a>(matches: &ArgMatches<'a>) -> Option<Address<'a>> {
+// The fault of an address that is none.
+fn bad_address(alloc: Global, text: &str) -> Result<Error, AllocError> {
+    let message = format!(in alloc; "invalid value '{text}' for '--address <IP>': no IP address")?;
+    serve_command(alloc)?.error(ErrorKind::ValueValidation, message.as_str())
+}
+
+fn address_at<'a>(matches: &ArgMatches<'a>, ip: IpAddr, text: &'a str) -> Option<Address<'a>> {
     Some(Address {
         path: matches.get_str("disk")?,
         port: matches.get_one("port")?,
+        ip,
+        ip_text: text,
+        admin: matches.get_one("admin"),
     })
+}
+
+fn address<'a>(alloc: Global, matches: &ArgMatches<'a>) -> Result<Option<Task<'a>>, Error> {
+    let Some(text) = matches.get_str("address") else {
+        return Ok(None);
+    };
+    match text.parse::<IpAddr>() {
+        Ok(ip) => Ok(address_at(matches, ip, text).map(Task::Serve)),
+        Err(_) => Err(bad_address(alloc, text)?),
+    }
 }
 
 /// The command that the words are, the first of which is the program's name.
@@ -228,7 +289,7 @@ pub fn read_task<'a>(alloc: Global, words: &'a [String]) -> Result<Option<Task<'
     match name {
         "trial" => Ok(Some(Task::Job(Job::Trial))),
         "format" => Ok(new_disk(told).map(Job::Format).map(Task::Job)),
-        "serve" => Ok(address(told).map(Task::Serve)),
+        "serve" => address(alloc, told),
         "audit" => old_disk(alloc, told),
         "configure" => Ok(new_policy(told).map(Job::Configure).map(Task::Job)),
         _ => Ok(None),

@@ -70,6 +70,7 @@ where
         + Clock
         + Net<Listener = TcpListener, Stream = TcpStream>
         + RandomSource
+        + Files
         + AllocGlobal
         + Copy
         + Drop
@@ -89,7 +90,7 @@ where
     let (listeners, doors) = doors(&rt, rt.alloc()).ok()?;
     let clients = thread::spawn(&rt, move || talk_at(&rt, doors, &watch, talk)).ok()?;
     let gate = AtLeast::new(talk.pending());
-    let served = serve::<R, L, T, D, AtLeast>(rt, hall, blank, listeners, &gate).ok();
+    let served = serve::<R, L, T, D, AtLeast>(rt, hall, blank, listeners, None, &gate).ok();
     let told = clients.join(&rt);
     if served?.ending == talk.ending() {
         Some(told)
@@ -112,6 +113,7 @@ where
         + Clock
         + Net<Listener = TcpListener, Stream = TcpStream>
         + RandomSource
+        + Files
         + AllocGlobal
         + Copy
         + Drop
@@ -140,6 +142,7 @@ where
         + Clock
         + Net<Listener = TcpListener, Stream = TcpStream>
         + RandomSource
+        + Files
         + AllocGlobal
         + Copy
         + Drop
@@ -168,6 +171,7 @@ where
         + Clock
         + Net<Listener = TcpListener, Stream = TcpStream>
         + RandomSource
+        + Files
         + AllocGlobal
         + Copy
         + Drop
@@ -274,6 +278,7 @@ where
         + Clock
         + Net<Listener = TcpListener, Stream = TcpStream>
         + RandomSource
+        + Files
         + AllocGlobal
         + Copy
         + Drop
@@ -298,6 +303,7 @@ where
         + Clock
         + Net<Listener = TcpListener, Stream = TcpStream>
         + RandomSource
+        + Files
         + AllocGlobal
         + Copy
         + Drop

@@ -16,6 +16,7 @@ use std::io;
 use std::marker::Brand;
 use std::net::{Net, TcpListener, TcpStream};
 use std::random::RandomSource;
+use std::rt::Files;
 use std::sync::ledger::{Blank, Ledger};
 use std::sync::{Arc, Wait};
 use std::test::Fail;
@@ -46,6 +47,7 @@ where
         + Clock
         + Net<Listener = TcpListener, Stream = TcpStream>
         + RandomSource
+        + Files
         + AllocGlobal
         + Copy
         + Drop
@@ -64,7 +66,7 @@ where
     let Ok(listeners) = crowd(&rt, rt.alloc()) else {
         return false;
     };
-    let ending = serve::<R, L, T, D, WhenPending>(rt, hall, blank, listeners, &WhenPending);
+    let ending = serve::<R, L, T, D, WhenPending>(rt, hall, blank, listeners, None, &WhenPending);
     matches!(ending, Err(ServeError::TooManyPorts))
 }
 
@@ -76,6 +78,7 @@ where
         + Clock
         + Net<Listener = TcpListener, Stream = TcpStream>
         + RandomSource
+        + Files
         + AllocGlobal
         + Copy
         + Drop
