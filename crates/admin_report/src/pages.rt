@@ -25,6 +25,21 @@ fn is_listed(standing: Option<StandingName>, after: u64, row: &EventRow) -> bool
     after < row.number && stands_so(standing, row)
 }
 
+fn first_listed(
+    alloc: Global,
+    rows: Vec<EventRow>,
+    standing: Option<StandingName>,
+    after: u64,
+    limit: usize,
+) -> Result<Vec<EventRow>, AllocError>
+    ensures { IfOk result (λ page. page.items ≡ meant.events_page standing after limit rows.items) }
+{
+    rows.into_iter()
+        .filter(|row| is_listed(standing, after, row))
+        .take(limit)
+        .collect(alloc)
+}
+
 /// The events that were accepted behind the command of this number, of those that stand so or of all, so many at most, in the
 /// order of acceptance.
 pub fn events_page(
@@ -38,10 +53,8 @@ pub fn events_page(
     ensures by_history { ForEachHistoryOf rows.items (λ s history.
         IfOk result (λ page. page.items ≡ meant.events_page_after s history standing after limit)) }
 {
-    rows.into_iter()
-        .filter(|row| is_listed(standing, after, row))
-        .take(limit)
-        .collect(alloc)
+    let page = first_listed(alloc, rows, standing, after, limit)?;
+    Ok(page)
 }
 
 /// The number to go on behind: that of the last event of a page, or the same again where the page is empty.

@@ -58,11 +58,8 @@ fn oldest_record(rows: &[EventRow]) -> Option<u64>
     rows.iter().filter_map(|row| ended_since(row)).min()
 }
 
-/// What is counted of some events. Where they are the rows of a table that stands for a history, it is what is counted of the
-/// events that the history leaves held.
-pub fn tally_of(rows: &[EventRow]) -> Tally
-    ensures by_rows { meant.AreCounts rows.now result }
-    ensures by_history { meant.ForEachHistoryOf rows.now (λ s history. meant.AreCountsAfter s history result) }
+fn counts(rows: &[EventRow]) -> Tally
+    ensures { meant.AreCounts rows.now result }
 {
     Tally {
         waiting: count_of(rows, StandingName::Waiting),
@@ -74,4 +71,14 @@ pub fn tally_of(rows: &[EventRow]) -> Tally
         oldest_wait: oldest_wait(rows),
         oldest_record: oldest_record(rows),
     }
+}
+
+/// What is counted of some events. Where they are the rows of a table that stands for a history, it is what is counted of the
+/// events that the history leaves held.
+pub fn tally_of(rows: &[EventRow]) -> Tally
+    ensures by_rows { meant.AreCounts rows.now result }
+    ensures by_history { meant.ForEachHistoryOf rows.now (λ s history. meant.AreCountsAfter s history result) }
+{
+    let tally = counts(rows);
+    tally
 }
