@@ -1,5 +1,6 @@
 // Events as JSON.
 ghost use Rattle.std.specs.Prelude.{◌≡◌, ◌++◌, IfOk, OnOk, string_bytes};
+ghost use Rattle.json.specs.Print.{quoted};
 ghost use Rattle.admin_report.specs.Lines.{ending_of_row};
 ghost use Rattle.admin_report.specs.Listing as meant;
 
@@ -140,13 +141,20 @@ pub fn page_json(
     Ok(out)
 }
 
+// A text as a JSON string.
+fn quote(alloc: Global, text: String) -> Result<Vec<u8>, AllocError>
+    ensures { IfOk result (λ json. json.items ≡ quoted (string_bytes text)) }
+{
+    Value::String(text).to_vec(alloc)
+}
+
 // The beginning of a payload, as a JSON string.
 fn beginning_json(alloc: Global, payload: &[u8]) -> Result<Vec<u8>, AllocError>
     ensures { IfOk result (λ json. json.items ≡ meant.beginning_text payload.now) }
 {
     let most = payload.len().min(BEGINNING);
     let text = String::from_utf8_lossy(alloc, &payload[..most])?;
-    Value::String(text).to_vec(alloc)
+    quote(alloc, text)
 }
 
 // The destination record of an event that has ended, and of another `null`.

@@ -129,7 +129,7 @@ pub fn next_end_after(after: u64, page: &[EventRow]) -> u64
 pub fn row_of<'a>(rows: &'a [EventRow], id: &[u8; 16]) -> Option<&'a EventRow>
     ensures { option_copied result ≡ find (has_id id.now) rows.now }
 {
-    rows.iter().find(|row| row.id == *id)
+    rows.iter().find(|row| *id == row.id)
 }
 
 /// The number of the command that accepted an event, if it is held.
@@ -148,7 +148,7 @@ pub fn end_of(rows: &[EventRow], id: &[u8; 16], side: Side) -> Option<u64>
 {
     match rows
         .iter()
-        .find(|row| row.id == *id && ended_on(side, row.standing))
+        .find(|row| *id == row.id && ended_on(side, row.standing))
     {
         Some(row) => Some(row.last_number),
         None => None,

@@ -74,8 +74,8 @@ fn page(
 ) -> Result<Shown, AllocError>
     ensures { IfOk result (λ shown. meant.IsPageShown snapshot standing start limit shown) }
 {
-    let number = snapshot.number;
-    let page = events_page(alloc, snapshot.rows.into_vec(), standing, start, limit)?;
+    let Snapshot { number, rows, .. } = snapshot;
+    let page = events_page(alloc, rows.into_vec(), standing, start, limit)?;
     let next = next_after(start, &page);
     let text = page_json(alloc, number, &page, next)?;
     Ok(Shown {
@@ -97,7 +97,8 @@ fn records(
     let View {
         settings, snapshot, ..
     } = view;
-    let page = records_page(alloc, snapshot.rows.into_vec(), side, start, limit)?;
+    let Snapshot { rows, .. } = snapshot;
+    let page = records_page(alloc, rows.into_vec(), side, start, limit)?;
     let next = next_end_after(start, &page);
     let body = record_lines(alloc, &page, &settings)?;
     Ok(Shown {

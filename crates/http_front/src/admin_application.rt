@@ -3,6 +3,7 @@ ghost use Rattle.std.specs.Prelude.{◌≡◌, IfOk};
 
 use crate::admin_telling::{AdminTelling, refuse};
 use crate::front::Front;
+use crate::meters::Meters;
 use crate::moment::now;
 use crate::page::PAGE;
 use crate::resident::resident_bytes;
@@ -49,9 +50,13 @@ fn phases_of(counts: PhaseCounts) -> Phases {
 }
 
 impl<R: Wait + Clock + Files + AllocGlobal, L: Ledger, T: Trace> Viewing<R, L, T> {
+    // What the threads of the front counted.
+    fn meters(&self) -> Meters {
+        *self.front.meters.lock(&self.rt)
+    }
+
     // What was counted since the front was opened.
-    fn totals(&self, counted: Counted) -> Totals {
-        let meters = *self.front.meters.lock(&self.rt);
+    fn totals(meters: &Meters, counted: Counted) -> Totals {
         Totals {
             accepted: counted.accepted,
             success: counted.success,
@@ -65,7 +70,7 @@ impl<R: Wait + Clock + Files + AllocGlobal, L: Ledger, T: Trace> Viewing<R, L, T
 
     // The numbers of the process, beside what was seen.
     fn gauges(&self, sight: &Sight, counted: Counted) -> Gauges {
-        let meters = *self.front.meters.lock(&self.rt);
+        let meters = self.meters();
         let (generation, free, sectors) = match meters.last {
             Some(last) => (last.generation, last.free, last.sectors),
             None => (0, 0, 0),
@@ -77,7 +82,7 @@ impl<R: Wait + Clock + Files + AllocGlobal, L: Ledger, T: Trace> Viewing<R, L, T
             open_slots: sight.open_slots,
             parked: sight.parked,
             phases: phases_of(sight.phases),
-            totals: self.totals(counted),
+            totals: Self::totals(&meters, counted),
             times: meters.times,
             generation,
             switches: meters.switches(),
@@ -140,7 +145,8 @@ pub(crate) struct AdminApplication<R, L: Ledger, T: Trace> {
     pub(crate) port: Arc<Port<L, T>>,
 }
 
-impl<R: Wait + Clock + Files + AllocGlobal + Copy, L: Ledger, T: Trace> AdminApplication<R, L, T> {
+impl<R: Wait + Clock + Files + AllocGlobal + Copy + Drop, L: Ledger, T: Trace>
+    AdminApplication<R, L, T> {
     // A reply.
     fn viewing(&self, progress: Progress<R, L, T>) -> Result<Viewing<R, L, T>, Fault> {
         let Ok(front) = Arc::try_clone(&self.front) else {

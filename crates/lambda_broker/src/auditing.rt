@@ -6,6 +6,7 @@ use admin_report::{Rest, record_lines, records_page, rest_json, tally_of};
 use async_core::{Side, Table};
 use audit_report::{Report, audit, explain, inspect};
 use group_commit::OpenError;
+use invoke_records::Snapshot;
 use sector_disk::{Disk, FileDisk, FileError};
 use std::alloc::{AllocError, Global};
 use std::fs::File;
@@ -95,8 +96,8 @@ fn numbers(alloc: Global, table: &Table, report: &Report) -> Result<Vec<u8>, All
 
 // The destination records of one side, in the order of the ends of their events.
 fn records_of(alloc: Global, table: &Table, side: Side) -> Result<Vec<u8>, AllocError> {
-    let snapshot = table.snapshot()?;
-    let rows = snapshot.rows.into_vec();
+    let Snapshot { rows, .. } = table.snapshot()?;
+    let rows = rows.into_vec();
     let most = rows.len();
     let page = records_page(alloc, rows, side, 0, most)?;
     record_lines(alloc, &page, table.settings())

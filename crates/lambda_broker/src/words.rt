@@ -143,7 +143,7 @@ fn configure_command<'a>(alloc: Global) -> Result<Command<'a>, AllocError> {
 // The port that only looks.
 fn admin_option<'a>(alloc: Global) -> Arg<'a> {
     let help = "Port of /metrics, /healthz, /events, /records and a page, on 127.0.0.1 alone, 1024 to 65535";
-    option(alloc, "admin", help).value_parser(value_parser!(u16).range(1024..))
+    option(alloc, "admin", help).value_parser(value_parser!(u16).range(1024..65536))
 }
 
 // Where callers and runtimes are served.

@@ -1,5 +1,6 @@
 // Steps on records and rules alone: how a record is spelled, and what is read from bytes. They need no disk.
 use crate::destinations::tell_stamp;
+use crate::looks::asked_step;
 use crate::refusals;
 use case_runner::{Reply, Text, Words, hex_bytes, kind_word, number_of_id, read_command};
 use invoke_records::{Command, EventRow, Kind, RecordError, Rows, SettingsRecord, Snapshot};
@@ -201,6 +202,7 @@ pub fn record_step(
         "check" => check(settings, answer),
         "stamp" => tell_stamp(alloc, words, answer),
         "is-name" => Reply::yes_or_no(has_name_bytes(words.rest().as_bytes())),
+        "asked" => asked_step(alloc, words, answer),
         "is-plain" => Reply::yes_or_no(has_plain_bytes(words.rest().as_bytes())),
         _ => Reply::NoStep,
     }

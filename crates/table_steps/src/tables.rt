@@ -1,4 +1,5 @@
 // Steps that read the table of an open broker.
+use crate::looks::look_step;
 use crate::records::spelling;
 use crate::refusals;
 use async_core::{Ended, Side, Table};
@@ -197,6 +198,7 @@ pub fn table_step(
         "in-force" => in_force(table, answer),
         "snapshot" => spell_part(alloc, table, None, answer),
         "row" => spell_part(alloc, table, Some(words.number()), answer),
+        "tally" | "listed" | "ended-behind" => look_step(alloc, table, word, words, answer),
         _ => {
             // The words are left to another step where it is none of an event's.
             let mut others = *words;
