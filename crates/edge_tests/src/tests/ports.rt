@@ -36,8 +36,8 @@ use std::thread::Threads;
 use std::time::Clock;
 use std::{fs, io, thread};
 
-// A listener for callers and one for the environment, and where they listen.
-fn doors<N>(rt: &N, alloc: Global) -> io::Result<(Vec<TcpListener>, Doors)>
+// A listener for callers and one for the environment, one that looks come to, and where they listen.
+fn doors<N>(rt: &N, alloc: Global) -> io::Result<(Vec<TcpListener>, TcpListener, Doors)>
 where
     N: Net<Listener = TcpListener, Stream = TcpStream>,
 {
@@ -46,11 +46,14 @@ where
     listeners.push(listener)?;
     let (listener, environment) = listen(rt)?;
     listeners.push(listener)?;
+    let (admin_listener, admin) = listen(rt)?;
     Ok((
         listeners,
+        admin_listener,
         Doors {
             callers,
             environment,
+            admin,
         },
     ))
 }
@@ -87,10 +90,10 @@ where
     requires parts { blank.parts ≡ L.parts }
     requires seats { L.parts ≡ desk_count (settings_of hall.issuer) }
 {
-    let (listeners, doors) = doors(&rt, rt.alloc()).ok()?;
+    let (listeners, admin, doors) = doors(&rt, rt.alloc()).ok()?;
     let clients = thread::spawn(&rt, move || talk_at(&rt, doors, &watch, talk)).ok()?;
     let gate = AtLeast::new(talk.pending());
-    let served = serve::<R, L, T, D, AtLeast>(rt, hall, blank, listeners, None, &gate).ok();
+    let served = serve::<R, L, T, D, AtLeast>(rt, hall, blank, listeners, Some(admin), &gate).ok();
     let told = clients.join(&rt);
     if served?.ending == talk.ending() {
         Some(told)
@@ -220,6 +223,16 @@ const HELD: Trouble = Trouble {
 };
 
 #[test]
+fn a_look_tells_what_is_held(rt: HostRuntime) -> Result<(), Fail> {
+    tell(rt, NO_TROUBLE, Talk::Look)
+}
+
+#[test]
+fn a_look_tells_nothing_of_a_commit_that_fails(rt: HostRuntime) -> Result<(), Fail> {
+    tell(rt, HELD, Talk::LookBeforeTheFault)
+}
+
+#[test]
 fn a_front_ends_after_a_fault_though_a_caller_has_gone(rt: HostRuntime) -> Result<(), Fail> {
     tell(
         rt,
@@ -303,7 +316,6 @@ where
         + Clock
         + Net<Listener = TcpListener, Stream = TcpStream>
         + RandomSource
-        + Files
         + AllocGlobal
         + Copy
         + Drop

@@ -13,6 +13,7 @@ const PATIENCE: u64 = 20;
 pub struct Doors {
     pub callers: SocketAddr,
     pub environment: SocketAddr,
+    pub admin: SocketAddr,
 }
 
 /// A listener on a port that the system picks.

@@ -43,6 +43,10 @@ pub enum Talk {
     Held,
     /// A client who waits and goes away, before the first commit meets a fault or after that.
     Fault(Party, Leaving),
+    /// A caller, and who looks at the event.
+    Look,
+    /// Who looks while the first commit is on its way to a fault.
+    LookBeforeTheFault,
     /// One connection with several requests.
     Connection,
     /// Clients who close within a request.
@@ -61,7 +65,7 @@ impl Talk {
     /// How the front ends.
     pub fn ending(self) -> Ending {
         match self {
-            Talk::Fault(..) => Ending::Broken,
+            Talk::Fault(..) | Talk::LookBeforeTheFault => Ending::Broken,
             _ => Ending::Stopped,
         }
     }
@@ -390,6 +394,67 @@ where
     expect(rt, call(rt, doors, STOP, "202"), "the broker stops");
 }
 
+const EVENTS: &str = "GET /events?standing=waiting HTTP/1.1\r\nhost: h\r\nconnection: close\r\n\r\n";
+
+const METRICS: &str = "GET /metrics HTTP/1.1\r\nhost: h\r\nconnection: close\r\n\r\n";
+
+const HEALTH: &str = "GET /healthz HTTP/1.1\r\nhost: h\r\nconnection: close\r\n\r\n";
+
+const NO_LIMIT: &str = "GET /events?limit=0 HTTP/1.1\r\nhost: h\r\nconnection: close\r\n\r\n";
+
+// Who looks asks: what is told.
+fn look<R>(rt: &R, doors: Doors, request: &str) -> Told
+where
+    R: AllocGlobal + Net<Listener = TcpListener, Stream = TcpStream>,
+{
+    ask(rt, rt.alloc(), doors.admin, [request, "", ""])
+}
+
+// Whether a look is told this, with a text in it.
+fn is_told<R>(rt: &R, doors: Doors, request: &str, status: &str, text: &str) -> bool
+where
+    R: AllocGlobal + Net<Listener = TcpListener, Stream = TcpStream>,
+{
+    let told = look(rt, doors, request);
+    told.has(status) && told.all.contains(text)
+}
+
+fn a_look<R>(rt: &R, doors: Doors)
+where
+    R: Abort + AllocGlobal + Net<Listener = TcpListener, Stream = TcpStream>,
+{
+    let accepted = invoke(rt, doors);
+    let id = accepted.header("x-amzn-requestid: ");
+    expect(rt, accepted.has("202"), "the event is accepted");
+    expect(rt, is_told(rt, doors, EVENTS, "200", id), "the event is listed");
+    let count = "lambda_broker_events{standing=\"waiting\"} 1";
+    expect(rt, is_told(rt, doors, METRICS, "200", count), "the event is counted");
+    expect(rt, is_told(rt, doors, HEALTH, "200", "ok"), "the broker is well");
+    let is_refused = is_told(rt, doors, NO_LIMIT, "400", "BadLimit");
+    expect(rt, is_refused, "a bad limit is refused by name");
+    expect(rt, call(rt, doors, STOP, "202"), "the broker stops");
+}
+
+// A look comes while the first commit makes the barrier that fails: it is told nothing of the event.
+fn a_look_before_a_fault<R>(rt: &R, doors: Doors, watch: &Watch)
+where
+    R: Abort + AllocGlobal + Net<Listener = TcpListener, Stream = TcpStream>,
+{
+    let caller = send(rt, doors.callers, [INVOKE, "", ""]);
+    watch.wait_for_barrier();
+    let looks = send(rt, doors.admin, [EVENTS, "", ""]);
+    expect(rt, look(rt, doors, NOWHERE).has("404"), "the look has come");
+    watch.note_answer();
+    let told = hear(rt.alloc(), looks);
+    let is_shown = told.all.contains("\"standing\":\"waiting\"");
+    expect(rt, told.has("503") && !is_shown, "the event is not shown");
+    expect(
+        rt,
+        hear(rt.alloc(), caller).has("503"),
+        "the caller is told that it failed",
+    );
+}
+
 const SEVERAL: &str =
     "POST /2015-03-31/functions/my-function/invocations HTTP/1.1\r\nhost: h\r\nx-amz-invocation-type: Event\r\ncontent-length: 2\r\n\r\n{}GET /broker/destinations/success HTTP/1.1\r\nhost: h\r\n\r\nGET /x HTTP/1.1\r\nhost: h\r\nconnection: close\r\n\r\n";
 
@@ -457,6 +522,8 @@ where
         Talk::Gone => a_client_that_has_gone(rt, doors),
         Talk::Held => a_held_commit(rt, doors, watch),
         Talk::Fault(party, leaving) => a_fault(rt, doors, watch, party, leaving),
+        Talk::Look => a_look(rt, doors),
+        Talk::LookBeforeTheFault => a_look_before_a_fault(rt, doors, watch),
         Talk::Connection => a_connection(rt, doors),
         Talk::Cut => cut_requests(rt, doors, watch),
     }
