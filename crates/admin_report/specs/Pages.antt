@@ -1,8 +1,8 @@
 -- Pages of a table: the events in the order of acceptance, and those that have ended in the order of their end. A page goes
 -- on behind a number of a command, so that it does not matter whether the event of that command is still held.
 use Rattle.std.specs.Prelude.{◌≡◌, ℕ, ◌<◌, Bool, true, ◌&&◌, List, [], ◌∷◌, ◌++◌, map, filter, find, take, Option, Some, None, nat_lt, option_map}
-use Rattle.std.specs.Prelude.{IsPermutation, IsSortedByKey}
-use Rattle.std.specs.Ordering.{nat_cmp}
+use Rattle.std.specs.Prelude.{IsPermutation}
+use Rattle.std.specs.List.Sorted.{IsNonDecreasingBy}
 use Rattle.invoke_records.specs.declared.row.EventRow.{EventRow}
 use Rattle.retry_rules.specs.declared.settings.Settings.{Settings}
 use Rattle.invoke_records.specs.declared.command.Command.{Command}
@@ -50,7 +50,7 @@ ended_behind side after rows = filter (has_ended_behind side after) rows
 pub record IsRecordPage (side : Side) (after limit : ℕ) (rows page : List EventRow) : Type 0 where
   pub ordered : List EventRow
   pub all : IsPermutation (ended_behind side after rows) ordered
-  pub by_end : IsSortedByKey (λ (row : EventRow). row.last_number) nat_cmp ordered
+  pub by_end : IsNonDecreasingBy (λ (row : EventRow). row.last_number) ordered
   pub first : page ≡ take limit ordered
 
 -- the number to go on behind: that of the command by which the last event of a page ended

@@ -1,5 +1,6 @@
 // Pages of a table.
-ghost use Rattle.std.specs.Prelude.{◌≡◌, find, option_map, IfOk};
+ghost use Rattle.std.specs.Prelude.{◌≡◌, find, IfOk, OnOk, IsPermutation};
+ghost use Rattle.std.specs.List.Sorted.{IsNonDecreasingBy};
 ghost use Rattle.std.specs.Option.{option_copied};
 ghost use Rattle.async_core.specs.Rules.{has_id};
 ghost use Rattle.admin_report.specs.Counts.{ForEachHistoryOf};
@@ -98,6 +99,15 @@ fn ended_behind(
         .collect(alloc)
 }
 
+// Puts events in the order of the commands that ended them.
+fn put_in_order(ended: &mut Vec<EventRow>) -> Result<(), AllocError>
+    ensures all { IsPermutation ended.old.items ended.new.items }
+    ensures by_end { OnOk result (IsNonDecreasingBy (λ row. row.last_number) ended.new.items) }
+{
+    ended.sort_by_key(|row| row.last_number)?;
+    Ok(())
+}
+
 /// The events that ended on this side by a command behind this number, so many at most, the one that ended first first.
 pub fn records_page(
     alloc: Global,
@@ -109,7 +119,7 @@ pub fn records_page(
     ensures { IfOk result (λ page. meant.IsRecordPage side after limit rows.items page.items) }
 {
     let mut ended = ended_behind(alloc, rows, side, after)?;
-    ended.sort_by_key(|row| row.last_number)?;
+    put_in_order(&mut ended)?;
     ended.truncate(limit);
     Ok(ended)
 }
