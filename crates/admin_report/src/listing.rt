@@ -185,13 +185,13 @@ pub fn event_json(
 {
     let event = event_object(alloc, row)?;
     let payload = beginning_json(alloc, row.payload.as_slice())?;
-    let record = record_json(alloc, row, settings)?;
+    let ended = record_json(alloc, row, settings)?;
     let mut out = Vec::from_slice(alloc, b"{\"event\":")?;
     out.extend_from_slice(event.as_bytes())?;
     out.extend_from_slice(b",\"payload\":")?;
     out.extend_from_slice(payload.as_slice())?;
     out.extend_from_slice(b",\"record\":")?;
-    out.extend_from_slice(record.as_slice())?;
+    out.extend_from_slice(ended.as_slice())?;
     out.extend_from_slice(b"}")?;
     Ok(out)
 }

@@ -1,6 +1,4 @@
 // Numbers that the threads of a front count, for whoever looks at it.
-ghost use Rattle.std.specs.Prelude.{◌≡◌};
-
 use admin_report::CommitTimes;
 use group_commit::DiskHalf;
 use sector_disk::{Disk, SECTOR_SIZE};
@@ -102,13 +100,16 @@ impl Meters {
 
     /// A reply was told with this status.
     pub(crate) fn note_reply(&mut self, status: u16) {
-        let count = match RefusedFor::of(status) {
-            None => return,
-            Some(RefusedFor::Request) => &mut self.refused_requests,
-            Some(RefusedFor::Room) => &mut self.refused_full,
-            Some(RefusedFor::Broker) => &mut self.refused_unavailable,
-        };
-        *count = count.saturating_add(1);
+        match RefusedFor::of(status) {
+            None => {}
+            Some(RefusedFor::Request) => {
+                self.refused_requests = self.refused_requests.saturating_add(1);
+            }
+            Some(RefusedFor::Room) => self.refused_full = self.refused_full.saturating_add(1),
+            Some(RefusedFor::Broker) => {
+                self.refused_unavailable = self.refused_unavailable.saturating_add(1);
+            }
+        }
     }
 
     /// How often the live segment was switched since the front was opened.
