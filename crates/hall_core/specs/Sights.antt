@@ -1,15 +1,12 @@
 -- What is seen of a hall at a moment.
-use Rattle.std.specs.Prelude.{◌≡◌, ℕ, Bool, true, false, List, count_by}
-use Rattle.retry_rules.specs.declared.settings.Settings.{Settings}
+use Rattle.std.specs.Prelude.{◌≡◌, Bool, true, false, List, count_by}
 use Rattle.env_phase.specs.declared.phase.Phase.{Phase}
 use Rattle.env_phase.specs.declared.phase.Phase.TheVariants.{Init, Ready, Busy, Closing}
 use Rattle.env_phase.specs.Phases.{phase_told}
-use Rattle.env_phase.specs.Environment.{phase_of}
 use Rattle.env_phase.specs.State.{EnvState}
 use Rattle.env_phase.specs.Steps.{phase_in}
 use Rattle.hall_core.specs.declared.sight.Sight.{Sight}
 use Rattle.hall_core.specs.declared.sight.PhaseCounts.{PhaseCounts}
-use Rattle.hall_core.specs.Past.{Past, environments, calls_of}
 use Rattle.hall_core.specs.Hall.{HallView, open_slot_count}
 
 -- ## Phases
@@ -31,17 +28,6 @@ pub record AreCounts (envs : List EnvState) (counts : PhaseCounts) : Type 0 wher
   pub ready : counts.ready ≡ count_by (is_in Ready) envs
   pub busy : counts.busy ≡ count_by (is_in Busy) envs
   pub closing : counts.closing ≡ count_by (is_in Closing) envs
-
--- the environment of this number is in this phase after what was done
-abbrev pub was_in : Past → Phase → ℕ → Bool
-was_in past phase number = is_same (phase_told (phase_of (calls_of past number))) phase
-
--- the same after what was done
-pub record AreCountsOf (s : Settings) (past : Past) (counts : PhaseCounts) : Type 0 where
-  pub init : counts.init ≡ count_by (was_in past Init) (environments s)
-  pub ready : counts.ready ≡ count_by (was_in past Ready) (environments s)
-  pub busy : counts.busy ≡ count_by (was_in past Busy) (environments s)
-  pub closing : counts.closing ≡ count_by (was_in past Closing) (environments s)
 
 -- ## The whole
 

@@ -71,8 +71,8 @@ impl<I: Issuer> Hall<I> {
     ghost use Rattle.std.specs.Prelude.{IfOk};
     ghost use Rattle.async_core.specs.History.{table_of};
     ghost use Rattle.group_commit.specs.Issuer.{ForEachHistory};
-    ghost use Rattle.hall_core.specs.Hall.{view_of, settings_in, open_slot_count, ForEachPast};
-    ghost use Rattle.hall_core.specs.Sights.{IsSightOf, AreCountsOf};
+    ghost use Rattle.hall_core.specs.Hall.{view_of};
+    ghost use Rattle.hall_core.specs.Sights.{IsSightOf};
 
     /// What it holds now. It only looks, for a time that does not grow with the bytes of payloads and answers: at most 1024
     /// rows and 16 environments.
@@ -83,13 +83,13 @@ impl<I: Issuer> Hall<I> {
         ensures is { IfOk result (IsSightOf (view_of I.view self.now)) }
         ensures by_history { ForEachHistory (I.view self.now.issuer) (λ history.
             IfOk result (λ sight. sight.snapshot ≡ table_of sight.settings history)) }
-        ensures phases { ForEachPast (view_of I.view self.now) (λ past.
-            IfOk result (λ sight. AreCountsOf (settings_in (view_of I.view self.now)) past sight.phases)) }
     {
         let table = self.table();
+        let settings = table.settings().copy()?;
+        let snapshot = table.snapshot()?;
         Ok(Sight {
-            settings: table.settings().copy()?,
-            snapshot: table.snapshot()?,
+            settings,
+            snapshot,
             durable: self.durable().number(),
             phases: self.environments.phases(),
             parked: self.environments.parked(),

@@ -18,6 +18,8 @@ use Rattle.hall_core.specs.Hall.{HallView, pending_in, KeepsReason}
 use Rattle.hall_core.specs.Halves.{lend_error_of, write_error_of, settle_error_of, IsNotLent, IsNotDurable}
 use Rattle.receipts.specs.Answers.{IsMismatch, IsArrivalRefusal, IsTickRefusal, IsCommitRefusal}
 use Rattle.receipts.specs.Kept.{IsNotLentTo}
+use Rattle.receipts.specs.Sealing.{IsLookRefusal, IsNotShown}
+use Rattle.group_commit.specs.Issuer.{issued_in}
 
 -- at most so much is pending in a half
 pub few_pending : (half : IssueHalf) → pending_in (half_view half) ≤ 256
@@ -126,3 +128,32 @@ module _ (told : ℕ) where
   refused_tick hall now error.OtherHalf is = absurd is
   refused_tick hall now error.Unfit is = absurd is
   refused_tick hall now (error.Mismatch before found) is = absurd is
+
+  pub mismatched_look : (found : ℕ) (why : HallError) → IsMismatch told found why → IsLookRefusal told why
+  mismatched_look found (error.Mismatch before issued) is = (is.0, omega (arith, is.1, is.2))
+  mismatched_look found error.Broken is = absurd is
+  mismatched_look found error.Stopping is = absurd is
+  mismatched_look found error.WornOut is = absurd is
+  mismatched_look found error.Backlog is = absurd is
+  mismatched_look found error.BadKind is = absurd is
+  mismatched_look found error.NoHistory is = absurd is
+  mismatched_look found error.OutOfMemory is = absurd is
+  mismatched_look found error.Fault is = absurd is
+  mismatched_look found error.Lent is = absurd is
+  mismatched_look found error.OtherHalf is = absurd is
+  mismatched_look found error.Unfit is = absurd is
+
+  pub mismatch_not_shown : (hall : HallView) (slots : ℕ) (why : HallError)
+      → IsMismatch told (issued_in hall.issuer) why → IsNotShown hall slots told why
+  mismatch_not_shown hall slots (error.Mismatch before issued) is = is
+  mismatch_not_shown hall slots error.Broken is = absurd is
+  mismatch_not_shown hall slots error.Stopping is = absurd is
+  mismatch_not_shown hall slots error.WornOut is = absurd is
+  mismatch_not_shown hall slots error.Backlog is = absurd is
+  mismatch_not_shown hall slots error.BadKind is = absurd is
+  mismatch_not_shown hall slots error.NoHistory is = absurd is
+  mismatch_not_shown hall slots error.OutOfMemory is = absurd is
+  mismatch_not_shown hall slots error.Fault is = absurd is
+  mismatch_not_shown hall slots error.Lent is = absurd is
+  mismatch_not_shown hall slots error.OtherHalf is = absurd is
+  mismatch_not_shown hall slots error.Unfit is = absurd is
