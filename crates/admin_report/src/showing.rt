@@ -1,8 +1,6 @@
 // What is shown of a table to a request.
-ghost use Rattle.std.specs.Prelude.{◌≡◌, ◌⊎◌, Err, IfOk};
-ghost use Rattle.admin_report.specs.Pages as pages;
+ghost use Rattle.std.specs.Prelude.{◌≡◌, IfOk};
 ghost use Rattle.admin_report.specs.Showing as meant;
-ghost use Rattle.admin_report.specs.declared.fault.Fault.TheVariants.{AfterNotHeld, NotHeld, Unavailable};
 
 use crate::ask::{After, Ask};
 use crate::fault::Fault;

@@ -1,6 +1,4 @@
 // The admin port: it only looks.
-ghost use Rattle.std.specs.Prelude.{◌≡◌, IfOk};
-
 use crate::admin_telling::{AdminTelling, refuse};
 use crate::front::Front;
 use crate::meters::Meters;

@@ -110,6 +110,7 @@ fn refusal_of(alloc: Global, why: Fault) -> Option<Answered>
 }
 
 /// A refusal. Where memory is wanting, 503 alone.
+#[tactic(auto, using(crate::proofs::AdminRefusing::fault_refuses))]
 pub(crate) fn refuse(alloc: Global, why: Fault) -> Refused
     ensures { (result ≡ (fault_text why).status) ⊎ (result ≡ 503) }
 {
