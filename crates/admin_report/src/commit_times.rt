@@ -1,5 +1,5 @@
 // How long commits took.
-ghost use Rattle.std.specs.Prelude.{◌≡◌, ◌+◌, ◌≤◌, length};
+ghost use Rattle.std.specs.Prelude.{◌≡◌, ◌+◌};
 ghost use Rattle.admin_report.specs.Times as meant;
 
 /// The upper bounds of the buckets, in microseconds.
@@ -13,6 +13,17 @@ pub struct CommitTimes {
     pub within: [u64; 12],
     pub count: u64,
     pub micros: u64,
+}
+
+// Counts a commit that took so long at each bound that is no less.
+fn count_in(within: &mut [u64; 12], micros: u64)
+    ensures { meant.CountsIn micros within.old within.new }
+{
+    for place in 0..12 {
+        if micros <= BOUNDS[place] {
+            within[place] = within[place].saturating_add(1);
+        }
+    }
 }
 
 impl CommitTimes {
@@ -34,11 +45,7 @@ impl CommitTimes {
         ensures count { self.new.count ≡ meant.one_more self.old.count }
         ensures micros { self.new.micros ≡ meant.capped (self.old.micros + micros) }
     {
-        for place in 0..BOUNDS.len() {
-            if micros <= BOUNDS[place] {
-                self.within[place] = self.within[place].saturating_add(1);
-            }
-        }
+        count_in(&mut self.within, micros);
         self.count = self.count.saturating_add(1);
         self.micros = self.micros.saturating_add(micros);
     }

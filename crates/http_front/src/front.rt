@@ -5,7 +5,7 @@ ghost use Rattle.http_front.specs.Refusals.{IsArrivalError};
 
 use crate::arriving::arrive;
 use crate::error::ArrivalError;
-use crate::meters::{Meters, Standing};
+use crate::meters::{DiskNumbers, Meters};
 use crate::wake::Wake;
 use api_core::Call;
 use group_commit::{DiskHalf, Durable};
@@ -105,15 +105,15 @@ impl<L: Ledger, T: Trace> Front<L, T> {
         began: Option<Instant>,
         half: &DiskHalf<D>,
     ) {
-        let standing = Standing::of(half);
+        let numbers = DiskNumbers::of(half);
         let micros = began.and_then(|began| micros_since(rt, began));
-        self.meters.lock(rt).note_commit(micros, standing);
+        self.meters.lock(rt).note_commit(micros, numbers);
     }
 
     /// The disk stands so.
     pub(crate) fn note_disk<R: Wait, D: Disk>(&self, rt: &R, half: &DiskHalf<D>) {
-        let standing = Standing::of(half);
-        self.meters.lock(rt).note_disk(standing);
+        let numbers = DiskNumbers::of(half);
+        self.meters.lock(rt).note_disk(numbers);
     }
 
     /// A reply was told to a caller with this status.

@@ -5,16 +5,16 @@ use sector_disk::{Disk, SECTOR_SIZE};
 
 /// How the disk stands.
 #[derive(Clone, Copy)]
-pub(crate) struct Standing {
+pub(crate) struct DiskNumbers {
     pub(crate) generation: u64,
     pub(crate) free: u64,
     pub(crate) sectors: u64,
 }
 
-impl Standing {
+impl DiskNumbers {
     /// That of the half over the disk.
-    pub(crate) fn of<D: Disk>(half: &DiskHalf<D>) -> Standing {
-        Standing {
+    pub(crate) fn of<D: Disk>(half: &DiskHalf<D>) -> DiskNumbers {
+        DiskNumbers {
             generation: half.generation(),
             free: half.free_sectors(),
             sectors: half.sectors(),
@@ -22,7 +22,7 @@ impl Standing {
     }
 
     /// How many bytes were written from this to that one: the frames behind each other, or a snapshot and what came behind it.
-    fn written_up_to(self, later: Standing) -> u64 {
+    fn written_up_to(self, later: DiskNumbers) -> u64 {
         let used = if later.generation == self.generation {
             self.free.saturating_sub(later.free)
         } else {
@@ -56,8 +56,8 @@ impl RefusedFor {
 #[derive(Clone, Copy)]
 pub(crate) struct Meters {
     pub(crate) times: CommitTimes,
-    pub(crate) first: Option<Standing>,
-    pub(crate) last: Option<Standing>,
+    pub(crate) first: Option<DiskNumbers>,
+    pub(crate) last: Option<DiskNumbers>,
     pub(crate) written: u64,
     pub(crate) refused_requests: u64,
     pub(crate) refused_full: u64,
@@ -79,23 +79,23 @@ impl Meters {
     }
 
     /// The disk stands so.
-    pub(crate) fn note_disk(&mut self, standing: Standing) {
+    pub(crate) fn note_disk(&mut self, numbers: DiskNumbers) {
         match self.last {
             Some(last) => {
-                let more = last.written_up_to(standing);
+                let more = last.written_up_to(numbers);
                 self.written = self.written.saturating_add(more);
             }
-            None => self.first = Some(standing),
+            None => self.first = Some(numbers),
         }
-        self.last = Some(standing);
+        self.last = Some(numbers);
     }
 
     /// A commit took so long, in microseconds, where that is known, and left the disk so.
-    pub(crate) fn note_commit(&mut self, micros: Option<u64>, standing: Standing) {
+    pub(crate) fn note_commit(&mut self, micros: Option<u64>, numbers: DiskNumbers) {
         if let Some(micros) = micros {
             self.times.note(micros);
         }
-        self.note_disk(standing);
+        self.note_disk(numbers);
     }
 
     /// A reply was told with this status.
