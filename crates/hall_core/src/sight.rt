@@ -1,6 +1,5 @@
 // What a hall holds at a moment, for whoever looks at it.
 ghost use Rattle.std.specs.Prelude.{◌≡◌, count_by};
-ghost use Rattle.env_phase.specs.Phases.{parked_in};
 ghost use Rattle.hall_core.specs.Sights as meant;
 
 use crate::environments::Environments;
@@ -37,10 +36,27 @@ pub struct Sight {
     pub stops: bool,
 }
 
+fn is_same(one: Phase, other: Phase) -> bool
+    ensures { result ≡ meant.is_same one other }
+{
+    match one {
+        Phase::Init => matches!(other, Phase::Init),
+        Phase::Ready => matches!(other, Phase::Ready),
+        Phase::Busy => matches!(other, Phase::Busy),
+        Phase::Closing => matches!(other, Phase::Closing),
+    }
+}
+
+fn is_in(phase: Phase, env: &Env) -> bool
+    ensures { result ≡ meant.is_in phase env.now }
+{
+    is_same(env.phase(), phase)
+}
+
 fn count_of(list: &[Env], phase: Phase) -> usize
     ensures { result ≡ count_by (meant.is_in phase) list.now }
 {
-    list.iter().filter(|env| env.phase() == phase).count()
+    list.iter().filter(|env| is_in(phase, env)).count()
 }
 
 impl Environments {
