@@ -68,9 +68,9 @@ ends_text t =
 abbrev pub ages_text : Tally → Gauges → List ℕ
 ages_text t g =
     seconds_family (codes "lambda_broker_oldest_wait_seconds")
-        (codes "Age of the oldest event that waits for an attempt, 0 where none does.") (since g.now t.oldest_wait)
+        (codes "Age of the oldest event that waits for an attempt, 0 where none does.") (since g.moment t.oldest_wait)
     ++ seconds_family (codes "lambda_broker_oldest_record_seconds")
-        (codes "Time since the oldest event ended whose record was not collected, 0 where there is none.") (since g.now t.oldest_record)
+        (codes "Time since the oldest event ended whose record was not collected, 0 where there is none.") (since g.moment t.oldest_record)
 
 -- how many commands there are
 abbrev pub commands_text : Gauges → List ℕ

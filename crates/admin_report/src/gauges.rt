@@ -28,7 +28,7 @@ pub struct Totals {
 #[derive(Clone, Copy, Debug, PartialEq, Eq)]
 pub struct Gauges {
     /// The moment, in milliseconds since 1970.
-    pub now: u64,
+    pub moment: u64,
     /// How many commands were issued, and how many are durable.
     pub issued: u64,
     pub durable: u64,

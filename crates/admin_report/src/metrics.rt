@@ -38,8 +38,8 @@ fn put_ends(out: &mut String, tally: &Tally) -> Result<(), AllocError>
 fn put_ages(out: &mut String, tally: &Tally, gauges: &Gauges) -> Result<(), AllocError>
     ensures { OnOk result (string_bytes out.new ≡ string_bytes out.old ++ meant.ages_text tally.now gauges.now) }
 {
-    put_seconds(out, "lambda_broker_oldest_wait_seconds", "Age of the oldest event that waits for an attempt, 0 where none does.", since(gauges.now, tally.oldest_wait))?;
-    put_seconds(out, "lambda_broker_oldest_record_seconds", "Time since the oldest event ended whose record was not collected, 0 where there is none.", since(gauges.now, tally.oldest_record))
+    put_seconds(out, "lambda_broker_oldest_wait_seconds", "Age of the oldest event that waits for an attempt, 0 where none does.", since(gauges.moment, tally.oldest_wait))?;
+    put_seconds(out, "lambda_broker_oldest_record_seconds", "Time since the oldest event ended whose record was not collected, 0 where there is none.", since(gauges.moment, tally.oldest_record))
 }
 
 // Puts how many commands there are.

@@ -74,7 +74,7 @@ impl<R: Wait + Clock + Files + AllocGlobal, L: Ledger, T: Trace> Viewing<R, L, T
             None => (0, 0, 0),
         };
         Gauges {
-            now: now(&self.rt).unwrap_or(0),
+            moment: now(&self.rt).unwrap_or(0),
             issued: sight.snapshot.number,
             durable: sight.durable,
             open_slots: sight.open_slots,
