@@ -29,7 +29,7 @@ pub use commit_times::{BOUNDS, CommitTimes};
 pub use fault::{Fault, fault_json};
 pub use gauges::{Gauges, Phases, Totals};
 pub use health::{Health, health_of};
-pub use laws::pages_skip_nothing;
+pub use laws::{pages_of_histories_skip_nothing, pages_skip_nothing};
 pub use lines::record_lines;
 pub use listing::{event_json, page_json};
 pub use metrics::metrics_text;
