@@ -1,12 +1,13 @@
 // Steps on what an operator is shown of a table, and on what a request asks for.
 use admin_report::{
-    After, Ask, StandingName, Tally, acceptance_of, end_of, events_page, next_after, next_end_after,
-    read_ask, records_page, tally_of,
+    After, Ask, CommitTimes, Fault, Gauges, Phases, Shown, StandingName, Tally, Totals, View,
+    acceptance_of, end_of, events_page, next_after, next_end_after, read_ask, records_page, show,
+    tally_of,
 };
 use async_core::{Side, Table};
 use case_runner::{Reply, Text, Words, id_of, number_of_id};
 use invoke_records::{EventRow, Snapshot};
-use std::alloc::Global;
+use std::alloc::{AllocError, Global};
 
 fn tell_moment(name: &str, moment: Option<u64>, answer: &mut Text) {
     answer.add(name);
@@ -109,7 +110,72 @@ fn ended(alloc: Global, table: &Table, words: &mut Words, answer: &mut Text) -> 
     }
 }
 
-/// What an operator is shown of a table: `tally`, `listed ..`, `ended-behind ..`.
+// The numbers of a process that has counted nothing.
+fn no_gauges() -> Gauges {
+    Gauges {
+        moment: 0,
+        issued: 0,
+        durable: 0,
+        open_slots: 0,
+        parked: 0,
+        phases: Phases {
+            init: 0,
+            ready: 0,
+            busy: 0,
+            closing: 0,
+        },
+        totals: Totals {
+            accepted: 0,
+            success: 0,
+            retries_exhausted: 0,
+            event_age_exceeded: 0,
+            refused_requests: 0,
+            refused_full: 0,
+            refused_unavailable: 0,
+        },
+        times: CommitTimes::new(),
+        generation: 0,
+        switches: 0,
+        written_bytes: 0,
+        sectors: 0,
+        free_sectors: 0,
+        resident_bytes: 0,
+    }
+}
+
+fn view_of(table: &Table) -> Result<View, AllocError> {
+    Ok(View {
+        settings: table.settings().copy()?,
+        snapshot: table.snapshot()?,
+        gauges: no_gauges(),
+    })
+}
+
+fn tell_shown(shown: &Shown, answer: &mut Text) -> Reply {
+    match std::str::from_utf8(shown.body.as_slice()) {
+        Ok(text) => answer.add(text.trim_end()),
+        Err(_) => return Reply::Unreadable,
+    }
+    Reply::Told
+}
+
+// `TARGET`: what is shown to a request, without the end of its last line, or why it is refused.
+fn shown(alloc: Global, table: &Table, words: &mut Words, answer: &mut Text) -> Reply {
+    let Ok(view) = view_of(table) else {
+        return Reply::NoMemory;
+    };
+    let asked = match read_ask(alloc, "GET", words.rest()) {
+        Ok(ask) => show(alloc, ask, view),
+        Err(why) => Err(why),
+    };
+    match asked {
+        Ok(shown) => tell_shown(&shown, answer),
+        Err(Fault::Unavailable) => Reply::NoMemory,
+        Err(why) => Reply::Refused(why.name()),
+    }
+}
+
+/// What an operator is shown of a table: `tally`, `listed ..`, `ended-behind ..`, `shown ..`.
 pub fn look_step(
     alloc: Global,
     table: &Table,
@@ -121,6 +187,7 @@ pub fn look_step(
         "tally" => tally(table, answer),
         "listed" => listed(alloc, table, words, answer),
         "ended-behind" => ended(alloc, table, words, answer),
+        "shown" => shown(alloc, table, words, answer),
         _ => Reply::NoStep,
     }
 }

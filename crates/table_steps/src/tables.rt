@@ -198,7 +198,7 @@ pub fn table_step(
         "in-force" => in_force(table, answer),
         "snapshot" => spell_part(alloc, table, None, answer),
         "row" => spell_part(alloc, table, Some(words.number()), answer),
-        "tally" | "listed" | "ended-behind" => look_step(alloc, table, word, words, answer),
+        "tally" | "listed" | "ended-behind" | "shown" => look_step(alloc, table, word, words, answer),
         _ => {
             // The words are left to another step where it is none of an event's.
             let mut others = *words;
