@@ -1,7 +1,7 @@
 // The page for a person: one file, which asks for the numbers and the lists by itself.
 
 /// The page. It has no part from elsewhere, and neither a double quote nor a backslash, so that it stands here as it is sent.
-pub(crate) const PAGE: &str = r"<!DOCTYPE html>
+pub(crate) const PAGE: &str = "<!DOCTYPE html>
 <html lang='en'>
 <head>
 <meta charset='utf-8'>
