@@ -4,8 +4,6 @@ use Rattle.std.specs.Str.Lossy.{utf8_lossy}
 use Rattle.json.specs.Print.{quoted}
 use Rattle.retry_rules.specs.declared.settings.Settings.{Settings}
 use Rattle.invoke_records.specs.declared.row.EventRow.{EventRow}
-use Rattle.invoke_records.specs.declared.row.Answer.{Answer}
-use Rattle.invoke_records.specs.declared.row.Answer.TheVariants as answer
 use Rattle.invoke_records.specs.declared.row.Standing.{Standing}
 use Rattle.invoke_records.specs.declared.row.Standing.TheVariants.{Running}
 pub use Rattle.invoke_records.specs.Spelling.{moment_in}
@@ -14,6 +12,7 @@ use Rattle.destination_json.specs.Record.{id_text, record_text}
 use Rattle.admin_report.specs.declared.standing_name.StandingName.{StandingName}
 use Rattle.admin_report.specs.Names.{name_of, name_text}
 use Rattle.admin_report.specs.Lines.{ending_of_row}
+pub use Rattle.admin_report.specs.Pages.{answer_size}
 
 -- ## One event
 
@@ -28,11 +27,6 @@ standing_text standing = name_or_unknown (name_of standing)
 abbrev pub environment_in : Standing → ℕ
 environment_in (Running environment deadline) = environment
 environment_in other = 0
-
-abbrev pub answer_size : Answer → ℕ
-answer_size answer.None = 0
-answer_size (answer.Response bytes) = length bytes
-answer_size (answer.Error bytes) = length bytes
 
 -- which event, of which command, and where it stands
 abbrev pub head_text : EventRow → List ℕ

@@ -1,9 +1,11 @@
 -- Pages of a table: the events in the order of acceptance, and those that have ended in the order of their end. A page goes
 -- on behind a number of a command, so that it does not matter whether the event of that command is still held.
-use Rattle.std.specs.Prelude.{◌≡◌, ℕ, ◌<◌, Bool, true, ◌&&◌, List, [], ◌∷◌, ◌++◌, map, filter, find, take, Option, Some, None, nat_lt, option_map}
+use Rattle.std.specs.Prelude.{◌≡◌, ℕ, ◌+◌, ◌-◌, ◌<◌, Bool, true, ◌&&◌, List, [], ◌∷◌, ◌++◌, map, filter, find, take, length, Option, Some, None, nat_lt, nat_le, option_map, if◌then◌else◌}
 use Rattle.std.specs.Prelude.{IsPermutation}
 use Rattle.std.specs.List.Sorted.{IsNonDecreasingBy}
 use Rattle.invoke_records.specs.declared.row.EventRow.{EventRow}
+use Rattle.invoke_records.specs.declared.row.Answer.{Answer}
+use Rattle.invoke_records.specs.declared.row.Answer.TheVariants as answer
 use Rattle.retry_rules.specs.declared.settings.Settings.{Settings}
 use Rattle.invoke_records.specs.declared.command.Command.{Command}
 use Rattle.async_core.specs.declared.choice.Side.{Side}
@@ -46,12 +48,42 @@ has_ended_behind side after row = nat_lt after row.last_number && ended_on side 
 abbrev pub ended_behind : Side → ℕ → List EventRow → List EventRow
 ended_behind side after rows = filter (has_ended_behind side after) rows
 
--- a page of those that have ended on a side behind a number, the one that ended first first, so many at most
+-- how many bytes the payload of an event and its last answer have
+abbrev pub answer_size : Answer → ℕ
+answer_size answer.None = 0
+answer_size (answer.Response bytes) = length bytes
+answer_size (answer.Error bytes) = length bytes
+
+abbrev pub size_of : EventRow → ℕ
+size_of row = length row.payload + answer_size row.answer
+
+-- how many bytes are left behind an event, where it has no more than these
+abbrev pub left_behind : EventRow → ℕ → Option ℕ
+left_behind row left = if nat_le (size_of row) left then Some (left - size_of row) else None
+
+-- how many of the first of these have no more bytes together than are left
+abbrev pub fitting_behind : (ℕ → ℕ) → Option ℕ → ℕ
+fitting_behind more None = 0
+fitting_behind more (Some left) = 1 + more left
+
+abbrev pub more_fitting : ℕ → List EventRow → ℕ
+more_fitting left [] = 0
+more_fitting left (row ∷ rows) = fitting_behind (λ (rest : ℕ). more_fitting rest rows) (left_behind row left)
+
+-- how many of the first of these a page of records has: no more than 4 MiB of payloads and answers, but the first one in any case
+abbrev pub fitting : List EventRow → ℕ
+fitting [] = 0
+fitting (row ∷ rows) = 1 + more_fitting (4194304 - size_of row) rows
+
+abbrev pub fit : List EventRow → List EventRow
+fit rows = take (fitting rows) rows
+
+-- a page of those that have ended on a side behind a number, the one that ended first first, so many at most and as many as fit
 pub record IsRecordPage (side : Side) (after limit : ℕ) (rows page : List EventRow) : Type 0 where
   pub ordered : List EventRow
   pub all : IsPermutation (ended_behind side after rows) ordered
   pub by_end : IsNonDecreasingBy (λ (row : EventRow). row.last_number) ordered
-  pub first : page ≡ take limit ordered
+  pub first : page ≡ fit (take limit ordered)
 
 -- the number to go on behind: that of the command by which the last event of a page ended
 abbrev pub next_end_after : ℕ → List EventRow → ℕ

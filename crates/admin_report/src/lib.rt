@@ -21,6 +21,7 @@ mod puts;
 mod reading;
 mod rest;
 mod showing;
+mod sizes;
 mod standing_name;
 mod tally;
 

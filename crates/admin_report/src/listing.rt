@@ -5,9 +5,10 @@ ghost use Rattle.admin_report.specs.Lines.{ending_of_row};
 ghost use Rattle.admin_report.specs.Listing as meant;
 
 use crate::lines::ended_of;
+use crate::sizes::answer_size;
 use crate::standing_name::StandingName;
 use destination_json::{id_text, record};
-use invoke_records::{Answer, EventRow, Standing};
+use invoke_records::{EventRow, Standing};
 use retry_rules::Settings;
 use serde_json::Value;
 use std::alloc::{AllocError, Global};
@@ -43,15 +44,6 @@ fn moment_of(standing: Standing) -> u64
         Standing::DueAgain { due } => due,
         Standing::Running { deadline, .. } => deadline,
         Standing::Ended { at, .. } => at,
-    }
-}
-
-fn answer_size(answer: &Answer) -> usize
-    ensures { result ≡ meant.answer_size answer.now }
-{
-    match answer {
-        Answer::None => 0,
-        Answer::Response(bytes) | Answer::Error(bytes) => bytes.len(),
     }
 }
 

@@ -6,6 +6,7 @@ ghost use Rattle.async_core.specs.Rules.{has_id};
 ghost use Rattle.admin_report.specs.Counts.{ForEachHistoryOf};
 ghost use Rattle.admin_report.specs.Pages as meant;
 
+use crate::sizes::fitting;
 use crate::standing_name::StandingName;
 use async_core::Side;
 use invoke_records::{EventRow, Outcome, Standing};
@@ -108,7 +109,8 @@ fn put_in_order(ended: &mut Vec<EventRow>) -> Result<(), AllocError>
     Ok(())
 }
 
-/// The events that ended on this side by a command behind this number, so many at most, the one that ended first first.
+/// The events that ended on this side by a command behind this number, the one that ended first first: so many at most, and no
+/// more than have 4 MiB of payloads and answers together, but the first one in any case.
 pub fn records_page(
     alloc: Global,
     rows: Vec<EventRow>,
@@ -121,6 +123,8 @@ pub fn records_page(
     let mut ended = ended_behind(alloc, rows, side, after)?;
     put_in_order(&mut ended)?;
     ended.truncate(limit);
+    let count = fitting(&ended);
+    ended.truncate(count);
     Ok(ended)
 }
 
