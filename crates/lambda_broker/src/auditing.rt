@@ -2,11 +2,11 @@
 ghost use Rattle.std.specs.Prelude.{◌≡◌};
 ghost use Rattle.lambda_broker.specs.Auditing.{is_device_fault};
 
-use admin_report::{Rest, record_lines, records_page, rest_json, tally_of};
+use admin_report::{Rest, next_end_after, record_lines, records_page, rest_json, tally_of};
 use async_core::{Side, Table};
 use audit_report::{Report, audit, explain, inspect};
 use group_commit::OpenError;
-use invoke_records::Snapshot;
+use invoke_records::{EventRow, MOST_ROWS, Snapshot};
 use sector_disk::{Disk, FileDisk, FileError};
 use std::alloc::{AllocError, Global};
 use std::fs::File;
@@ -94,13 +94,31 @@ fn numbers(alloc: Global, table: &Table, report: &Report) -> Result<Vec<u8>, All
     Ok(text.into_bytes())
 }
 
-// The destination records of one side, in the order of the ends of their events.
-fn records_of(alloc: Global, table: &Table, side: Side) -> Result<Vec<u8>, AllocError> {
+// The next events that ended on a side behind a number.
+fn page_behind(
+    alloc: Global,
+    table: &Table,
+    side: Side,
+    after: u64,
+) -> Result<Vec<EventRow>, AllocError> {
     let Snapshot { rows, .. } = table.snapshot()?;
-    let rows = rows.into_vec();
-    let most = rows.len();
-    let page = records_page(alloc, rows, side, 0, most)?;
-    record_lines(alloc, &page, table.settings())
+    records_page(alloc, rows.into_vec(), side, after, MOST_ROWS as usize)
+}
+
+// The destination records of one side, in the order of the ends of their events. Each page but the last has one at least.
+fn records_of(alloc: Global, table: &Table, side: Side) -> Result<Vec<u8>, AllocError> {
+    let mut lines = Vec::new(alloc);
+    let mut after = 0u64;
+    for _ in 0..=MOST_ROWS {
+        let page = page_behind(alloc, table, side, after)?;
+        if page.is_empty() {
+            break;
+        }
+        let more = record_lines(alloc, &page, table.settings())?;
+        lines.extend_from_slice(more.as_slice())?;
+        after = next_end_after(after, &page);
+    }
+    Ok(lines)
 }
 
 // The destination records of both sides, those of success first.
