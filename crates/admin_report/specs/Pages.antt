@@ -1,6 +1,7 @@
 -- Pages of a table: the events in the order of acceptance, and those that have ended in the order of their end. A page goes
 -- on behind a number of a command, so that it does not matter whether the event of that command is still held.
-use Rattle.std.specs.Prelude.{◌≡◌, ℕ, ◌+◌, ◌-◌, ◌<◌, Bool, true, ◌&&◌, List, [], ◌∷◌, ◌++◌, map, filter, find, take, length, Option, Some, None, nat_lt, nat_le, option_map, if◌then◌else◌}
+use Rattle.std.specs.Prelude.{◌≡◌, ℕ, ◌+◌, ◌-◌, ◌<◌, Bool, true, ◌&&◌, List, [], ◌∷◌, ◌++◌}
+use Rattle.std.specs.Prelude.{map, filter, find, take, length, Option, Some, None, nat_lt, nat_le, option_map, if◌then◌else◌}
 use Rattle.std.specs.Prelude.{IsPermutation}
 use Rattle.std.specs.List.Sorted.{IsNonDecreasingBy}
 use Rattle.invoke_records.specs.declared.row.EventRow.{EventRow}

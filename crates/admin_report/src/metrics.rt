@@ -5,14 +5,17 @@ ghost use Rattle.admin_report.specs.Steps.{texts};
 
 use crate::commit_times::CommitTimes;
 use crate::gauges::Gauges;
-use crate::puts::{put_head, put_label, put_labelled, put_sample, put_seconds, put_seconds_sample, put_single, since};
+use crate::puts::{
+    put_head, put_label, put_labelled, put_sample, put_seconds, put_seconds_sample, put_single, since,
+};
 use crate::tally::Tally;
 use retry_rules::Settings;
 use std::alloc::{AllocError, Global};
 
 /// The bounds of the buckets, in seconds: those of `BOUNDS`.
 const BOUND_TEXTS: [&str; 12] = [
-    "0.00025", "0.0005", "0.001", "0.0025", "0.005", "0.01", "0.025", "0.05", "0.1", "0.25", "1", "5",
+    "0.00025", "0.0005", "0.001", "0.0025", "0.005", "0.01", "0.025", "0.05", "0.1", "0.25", "1",
+    "5",
 ];
 
 // Puts how many events wait or run.
@@ -30,41 +33,105 @@ fn put_ends(out: &mut String, tally: &Tally) -> Result<(), AllocError>
     ensures { OnOk result (string_bytes out.new ≡ string_bytes out.old ++ meant.ends_text tally.now) }
 {
     put_labelled(out, "lambda_broker_events", "standing", "success", tally.success as u64)?;
-    put_labelled(out, "lambda_broker_events", "standing", "retries_exhausted", tally.retries_exhausted as u64)?;
-    put_labelled(out, "lambda_broker_events", "standing", "event_age_exceeded", tally.event_age_exceeded as u64)
+    put_labelled(
+        out,
+        "lambda_broker_events",
+        "standing",
+        "retries_exhausted",
+        tally.retries_exhausted as u64,
+    )?;
+    put_labelled(
+        out,
+        "lambda_broker_events",
+        "standing",
+        "event_age_exceeded",
+        tally.event_age_exceeded as u64,
+    )
 }
 
 // Puts how long the oldest wait.
 fn put_ages(out: &mut String, tally: &Tally, gauges: &Gauges) -> Result<(), AllocError>
     ensures { OnOk result (string_bytes out.new ≡ string_bytes out.old ++ meant.ages_text tally.now gauges.now) }
 {
-    put_seconds(out, "lambda_broker_oldest_wait_seconds", "Age of the oldest event that waits for an attempt, 0 where none does.", since(gauges.moment, tally.oldest_wait))?;
-    put_seconds(out, "lambda_broker_oldest_record_seconds", "Time since the oldest event ended whose record was not collected, 0 where there is none.", since(gauges.moment, tally.oldest_record))
+    put_seconds(
+        out,
+        "lambda_broker_oldest_wait_seconds",
+        "Age of the oldest event that waits for an attempt, 0 where none does.",
+        since(gauges.moment, tally.oldest_wait),
+    )?;
+    put_seconds(
+        out,
+        "lambda_broker_oldest_record_seconds",
+        "Time since the oldest event ended whose record was not collected, 0 where there is none.",
+        since(gauges.moment, tally.oldest_record),
+    )
 }
 
 // Puts how many commands there are.
 fn put_commands(out: &mut String, gauges: &Gauges) -> Result<(), AllocError>
     ensures { OnOk result (string_bytes out.new ≡ string_bytes out.old ++ meant.commands_text gauges.now) }
 {
-    put_single(out, "lambda_broker_commands_issued_total", "counter", "Commands issued since the disk was formatted.", gauges.issued)?;
-    put_single(out, "lambda_broker_commands_durable_total", "counter", "Commands of which no stop takes any away.", gauges.durable)?;
-    put_single(out, "lambda_broker_commands_pending", "gauge", "Commands issued that are not durable.", gauges.issued.saturating_sub(gauges.durable))
+    put_single(
+        out,
+        "lambda_broker_commands_issued_total",
+        "counter",
+        "Commands issued since the disk was formatted.",
+        gauges.issued,
+    )?;
+    put_single(
+        out,
+        "lambda_broker_commands_durable_total",
+        "counter",
+        "Commands of which no stop takes any away.",
+        gauges.durable,
+    )?;
+    put_single(
+        out,
+        "lambda_broker_commands_pending",
+        "gauge",
+        "Commands issued that are not durable.",
+        gauges.issued.saturating_sub(gauges.durable),
+    )
 }
 
 // Puts what was written.
 fn put_writes(out: &mut String, gauges: &Gauges) -> Result<(), AllocError>
     ensures { OnOk result (string_bytes out.new ≡ string_bytes out.old ++ meant.writes_text gauges.now) }
 {
-    put_single(out, "lambda_broker_switches_total", "counter", "Switches to the other segment since the broker was opened.", gauges.switches)?;
-    put_single(out, "lambda_broker_written_bytes_total", "counter", "Bytes written to the disk since the broker was opened.", gauges.written_bytes)
+    put_single(
+        out,
+        "lambda_broker_switches_total",
+        "counter",
+        "Switches to the other segment since the broker was opened.",
+        gauges.switches,
+    )?;
+    put_single(
+        out,
+        "lambda_broker_written_bytes_total",
+        "counter",
+        "Bytes written to the disk since the broker was opened.",
+        gauges.written_bytes,
+    )
 }
 
 // Puts who waits.
 fn put_waiters(out: &mut String, gauges: &Gauges) -> Result<(), AllocError>
     ensures { OnOk result (string_bytes out.new ≡ string_bytes out.old ++ meant.waiters_text gauges.now) }
 {
-    put_single(out, "lambda_broker_open_slots", "gauge", "Requests whose reply was not told.", gauges.open_slots as u64)?;
-    put_single(out, "lambda_broker_parked_polls", "gauge", "Polls of runtimes and extensions that no event has answered.", gauges.parked as u64)
+    put_single(
+        out,
+        "lambda_broker_open_slots",
+        "gauge",
+        "Requests whose reply was not told.",
+        gauges.open_slots as u64,
+    )?;
+    put_single(
+        out,
+        "lambda_broker_parked_polls",
+        "gauge",
+        "Polls of runtimes and extensions that no event has answered.",
+        gauges.parked as u64,
+    )
 }
 
 // Puts in which phases the environments are.
@@ -75,38 +142,108 @@ fn put_phases(out: &mut String, gauges: &Gauges) -> Result<(), AllocError>
     put_labelled(out, "lambda_broker_environments", "phase", "init", gauges.phases.init as u64)?;
     put_labelled(out, "lambda_broker_environments", "phase", "ready", gauges.phases.ready as u64)?;
     put_labelled(out, "lambda_broker_environments", "phase", "busy", gauges.phases.busy as u64)?;
-    put_labelled(out, "lambda_broker_environments", "phase", "closing", gauges.phases.closing as u64)
+    put_labelled(
+        out,
+        "lambda_broker_environments",
+        "phase",
+        "closing",
+        gauges.phases.closing as u64,
+    )
 }
 
 // Puts how many events came and ended.
 fn put_lives(out: &mut String, gauges: &Gauges) -> Result<(), AllocError>
     ensures { OnOk result (string_bytes out.new ≡ string_bytes out.old ++ meant.lives_text gauges.now) }
 {
-    put_single(out, "lambda_broker_accepted_total", "counter", "Events accepted since the broker was opened.", gauges.totals.accepted)?;
-    put_head(out, "lambda_broker_ended_total", "counter", "Events ended since the broker was opened, by outcome.")?;
+    put_single(
+        out,
+        "lambda_broker_accepted_total",
+        "counter",
+        "Events accepted since the broker was opened.",
+        gauges.totals.accepted,
+    )?;
+    put_head(
+        out,
+        "lambda_broker_ended_total",
+        "counter",
+        "Events ended since the broker was opened, by outcome.",
+    )?;
     put_labelled(out, "lambda_broker_ended_total", "outcome", "success", gauges.totals.success)?;
-    put_labelled(out, "lambda_broker_ended_total", "outcome", "retries_exhausted", gauges.totals.retries_exhausted)?;
-    put_labelled(out, "lambda_broker_ended_total", "outcome", "event_age_exceeded", gauges.totals.event_age_exceeded)
+    put_labelled(
+        out,
+        "lambda_broker_ended_total",
+        "outcome",
+        "retries_exhausted",
+        gauges.totals.retries_exhausted,
+    )?;
+    put_labelled(
+        out,
+        "lambda_broker_ended_total",
+        "outcome",
+        "event_age_exceeded",
+        gauges.totals.event_age_exceeded,
+    )
 }
 
 // Puts how many requests were refused.
 fn put_refusals(out: &mut String, gauges: &Gauges) -> Result<(), AllocError>
     ensures { OnOk result (string_bytes out.new ≡ string_bytes out.old ++ meant.refusals_text gauges.now) }
 {
-    put_head(out, "lambda_broker_refused_total", "counter", "Requests refused since the broker was opened, by reason.")?;
-    put_labelled(out, "lambda_broker_refused_total", "reason", "request", gauges.totals.refused_requests)?;
+    put_head(
+        out,
+        "lambda_broker_refused_total",
+        "counter",
+        "Requests refused since the broker was opened, by reason.",
+    )?;
+    put_labelled(
+        out,
+        "lambda_broker_refused_total",
+        "reason",
+        "request",
+        gauges.totals.refused_requests,
+    )?;
     put_labelled(out, "lambda_broker_refused_total", "reason", "full", gauges.totals.refused_full)?;
-    put_labelled(out, "lambda_broker_refused_total", "reason", "unavailable", gauges.totals.refused_unavailable)
+    put_labelled(
+        out,
+        "lambda_broker_refused_total",
+        "reason",
+        "unavailable",
+        gauges.totals.refused_unavailable,
+    )
 }
 
 // Puts how the disk stands.
 fn put_disk(out: &mut String, gauges: &Gauges) -> Result<(), AllocError>
     ensures { OnOk result (string_bytes out.new ≡ string_bytes out.old ++ meant.disk_text gauges.now) }
 {
-    put_single(out, "lambda_broker_generation", "gauge", "Generation of the live segment.", gauges.generation)?;
-    put_single(out, "lambda_broker_disk_sectors", "gauge", "Sectors of 512 bytes of the disk.", gauges.sectors)?;
-    put_single(out, "lambda_broker_segment_free_sectors", "gauge", "Sectors that the live segment has left for commands.", gauges.free_sectors)?;
-    put_single(out, "process_resident_memory_bytes", "gauge", "Resident memory of the broker.", gauges.resident_bytes)
+    put_single(
+        out,
+        "lambda_broker_generation",
+        "gauge",
+        "Generation of the live segment.",
+        gauges.generation,
+    )?;
+    put_single(
+        out,
+        "lambda_broker_disk_sectors",
+        "gauge",
+        "Sectors of 512 bytes of the disk.",
+        gauges.sectors,
+    )?;
+    put_single(
+        out,
+        "lambda_broker_segment_free_sectors",
+        "gauge",
+        "Sectors that the live segment has left for commands.",
+        gauges.free_sectors,
+    )?;
+    put_single(
+        out,
+        "process_resident_memory_bytes",
+        "gauge",
+        "Resident memory of the broker.",
+        gauges.resident_bytes,
+    )
 }
 
 // Puts a sample for each bound.
@@ -175,7 +312,12 @@ fn put_sizes(out: &mut String, settings: &Settings) -> Result<(), AllocError>
 fn put_info(alloc: Global, out: &mut String, settings: &Settings) -> Result<(), AllocError>
     ensures { OnOk result (string_bytes out.new ≡ string_bytes out.old ++ meant.info_text settings.now) }
 {
-    put_head(out, "lambda_broker_info", "gauge", "The settings with which the disk was formatted.")?;
+    put_head(
+        out,
+        "lambda_broker_info",
+        "gauge",
+        "The settings with which the disk was formatted.",
+    )?;
     put_rules(alloc, out, settings)?;
     put_limits(out, settings)?;
     put_sizes(out, settings)
