@@ -1,9 +1,11 @@
 #!/usr/bin/env python3
 """An extension in Python: it registers for INVOKE and SHUTDOWN, and prints each event until the environment is shut down.
 
-Start it before the runtime of its environment. Usage: extension.py PORT [NAME]
+Start it before the runtime of its environment. Usage: extension.py [PORT [NAME]]    Without PORT the broker's port of the
+environment is that of AWS_LAMBDA_RUNTIME_API, which is HOST:PORT, as for the extensions of AWS Lambda.
 """
 import json
+import os
 import sys
 from http.client import HTTPConnection
 
@@ -27,9 +29,8 @@ def register(broker, name):
 
 
 def main():
-    port = int(sys.argv[1])
     name = sys.argv[2] if len(sys.argv) > 2 else "printer"
-    broker = HTTPConnection("127.0.0.1", port)
+    broker = HTTPConnection(f"127.0.0.1:{sys.argv[1]}" if len(sys.argv) > 1 else os.environ["AWS_LAMBDA_RUNTIME_API"])
     me = {"Lambda-Extension-Identifier": register(broker, name)}
     while True:
         status, _, body = ask(broker, "GET", f"{API}/event/next", headers=me)

@@ -1,9 +1,11 @@
 #!/usr/bin/env python3
 """A runtime in Python: it answers each event with the number of its members, and reports what is no object as an error.
 
-Usage: runtime.py PORT [COUNT]
+Usage: runtime.py [PORT [COUNT]]    Without PORT the broker's port of the environment is that of AWS_LAMBDA_RUNTIME_API,
+which is HOST:PORT, as for the runtimes of AWS Lambda.
 """
 import json
+import os
 import sys
 from http.client import HTTPConnection
 
@@ -35,9 +37,8 @@ def serve_one(broker):
 
 
 def main():
-    port = int(sys.argv[1])
     count = int(sys.argv[2]) if len(sys.argv) > 2 else None
-    broker = HTTPConnection("127.0.0.1", port)
+    broker = HTTPConnection(f"127.0.0.1:{sys.argv[1]}" if len(sys.argv) > 1 else os.environ["AWS_LAMBDA_RUNTIME_API"])
     while count is None or count > 0:
         serve_one(broker)
         count = count and count - 1

@@ -1,6 +1,7 @@
 #!/bin/sh
-# A runtime in shell: it asks for the next event, upper-cases it, and sends that back. Usage: runtime.sh PORT [COUNT]
-api=http://127.0.0.1:$1/2018-06-01/runtime
+# A runtime in shell: it asks for the next event, upper-cases it, and sends that back. Usage: runtime.sh [PORT [COUNT]]
+# Without PORT the broker's port of the environment is that of AWS_LAMBDA_RUNTIME_API, which is HOST:PORT.
+api=http://${1:+127.0.0.1:}${1:-$AWS_LAMBDA_RUNTIME_API}/2018-06-01/runtime
 left=${2:--1}
 while [ "$left" -ne 0 ]; do
     head=$(mktemp)
