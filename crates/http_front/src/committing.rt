@@ -117,7 +117,8 @@ impl<L: Ledger, T: Trace, D: Disk + Drop> Committer<L, T, D> {
     /// becomes durable by one commit. Where nothing is pending, or a commit was refused, it sleeps until the next request
     /// or the ticker's next turn; where the gate skips what is pending, it is asked again.
     ///
-    /// At each moment a stop leaves a legal stop of the half's list with what it took.
+    /// On an honest disk a stop at any moment leaves a legal stop of the half's list with what it took: a beginning of that with
+    /// all that was durable at the call.
     pub fn run<R: Wait, G: Gate>(self, rt: &R, front: &Front<L, T>, gate: &G) -> Committer<L, T, D>
         ensures learned { IsRun HasLearned (G.says gate.now)
             (known self.desk.told (seen_by self.seated))

@@ -33,9 +33,9 @@ use std::{io, thread};
 /// How a front ended.
 #[derive(Clone, Copy, Debug, PartialEq, Eq)]
 pub enum Ending {
-    /// A request stopped the broker: all that was issued is durable, and every request was answered.
+    /// A request stopped the broker: all that was issued is durable, and every request whose client had stayed was answered.
     Stopped,
-    /// The device failed, and every request was answered.
+    /// The device failed, and every request whose client had stayed was answered.
     Broken,
 }
 
@@ -96,7 +96,7 @@ impl<L: Ledger, T: Trace> Gate for UntilEnding<'_, L, T> {
     }
 }
 
-// Serves a place to its end. Where it fails, the front ends.
+// Serves a port to its end. Where it fails, the front ends.
 fn serve_place<R, L, T>(
     rt: R,
     place: PortApplication<R, L, T>,
@@ -288,8 +288,8 @@ fn port_count(settings: &Settings) -> u64
 /// was stopped or its device failed and every open request was answered or its client has gone. The committer, on the
 /// calling thread, is asked by the gate beside that.
 ///
-/// The half over the disk is handed back: it is the hall's broker with what was committed since. At each moment of the serving
-/// a stop leaves a legal stop of its list.
+/// The half over the disk is handed back: it is the hall's broker with what was committed since. On an honest disk a stop at any
+/// moment of the serving leaves a legal stop of its list: a beginning of that with all that was durable before.
 ///
 /// It is refused: `TooManyPorts` (more listeners than ports), `Office` (no office was opened over the hall), `OutOfMemory`,
 /// and `System`, where the system gave no thread or no sockets.

@@ -11,14 +11,14 @@ use std::time::Clock;
 
 // A connection that is open, and has a seat.
 #[derive(Drop)]
-struct Seated<C, R> {
+struct Connected<C, R> {
     conn: C,
     timer: Timer<R>,
     // It is left when the connection has ended.
     seat: Seat,
 }
 
-impl<C: Future<Output = T>, T: Drop, R: Clock + Drop> Seated<C, R> {
+impl<C: Future<Output = T>, T: Drop, R: Clock + Drop> Connected<C, R> {
     // Ready once the connection has ended, or is to be closed.
     fn poll(&mut self, cx: &mut Context<'_>) -> Poll<()>
         requires { C.can_poll self.old.conn }
@@ -36,17 +36,17 @@ impl<C: Future<Output = T>, T: Drop, R: Clock + Drop> Seated<C, R> {
 /// A connection as a task. How it ended is not told.
 #[derive(Drop)]
 pub(crate) struct Served<C, R> {
-    seated: Option<Seated<C, R>>,
+    connected: Option<Connected<C, R>>,
 }
 
 impl<C: Future, R> Served<C, R> {
     /// Serves a connection that can be polled, in this time, and leaves its seat.
     pub(crate) fn new(conn: C, timer: Timer<R>, seat: Seat) -> Served<C, R>
         requires { C.can_poll conn }
-        ensures { IfSome result.seated (λ seated. C.can_poll seated.conn) }
+        ensures { IfSome result.connected (λ connected. C.can_poll connected.conn) }
     {
         Served {
-            seated: Some(Seated { conn, timer, seat }),
+            connected: Some(Connected { conn, timer, seat }),
         }
     }
 }
@@ -54,15 +54,15 @@ impl<C: Future, R> Served<C, R> {
 impl<C: Future<Output = T>, T: Drop, R: Clock + Drop> Future for Served<C, R> {
     type Output = ();
 
-    ghost can_poll = { λ s. IfSome s.seated (λ seated. C.can_poll seated.conn) };
+    ghost can_poll = { λ s. IfSome s.connected (λ connected. C.can_poll connected.conn) };
 
     fn poll(&mut self, cx: &mut Context<'_>) -> Poll<()> {
-        let Some(mut seated) = self.seated.take() else {
+        let Some(mut connected) = self.connected.take() else {
             return Poll::Ready(());
         };
-        match seated.poll(cx) {
+        match connected.poll(cx) {
             Poll::Pending => {
-                self.seated = Some(seated);
+                self.connected = Some(connected);
                 Poll::Pending
             }
             Poll::Ready(()) => Poll::Ready(()),

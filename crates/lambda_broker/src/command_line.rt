@@ -25,7 +25,7 @@ use std::time::Clock;
 
 /// The command did what it was asked to.
 const DONE: u8 = 0;
-/// The disk is damaged, or the request was refused.
+/// The disk is damaged, or the command was refused.
 const REFUSED: u8 = 1;
 /// The words are no command.
 const USAGE: u8 = 2;

@@ -10,7 +10,7 @@ number_at (progress.Durable receipt) = Some receipt
 number_at (progress.Answered receipt number) = Some receipt
 number_at progress.Told = None
 
--- the number for which it registers: that of its ticket, and else one that is never rung
+-- the number for which it registers: that of its ticket, and else the greatest of all, which is rung once nothing more becomes durable
 abbrev pub number_for : Progress → ℕ
 number_for (progress.Issued ticket) = ticket
 number_for other = 2 ^ 64 - 1

@@ -213,8 +213,8 @@ impl<L: Ledger, T: Trace> Office<L, T> {
     /// Makes all that is pending durable: how many commands that is. The commands are lent under the lock, written outside
     /// it, and settled under it, so that others ask the office while the disk writes.
     ///
-    /// The half is called at most once, to write just the batch that was lent: at Ok all of it is durable, and at each moment a
-    /// stop leaves a legal stop of the half's list with what it took.
+    /// The half is called at most once, to write just the batch that was lent: at Ok all of it is durable, and on an honest disk a
+    /// stop at any moment leaves a legal stop of the half's list with what it took.
     ///
     /// It is refused: `Mismatch` (fewer commands were issued than this desk was told), `Broken`, `Lent` (another commit has
     /// lent what is pending), `OutOfMemory`, `OtherHalf` (this is not the half of this office's broker), and as the half
