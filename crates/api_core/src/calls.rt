@@ -29,21 +29,19 @@ fn invoke(alloc: Global, body: Vec<u8>) -> Result<Call, AllocError>
     ensures { IfOk result (λ call. call ≡ Call.Invoke (or_empty_object body.items)) }
 {
     let payload = if body.is_empty() {
-        Vec::from_slice(alloc, b"{}")?
+        Bytes::from_slice(alloc, b"{}")?
     } else {
-        body
+        Bytes::from_vec(body)?
     };
-    Ok(Call::Invoke {
-        payload: Bytes::from_vec(payload),
-    })
+    Ok(Call::Invoke { payload })
 }
 
 fn name_in(alloc: Global, headers: &HeaderMap) -> Result<Bytes, AllocError>
     ensures { IfOk result (λ name. name ≡ name_or_none headers.now) }
 {
     match extension_name(headers) {
-        Some(name) => Ok(Bytes::from_vec(Vec::from_slice(alloc, name)?)),
-        None => Ok(Bytes::empty(alloc)),
+        Some(name) => Bytes::from_slice(alloc, name),
+        None => Ok(Bytes::empty()),
     }
 }
 
@@ -69,7 +67,7 @@ fn response(alloc: Global, environment: u16, part: &str, body: Vec<u8>) -> Resul
     ensures { IfOk result (λ call. call ≡ Call.Response environment (id_of (percent_decode part.now)) body.items) }
 {
     let id = id_in(alloc, part)?;
-    let body = Bytes::from_vec(body);
+    let body = Bytes::from_vec(body)?;
     Ok(Call::Response {
         environment,
         id,
@@ -86,7 +84,7 @@ fn runtime_error(
     ensures { IfOk result (λ call. call ≡ Call.RuntimeError environment (id_of (percent_decode part.now)) body.items) }
 {
     let id = id_in(alloc, part)?;
-    let body = Bytes::from_vec(body);
+    let body = Bytes::from_vec(body)?;
     Ok(Call::RuntimeError {
         environment,
         id,

@@ -32,7 +32,7 @@ impl HeaderDraft {
         ensures whole { self.new.is_whole ≡ self.old.is_whole }
         ensures ok { OnOk result (pairs self.new.list.items ≡ pairs self.old.list.items ++ (name.now, value.now) ∷ []) }
     {
-        let value = Bytes::from_vec(Vec::from_slice(self.alloc, value)?);
+        let value = Bytes::from_slice(self.alloc, value)?;
         self.list.push(Header { name, value })?;
         Ok(())
     }
@@ -61,12 +61,11 @@ impl HeaderDraft {
     pub(crate) fn bare(self, status: u16) -> Result<Reply, AllocError>
         ensures { IfOk result (λ reply. (self.is_whole ≡ true) × (reply ≡ bare status (pairs self.list.items))) }
     {
-        let body = Bytes::empty(self.alloc);
         let headers = self.end()?;
         Ok(Reply {
             status,
             headers,
-            body,
+            body: Bytes::empty(),
         })
     }
 
@@ -76,7 +75,7 @@ impl HeaderDraft {
     {
         self.add("Content-Type", b"application/json");
         let headers = self.end()?;
-        let body = Bytes::from_vec(text);
+        let body = Bytes::from_vec(text)?;
         Ok(Reply {
             status,
             headers,

@@ -7,8 +7,8 @@ use Rattle.invoke_records.specs.declared.row.EventRow.{EventRow}
 use Rattle.async_core.specs.declared.choice.Order.{Order}
 use Rattle.async_core.specs.declared.choice.Move.{Move}
 use Rattle.retry_rules.specs.declared.settings.Settings.{Settings}
-use Rattle.async_core.specs.Rules.{running_at}
-use Rattle.async_core.specs.Choice.{rank, goes_before, NotBefore, IsLeast, IsChosen, IsNextAt, moving, move_at, move_by, too_old_at}
+use Rattle.async_core.specs.Rules.{running_at, too_old_at}
+use Rattle.async_core.specs.Choice.{rank, goes_before, NotBefore, IsLeast, IsChosen, IsNextAt, moving, move_at, move_by}
 
 before_parts : (k j : ℕ × ℕ) → goes_before k j ≡ true → (k.0 < j.0) ⊎ ((k.0 ≡ j.0) × (k.1 < j.1))
 before_parts k j h =
@@ -96,4 +96,4 @@ same_presence f g at (Some x) none some = cc
 -- the row of least rank has a move
 pub next_in : (s : Settings) (rows : List EventRow) (now : ℕ) (ready : Option ℕ) (row : EventRow) (result : Option Move) → result ≡ move_at s rows now ready row → IsLeast (moving s rows now (is_some ready)) rows row → IsNextAt s rows now ready result
 next_in s rows now ready row (Some move) is least = (row, is, least)
-next_in s rows now ready row None is least = absurd (same_presence _ _ least.at (move_by (nat_le s.concurrency (running_at rows)) (is_some ready) (too_old_at s.age row) now row.standing) is least.ranked)
+next_in s rows now ready row None is least = absurd (same_presence _ _ least.at (move_by (nat_le s.concurrency (running_at rows)) (is_some ready) (too_old_at row) now row.standing) is least.ranked)

@@ -5,31 +5,34 @@ use Rattle.std.specs.Borrow.{Bor}
 use Rattle.std.specs.Option.{option_copied}
 use Rattle.std.proofs.lemmas.Bool.{true≢false, leb-true, leb-false, le-leb, lt-leb}
 use Rattle.std.proofs.lemmas.Bool.Decides.{nat_tests}
+use Rattle.retry_rules.specs.declared.policy.RetryPolicy.{RetryPolicy}
+use Rattle.retry_rules.specs.declared.settings.Settings.{Settings}
 use Rattle.invoke_records.specs.declared.command.Command.{Command}
 use Rattle.invoke_records.specs.declared.command.Kind.{Kind}
-use Rattle.invoke_records.specs.declared.command.Kind.TheVariants.{Accept, Start, Succeed, Fail, Throttle, Interrupt, Expire, Collect}
+use Rattle.invoke_records.specs.declared.command.Kind.TheVariants.{Accept, Start, Succeed, Fail, Throttle, Interrupt, Expire, Collect, Configure}
 use Rattle.invoke_records.specs.declared.row.EventRow.{EventRow}
 use Rattle.invoke_records.specs.declared.row.Standing.{Standing}
 use Rattle.invoke_records.specs.declared.row.Standing.TheVariants as standing
 use Rattle.async_core.specs.declared.choice.Order.{Order}
 use Rattle.async_core.specs.declared.choice.Order.TheVariants as order
 use Rattle.async_core.specs.declared.turns.Index.TheVariants.{Ripe, Deadline, Environment}
-use Rattle.async_core.specs.Standings.{Rules, runs_in}
-use Rattle.async_core.specs.Rules.{rows_after, row_after, change_row, is_busy_at}
-use Rattle.async_core.specs.Choice.{rank, NotBefore, IsChosen, too_old_at, start_or_throttle, move_when_due, move_by, ripe_by}
+use Rattle.async_core.specs.Standings.{runs_in}
+use Rattle.async_core.specs.Rules.{rows_after, row_after, change_row, is_busy_at, too_old_at}
+use Rattle.async_core.specs.Choice.{rank, NotBefore, IsChosen, start_or_throttle, move_when_due, move_by, ripe_by}
 use Rattle.async_core.specs.Turns.{facts_of, turn_within, row_turn, IsFirstBy, ripe_turn, deadline_turn, environment_turn, idle_turn}
-use Rattle.async_core.specs.Kept.{Kept, NoneExpired}
+use Rattle.async_core.specs.Kept.{NoneExpired}
 
 -- what a command of any other kind does
-pub other_rows : (rules : Rules) (n : ℕ) (c : Command) (rows : List EventRow) (k : Kind) → (k ≡ Accept → ⊥) → (k ≡ Collect → ⊥) → change_row c.id (row_after rules n c k) rows ≡ rows_after rules n c k rows
-other_rows rules n c rows Accept accepts collects = absurd (accepts refl)
-other_rows rules n c rows Start accepts collects = refl
-other_rows rules n c rows Succeed accepts collects = refl
-other_rows rules n c rows (Fail cause) accepts collects = refl
-other_rows rules n c rows Throttle accepts collects = refl
-other_rows rules n c rows Interrupt accepts collects = refl
-other_rows rules n c rows Expire accepts collects = refl
-other_rows rules n c rows Collect accepts collects = absurd (collects refl)
+pub other_rows : (s : Settings) (policy : RetryPolicy) (n : ℕ) (c : Command) (rows : List EventRow) (k : Kind) → (k ≡ Accept → ⊥) → (k ≡ Collect → ⊥) → ((next : RetryPolicy) → k ≡ Configure next → ⊥) → change_row c.id (row_after s n c k) rows ≡ rows_after s policy n c k rows
+other_rows s policy n c rows Accept accepts collects configures = absurd (accepts refl)
+other_rows s policy n c rows Start accepts collects configures = refl
+other_rows s policy n c rows Succeed accepts collects configures = refl
+other_rows s policy n c rows (Fail cause) accepts collects configures = refl
+other_rows s policy n c rows Throttle accepts collects configures = refl
+other_rows s policy n c rows Interrupt accepts collects configures = refl
+other_rows s policy n c rows Expire accepts collects configures = refl
+other_rows s policy n c rows Collect accepts collects configures = absurd (collects refl)
+other_rows s policy n c rows (Configure next) accepts collects configures = absurd (configures next refl)
 
 -- ## Ranks that agree choose alike
 
@@ -72,15 +75,15 @@ running_rank now deadline number false h k =
     let low : nat_le 0 deadline ≡ true = le-leb 0 deadline (omega arith) in
     rw (low, h) refl
 
-ripe_rank : (age now : ℕ) (ready full : Bool) → (full || ready) ≡ true → (r : EventRow) (st : Standing) → turn_within 0 (Some now) (ripe_turn age (facts_of r) st) ≡ option_map (λ (kind : Kind). (ripe_by (too_old_at age r) st, r.number)) (move_by full ready (too_old_at age r) now st)
-ripe_rank age now ready full free r standing.Unknown = refl
-ripe_rank age now ready full free r (standing.Waiting due) = due_rank full ready free (too_old_at age r) now due r.number (nat_le (too_old_at age r) now) (nat_le due now) refl refl
-ripe_rank age now ready full free r (standing.DueAgain due) = due_rank full ready free (too_old_at age r) now due r.number (nat_le (too_old_at age r) now) (nat_le due now) refl refl
-ripe_rank age now ready full free r (standing.Running environment deadline) = running_rank now deadline r.number (nat_le deadline now) refl _
-ripe_rank age now ready full free r (standing.Ended outcome at) = refl
+ripe_rank : (now : ℕ) (ready full : Bool) → (full || ready) ≡ true → (r : EventRow) (st : Standing) → turn_within 0 (Some now) (ripe_turn (facts_of r) st) ≡ option_map (λ (kind : Kind). (ripe_by (too_old_at r) st, r.number)) (move_by full ready (too_old_at r) now st)
+ripe_rank now ready full free r standing.Unknown = refl
+ripe_rank now ready full free r (standing.Waiting due) = due_rank full ready free (too_old_at r) now due r.number (nat_le (too_old_at r) now) (nat_le due now) refl refl
+ripe_rank now ready full free r (standing.DueAgain due) = due_rank full ready free (too_old_at r) now due r.number (nat_le (too_old_at r) now) (nat_le due now) refl refl
+ripe_rank now ready full free r (standing.Running environment deadline) = running_rank now deadline r.number (nat_le deadline now) refl _
+ripe_rank now ready full free r (standing.Ended outcome at) = refl
 
-pub chosen_ripe : (age now : ℕ) (ready full : Bool) (rows : List EventRow) (found : Option EventRow) → (full || ready) ≡ true → IsFirstBy (row_turn age Ripe 0 (Some now)) rows found → IsChosen (order.Moving now ready full age) rows found
-chosen_ripe age now ready full rows found free = chosen_by (order.Moving now ready full age) (row_turn age Ripe 0 (Some now)) rows found (λ k d lt. ripe_rank age now ready full free (get_or rows k d) (get_or rows k d).standing)
+pub chosen_ripe : (now : ℕ) (ready full : Bool) (rows : List EventRow) (found : Option EventRow) → (full || ready) ≡ true → IsFirstBy (row_turn Ripe 0 (Some now)) rows found → IsChosen (order.Moving now ready full) rows found
+chosen_ripe now ready full rows found free = chosen_by (order.Moving now ready full) (row_turn Ripe 0 (Some now)) rows found (λ k d lt. ripe_rank now ready full free (get_or rows k d) (get_or rows k d).standing)
 
 -- ## Moves where none is ready, fewer run than may, and none that waits is too old
 
@@ -92,28 +95,28 @@ idle_rank too_old now due a false due_is young =
     let old : nat_le too_old now ≡ false = lt-leb too_old now young in
     rw (old, due_is) refl
 
-deadline_rank : (age now : ℕ) (r : EventRow) (st : Standing) → (is_some (idle_turn (facts_of r) st) ≡ true → now < too_old_at age r)
-    → turn_within 0 (Some now) (deadline_turn (facts_of r) st) ≡ option_map (λ (kind : Kind). (ripe_by (too_old_at age r) st, r.number)) (move_by false false (too_old_at age r) now st)
-deadline_rank age now r standing.Unknown young = refl
-deadline_rank age now r (standing.Waiting due) young = idle_rank (too_old_at age r) now due (min due (too_old_at age r), r.number) (nat_le due now) refl (young refl)
-deadline_rank age now r (standing.DueAgain due) young = idle_rank (too_old_at age r) now due (min due (too_old_at age r), r.number) (nat_le due now) refl (young refl)
-deadline_rank age now r (standing.Running environment deadline) young = running_rank now deadline r.number (nat_le deadline now) refl _
-deadline_rank age now r (standing.Ended outcome at) young = refl
+deadline_rank : (now : ℕ) (r : EventRow) (st : Standing) → (is_some (idle_turn (facts_of r) st) ≡ true → now < too_old_at r)
+    → turn_within 0 (Some now) (deadline_turn (facts_of r) st) ≡ option_map (λ (kind : Kind). (ripe_by (too_old_at r) st, r.number)) (move_by false false (too_old_at r) now st)
+deadline_rank now r standing.Unknown young = refl
+deadline_rank now r (standing.Waiting due) young = idle_rank (too_old_at r) now due (min due (too_old_at r), r.number) (nat_le due now) refl (young refl)
+deadline_rank now r (standing.DueAgain due) young = idle_rank (too_old_at r) now due (min due (too_old_at r), r.number) (nat_le due now) refl (young refl)
+deadline_rank now r (standing.Running environment deadline) young = running_rank now deadline r.number (nat_le deadline now) refl _
+deadline_rank now r (standing.Ended outcome at) young = refl
 
-pub chosen_deadline : (kept : Kept) (now : ℕ) (found : Option EventRow) → NoneExpired now kept → IsFirstBy (row_turn kept.age Deadline 0 (Some now)) kept.rows found → IsChosen (order.Moving now false false kept.age) kept.rows found
-chosen_deadline kept now found young = chosen_by (order.Moving now false false kept.age) (row_turn kept.age Deadline 0 (Some now)) kept.rows found (λ k d lt. deadline_rank kept.age now (get_or kept.rows k d) (get_or kept.rows k d).standing (young k d lt))
+pub chosen_deadline : (rows : List EventRow) (now : ℕ) (found : Option EventRow) → NoneExpired now rows → IsFirstBy (row_turn Deadline 0 (Some now)) rows found → IsChosen (order.Moving now false false) rows found
+chosen_deadline rows now found young = chosen_by (order.Moving now false false) (row_turn Deadline 0 (Some now)) rows found (λ k d lt. deadline_rank now (get_or rows k d) (get_or rows k d).standing (young k d lt))
 
 -- ## An environment that runs an event
 
 in_environment : (e : ℕ) (o : Bool) (n : ℕ) → is_some (turn_within e (Some e) (Some (n, 0))) ≡ (n == e)
 in_environment e o n = grind (arith, nat_tests)
 
-runs_there : (age e : ℕ) (r : EventRow) (st : Standing) → is_some (turn_within e (Some e) (environment_turn (facts_of r) st)) ≡ runs_in e st
-runs_there age e r standing.Unknown = refl
-runs_there age e r (standing.Waiting due) = refl
-runs_there age e r (standing.DueAgain due) = refl
-runs_there age e r (standing.Running environment deadline) = in_environment e true environment
-runs_there age e r (standing.Ended outcome at) = refl
+runs_there : (e : ℕ) (r : EventRow) (st : Standing) → is_some (turn_within e (Some e) (environment_turn (facts_of r) st)) ≡ runs_in e st
+runs_there e r standing.Unknown = refl
+runs_there e r (standing.Waiting due) = refl
+runs_there e r (standing.DueAgain due) = refl
+runs_there e r (standing.Running environment deadline) = in_environment e true environment
+runs_there e r (standing.Ended outcome at) = refl
 
 any_none : (e : ℕ) (rows : List EventRow) → All (λ (r : EventRow). runs_in e r.standing ≡ false) rows → is_busy_at e rows ≡ false
 any_none e [] none = refl
@@ -128,16 +131,16 @@ any_some e (r ∷ rows) row (suc k) lt is runs = or_true (runs_in e r.standing) 
     or_true true b h = refl
     or_true false b h = h
 
-busy_at : (age e : ℕ) (rows : List EventRow) (found : Option EventRow) → IsFirstBy (row_turn age Environment e (Some e)) rows found → is_some found ≡ is_busy_at e rows
-busy_at age e rows None none = sym (any_none e rows (λ k d lt. sym (runs_there age e (get_or rows k d) (get_or rows k d).standing) ∙ ap is_some (none k d lt)))
-busy_at age e rows (Some row) first = sym (any_some e rows row first.is_there.0 first.is_there.1 first.is_there.2 (sym (runs_there age e row row.standing) ∙ ap is_some first.has))
+busy_at : (e : ℕ) (rows : List EventRow) (found : Option EventRow) → IsFirstBy (row_turn Environment e (Some e)) rows found → is_some found ≡ is_busy_at e rows
+busy_at e rows None none = sym (any_none e rows (λ k d lt. sym (runs_there e (get_or rows k d) (get_or rows k d).standing) ∙ ap is_some (none k d lt)))
+busy_at e rows (Some row) first = sym (any_some e rows row first.is_there.0 first.is_there.1 first.is_there.2 (sym (runs_there e row row.standing) ∙ ap is_some first.has))
 
 copied : (o : Option (Bor EventRow)) → is_some (option_copied o) ≡ is_some o
 copied None = refl
 copied (Some r) = refl
 
-pub busy : (age e low last : ℕ) (rows : List EventRow) (found : Option (Bor EventRow)) → low ≡ e → last ≡ e → IsFirstBy (row_turn age Environment low (Some last)) rows (option_copied found) → is_some found ≡ is_busy_at e rows
-busy age e low last rows found from to first =
+pub busy : (e low last : ℕ) (rows : List EventRow) (found : Option (Bor EventRow)) → low ≡ e → last ≡ e → IsFirstBy (row_turn Environment low (Some last)) rows (option_copied found) → is_some found ≡ is_busy_at e rows
+busy e low last rows found from to first =
     sym (copied found)
-    ∙ busy_at age e rows (option_copied found)
-    (subst (λ (x : ℕ). IsFirstBy (row_turn age Environment x (Some e)) rows (option_copied found)) from (subst (λ (y : ℕ). IsFirstBy (row_turn age Environment low (Some y)) rows (option_copied found)) to first))
+    ∙ busy_at e rows (option_copied found)
+    (subst (λ (x : ℕ). IsFirstBy (row_turn Environment x (Some e)) rows (option_copied found)) from (subst (λ (y : ℕ). IsFirstBy (row_turn Environment low (Some y)) rows (option_copied found)) to first))

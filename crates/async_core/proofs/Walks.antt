@@ -140,14 +140,14 @@ none_to_come rows turns i last coming more ended are = λ a b q r has le there.
 
 -- ## The rows that stand in an index
 
-module _ (age : ℕ) (m : BTreeMap ℕ EventRow) (s : BTreeSet (List ℕ × ℕ)) (turns : BTreeSet Turn) (running n : ℕ) (indexed : IsIndexed age m s turns running n) (i : Index) (last : ℕ) (more : List EventRow) (has : HasTurned m turns i last more) where
-  standing_there : (q : ℕ) (r : EventRow) → tree.get nat_cmp m q ≡ Some r → (o : Option (ℕ × ℕ)) → turn_in age (facts_of r) i ≡ o → is_some (turn_within 0 (Some last) o) ≡ true → Contains more r
+module _ (m : BTreeMap ℕ EventRow) (s : BTreeSet (List ℕ × ℕ)) (turns : BTreeSet Turn) (running n : ℕ) (indexed : IsIndexed m s turns running n) (i : Index) (last : ℕ) (more : List EventRow) (has : HasTurned m turns i last more) where
+  standing_there : (q : ℕ) (r : EventRow) → tree.get nat_cmp m q ≡ Some r → (o : Option (ℕ × ℕ)) → turn_in (facts_of r) i ≡ o → is_some (turn_within 0 (Some last) o) ≡ true → Contains more r
   standing_there q r there None turn some = absurd (true≢false (sym some))
   standing_there q r there (Some at) turn some = by_test (within 0 (Some last) at) refl
     where
       by_test : (b : Bool) → within 0 (Some last) at ≡ b → Contains more r
-      by_test true inside = has at.0 at.1 q r (stands age m s turns running n indexed i q r at there turn) (leb-true at.0 last (and_parts _ _ inside).1) there
+      by_test true inside = has at.0 at.1 q r (stands m s turns running n indexed i q r at there turn) (leb-true at.0 last (and_parts _ _ inside).1) there
       by_test false outside = absurd (true≢false (sym some ∙ ap (λ b. is_some (cond b (Some at) None)) outside))
 
-  pub has_those : All (λ (r : EventRow). is_some (row_turn age i 0 (Some last) r) ≡ true → Contains more r) (values_of m.entries)
-  has_those = rows_all age m s turns running n indexed (λ r. is_some (row_turn age i 0 (Some last) r) ≡ true → Contains more r) (λ q r there some. standing_there q r there (turn_in age (facts_of r) i) refl some)
+  pub has_those : All (λ (r : EventRow). is_some (row_turn i 0 (Some last) r) ≡ true → Contains more r) (values_of m.entries)
+  has_those = rows_all m s turns running n indexed (λ r. is_some (row_turn i 0 (Some last) r) ≡ true → Contains more r) (λ q r there some. standing_there q r there (turn_in (facts_of r) i) refl some)

@@ -1,12 +1,13 @@
 -- Why a command is refused, by what it meets: the checks of each kind of command, in their order.
 use Rattle.std.specs.Prelude.{ℕ, Bool, not, ◌||◌, List, [], ◌∷◌, ◌++◌, length, Option, Some, None, if◌then◌else◌, nat_lt, nat_le}
+use Rattle.retry_rules.specs.declared.policy.RetryPolicy.{RetryPolicy}
 use Rattle.retry_rules.specs.declared.settings.Settings.{Settings}
 use Rattle.invoke_records.specs.declared.command.Command.{Command}
 use Rattle.invoke_records.specs.declared.command.Kind.{Kind}
-use Rattle.invoke_records.specs.declared.command.Kind.TheVariants.{Accept, Start, Succeed, Fail, Throttle, Interrupt, Expire, Collect}
+use Rattle.invoke_records.specs.declared.command.Kind.TheVariants.{Accept, Start, Succeed, Fail, Throttle, Interrupt, Expire, Collect, Configure}
 use Rattle.invoke_records.specs.declared.command.Cause.{Cause}
 use Rattle.invoke_records.specs.declared.command.Cause.TheVariants.{Reported, Timeout}
-use Rattle.invoke_records.specs.Spelling.{greatest_moment}
+use Rattle.invoke_records.specs.Spelling.{greatest_moment, is_bad_id, is_bad_detail}
 use Rattle.async_core.specs.declared.illegal.Illegal.{Illegal}
 use Rattle.async_core.specs.declared.illegal.Illegal.TheVariants as illegal
 use Rattle.async_core.specs.declared.situation.Situation.{Situation}
@@ -17,10 +18,10 @@ abbrev pub first_failed : List (Bool × Illegal) → Option Illegal
 first_failed [] = None
 first_failed (check ∷ checks) = if check.0 then Some check.1 else first_failed checks
 
--- a command of this kind: whether its environment is wrong, and how many bytes it has at least and at most
+-- a command of this kind: whether its environment or its id is wrong, and how many bytes it has at least and at most
 abbrev pub shape_by : Bool → ℕ → ℕ → Command → List (Bool × Illegal)
-shape_by bad_environment least most c =
-    (bad_environment, illegal.BadKind)
+shape_by is_misplaced least most c =
+    (is_misplaced, illegal.BadKind)
     ∷ (nat_lt greatest_moment c.time, illegal.BadKind)
     ∷ (nat_lt most (length c.bytes), illegal.TooLong)
     ∷ (nat_lt (length c.bytes) least, illegal.BadKind)
@@ -29,12 +30,19 @@ shape_by bad_environment least most c =
 abbrev pub has_environment : Command → Bool
 has_environment c = nat_lt 0 c.environment
 
+-- a Configure names no event, carries no bytes, and its policy is within its ranges
+abbrev pub configure_checks : Command → RetryPolicy → List (Bool × Illegal)
+configure_checks c policy =
+    shape_by (has_environment c || is_bad_id (Configure policy) c.id) 0 0 c
+    ++ (is_bad_detail (Configure policy), illegal.BadKind) ∷ []
+
 -- what a command of this kind must look like
 abbrev pub shape_checks : Settings → Command → Kind → List (Bool × Illegal)
 shape_checks s c Accept = shape_by (has_environment c) 1 s.payload c
 shape_checks s c Start = shape_by (not (has_environment c) || nat_lt s.environments c.environment) 0 0 c
 shape_checks s c Succeed = shape_by (has_environment c) 0 s.response c
 shape_checks s c (Fail Reported) = shape_by (has_environment c) 0 s.response c
+shape_checks s c (Configure policy) = configure_checks c policy
 shape_checks s c kind = shape_by (has_environment c) 0 0 c
 
 abbrev pub clock_check : Situation → Command → Bool × Illegal
@@ -104,6 +112,7 @@ state_checks s x c Throttle = throttle_checks s x c.time
 state_checks s x c Interrupt = interrupt_checks x
 state_checks s x c Expire = expire_checks x c.time
 state_checks s x c Collect = collect_checks x
+state_checks s x c (Configure policy) = []
 
 -- why a command is refused in this situation, if it is
 unfoldable pub refusal_in : Settings → Situation → Command → Option Illegal

@@ -18,7 +18,7 @@ use Rattle.async_core.specs.declared.choice.Order.TheVariants as order
 use Rattle.async_core.specs.declared.choice.Move.{Move}
 use Rattle.async_core.specs.Standings.{is_running}
 use Rattle.async_core.specs.History.{held, standing_in, too_old_from, running_count, is_busy_in, refusal_of, last_number, last_moment}
-use Rattle.async_core.specs.Rules.{running_at}
+use Rattle.async_core.specs.Rules.{running_at, too_old_at}
 
 -- ## Moves
 
@@ -71,9 +71,6 @@ pub record IsNext (s : Settings) (history : List Command) (now : ℕ) (has_ready
 
 -- ## By the rows
 
-abbrev pub too_old_at : ℕ → EventRow → ℕ
-too_old_at age r = r.accepted + 1000 * age
-
 abbrev pub is_on : Side → Outcome → Bool
 is_on side.Success outcome.Success = true
 is_on side.Success other = false
@@ -89,9 +86,9 @@ ended_on side other = false
 abbrev pub rank : Order → EventRow → Option (ℕ × ℕ)
 rank (order.Ended side) r = if ended_on side r.standing then Some (r.last_number, 0) else None
 rank (order.Running above) r = if is_running r.standing && nat_lt above r.number then Some (r.number, 0) else None
-rank (order.Moving now has_ready is_full age) r =
-    option_map (λ (kind : Kind). (ripe_by (too_old_at age r) r.standing, r.number))
-    (move_by is_full has_ready (too_old_at age r) now r.standing)
+rank (order.Moving now has_ready is_full) r =
+    option_map (λ (kind : Kind). (ripe_by (too_old_at r) r.standing, r.number))
+    (move_by is_full has_ready (too_old_at r) now r.standing)
 
 abbrev pub goes_before : ℕ × ℕ → ℕ × ℕ → Bool
 goes_before a b = nat_lt a.0 b.0 || ((a.0 == b.0) && nat_lt a.1 b.1)
@@ -126,7 +123,7 @@ ChoosesAmong order rows enough best chosen =
 
 -- how moves are ranked in these rows
 abbrev pub moving : Settings → List EventRow → ℕ → Bool → Order
-moving s rows now has_ready = order.Moving now has_ready (nat_le s.concurrency (running_at rows)) s.age
+moving s rows now has_ready = order.Moving now has_ready (nat_le s.concurrency (running_at rows))
 
 -- what view says of the row of least rank, or none where no row has a rank
 abbrev pub IsChosenAs : {A : Type 0} → Order → List EventRow → (EventRow → A) → Option A → Type 0
@@ -137,15 +134,15 @@ abbrev pub environment_for : Option ℕ → Kind → ℕ
 environment_for ready Start = unwrap_or ready 0
 environment_for ready kind = 0
 
--- the move of a row: whether as many attempts run as may, the greatest age, the moment, and the environment that is ready
-abbrev pub row_move : Bool → ℕ → ℕ → Option ℕ → EventRow → Option Move
-row_move is_full age now ready r =
+-- the move of a row: whether as many attempts run as may, the moment, and the environment that is ready
+abbrev pub row_move : Bool → ℕ → Option ℕ → EventRow → Option Move
+row_move is_full now ready r =
     option_map (λ (kind : Kind). record { kind = kind; id = r.id; environment = environment_for ready kind })
-    (move_by is_full (is_some ready) (too_old_at age r) now r.standing)
+    (move_by is_full (is_some ready) (too_old_at r) now r.standing)
 
 -- the move of a row among these rows
 abbrev pub move_at : Settings → List EventRow → ℕ → Option ℕ → EventRow → Option Move
-move_at s rows now ready r = row_move (nat_le s.concurrency (running_at rows)) s.age now ready r
+move_at s rows now ready r = row_move (nat_le s.concurrency (running_at rows)) now ready r
 
 -- the move of the row that goes first, or none where no row has a move
 abbrev pub IsNextAt : Settings → List EventRow → ℕ → Option ℕ → Option Move → Type 0

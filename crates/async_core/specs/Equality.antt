@@ -2,6 +2,7 @@
 use Rattle.std.specs.Prelude.{Bool, true, false, ◌&&◌, ◌==◌}
 use Rattle.std.specs.Str.{bytes_eq}
 use Rattle.std.specs.Cmp.Lexicographic.{pointwise}
+use Rattle.retry_rules.specs.declared.policy.RetryPolicy.{RetryPolicy}
 use Rattle.retry_rules.specs.declared.settings.Settings.{Settings}
 use Rattle.invoke_records.specs.declared.snapshot.Snapshot.{Snapshot}
 use Rattle.invoke_records.specs.declared.row.Outcome.{Outcome}
@@ -33,6 +34,9 @@ same_answer (answer.Response a) (answer.Response b) = bytes_eq a b
 same_answer (answer.Error a) (answer.Error b) = bytes_eq a b
 same_answer a b = false
 
+abbrev pub same_policy : RetryPolicy → RetryPolicy → Bool
+same_policy a b = (a.retries == b.retries) && (a.age == b.age)
+
 -- the numbers of an event's life
 abbrev pub same_numbers : EventRow → EventRow → Bool
 same_numbers a b =
@@ -41,7 +45,7 @@ same_numbers a b =
 
 abbrev pub same_row : EventRow → EventRow → Bool
 same_row a b =
-    bytes_eq a.id b.id && same_numbers a b && same_standing a.standing b.standing
+    bytes_eq a.id b.id && same_numbers a b && same_policy a.policy b.policy && same_standing a.standing b.standing
     && bytes_eq a.payload b.payload && same_answer a.answer b.answer
 
 -- the rules that events are judged by
@@ -54,7 +58,8 @@ abbrev pub same_settings : Settings → Settings → Bool
 same_settings a b = same_rules a b && bytes_eq a.name b.name && bytes_eq a.handler b.handler && bytes_eq a.arn b.arn
 
 abbrev pub same_table : Snapshot → Snapshot → Bool
-same_table a b = (a.number == b.number) && (a.last_moment == b.last_moment) && pointwise same_row a.rows b.rows
+same_table a b =
+    (a.number == b.number) && (a.last_moment == b.last_moment) && same_policy a.policy b.policy && pointwise same_row a.rows b.rows
 
 unfoldable pub same_state : State → State → Bool
 same_state a b = same_settings a.settings b.settings && same_table a.table b.table

@@ -3,7 +3,7 @@ use Rattle.std.specs.Prelude.{ℕ, ◌+◌, List, [], ◌∷◌}
 use Rattle.retry_rules.specs.declared.settings.Settings.{Settings}
 use Rattle.invoke_records.specs.declared.command.Command.{Command}
 use Rattle.invoke_records.specs.declared.command.Kind.{Kind}
-use Rattle.invoke_records.specs.declared.command.Kind.TheVariants.{Accept, Start, Succeed, Fail, Interrupt, Collect}
+use Rattle.invoke_records.specs.declared.command.Kind.TheVariants.{Accept, Start, Succeed, Fail, Interrupt, Collect, Configure}
 use Rattle.invoke_records.specs.declared.command.Cause.TheVariants.{Reported}
 
 -- ## Settings
@@ -42,6 +42,9 @@ one_at_once = record usual { concurrency = 1 }
 abbrev pub id : ℕ → List ℕ
 id n = 0 ∷ 0 ∷ 0 ∷ 0 ∷ 0 ∷ 0 ∷ 64 ∷ 0 ∷ 128 ∷ 0 ∷ 0 ∷ 0 ∷ 0 ∷ 0 ∷ 0 ∷ n ∷ []
 
+abbrev pub zeros : List ℕ
+zeros = 0 ∷ 0 ∷ 0 ∷ 0 ∷ 0 ∷ 0 ∷ 0 ∷ 0 ∷ 0 ∷ 0 ∷ 0 ∷ 0 ∷ 0 ∷ 0 ∷ 0 ∷ 0 ∷ []
+
 abbrev pub accept : ℕ → ℕ → Command
 accept n t = record { kind = Accept; id = id n; environment = 0; time = t; bytes = 123 ∷ 125 ∷ [] }
 
@@ -50,6 +53,11 @@ start n t = record { kind = Start; id = id n; environment = 1; time = t; bytes =
 
 abbrev pub does : Kind → ℕ → ℕ → Command
 does kind n t = record { kind = kind; id = id n; environment = 0; time = t; bytes = [] }
+
+-- retries and age are these from now on
+abbrev pub configure : ℕ → ℕ → ℕ → Command
+configure retries age t =
+    record { kind = Configure (record { retries = retries; age = age }); id = zeros; environment = 0; time = t; bytes = [] }
 
 -- an attempt that fails half a second after it starts
 abbrev pub fails : ℕ → List Command → List Command
@@ -97,3 +105,25 @@ first_collected = accept 1 1000 ∷ accept 2 1000 ∷ start 1 1000 ∷ does Succ
 -- and event 1 was accepted again
 abbrev pub accepted_anew : List Command
 accepted_anew = accept 1 1000 ∷ accept 2 1000 ∷ start 1 1000 ∷ does Succeed 1 1000 ∷ does Collect 1 1000 ∷ accept 1 1000 ∷ []
+
+-- ## Histories with a Configure
+
+-- event 1 is accepted by the settings, and event 2 by no retries and an age of a minute
+abbrev pub configured : List Command
+configured = accept 1 1000 ∷ configure 0 60 1000 ∷ accept 2 1000 ∷ []
+
+-- event 1 fails
+abbrev pub first_failed_on : List Command
+first_failed_on = accept 1 1000 ∷ configure 0 60 1000 ∷ accept 2 1000 ∷ start 1 1000 ∷ does (Fail Reported) 1 1500 ∷ []
+
+-- and event 2 too
+abbrev pub both_failed : List Command
+both_failed =
+    accept 1 1000 ∷ configure 0 60 1000 ∷ accept 2 1000 ∷ start 1 1000 ∷ does (Fail Reported) 1 1500
+    ∷ start 2 1500 ∷ does (Fail Reported) 2 2000 ∷ []
+
+-- and event 3 is accepted
+abbrev pub third_accepted : List Command
+third_accepted =
+    accept 1 1000 ∷ configure 0 60 1000 ∷ accept 2 1000 ∷ start 1 1000 ∷ does (Fail Reported) 1 1500
+    ∷ start 2 1500 ∷ does (Fail Reported) 2 2000 ∷ accept 3 2000 ∷ []

@@ -9,15 +9,16 @@ use Rattle.invoke_records.specs.declared.row.EventRow.{EventRow}
 use Rattle.invoke_records.specs.declared.snapshot.Snapshot.{Snapshot}
 use Rattle.async_core.specs.declared.illegal.Illegal.{Illegal}
 pub use Rattle.async_core.specs.Lives.{is_accept, names, collects, life, accepted, payload_of, starts, failures, push_backs, answer_of}
-pub use Rattle.async_core.specs.Standings.{Rules, rules_in, standing_by, is_running, runs_in}
+pub use Rattle.async_core.specs.Standings.{Rules, rules_with, standing_by, is_running, runs_in}
+pub use Rattle.async_core.specs.Policies.{in_force, judged_by}
 pub use Rattle.async_core.specs.declared.situation.Situation.{Situation}
 pub use Rattle.async_core.specs.Checks.{refusal_in}
 
 -- ## One event
 
--- the rules that an event is judged by: those of the settings, for every event
+-- the rules that an event is judged by: those that were in force just before it was accepted
 abbrev pub rules_of : Settings → List Command → List ℕ → Rules
-rules_of s history id = rules_in s
+rules_of s history id = rules_with s (judged_by s history id)
 
 abbrev pub standing_after : Rules → List Command → Option Command → Standing
 standing_after rules commands None = standing.Unknown
@@ -31,7 +32,7 @@ standing_of rules commands = standing_after rules commands (last_or None command
 unfoldable pub standing_in : Settings → List Command → List ℕ → Standing
 standing_in s history id = standing_of (rules_of s history id) (life id history)
 
--- the moment from which an event is too old
+-- the moment from which an event is too old, 0 of one that is not held
 abbrev pub too_old_from : Settings → List Command → List ℕ → ℕ
 too_old_from s history id = accepted (life id history) + 1000 * (rules_of s history id).age
 
@@ -79,6 +80,7 @@ row_of s history event = record {
   starts = starts (life event.1 history);
   failures = failures (life event.1 history);
   push_backs = push_backs (life event.1 history);
+  policy = judged_by s history event.1;
   payload = payload_of (life event.1 history);
   answer = answer_of (life event.1 history);
 }
@@ -88,6 +90,7 @@ unfoldable pub table_of : Settings → List Command → Snapshot
 table_of s history = record {
   number = length history;
   last_moment = last_moment history;
+  policy = in_force s history;
   rows = map (row_of s history) (held history);
 }
 

@@ -1,5 +1,6 @@
 pub mod Lives
 pub mod Standings
+pub mod Policies
 pub mod Checks
 pub mod History
 pub mod Rules

@@ -18,4 +18,4 @@ is_within s snapshot = nat_le (length snapshot.rows) s.events && list_all (is_ro
 
 -- the greatest length of a snapshot under these settings
 abbrev pub most_snapshot : Settings → ℕ
-most_snapshot s = 20 + s.events * (73 + s.payload + s.response)
+most_snapshot s = 25 + s.events * (78 + s.payload + s.response)

@@ -4,7 +4,7 @@ use Rattle.std.specs.List.{after_last}
 use Rattle.std.specs.Str.{bytes_eq}
 use Rattle.invoke_records.specs.declared.command.Command.{Command}
 use Rattle.invoke_records.specs.declared.command.Kind.{Kind}
-use Rattle.invoke_records.specs.declared.command.Kind.TheVariants.{Accept, Start, Succeed, Fail, Throttle, Interrupt, Collect}
+use Rattle.invoke_records.specs.declared.command.Kind.TheVariants.{Accept, Start, Succeed, Fail, Throttle, Interrupt, Collect, Configure}
 use Rattle.invoke_records.specs.declared.command.Cause.TheVariants.{Reported}
 use Rattle.invoke_records.specs.declared.row.Answer.{Answer}
 use Rattle.invoke_records.specs.declared.row.Answer.TheVariants as answer
@@ -32,6 +32,11 @@ abbrev pub kind_is_collect : Kind → Bool
 kind_is_collect Collect = true
 kind_is_collect kind = false
 
+-- all kinds but Configure are of one event, which they name
+abbrev pub kind_names : Kind → Bool
+kind_names (Configure policy) = false
+kind_names kind = true
+
 abbrev pub is_accept : Command → Bool
 is_accept c = kind_is_accept c.kind
 
@@ -47,7 +52,10 @@ is_push_back c = kind_is_push_back c.kind
 -- ## Lives
 
 abbrev pub names : List ℕ → Command → Bool
-names id c = bytes_eq id c.id
+names id c = kind_names c.kind && bytes_eq id c.id
+
+abbrev pub accepts : List ℕ → Command → Bool
+accepts id c = is_accept c && names id c
 
 abbrev pub collects : List ℕ → Command → Bool
 collects id c = kind_is_collect c.kind && names id c

@@ -10,6 +10,7 @@ use Rattle.invoke_records.specs.declared.row.Standing.TheVariants as standing
 use Rattle.async_core.specs.declared.readers.Ended.{Ended}
 use Rattle.async_core.specs.Lives.{life, accepted, starts, failures, push_backs, payload_of, answer_of}
 use Rattle.async_core.specs.History.{standing_in}
+use Rattle.async_core.specs.Policies.{judged_by, pair_of}
 
 -- this, of an event that is held: of one whose life is not empty
 abbrev pub where_held : {A : Type 0} → List Command → A → Option A
@@ -36,6 +37,10 @@ counts_of r = (r.starts, r.failures, r.push_backs)
 abbrev pub counts_at : Option EventRow → Option (ℕ × ℕ × ℕ)
 counts_at row = option_map counts_of row
 
+-- the retries and the age that it is judged by
+abbrev pub judge_at : Option EventRow → Option (ℕ × ℕ)
+judge_at row = option_map (λ (r : EventRow). pair_of r.policy) row
+
 -- ## By the history, if it is held
 
 abbrev pub accepted_after : List ℕ → List Command → Option ℕ
@@ -49,6 +54,9 @@ counts_in commands = (starts commands, failures commands, push_backs commands)
 
 abbrev pub counts_after : List ℕ → List Command → Option (ℕ × ℕ × ℕ)
 counts_after id history = where_held (life id history) (counts_in (life id history))
+
+abbrev pub judge_after : Settings → List ℕ → List Command → Option (ℕ × ℕ)
+judge_after s id history = where_held (life id history) (pair_of (judged_by s history id))
 
 -- ## What is told of an event that has ended
 

@@ -2,10 +2,11 @@
 use Rattle.std.specs.Prelude.{ℕ, ◌+◌, ◌-◌, ◌*◌, ◌^◌, min, Bool, true, false, if◌then◌else◌, nat_lt, nat_le, ◌==◌}
 use Rattle.invoke_records.specs.declared.command.Command.{Command}
 use Rattle.invoke_records.specs.declared.command.Kind.{Kind}
-use Rattle.invoke_records.specs.declared.command.Kind.TheVariants.{Accept, Start, Succeed, Fail, Throttle, Interrupt, Expire, Collect}
+use Rattle.invoke_records.specs.declared.command.Kind.TheVariants.{Accept, Start, Succeed, Fail, Throttle, Interrupt, Expire, Collect, Configure}
 use Rattle.invoke_records.specs.declared.row.Outcome.TheVariants.{Success, RetriesExhausted, EventAgeExceeded}
 use Rattle.invoke_records.specs.declared.row.Standing.{Standing}
 use Rattle.invoke_records.specs.declared.row.Standing.TheVariants as standing
+use Rattle.retry_rules.specs.declared.policy.RetryPolicy.{RetryPolicy}
 use Rattle.retry_rules.specs.declared.settings.Settings.{Settings}
 
 -- the rules that an event is judged by
@@ -14,8 +15,9 @@ pub record Rules : Type 0 where
   pub age : ℕ
   pub timeout : ℕ
 
-abbrev pub rules_in : Settings → Rules
-rules_in s = record { retries = s.retries; age = s.age; timeout = s.timeout }
+-- a retry policy, and the timeout of the settings
+abbrev pub rules_with : Settings → RetryPolicy → Rules
+rules_with s policy = record { retries = policy.retries; age = policy.age; timeout = s.timeout }
 
 -- the wait after the n-th failure, and after the k-th push-back since the last failure, in milliseconds
 abbrev pub after_failure : ℕ → ℕ
@@ -24,10 +26,10 @@ after_failure n = 60000 * n
 abbrev pub after_pushback : ℕ → ℕ
 after_pushback k = 1000 * min (2 ^ (k - 1)) 300
 
--- after a failure that makes it so many
-abbrev pub failed_at : Rules → ℕ → ℕ → Standing
-failed_at rules failures time =
-    if nat_lt rules.retries failures then standing.Ended RetriesExhausted time
+-- after a failure that makes it so many, of an event that may be tried again so often
+abbrev pub failed_at : ℕ → ℕ → ℕ → Standing
+failed_at retries failures time =
+    if nat_lt retries failures then standing.Ended RetriesExhausted time
     else standing.DueAgain (time + after_failure failures)
 
 -- where an event stands by its last command, which is of this kind, where it has failed and was pushed back so often
@@ -35,11 +37,12 @@ abbrev pub standing_by : Rules → ℕ → ℕ → Command → Kind → Standing
 standing_by rules failures push_backs c Accept = standing.Waiting c.time
 standing_by rules failures push_backs c Start = standing.Running c.environment (c.time + 1000 * rules.timeout)
 standing_by rules failures push_backs c Succeed = standing.Ended Success c.time
-standing_by rules failures push_backs c (Fail cause) = failed_at rules failures c.time
+standing_by rules failures push_backs c (Fail cause) = failed_at rules.retries failures c.time
 standing_by rules failures push_backs c Throttle = standing.DueAgain (c.time + after_pushback push_backs)
 standing_by rules failures push_backs c Interrupt = standing.DueAgain (c.time + after_pushback push_backs)
 standing_by rules failures push_backs c Expire = standing.Ended EventAgeExceeded c.time
 standing_by rules failures push_backs c Collect = standing.Unknown
+standing_by rules failures push_backs c (Configure policy) = standing.Unknown
 
 -- ## Tests of a standing
 

@@ -13,7 +13,7 @@ pub record State : Type 0 where
 
 -- with no command
 abbrev pub empty_state : Settings → State
-empty_state s = record { settings = s; table = empty_table }
+empty_state s = record { settings = s; table = empty_table s }
 
 -- why the command is refused, if it is
 abbrev pub refusal_by : State → Command → Option Illegal

@@ -33,16 +33,20 @@ by_turn x y =
 
 -- what an event's turns depend on
 abbrev pub facts_of : EventRow → Facts
-facts_of r = record { accepted = r.accepted; number = r.number; last_number = r.last_number; standing = r.standing }
+facts_of r = record { accepted = r.accepted; age = r.policy.age; number = r.number; last_number = r.last_number; standing = r.standing }
+
+-- the moment from which the event is too old
+abbrev pub expiry : Facts → ℕ
+expiry f = f.accepted + 1000 * f.age
 
 -- ## Where an event stands in an index, if it stands there
 
 -- by the moment from which it has something to do, and by its acceptance
-abbrev pub ripe_turn : ℕ → Facts → Standing → Option (ℕ × ℕ)
-ripe_turn age f (standing.Waiting due) = Some (min due (f.accepted + 1000 * age), f.number)
-ripe_turn age f (standing.DueAgain due) = Some (min due (f.accepted + 1000 * age), f.number)
-ripe_turn age f (standing.Running environment deadline) = Some (deadline, f.number)
-ripe_turn age f other = None
+abbrev pub ripe_turn : Facts → Standing → Option (ℕ × ℕ)
+ripe_turn f (standing.Waiting due) = Some (min due (expiry f), f.number)
+ripe_turn f (standing.DueAgain due) = Some (min due (expiry f), f.number)
+ripe_turn f (standing.Running environment deadline) = Some (deadline, f.number)
+ripe_turn f other = None
 
 -- where it runs: by its deadline, by its acceptance, by its environment
 abbrev pub deadline_turn : Facts → Standing → Option (ℕ × ℕ)
@@ -57,10 +61,10 @@ abbrev pub environment_turn : Facts → Standing → Option (ℕ × ℕ)
 environment_turn f (standing.Running environment deadline) = Some (environment, 0)
 environment_turn f other = None
 
--- where it waits for an attempt: by the moment of its acceptance
+-- where it waits for an attempt: by the moment from which it is too old
 abbrev pub idle_turn : Facts → Standing → Option (ℕ × ℕ)
-idle_turn f (standing.Waiting due) = Some (f.accepted, 0)
-idle_turn f (standing.DueAgain due) = Some (f.accepted, 0)
+idle_turn f (standing.Waiting due) = Some (expiry f, 0)
+idle_turn f (standing.DueAgain due) = Some (expiry f, 0)
 idle_turn f other = None
 
 -- where it has ended, on one side or the other: by the number of the command that ended it
@@ -68,14 +72,14 @@ abbrev pub ended_turn : Side → Facts → Standing → Option (ℕ × ℕ)
 ended_turn side f (standing.Ended outcome at) = if is_on side outcome then Some (f.last_number, 0) else None
 ended_turn side f other = None
 
-abbrev pub turn_in : ℕ → Facts → Index → Option (ℕ × ℕ)
-turn_in age f Ripe = ripe_turn age f f.standing
-turn_in age f Deadline = deadline_turn f f.standing
-turn_in age f Running = running_turn f f.standing
-turn_in age f Environment = environment_turn f f.standing
-turn_in age f Idle = idle_turn f f.standing
-turn_in age f Success = ended_turn side.Success f f.standing
-turn_in age f Failure = ended_turn side.Failure f f.standing
+abbrev pub turn_in : Facts → Index → Option (ℕ × ℕ)
+turn_in f Ripe = ripe_turn f f.standing
+turn_in f Deadline = deadline_turn f f.standing
+turn_in f Running = running_turn f f.standing
+turn_in f Environment = environment_turn f f.standing
+turn_in f Idle = idle_turn f f.standing
+turn_in f Success = ended_turn side.Success f f.standing
+turn_in f Failure = ended_turn side.Failure f f.standing
 
 -- ## A set of turns
 
@@ -84,25 +88,25 @@ is_turn None a b = false
 is_turn (Some turn) a b = (turn.0 == a) && (turn.1 == b)
 
 -- an event with these facts, if there is one, has this turn
-abbrev pub has_turn : ℕ → Option Facts → Index → ℕ → ℕ → Bool
-has_turn age None i a b = false
-has_turn age (Some f) i a b = is_turn (turn_in age f i) a b
+abbrev pub has_turn : Option Facts → Index → ℕ → ℕ → Bool
+has_turn None i a b = false
+has_turn (Some f) i a b = is_turn (turn_in f i) a b
 
 -- the turns are those of the events, by their places
-abbrev pub AreTurns : ℕ → (ℕ → Option Facts) → BTreeSet Turn → Type 0
-AreTurns age at turns = (i : Index) (a b q : ℕ) → contains by_turn turns (index_rank i, a, b, q) ≡ has_turn age (at q) i a b
+abbrev pub AreTurns : (ℕ → Option Facts) → BTreeSet Turn → Type 0
+AreTurns at turns = (i : Index) (a b q : ℕ) → contains by_turn turns (index_rank i, a, b, q) ≡ has_turn (at q) i a b
 
 abbrev pub put_facts : ℕ → Option Facts → (ℕ → Option Facts) → ℕ → Option Facts
 put_facts place facts at q = if place == q then facts else at q
 
 -- where the event at a place had these facts, the turns are those of the events with the new ones there
-abbrev pub Switches : ℕ → ℕ → Option Facts → Option Facts → BTreeSet Turn → BTreeSet Turn → Type 0
-Switches age place old new turns changed =
-    (at : ℕ → Option Facts) → AreTurns age at turns → at place ≡ old → AreTurns age (put_facts place new at) changed
+abbrev pub Switches : ℕ → Option Facts → Option Facts → BTreeSet Turn → BTreeSet Turn → Type 0
+Switches place old new turns changed =
+    (at : ℕ → Option Facts) → AreTurns at turns → at place ≡ old → AreTurns (put_facts place new at) changed
 
 -- where the event at a place had these facts, the turns stay those of the events
-abbrev pub StaysAt : ℕ → ℕ → Option Facts → BTreeSet Turn → BTreeSet Turn → Type 0
-StaysAt age place old turns changed = (at : ℕ → Option Facts) → AreTurns age at turns → at place ≡ old → AreTurns age at changed
+abbrev pub StaysAt : ℕ → Option Facts → BTreeSet Turn → BTreeSet Turn → Type 0
+StaysAt place old turns changed = (at : ℕ → Option Facts) → AreTurns at turns → at place ≡ old → AreTurns at changed
 
 -- ## The first of some rows
 
@@ -116,8 +120,8 @@ turn_within low last None = None
 turn_within low last (Some at) = if within low last at then Some at else None
 
 -- where a row stands in an index, within these bounds
-abbrev pub row_turn : ℕ → Index → ℕ → Option ℕ → EventRow → Option (ℕ × ℕ)
-row_turn age i low last r = turn_within low last (turn_in age (facts_of r) i)
+abbrev pub row_turn : Index → ℕ → Option ℕ → EventRow → Option (ℕ × ℕ)
+row_turn i low last r = turn_within low last (turn_in (facts_of r) i)
 
 -- this row has the least rank
 pub record IsLeastBy (ranked : EventRow → Option (ℕ × ℕ)) (rows : List EventRow) (row : EventRow) : Type 0 where
@@ -137,21 +141,21 @@ abbrev pub is_among : List Index → Index → Bool
 is_among indexes i = list_any (λ j. index_rank j == index_rank i) indexes
 
 -- the turns of an event in these indexes come
-abbrev pub AddsTurns : ℕ → ℕ → Option Facts → List Index → BTreeSet Turn → BTreeSet Turn → Type 0
-AddsTurns age place facts indexes old new =
+abbrev pub AddsTurns : ℕ → Option Facts → List Index → BTreeSet Turn → BTreeSet Turn → Type 0
+AddsTurns place facts indexes old new =
     (i : Index) (a b q : ℕ) → contains by_turn new (index_rank i, a, b, q)
-    ≡ (contains by_turn old (index_rank i, a, b, q) || (is_among indexes i && (place == q) && has_turn age facts i a b))
+    ≡ (contains by_turn old (index_rank i, a, b, q) || (is_among indexes i && (place == q) && has_turn facts i a b))
 
 -- those in some indexes come
-abbrev pub AddsSome : ℕ → ℕ → Option Facts → BTreeSet Turn → BTreeSet Turn → Type 0
-AddsSome age place facts old new = (indexes : List Index) × AddsTurns age place facts indexes old new
+abbrev pub AddsSome : ℕ → Option Facts → BTreeSet Turn → BTreeSet Turn → Type 0
+AddsSome place facts old new = (indexes : List Index) × AddsTurns place facts indexes old new
 
 -- the turns of an event in these indexes go, save those that it keeps
-abbrev pub DropsTurns : ℕ → ℕ → Option Facts → Option Facts → List Index → BTreeSet Turn → BTreeSet Turn → Type 0
-DropsTurns age place gone kept indexes old new =
+abbrev pub DropsTurns : ℕ → Option Facts → Option Facts → List Index → BTreeSet Turn → BTreeSet Turn → Type 0
+DropsTurns place gone kept indexes old new =
     (i : Index) (a b q : ℕ) → contains by_turn new (index_rank i, a, b, q)
     ≡ (contains by_turn old (index_rank i, a, b, q)
-    && not (is_among indexes i && (place == q) && has_turn age gone i a b && not (has_turn age kept i a b)))
+    && not (is_among indexes i && (place == q) && has_turn gone i a b && not (has_turn kept i a b)))
 
 abbrev pub every_index : List Index
 every_index = Ripe ∷ Deadline ∷ Running ∷ Environment ∷ Idle ∷ Success ∷ Failure ∷ []

@@ -1,18 +1,32 @@
 // What a command that is legal does to the rows.
 ghost use Rattle.std.specs.Prelude.{◌≡◌, ◌+◌, ◌<◌, ◌≤◌, ◌^◌, OnOk, OnErr, IfOk};
-ghost use Rattle.async_core.specs.Kept.{with_rows};
+ghost use Rattle.async_core.specs.Policies as policies;
 ghost use Rattle.async_core.specs.Rules as meant;
 ghost use Rattle.async_core.specs.Standings as ruled;
 ghost use Rattle.async_core.specs.Steps as step;
 
 use crate::held::Held;
 use invoke_records::{Answer, Cause, Command, EventRow, Kind, Outcome, Standing};
-use retry_rules::{Settings, after_failure, after_pushback};
+use retry_rules::{RetryPolicy, Settings, after_failure, after_pushback};
 use std::alloc::AllocError;
 
-/// The event that command number `number` accepts.
-fn accepted_event(number: u64, command: &Command) -> Result<EventRow, AllocError>
-    ensures { IfOk result (λ row. row ≡ meant.accepted_row number command.now) }
+/// What is in force after a command of this kind.
+pub(crate) fn policy_after(before: RetryPolicy, kind: Kind) -> RetryPolicy
+    ensures { result ≡ policies.policy_by before kind }
+{
+    match kind {
+        Kind::Configure(policy) => policy,
+        _ => before,
+    }
+}
+
+/// The event that command number `number` accepts, while this policy is in force.
+fn accepted_event(
+    policy: RetryPolicy,
+    number: u64,
+    command: &Command,
+) -> Result<EventRow, AllocError>
+    ensures { IfOk result (λ row. row ≡ meant.accepted_row policy number command.now) }
 {
     let payload = command.bytes.copy()?;
     Ok(EventRow {
@@ -24,6 +38,7 @@ fn accepted_event(number: u64, command: &Command) -> Result<EventRow, AllocError
         starts: 0,
         failures: 0,
         push_backs: 0,
+        policy,
         payload,
         answer: Answer::None,
     })
@@ -63,11 +78,11 @@ fn push_backs_by(kind: Kind, n: u32) -> u32
     }
 }
 
-fn failed_at(settings: &Settings, failures: u32, time: u64) -> Standing
+fn failed_at(retries: u8, failures: u32, time: u64) -> Standing
     requires { time < 2 ^ 63 }
-    ensures { result ≡ ruled.failed_at (ruled.rules_in settings.now) failures time }
+    ensures { result ≡ ruled.failed_at retries failures time }
 {
-    if failures > u32::from(settings.retries) {
+    if failures > u32::from(retries) {
         return Standing::Ended {
             outcome: Outcome::RetriesExhausted,
             at: time,
@@ -88,15 +103,17 @@ fn pushed_back_at(push_backs: u32, time: u64) -> Standing
     }
 }
 
-/// Where an event stands after the command, where it had failed and was pushed back so often before.
+/// Where an event, which is judged by this policy, stands after the command, where it had failed and was pushed back so
+/// often before.
 pub(crate) fn standing_after(
     settings: &Settings,
+    policy: RetryPolicy,
     command: &Command,
     failures: u32,
     push_backs: u32,
 ) -> Standing
     requires { command.now.time < 2 ^ 63 }
-    ensures { result ≡ step.standing_with settings.now command.now failures push_backs }
+    ensures { result ≡ step.standing_with settings.now policy command.now failures push_backs }
 {
     let time = command.time;
     match command.kind {
@@ -109,7 +126,7 @@ pub(crate) fn standing_after(
             outcome: Outcome::Success,
             at: time,
         },
-        Kind::Fail(_) => failed_at(settings, one_more(failures), time),
+        Kind::Fail(_) => failed_at(policy.retries, one_more(failures), time),
         Kind::Throttle => pushed_back_at(one_more(push_backs), time),
         Kind::Interrupt => pushed_back_at(one_more(push_backs), time),
         Kind::Expire => Standing::Ended {
@@ -117,6 +134,7 @@ pub(crate) fn standing_after(
             at: time,
         },
         Kind::Collect => Standing::Unknown,
+        Kind::Configure(_) => Standing::Unknown,
     }
 }
 
@@ -149,7 +167,7 @@ pub(crate) fn update(
     ensures { step.Replaces command.now row.old.answer answer → row.new ≡ step.row_with settings.now number command.now row.old }
 {
     let kind = command.kind;
-    row.standing = standing_after(settings, command, row.failures, row.push_backs);
+    row.standing = standing_after(settings, row.policy, command, row.failures, row.push_backs);
     row.last_number = number;
     row.starts = starts_by(kind, row.starts);
     row.failures = failures_by(kind, row.failures);
@@ -159,26 +177,28 @@ pub(crate) fn update(
     }
 }
 
-/// Does what command number `number` does to the rows.
+/// Does what command number `number` does to the rows, while this policy is in force.
 pub(crate) fn change(
     held: &mut Held,
     settings: &Settings,
+    policy: RetryPolicy,
     number: u64,
     command: &Command,
 ) -> Result<(), AllocError>
     requires { command.now.time < 2 ^ 63 }
-    ensures ok { OnOk result (held.new ≡ with_rows held.old (step.rows_with settings.now number command.now held.old.rows)) }
+    ensures ok { OnOk result (held.new ≡ step.rows_with settings.now policy number command.now held.old) }
     ensures err { OnErr result (held.new ≡ held.old) }
 {
     match command.kind {
         Kind::Accept => {
-            let row = accepted_event(number, command)?;
+            let row = accepted_event(policy, number, command)?;
             held.push(row)
         }
         Kind::Collect => {
             held.remove(&command.id);
             Ok(())
         }
+        Kind::Configure(_) => Ok(()),
         _ => {
             let answer = new_answer(command)?;
             held.change(settings, number, command, answer)

@@ -3,7 +3,7 @@ ghost use Rattle.std.specs.Prelude.{◌≡◌, min, is_some};
 ghost use Rattle.std.specs.Option.{option_copied};
 ghost use Rattle.async_core.specs.Choice as meant;
 
-use crate::situation::too_old_from;
+use crate::situation::expiry_of;
 use crate::standings::is_running;
 use invoke_records::{Cause, EventRow, Kind, Outcome, Standing};
 
@@ -32,8 +32,8 @@ pub enum Order {
     /// Those that run and were accepted by a later command than this one, by the number of that command.
     Running(u64),
     /// Those that have a move at this moment, by the moment from which they have something to do, and then by
-    /// acceptance: whether an environment is ready, whether as many attempts run as may, and the greatest age.
-    Moving(u64, bool, bool, u32),
+    /// acceptance: whether an environment is ready, and whether as many attempts run as may.
+    Moving(u64, bool, bool),
 }
 
 fn start_or_throttle(is_full: bool, has_ready: bool) -> Option<Kind>
@@ -145,16 +145,10 @@ fn running_rank(above: u64, row: &EventRow) -> Option<(u128, u64)>
     None
 }
 
-fn moving_rank(
-    now: u64,
-    has_ready: bool,
-    is_full: bool,
-    age: u32,
-    row: &EventRow,
-) -> Option<(u128, u64)>
-    ensures { result ≡ meant.rank (Order.Moving now has_ready is_full age) row.now }
+fn moving_rank(now: u64, has_ready: bool, is_full: bool, row: &EventRow) -> Option<(u128, u64)>
+    ensures { result ≡ meant.rank (Order.Moving now has_ready is_full) row.now }
 {
-    let too_old = too_old_from(row.accepted, age);
+    let too_old = expiry_of(row);
     match move_by(is_full, has_ready, too_old, now, row.standing) {
         Some(_) => Some((ripe_by(too_old, row.standing), row.number)),
         None => None,
@@ -168,9 +162,7 @@ fn rank(order: Order, row: &EventRow) -> Option<(u128, u64)>
     match order {
         Order::Ended(side) => ended_rank(side, row),
         Order::Running(above) => running_rank(above, row),
-        Order::Moving(now, has_ready, is_full, age) => moving_rank(
-            now, has_ready, is_full, age, row,
-        ),
+        Order::Moving(now, has_ready, is_full) => moving_rank(now, has_ready, is_full, row),
     }
 }
 

@@ -35,6 +35,7 @@ pub(crate) fn copy_row(row: &EventRow) -> Result<EventRow, AllocError>
         starts: row.starts,
         failures: row.failures,
         push_backs: row.push_backs,
+        policy: row.policy,
         payload,
         answer,
     })

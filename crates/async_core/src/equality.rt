@@ -5,7 +5,7 @@ ghost use Rattle.async_core.specs.laws.Equality.{same_state-laws};
 
 use crate::Table;
 use invoke_records::{Answer, EventRow, Standing};
-use retry_rules::Settings;
+use retry_rules::{RetryPolicy, Settings};
 
 fn same_standing(a: Standing, b: Standing) -> bool
     ensures { result ≡ meant.same_standing a b }
@@ -43,11 +43,18 @@ fn same_numbers(a: &EventRow, b: &EventRow) -> bool
         && a.push_backs == b.push_backs
 }
 
+fn same_policy(a: RetryPolicy, b: RetryPolicy) -> bool
+    ensures { result ≡ meant.same_policy a b }
+{
+    a.retries == b.retries && a.age == b.age
+}
+
 pub(crate) fn same_row(a: &EventRow, b: &EventRow) -> bool
     ensures { result ≡ meant.same_row a.now b.now }
 {
     a.id == b.id
         && same_numbers(a, b)
+        && same_policy(a.policy, b.policy)
         && same_standing(a.standing, b.standing)
         && a.payload.as_slice() == b.payload.as_slice()
         && same_answer(&a.answer, &b.answer)
@@ -81,6 +88,7 @@ impl Table {
     {
         self.number() == other.number()
             && self.last_moment() == other.last_moment()
+            && same_policy(self.policy(), other.policy())
             && self.held.has_same_rows(&other.held)
     }
 

@@ -8,7 +8,7 @@ ghost use Rattle.async_core.specs.Equality as meant;
 ghost use Rattle.async_core.specs.Rules.{has_id, remove_row, running_at};
 ghost use Rattle.async_core.specs.Steps as step;
 ghost use Rattle.async_core.specs.Ids.{PutsRow, TakesRow, SetsRow, ForRowAt};
-ghost use Rattle.async_core.specs.Kept.{with_rows, Enters, StaysOut, ChoosesByTurns, ChoosesUpTo};
+ghost use Rattle.async_core.specs.Kept.{Enters, StaysOut, ChoosesByTurns, ChoosesUpTo};
 ghost use Rattle.async_core.specs.Turns as turned;
 ghost use Rattle.async_core.specs.Turns.{within, row_turn, IsFirstBy};
 
@@ -30,8 +30,6 @@ use std::marker::Model;
 /// The rows of the events that are held. Each has a place, and places ascend in the order of acceptance.
 #[derive(Drop)]
 pub(crate) struct Held {
-    /// From which age on an event is too old, in seconds.
-    age: u32,
     rows: BTreeMap<u64, EventRow>,
     /// Each row's id with its place.
     ids: BTreeSet<([u8; 16], u64)>,
@@ -44,13 +42,15 @@ pub(crate) struct Held {
 
 impl Model for Held {
     ghost use Rattle.std.specs.Map.{values_of};
-    ghost use Rattle.async_core.specs.Kept.{Kept, IsIndexed};
+    ghost use Rattle.std.specs.Prelude.{List};
+    ghost use Rattle.invoke_records.specs.declared.row.EventRow.{EventRow};
+    ghost use Rattle.async_core.specs.Kept.{IsIndexed};
 
-    ghost Value = { Kept };
+    ghost Value = { List EventRow };
 
-    ghost view = { λ h. record { age = h.age; rows = values_of h.rows.entries } };
+    ghost view = { λ h. values_of h.rows.entries };
 
-    ghost invariant = { λ h. IsIndexed h.age h.rows h.ids h.turns h.running h.next };
+    ghost invariant = { λ h. IsIndexed h.rows h.ids h.turns h.running h.next };
 }
 
 fn put_row(rows: &mut BTreeMap<u64, EventRow>, place: u64, row: EventRow) -> Result<(), AllocError>
@@ -89,16 +89,15 @@ fn change_row(
 fn enter(
     ids: &mut BTreeSet<([u8; 16], u64)>,
     turns: &mut BTreeSet<Turn>,
-    age: u32,
     place: u64,
     id: [u8; 16],
     facts: Facts,
 ) -> Result<(), AllocError>
-    ensures ok { OnOk result (Enters age place id facts ids.old ids.new turns.old turns.new) }
-    ensures err { OnErr result (StaysOut age place ids.old ids.new turns.old turns.new) }
+    ensures ok { OnOk result (Enters place id facts ids.old ids.new turns.old turns.new) }
+    ensures err { OnErr result (StaysOut place ids.old ids.new turns.old turns.new) }
 {
     ids.insert((id, place))?;
-    if let Err(error) = insert_turns(turns, age, place, facts) {
+    if let Err(error) = insert_turns(turns, place, facts) {
         let _ = ids.remove(&(id, place));
         return Err(error);
     }
@@ -176,11 +175,10 @@ fn is_within(low: u128, last: Option<u64>, at: (u128, u64)) -> bool
 
 impl Held {
     /// None. It takes no memory.
-    pub(crate) fn new(alloc: Global, age: u32) -> Held
-        ensures { result ≡ record { age = age; rows = [] } }
+    pub(crate) fn new(alloc: Global) -> Held
+        ensures { result ≡ [] }
     {
         Held {
-            age,
             rows: BTreeMap::new(alloc),
             ids: BTreeSet::new(alloc),
             turns: BTreeSet::new(alloc),
@@ -189,30 +187,23 @@ impl Held {
         }
     }
 
-    /// From which age on an event is too old, in seconds.
-    pub(crate) fn age(&self) -> u32
-        ensures { result ≡ self.now.age }
-    {
-        self.age
-    }
-
     /// How many there are.
     pub(crate) fn len(&self) -> usize
-        ensures { result ≡ length self.now.rows }
+        ensures { result ≡ length self.now }
     {
         self.rows.len()
     }
 
     /// How many of them run.
     pub(crate) fn running(&self) -> usize
-        ensures { result ≡ running_at self.now.rows }
+        ensures { result ≡ running_at self.now }
     {
         self.running
     }
 
     /// The first row of this id.
     pub(crate) fn find(&self, id: &[u8; 16]) -> Option<&EventRow>
-        ensures { option_map (λ r. r.now) result ≡ find (has_id id.now) self.now.rows }
+        ensures { option_map (λ r. r.now) result ≡ find (has_id id.now) self.now }
     {
         match first_place(&self.ids, id) {
             Some(place) => self.rows.get(&place),
@@ -222,7 +213,7 @@ impl Held {
 
     /// The first row in an index whose first number is at least this one, and at most that one if one is given.
     pub(crate) fn first_in(&self, index: Index, low: u128, last: Option<u64>) -> Option<&EventRow>
-        ensures { IsFirstBy (row_turn self.now.age index low last) self.now.rows (option_copied result) }
+        ensures { IsFirstBy (row_turn index low last) self.now (option_copied result) }
     {
         let Some(first) = first_turn(&self.turns, index, (low, 0)) else {
             return None;
@@ -249,21 +240,21 @@ impl Held {
 
     /// Equal rows in memory of their own.
     pub(crate) fn copies(&self, alloc: Global) -> Result<Vec<EventRow>, AllocError>
-        ensures { IfOk result (λ copies. copies.items ≡ self.now.rows) }
+        ensures { IfOk result (λ copies. copies.items ≡ self.now) }
     {
         copies_of(&self.rows, alloc)
     }
 
     /// Whether both have the same rows.
     pub(crate) fn has_same_rows(&self, other: &Held) -> bool
-        ensures { result ≡ pointwise meant.same_row self.now.rows other.now.rows }
+        ensures { result ≡ pointwise meant.same_row self.now other.now }
     {
         have_same_rows(&self.rows, &other.rows)
     }
 
     /// Adds a row behind the others. A refusal, for want of memory, changes nothing.
     pub(crate) fn push(&mut self, row: EventRow) -> Result<(), AllocError>
-        ensures ok { OnOk result (self.new ≡ with_rows self.old (self.old.rows ++ row ∷ [])) }
+        ensures ok { OnOk result (self.new ≡ (self.old ++ row ∷ [])) }
         ensures err { OnErr result (self.new ≡ self.old) }
     {
         let place = self.next;
@@ -274,9 +265,9 @@ impl Held {
         let Some(next) = place.checked_add(1) else {
             return Err(AllocError);
         };
-        enter(&mut self.ids, &mut self.turns, self.age, place, id, facts)?;
+        enter(&mut self.ids, &mut self.turns, place, id, facts)?;
         if let Err(error) = put_row(&mut self.rows, place, row) {
-            remove_turns(&mut self.turns, self.age, place, facts);
+            remove_turns(&mut self.turns, place, facts);
             let _ = self.ids.remove(&(id, place));
             return Err(error);
         }
@@ -287,14 +278,14 @@ impl Held {
 
     /// Takes the first row of this id away. It takes no memory.
     pub(crate) fn remove(&mut self, id: &[u8; 16])
-        ensures { self.new ≡ with_rows self.old (remove_row id.now self.old.rows) }
+        ensures { self.new ≡ (remove_row id.now self.old) }
     {
         if let Some(place) = first_place(&self.ids, id) {
             if let Some(row) = self.rows.get(&place) {
                 let _held = self.rows.len();
                 let facts = facts_of(row);
                 let running = recounted(self.running, is_running(facts.standing), false);
-                remove_turns(&mut self.turns, self.age, place, facts);
+                remove_turns(&mut self.turns, place, facts);
                 let id = *id;
                 let _ = self.ids.remove(&(id, place));
                 take_row(&mut self.rows, place);
@@ -313,7 +304,7 @@ impl Held {
     ) -> Result<(), AllocError>
         requires time { command.now.time < 2 ^ 63 }
         requires answer { step.Brings command.now answer }
-        ensures ok { OnOk result (self.new ≡ with_rows self.old (step.rows_changed settings.now number command.now self.old.rows)) }
+        ensures ok { OnOk result (self.new ≡ (step.rows_changed settings.now number command.now self.old)) }
         ensures err { OnErr result (self.new ≡ self.old) }
     {
         let Some(place) = first_place(&self.ids, &command.id) else {
@@ -327,7 +318,7 @@ impl Held {
         let new = changed_facts(row, settings, number, command);
         let (ran, runs) = (is_running(old.standing), is_running(new.standing));
         let running = recounted(self.running, ran, runs);
-        switch_turns(&mut self.turns, self.age, place, old, new)?;
+        switch_turns(&mut self.turns, place, old, new)?;
         self.running = running;
         change_row(&mut self.rows, place, settings, number, command, answer);
         Ok(())
@@ -341,8 +332,9 @@ fn changed_facts(row: &EventRow, settings: &Settings, number: u64, command: &Com
 {
     Facts {
         accepted: row.accepted,
+        age: row.policy.age,
         number: row.number,
         last_number: number,
-        standing: standing_after(settings, command, row.failures, row.push_backs),
+        standing: standing_after(settings, row.policy, command, row.failures, row.push_backs),
     }
 }

@@ -1,30 +1,44 @@
 // Why a command is refused: its shape, its moment, and what it asks of the events.
 ghost use Rattle.std.specs.Prelude.{◌≡◌, ℕ, Bool, nat_lt, nat_le, length, [], ◌∷◌};
 ghost use Rattle.std.specs.Result.{result_err};
-ghost use Rattle.async_core.specs.Checks.{first_failed, clock_check, shape_by, shape_checks, accept_checks, start_checks, throttle_checks, answer_checks, timeout_checks, failure_checks, interrupt_checks, expire_checks, collect_checks, state_checks, refusal_in};
+ghost use Rattle.async_core.specs.Checks.{first_failed, clock_check, shape_by, configure_checks, shape_checks, accept_checks, start_checks, throttle_checks, answer_checks, timeout_checks, failure_checks, interrupt_checks, expire_checks, collect_checks, state_checks, refusal_in};
 
 use crate::Illegal;
 use crate::situation::Situation;
 use crate::standings::{is_due, is_ended, is_past_deadline, is_running, is_unknown};
-use invoke_records::{Cause, Command, GREATEST_MOMENT, Kind};
-use retry_rules::Settings;
+use invoke_records::{Cause, Command, GREATEST_MOMENT, Kind, has_bad_id};
+use retry_rules::{RetryPolicy, Settings};
 
 fn check_shape_by(
     command: &Command,
-    bad_environment: bool,
+    is_misplaced: bool,
     least: usize,
     most: usize,
 ) -> Result<(), Illegal>
-    ensures { result_err result ≡ first_failed (shape_by bad_environment least most command.now) }
+    ensures { result_err result ≡ first_failed (shape_by is_misplaced least most command.now) }
 {
     let length = command.bytes.len();
-    if bad_environment || command.time > GREATEST_MOMENT {
+    if is_misplaced || command.time > GREATEST_MOMENT {
         return Err(Illegal::BadKind);
     }
     if length > most {
         return Err(Illegal::TooLong);
     }
     if length < least {
+        return Err(Illegal::BadKind);
+    }
+    Ok(())
+}
+
+/// Whether a Configure with this policy names no event, carries no bytes and is within the ranges.
+fn check_configure(command: &Command, policy: RetryPolicy) -> Result<(), Illegal>
+    ensures { result_err result ≡ first_failed (configure_checks command.now policy) }
+{
+    let is_misplaced = command.environment > 0 || has_bad_id(Kind::Configure(policy), &command.id);
+    if let Err(why) = check_shape_by(command, is_misplaced, 0, 0) {
+        return Err(why);
+    }
+    if policy.is_bad() {
         return Err(Illegal::BadKind);
     }
     Ok(())
@@ -55,6 +69,7 @@ fn check_shape(settings: &Settings, command: &Command) -> Result<(), Illegal>
         Kind::Interrupt => check_shape_by(command, has_environment, 0, 0),
         Kind::Expire => check_shape_by(command, has_environment, 0, 0),
         Kind::Collect => check_shape_by(command, has_environment, 0, 0),
+        Kind::Configure(policy) => check_configure(command, policy),
     }
 }
 
@@ -207,6 +222,7 @@ fn check_state(settings: &Settings, situation: &Situation, command: &Command) ->
         Kind::Interrupt => check_interrupt(situation),
         Kind::Expire => check_expire(situation, command.time),
         Kind::Collect => check_collect(situation),
+        Kind::Configure(_) => Ok(()),
     }
 }
 

@@ -9,7 +9,7 @@ ghost use Rattle.async_core.specs.Histories.{ForEachHistory};
 use crate::Table;
 use crate::choice::{Move, Order, Side, is_ranked, move_by};
 use crate::held::Held;
-use crate::situation::too_old_from;
+use crate::situation::expiry_of;
 use crate::turns::Index;
 use invoke_records::{EventRow, Kind};
 use retry_rules::Settings;
@@ -26,16 +26,10 @@ fn environment_for(ready_env: Option<u16>, kind: Kind) -> u16
     }
 }
 
-fn move_of_row(
-    row: &EventRow,
-    age: u32,
-    is_full: bool,
-    now: u64,
-    ready_env: Option<u16>,
-) -> Option<Move>
-    ensures { result ≡ row_move is_full age now ready_env row.now }
+fn move_of_row(row: &EventRow, is_full: bool, now: u64, ready_env: Option<u16>) -> Option<Move>
+    ensures { result ≡ row_move is_full now ready_env row.now }
 {
-    let too_old = too_old_from(row.accepted, age);
+    let too_old = expiry_of(row);
     match move_by(is_full, ready_env.is_some(), too_old, now, row.standing) {
         Some(kind) => Some(Move {
             kind,
@@ -51,7 +45,7 @@ fn has_expired(held: &Held, now: u64) -> bool
     ensures { result ≡ false → NoneExpired now held.now }
 {
     match held.first_in(Index::Idle, 0, None) {
-        Some(row) => too_old_from(row.accepted, held.age()) <= u128::from(now),
+        Some(row) => expiry_of(row) <= u128::from(now),
         None => false,
     }
 }
@@ -60,9 +54,9 @@ fn has_expired(held: &Held, now: u64) -> bool
 /// move, and else the first of those whose deadline has passed and of those that are too old. Behind the first it looks
 /// at no event that waits for an environment.
 fn first_expiring(held: &Held, now: u64) -> Option<&EventRow>
-    ensures { IsChosen (Order.Moving now false false held.now.age) held.now.rows (option_copied result) }
+    ensures { IsChosen (Order.Moving now false false) held.now (option_copied result) }
 {
-    let order = Order::Moving(now, false, false, held.age());
+    let order = Order::Moving(now, false, false);
     let Some(ripe) = held.first_in(Index::Ripe, 0, Some(now)) else {
         return None;
     };
@@ -70,13 +64,12 @@ fn first_expiring(held: &Held, now: u64) -> Option<&EventRow>
         return Some(ripe);
     }
     let late = held.first_in(Index::Deadline, 0, Some(now));
-    let last = now.saturating_sub(1000 * u64::from(held.age()));
-    held.first_up_to(order, Index::Idle, last, late)
+    held.first_up_to(order, Index::Idle, now, late)
 }
 
 /// The row that makes the next move, found by the indexes.
 fn first_moving(held: &Held, now: u64, has_ready: bool, is_full: bool) -> Option<&EventRow>
-    ensures { IsChosen (Order.Moving now has_ready is_full held.now.age) held.now.rows (option_copied result) }
+    ensures { IsChosen (Order.Moving now has_ready is_full) held.now (option_copied result) }
 {
     if is_full || has_ready {
         return held.first_in(Index::Ripe, 0, Some(now));
@@ -88,25 +81,23 @@ fn first_moving(held: &Held, now: u64, has_ready: bool, is_full: bool) -> Option
 }
 
 fn next_move_in(held: &Held, settings: &Settings, now: u64, ready_env: Option<u16>) -> Option<Move>
-    requires { held.now.age ≡ settings.now.age }
-    ensures { IsNextAt settings.now held.now.rows now ready_env result }
+    ensures { IsNextAt settings.now held.now now ready_env result }
 {
-    let age = settings.age;
     let is_full = settings.concurrency as usize <= held.running();
     match first_moving(held, now, ready_env.is_some(), is_full) {
-        Some(row) => move_of_row(row, age, is_full, now, ready_env),
+        Some(row) => move_of_row(row, is_full, now, ready_env),
         None => None,
     }
 }
 
 fn running_after(held: &Held, after: u64) -> Option<&EventRow>
-    ensures { IsChosen (Order.Running after) held.now.rows (option_copied result) }
+    ensures { IsChosen (Order.Running after) held.now (option_copied result) }
 {
     held.first_in(Index::Running, u128::from(after) + 1, None)
 }
 
 fn ended_first(held: &Held, side: Side) -> Option<&EventRow>
-    ensures { IsChosen (Order.Ended side) held.now.rows (option_copied result) }
+    ensures { IsChosen (Order.Ended side) held.now (option_copied result) }
 {
     match side {
         Side::Success => held.first_in(Index::Success, 0, None),
@@ -115,7 +106,7 @@ fn ended_first(held: &Held, side: Side) -> Option<&EventRow>
 }
 
 fn first_running(held: &Held, after: u64) -> Option<(u64, [u8; 16])>
-    ensures { IsChosenAs (Order.Running after) held.now.rows (λ (r : EventRow). (r.number, r.id)) result }
+    ensures { IsChosenAs (Order.Running after) held.now (λ (r : EventRow). (r.number, r.id)) result }
 {
     match running_after(held, after) {
         Some(row) => Some((row.number, row.id)),
@@ -124,7 +115,7 @@ fn first_running(held: &Held, after: u64) -> Option<(u64, [u8; 16])>
 }
 
 fn first_ended(held: &Held, side: Side) -> Option<[u8; 16]>
-    ensures { IsChosenAs (Order.Ended side) held.now.rows (λ (r : EventRow). r.id) result }
+    ensures { IsChosenAs (Order.Ended side) held.now (λ (r : EventRow). r.id) result }
 {
     match ended_first(held, side) {
         Some(row) => Some(row.id),

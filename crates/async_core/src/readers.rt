@@ -1,9 +1,10 @@
 // What a table says of one event. No reader takes memory.
 ghost use Rattle.std.specs.Prelude.{◌≡◌, Some, find, option_map};
 ghost use Rattle.std.specs.Option.{option_copied};
-ghost use Rattle.async_core.specs.Readers.{told, outcome_by, accepted_at, accepted_after, payload_at, payload_after, counts_at, counts_after, ending_at, ending_after};
+ghost use Rattle.async_core.specs.Readers.{told, outcome_by, accepted_at, accepted_after, payload_at, payload_after, counts_at, counts_after, judge_at, judge_after, ending_at, ending_after};
 ghost use Rattle.async_core.specs.Rules.{has_id, row_at, standing_at};
-ghost use Rattle.async_core.specs.History.{standing_in};
+ghost use Rattle.async_core.specs.History.{standing_in, in_force};
+ghost use Rattle.async_core.specs.Policies.{pair_of};
 ghost use Rattle.async_core.specs.Histories.{ForEachLegalHistory};
 
 use crate::Table;
@@ -25,7 +26,7 @@ pub struct Ended<'a> {
 }
 
 fn accepted_in(held: &Held, id: &[u8; 16]) -> Option<u64>
-    ensures { result ≡ accepted_at (find (has_id id.now) held.now.rows) }
+    ensures { result ≡ accepted_at (find (has_id id.now) held.now) }
 {
     match held.find(id) {
         Some(row) => Some(row.accepted),
@@ -34,7 +35,7 @@ fn accepted_in(held: &Held, id: &[u8; 16]) -> Option<u64>
 }
 
 fn payload_in<'a>(held: &'a Held, id: &[u8; 16]) -> Option<&'a [u8]>
-    ensures { option_copied result ≡ payload_at (find (has_id id.now) held.now.rows) }
+    ensures { option_copied result ≡ payload_at (find (has_id id.now) held.now) }
 {
     match held.find(id) {
         Some(row) => Some(row.payload.as_slice()),
@@ -43,10 +44,19 @@ fn payload_in<'a>(held: &'a Held, id: &[u8; 16]) -> Option<&'a [u8]>
 }
 
 fn counts_in_rows(held: &Held, id: &[u8; 16]) -> Option<(u32, u32, u32)>
-    ensures { result ≡ counts_at (find (has_id id.now) held.now.rows) }
+    ensures { result ≡ counts_at (find (has_id id.now) held.now) }
 {
     match held.find(id) {
         Some(row) => Some((row.starts, row.failures, row.push_backs)),
+        None => None,
+    }
+}
+
+fn judge_in(held: &Held, id: &[u8; 16]) -> Option<(u8, u32)>
+    ensures { result ≡ judge_at (find (has_id id.now) held.now) }
+{
+    match held.find(id) {
+        Some(row) => Some((row.policy.retries, row.policy.age)),
         None => None,
     }
 }
@@ -68,7 +78,7 @@ fn ending_of(row: &EventRow) -> Option<Ended<'_>>
 }
 
 fn ended_in<'a>(held: &'a Held, id: &[u8; 16]) -> Option<Ended<'a>>
-    ensures { option_map told result ≡ ending_at (find (has_id id.now) held.now.rows) }
+    ensures { option_map told result ≡ ending_at (find (has_id id.now) held.now) }
 {
     match held.find(id) {
         Some(row) => ending_of(row),
@@ -77,6 +87,16 @@ fn ended_in<'a>(held: &'a Held, id: &[u8; 16]) -> Option<Ended<'a>>
 }
 
 impl Table {
+    /// The retries and the age, in seconds, that are in force for the events that are accepted next: those of the last
+    /// Configure, or of the settings where there was none. It takes no memory.
+    pub fn in_force(&self) -> (u8, u32)
+        ensures by_table { result ≡ pair_of self.now.table.policy }
+        ensures by_history { ForEachLegalHistory self.now (λ s history. result ≡ pair_of (in_force s history)) }
+    {
+        let policy = self.policy();
+        (policy.retries, policy.age)
+    }
+
     /// How an event ended, if it is held and has ended.
     pub fn outcome(&self, id: &[u8; 16]) -> Option<Outcome>
         ensures by_row { result ≡ outcome_by (standing_at self.now.table id.now) }
@@ -110,6 +130,14 @@ impl Table {
         ensures by_history { ForEachLegalHistory self.now (λ s history. result ≡ counts_after id.now history) }
     {
         counts_in_rows(&self.held, id)
+    }
+
+    /// The retries and the age, in seconds, by which an event is judged: what was in force just before it was accepted.
+    pub fn judged_by(&self, id: &[u8; 16]) -> Option<(u8, u32)>
+        ensures by_row { result ≡ judge_at (row_at self.now.table id.now) }
+        ensures by_history { ForEachLegalHistory self.now (λ s history. result ≡ judge_after s id.now history) }
+    {
+        judge_in(&self.held, id)
     }
 
     /// What an event that has ended leaves, if it is held and has ended.

@@ -2,13 +2,13 @@
 ghost use Rattle.std.specs.Prelude.{◌≡◌, ◌<◌, ◌^◌, ◌+◌, None, Some, Err, IfOk, OnOk, OnErr, IfErr};
 ghost use Rattle.std.specs.Result.{result_err};
 
-use crate::changes::change;
+use crate::changes::{change, policy_after};
 use crate::held::Held;
 use crate::legality::refuse;
-use crate::situation::{Situation, accepted_or_zero, is_busy, standing_in, too_old_from};
+use crate::situation::{Situation, is_busy, standing_in, too_old_or_zero};
 use crate::{ApplyError, Illegal};
 use invoke_records::{Command, EventRow, Rows, Snapshot, Standing};
-use retry_rules::Settings;
+use retry_rules::{RetryPolicy, Settings};
 use std::alloc::{AllocError, Global};
 use std::marker::Model;
 
@@ -19,6 +19,7 @@ pub struct Table {
     pub(crate) settings: Settings,
     number: u64,
     last_moment: u64,
+    policy: RetryPolicy,
     pub(crate) held: Held,
 }
 
@@ -30,17 +31,15 @@ impl Model for Table {
 
     ghost view = { λ t. record {
       settings = t.settings;
-      table = record { number = t.number; last_moment = t.last_moment; rows = t.held.rows };
+      table = record { number = t.number; last_moment = t.last_moment; policy = t.policy; rows = t.held };
     } };
-
-    ghost invariant = { λ t. t.held.age ≡ t.settings.age };
 }
 
 /// These rows with their indexes.
-fn held_of(alloc: Global, age: u32, rows: Vec<EventRow>) -> Result<Held, AllocError>
-    ensures { IfOk result (λ held. held ≡ record { age = age; rows = rows.items }) }
+fn held_of(alloc: Global, rows: Vec<EventRow>) -> Result<Held, AllocError>
+    ensures { IfOk result (λ held. held ≡ rows.items) }
 {
-    let mut held = Held::new(alloc, age);
+    let mut held = Held::new(alloc);
     for row in rows {
         held.push(row)?;
     }
@@ -58,13 +57,14 @@ impl Table {
     pub fn new(alloc: Global, settings: Settings) -> Table
         ensures { result ≡ empty_state settings }
     {
-        let held = Held::new(alloc, settings.age);
+        let policy = settings.policy();
         Table {
             alloc,
             settings,
             number: 0,
             last_moment: 0,
-            held,
+            policy,
+            held: Held::new(alloc),
         }
     }
 
@@ -79,14 +79,16 @@ impl Table {
         let Snapshot {
             number,
             last_moment,
+            policy,
             rows,
         } = snapshot;
-        let held = held_of(alloc, settings.age, rows.into_vec())?;
+        let held = held_of(alloc, rows.into_vec())?;
         Ok(Table {
             alloc,
             settings,
             number,
             last_moment,
+            policy,
             held,
         })
     }
@@ -99,11 +101,12 @@ impl Table {
         Ok(Snapshot {
             number: self.number,
             last_moment: self.last_moment,
+            policy: self.policy,
             rows: Rows::from_vec(rows),
         })
     }
 
-    /// The settings that its events are judged by.
+    /// The settings of its disk. Their retries and age are in force until a Configure brings others.
     pub fn settings(&self) -> &Settings
         ensures { result.now ≡ self.now.settings }
     {
@@ -124,6 +127,13 @@ impl Table {
         self.last_moment
     }
 
+    /// The retry policy that is in force for the events that are accepted next.
+    pub(crate) fn policy(&self) -> RetryPolicy
+        ensures { result ≡ self.now.table.policy }
+    {
+        self.policy
+    }
+
     /// Where an event stands.
     #[tactic(auto, unfolding(crate::specs::Rules::standing_at))]
     pub fn standing(&self, id: &[u8; 16]) -> Standing
@@ -138,14 +148,13 @@ impl Table {
     fn situation(&self, command: &Command) -> Situation
         ensures { result ≡ situation_at self.now.settings self.now.table command.now }
     {
-        let accepted = accepted_or_zero(&self.held, &command.id);
         Situation {
             last_moment: self.last_moment,
             held: self.held.len(),
             running: self.held.running(),
             is_busy: is_busy(command.environment, &self.held),
             standing: standing_in(&self.held, &command.id),
-            too_old_from: too_old_from(accepted, self.settings.age),
+            too_old_from: too_old_or_zero(&self.held, &command.id),
         }
     }
 
@@ -177,9 +186,11 @@ impl Table {
             return Err(ApplyError::Illegal(why));
         }
         let number = self.number + 1;
-        change(&mut self.held, &self.settings, number, command)?;
+        let policy = self.policy;
+        change(&mut self.held, &self.settings, policy, number, command)?;
         self.number = number;
         self.last_moment = command.time;
+        self.policy = policy_after(policy, command.kind);
         Ok(())
     }
 }

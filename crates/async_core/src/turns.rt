@@ -20,7 +20,7 @@ pub enum Index {
     Running,
     /// Those that run, by their environment.
     Environment,
-    /// Those that wait for an attempt, by the moment of their acceptance.
+    /// Those that wait for an attempt, by the moment from which they are too old.
     Idle,
     /// Those that ended with a success, by the command that ended them.
     Success,
@@ -50,6 +50,8 @@ pub fn rank(index: Index) -> u8
 #[derive(Clone, Copy)]
 pub struct Facts {
     pub accepted: u64,
+    /// From which age on the event is too old, in seconds.
+    pub age: u32,
     pub number: u64,
     pub last_number: u64,
     pub standing: Standing,
@@ -61,16 +63,24 @@ pub fn facts_of(row: &EventRow) -> Facts
 {
     Facts {
         accepted: row.accepted,
+        age: row.policy.age,
         number: row.number,
         last_number: row.last_number,
         standing: row.standing,
     }
 }
 
-fn ripe_turn(age: u32, facts: Facts) -> Option<(u128, u64)>
-    ensures { result ≡ meant.ripe_turn age facts facts.standing }
+/// The moment from which the event is too old.
+fn expiry(facts: Facts) -> u128
+    ensures { result ≡ meant.expiry facts }
 {
-    let too_old = too_old_from(facts.accepted, age);
+    too_old_from(facts.accepted, facts.age)
+}
+
+fn ripe_turn(facts: Facts) -> Option<(u128, u64)>
+    ensures { result ≡ meant.ripe_turn facts facts.standing }
+{
+    let too_old = expiry(facts);
     match facts.standing {
         Standing::Waiting { due } => Some((lesser(due, too_old), facts.number)),
         Standing::DueAgain { due } => Some((lesser(due, too_old), facts.number)),
@@ -110,8 +120,8 @@ fn idle_turn(facts: Facts) -> Option<(u128, u64)>
     ensures { result ≡ meant.idle_turn facts facts.standing }
 {
     match facts.standing {
-        Standing::Waiting { .. } => Some((u128::from(facts.accepted), 0)),
-        Standing::DueAgain { .. } => Some((u128::from(facts.accepted), 0)),
+        Standing::Waiting { .. } => Some((expiry(facts), 0)),
+        Standing::DueAgain { .. } => Some((expiry(facts), 0)),
         _ => None,
     }
 }
@@ -131,11 +141,11 @@ fn ended_turn(side: Side, facts: Facts) -> Option<(u128, u64)>
 }
 
 /// Where an event stands in an index, if it stands there.
-fn turn_in(age: u32, facts: Facts, index: Index) -> Option<(u128, u64)>
-    ensures { result ≡ meant.turn_in age facts index }
+fn turn_in(facts: Facts, index: Index) -> Option<(u128, u64)>
+    ensures { result ≡ meant.turn_in facts index }
 {
     match index {
-        Index::Ripe => ripe_turn(age, facts),
+        Index::Ripe => ripe_turn(facts),
         Index::Deadline => deadline_turn(facts),
         Index::Running => running_turn(facts),
         Index::Environment => environment_turn(facts),
@@ -147,26 +157,25 @@ fn turn_in(age: u32, facts: Facts, index: Index) -> Option<(u128, u64)>
 
 fn add_turn(
     turns: &mut BTreeSet<Turn>,
-    age: u32,
     place: u64,
     facts: Facts,
     index: Index,
 ) -> Result<(), AllocError>
-    ensures ok { OnOk result (meant.AddsTurns age place (Some facts) (index ∷ []) turns.old turns.new) }
+    ensures ok { OnOk result (meant.AddsTurns place (Some facts) (index ∷ []) turns.old turns.new) }
     ensures err { OnErr result (sorted.IsUnchanged turns.old turns.new) }
 {
-    if let Some(at) = turn_in(age, facts, index) {
+    if let Some(at) = turn_in(facts, index) {
         turns.insert((rank(index), at.0, at.1, place))?;
     }
     Ok(())
 }
 
 /// Whether an event with these facts, if there is one, stands there in an index.
-fn has_turn(age: u32, facts: Option<Facts>, index: Index, at: (u128, u64)) -> bool
-    ensures { result ≡ meant.has_turn age facts index at.0 at.1 }
+fn has_turn(facts: Option<Facts>, index: Index, at: (u128, u64)) -> bool
+    ensures { result ≡ meant.has_turn facts index at.0 at.1 }
 {
     match facts {
-        Some(facts) => match turn_in(age, facts, index) {
+        Some(facts) => match turn_in(facts, index) {
             Some(turn) => turn.0 == at.0 && turn.1 == at.1,
             None => false,
         },
@@ -174,20 +183,13 @@ fn has_turn(age: u32, facts: Option<Facts>, index: Index, at: (u128, u64)) -> bo
     }
 }
 
-fn drop_turn(
-    turns: &mut BTreeSet<Turn>,
-    age: u32,
-    place: u64,
-    gone: Facts,
-    kept: Option<Facts>,
-    index: Index,
-)
-    ensures { meant.DropsTurns age place (Some gone) kept (index ∷ []) turns.old turns.new }
+fn drop_turn(turns: &mut BTreeSet<Turn>, place: u64, gone: Facts, kept: Option<Facts>, index: Index)
+    ensures { meant.DropsTurns place (Some gone) kept (index ∷ []) turns.old turns.new }
 {
-    let Some(at) = turn_in(age, gone, index) else {
+    let Some(at) = turn_in(gone, index) else {
         return;
     };
-    if has_turn(age, kept, index, at) {
+    if has_turn(kept, index, at) {
         return;
     }
     let _ = turns.remove(&(rank(index), at.0, at.1, place));
@@ -196,16 +198,15 @@ fn drop_turn(
 /// Adds the turns of an event in these indexes.
 fn add_turns(
     turns: &mut BTreeSet<Turn>,
-    age: u32,
     place: u64,
     facts: Facts,
     indexes: &[Index],
 ) -> Result<(), AllocError>
-    ensures ok { OnOk result (meant.AddsTurns age place (Some facts) indexes.now turns.old turns.new) }
-    ensures err { OnErr result (meant.AddsSome age place (Some facts) turns.old turns.new) }
+    ensures ok { OnOk result (meant.AddsTurns place (Some facts) indexes.now turns.old turns.new) }
+    ensures err { OnErr result (meant.AddsSome place (Some facts) turns.old turns.new) }
 {
     for index in indexes {
-        add_turn(turns, age, place, facts, *index)?;
+        add_turn(turns, place, facts, *index)?;
     }
     Ok(())
 }
@@ -213,29 +214,27 @@ fn add_turns(
 /// Drops the turns of an event in these indexes, save those that it keeps.
 fn drop_turns(
     turns: &mut BTreeSet<Turn>,
-    age: u32,
     place: u64,
     gone: Facts,
     kept: Option<Facts>,
     indexes: &[Index],
 )
-    ensures { meant.DropsTurns age place (Some gone) kept indexes.now turns.old turns.new }
+    ensures { meant.DropsTurns place (Some gone) kept indexes.now turns.old turns.new }
 {
     for index in indexes {
-        drop_turn(turns, age, place, gone, kept, *index);
+        drop_turn(turns, place, gone, kept, *index);
     }
 }
 
 /// Changes the turns of the event at a place. A refusal, for want of memory, leaves those that there were.
 pub fn switch_turns(
     turns: &mut BTreeSet<Turn>,
-    age: u32,
     place: u64,
     old: Facts,
     new: Facts,
 ) -> Result<(), AllocError>
-    ensures ok { OnOk result (meant.Switches age place (Some old) (Some new) turns.old turns.new) }
-    ensures err { OnErr result (meant.StaysAt age place (Some old) turns.old turns.new) }
+    ensures ok { OnOk result (meant.Switches place (Some old) (Some new) turns.old turns.new) }
+    ensures err { OnErr result (meant.StaysAt place (Some old) turns.old turns.new) }
 {
     let indexes = [
         Index::Ripe,
@@ -246,23 +245,18 @@ pub fn switch_turns(
         Index::Success,
         Index::Failure,
     ];
-    if let Err(error) = add_turns(turns, age, place, new, &indexes) {
-        drop_turns(turns, age, place, new, Some(old), &indexes);
+    if let Err(error) = add_turns(turns, place, new, &indexes) {
+        drop_turns(turns, place, new, Some(old), &indexes);
         return Err(error);
     }
-    drop_turns(turns, age, place, old, Some(new), &indexes);
+    drop_turns(turns, place, old, Some(new), &indexes);
     Ok(())
 }
 
 /// Adds the turns of an event at a place that had none. A refusal, for want of memory, leaves those that there were.
-pub fn insert_turns(
-    turns: &mut BTreeSet<Turn>,
-    age: u32,
-    place: u64,
-    new: Facts,
-) -> Result<(), AllocError>
-    ensures ok { OnOk result (meant.Switches age place None (Some new) turns.old turns.new) }
-    ensures err { OnErr result (meant.StaysAt age place None turns.old turns.new) }
+pub fn insert_turns(turns: &mut BTreeSet<Turn>, place: u64, new: Facts) -> Result<(), AllocError>
+    ensures ok { OnOk result (meant.Switches place None (Some new) turns.old turns.new) }
+    ensures err { OnErr result (meant.StaysAt place None turns.old turns.new) }
 {
     let indexes = [
         Index::Ripe,
@@ -273,16 +267,16 @@ pub fn insert_turns(
         Index::Success,
         Index::Failure,
     ];
-    if let Err(error) = add_turns(turns, age, place, new, &indexes) {
-        drop_turns(turns, age, place, new, None, &indexes);
+    if let Err(error) = add_turns(turns, place, new, &indexes) {
+        drop_turns(turns, place, new, None, &indexes);
         return Err(error);
     }
     Ok(())
 }
 
 /// Drops the turns of the event at a place. It takes no memory.
-pub fn remove_turns(turns: &mut BTreeSet<Turn>, age: u32, place: u64, old: Facts)
-    ensures { meant.Switches age place (Some old) None turns.old turns.new }
+pub fn remove_turns(turns: &mut BTreeSet<Turn>, place: u64, old: Facts)
+    ensures { meant.Switches place (Some old) None turns.old turns.new }
 {
     let indexes = [
         Index::Ripe,
@@ -293,7 +287,7 @@ pub fn remove_turns(turns: &mut BTreeSet<Turn>, age: u32, place: u64, old: Facts
         Index::Success,
         Index::Failure,
     ];
-    drop_turns(turns, age, place, old, None, &indexes);
+    drop_turns(turns, place, old, None, &indexes);
 }
 
 /// The first turn in an index from these two numbers on, and the place of its row.

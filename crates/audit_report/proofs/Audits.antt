@@ -4,6 +4,7 @@ use Rattle.sector_disk.specs.Disk.{DiskView}
 use Rattle.invoke_records.specs.declared.command.Command.{Command}
 use Rattle.invoke_records.specs.declared.snapshot.Snapshot.{Snapshot}
 use Rattle.async_core.specs.State.{State}
+use Rattle.async_core.specs.Policies.{pair_of}
 use Rattle.async_core.specs.Rules.{replay}
 use Rattle.checkpoint.specs.declared.error.OpenError.{OpenError}
 use Rattle.checkpoint.specs.declared.error.OpenError.TheVariants.{Fault, OutOfMemory, NotFormatted, Damaged}
@@ -53,8 +54,9 @@ module _ (disk : DiskView) (bytes : List ℕ) (opened : Opened) (snapshot : Snap
 
   pub is_audit : (report : Report) → report.generation ≡ generation_of opened → report.number ≡ after.table.number
       → AreCounts after.table.rows (record { held = report.held; waiting = report.waiting; running = report.running; success = report.success; failure = report.failure })
-      → TellsOlder first (option_map parts_of live.image.older) report.older → IsAudit bytes after report
-  is_audit report generation number counted older =
+      → TellsOlder first (option_map parts_of live.image.older) report.older → (report.retries, report.age) ≡ pair_of after.table.policy
+      → IsAudit bytes after report
+  is_audit report generation number counted older in_force =
       let counts = rw table_after at counted in
       record {
         image = live.image;
@@ -69,5 +71,6 @@ module _ (disk : DiskView) (bytes : List ℕ) (opened : Opened) (snapshot : Snap
           success = counts.success;
           failure = counts.failure;
           older = subst (λ (s : State). TellsOlder s (option_map parts_of live.image.older) report.older) (sym snapshot_is) older;
+          in_force = in_force ∙ ap (λ (t : Snapshot). pair_of t.policy) table_after;
         };
       }

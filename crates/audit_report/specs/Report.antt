@@ -3,6 +3,7 @@ use Rattle.std.specs.Prelude.{◌≡◌, ℕ, List, ◌++◌, length, count_by, 
 use Rattle.sector_disk.specs.Disk.{DiskView, IsSameDisk, HasRisen}
 use Rattle.async_core.specs.State.{State}
 use Rattle.async_core.specs.Standings.{is_running}
+use Rattle.async_core.specs.Policies.{pair_of}
 use Rattle.checkpoint.specs.Image.{DiskImage, parts_of, read_image}
 use Rattle.audit_report.specs.Counts.{is_waiting, is_success, is_failure, stands}
 use Rattle.audit_report.specs.Comparison.{TellsOlder}
@@ -18,7 +19,8 @@ live_snapshot image = record { settings = image.live.settings; table = image.liv
 abbrev pub live_table : DiskImage → State
 live_table image = record { settings = image.live.settings; table = image.live.table }
 
--- what is told of an image: its generation, how many commands it recovers to, how its events stand, and the older segment
+-- what is told of an image: its generation, how many commands it recovers to, how its events stand, the older segment, and the
+-- retries and the age that are in force
 pub record Tells (image : DiskImage) (report : Report) : Type 0 where
   pub generation : report.generation ≡ image.live.generation
   pub number : report.number ≡ image.live.table.number
@@ -28,6 +30,7 @@ pub record Tells (image : DiskImage) (report : Report) : Type 0 where
   pub success : report.success ≡ count_by (stands is_success) image.live.table.rows
   pub failure : report.failure ≡ count_by (stands is_failure) image.live.table.rows
   pub older : TellsOlder (live_snapshot image) (option_map parts_of image.older) report.older
+  pub in_force : (report.retries, report.age) ≡ pair_of image.live.table.policy
 
 -- the bytes are read as an image, of which this is told, and this is its table
 pub record IsAudit (bytes : List ℕ) (table : State) (report : Report) : Type 0 where
@@ -68,6 +71,11 @@ standing_text report =
 abbrev pub ended_line : Report → List ℕ
 ended_line report = codes " success " ++ (decimal report.success ++ (codes " failure " ++ (decimal report.failure ++ codes "\n")))
 
--- three lines, of which the last has no end
+abbrev pub policy_line : Report → List ℕ
+policy_line report = codes "in force retries " ++ (decimal report.retries ++ (codes " age " ++ decimal report.age))
+
+-- four lines, of which the last has no end
 abbrev pub report_text : Report → List ℕ
-report_text report = number_line report ++ (standing_text report ++ (ended_line report ++ older_text report.older))
+report_text report =
+    number_line report
+    ++ (standing_text report ++ (ended_line report ++ (older_text report.older ++ (codes "\n" ++ policy_line report))))

@@ -37,6 +37,7 @@ pub fn inspect<D: Disk>(alloc: Global, disk: &mut D) -> Result<(Table, Report), 
     let Ok(counts) = counts_of(&table) else {
         return Err(OpenError::OutOfMemory);
     };
+    let (retries, age) = table.in_force();
     let report = Report {
         generation: opened.generation(),
         number: table.number(),
@@ -46,6 +47,8 @@ pub fn inspect<D: Disk>(alloc: Global, disk: &mut D) -> Result<(Table, Report), 
         success: counts.success,
         failure: counts.failure,
         older,
+        retries,
+        age,
     };
     Ok((table, report))
 }

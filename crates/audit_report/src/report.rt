@@ -32,6 +32,10 @@ pub struct Report {
     /// How many ended without.
     pub failure: usize,
     pub older: Older,
+    /// How often an event that is accepted next is tried again after a function error.
+    pub retries: u8,
+    /// Its greatest age, in seconds.
+    pub age: u32,
 }
 
 impl fmt::Display for Older {
@@ -56,7 +60,7 @@ impl fmt::Display for Report {
 
     ghost output = { λ report. Some (report_text report) };
 
-    /// Three lines, of which the last has no end.
+    /// Four lines, of which the last has no end.
     fn fmt<W: fmt::Write>(&self, f: &mut fmt::Formatter<W>) -> fmt::Result {
         let generation = self.generation;
         let number = self.number;
@@ -69,6 +73,9 @@ impl fmt::Display for Report {
         let failure = self.failure;
         writeln!(f, " success {success} failure {failure}")?;
         let older = self.older;
-        write!(f, "{older}")
+        writeln!(f, "{older}")?;
+        let retries = self.retries;
+        let age = self.age;
+        write!(f, "in force retries {retries} age {age}")
     }
 }

@@ -25,7 +25,7 @@ ok_from P before (Ok x) same is = subst (λ (r : Result _ _). IfOk r P) same is
 ok_from P before (Err e) same is = tt
 
 -- each image of a formatted disk is a legal stop of nothing
-pub formatted_stops : (disk : DiskView) → HasOneImage disk → RecoversTo trial_settings empty_table disk.content → (image : List ℕ) → disk.may_leave image → IsLegalStop trial_settings [] 0 image
+pub formatted_stops : (disk : DiskView) → HasOneImage disk → RecoversTo trial_settings (empty_table trial_settings) disk.content → (image : List ℕ) → disk.may_leave image → IsLegalStop trial_settings [] 0 image
 formatted_stops disk one recovers image left = record {
   size = 0;
   least = omega arith;

@@ -100,7 +100,7 @@ fn acceptance(alloc: Global) -> Result<Command, AllocError>
         id: ID,
         environment: 0,
         time: ACCEPTED_AT,
-        bytes: Bytes::from_vec(Vec::from_slice(alloc, b"{}")?),
+        bytes: Bytes::from_slice(alloc, b"{}")?,
     })
 }
 

@@ -50,7 +50,7 @@ pub fn body(alloc: Global, text: &str) -> Result<Vec<u8>, Reply> {
         return Err(Reply::Unreadable);
     }
     let bytes = if is_count {
-        filled(alloc, count.min(1 << 20) as usize, word)
+        filled(alloc, count.min(1 << 21) as usize, word)
     } else {
         Vec::from_slice(alloc, text.as_bytes()).ok()
     };

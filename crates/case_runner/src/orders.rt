@@ -1,11 +1,13 @@
-// Commands as a script writes them: `KIND ID [in ENVIRONMENT] at MOMENT [BYTES]`, after `fail` with its cause.
+// Commands as a script writes them: `KIND ID [in ENVIRONMENT] at MOMENT [BYTES]`, after `fail` with its cause, and
+// `configure RETRIES AGE at MOMENT`.
 use crate::bytes::body;
 use crate::reply::Reply;
 use crate::words::{Words, id_of};
 use invoke_records::{Bytes, Cause, Command, Kind};
+use retry_rules::RetryPolicy;
 use std::alloc::Global;
 
-/// A command for each of the events of a range.
+/// A command for each of the events of a range; a Configure, which is of no event, for the range of 0 alone.
 #[derive(Clone, Copy)]
 pub struct Order<'a> {
     kind: Kind,
@@ -20,13 +22,20 @@ impl Order<'_> {
     /// The command of one of the events.
     pub fn command(self, alloc: Global, number: u64) -> Result<Command, Reply> {
         let bytes = if self.body.is_empty() {
-            Bytes::empty(alloc)
+            Bytes::empty()
         } else {
-            Bytes::from_vec(body(alloc, self.body)?)
+            let Ok(bytes) = Bytes::from_vec(body(alloc, self.body)?) else {
+                return Err(Reply::NoMemory);
+            };
+            bytes
+        };
+        let id = match self.kind {
+            Kind::Configure(_) => [0; 16],
+            _ => id_of(number),
         };
         Ok(Command {
             kind: self.kind,
-            id: id_of(number),
+            id,
             environment: self.environment,
             time: self.time,
             bytes,
@@ -44,6 +53,15 @@ fn read_cause(words: &mut Words) -> Cause {
     Cause::Exited
 }
 
+fn read_policy(words: &mut Words) -> RetryPolicy {
+    let retries = words.number_to(u8::MAX as u64);
+    let age = words.number_to(u32::MAX as u64);
+    RetryPolicy {
+        retries: u8::try_from(retries).unwrap_or(0),
+        age: u32::try_from(age).unwrap_or(0),
+    }
+}
+
 fn read_kind(word: &str, words: &mut Words) -> Kind {
     match word {
         "accept" => return Kind::Accept,
@@ -53,6 +71,7 @@ fn read_kind(word: &str, words: &mut Words) -> Kind {
         "throttle" => return Kind::Throttle,
         "interrupt" => return Kind::Interrupt,
         "expire" => return Kind::Expire,
+        "configure" => return Kind::Configure(read_policy(words)),
         "collect" => {}
         _ => words.refuse(),
     }
@@ -70,7 +89,10 @@ pub fn read_environment(words: &mut Words, word: &str) -> Option<u16> {
 /// Reads a command behind this word of its kind.
 pub fn read_order<'a>(word: &str, words: &mut Words<'a>) -> Order<'a> {
     let kind = read_kind(word, words);
-    let (first, last) = words.range();
+    let (first, last) = match kind {
+        Kind::Configure(_) => (0, 0),
+        _ => words.range(),
+    };
     let environment = read_environment(words, "in").unwrap_or(0);
     words.expect("at");
     let time = words.number();
@@ -104,6 +126,7 @@ pub fn is_kind(word: &str) -> bool {
         "interrupt",
         "expire",
         "collect",
+        "configure",
     ]
     .contains(&word)
 }
@@ -121,5 +144,6 @@ pub fn kind_word(kind: Kind) -> &'static str {
         Kind::Interrupt => "interrupt",
         Kind::Expire => "expire",
         Kind::Collect => "collect",
+        Kind::Configure(_) => "configure",
     }
 }

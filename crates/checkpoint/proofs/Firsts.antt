@@ -14,6 +14,7 @@ use Rattle.std.specs.Result.{IsOkAnd}
 use Rattle.checkpoint.specs.declared.error.OpenError.{OpenError}
 use Rattle.checkpoint.specs.declared.error.OpenError.TheVariants.{NotFormatted}
 use Rattle.async_core.specs.Limits.{most_snapshot, is_within}
+use Rattle.async_core.specs.laws.Limits.{empty_fit}
 use Rattle.checkpoint.specs.Image.{SegmentImage, DiskImage, HasGeneration, segment_sectors, least_sectors, segment_text, open_header, with_older, by_headers, read_image, recovered, state_of}
 use Rattle.sector_disk.specs.Disk.{DiskView}
 use Rattle.checkpoint.specs.Formatting.{IsFormatting}
@@ -32,46 +33,46 @@ module _ (s : Settings) (good : bad_field s ≡ None) (snapshot : Snapshot) (sma
 
 -- ## The empty snapshot
 
-pub empty_size : length (snapshot_text empty_table) ≡ 20
+pub empty_size : (s : Settings) → length (snapshot_text (empty_table s)) ≡ 25
 unfolding snapshot_text
-empty_size = refl
+empty_size s = refl
 
-is_empty : IsSnapshot empty_table
-is_empty = record { within = tt; fault = refl }
+is_empty : (s : Settings) → bad_field s ≡ None → IsSnapshot (empty_table s)
+is_empty s good = record { within = tt; fault = (empty_fit s good).fault }
 
-pub empty_small : (s : Settings) → length (snapshot_text empty_table) ≤ most_snapshot s
-empty_small s = omega (arith, empty_size)
+pub empty_small : (s : Settings) → length (snapshot_text (empty_table s)) ≤ most_snapshot s
+empty_small s = omega (arith, empty_size s)
 
-empty_again : snapshot_at (snapshot_text empty_table) ≡ Ok (empty_table, [])
-empty_again = ap snapshot_at (sym (append-nil (snapshot_text empty_table))) ∙ snapshot_again empty_table [] is_empty
+empty_again : (s : Settings) → bad_field s ≡ None → snapshot_at (snapshot_text (empty_table s)) ≡ Ok (empty_table s, [])
+empty_again s good = ap snapshot_at (sym (append-nil (snapshot_text (empty_table s)))) ∙ snapshot_again (empty_table s) [] (is_empty s good)
 
 module _ (s : Settings) (good : bad_field s ≡ None) (sectors : ℕ) (room : least_sectors s ≤ sectors) (image : List ℕ) (size : length image ≡ 512 * sectors)
-    (holds : HoldsFirst (sectors / 2) (segment_text 1 s empty_table) image) where
+    (holds : HoldsFirst (sectors / 2) (segment_text 1 s (empty_table s)) image) where
   abbrev half : ℕ
   half = sectors / 2
 
-  empty_within : is_within s empty_table ≡ true
+  empty_within : is_within s (empty_table s) ≡ true
   empty_within = and_from _ _ (le-leb 0 s.events (omega arith)) refl
 
   within_half : segment_sectors s ≤ half
   within_half = omega (arith, room)
 
-  found : open_header 0 half image ≡ Ok (Some (header 1 s good empty_table))
-  found = header_there 0 half image (header 1 s good empty_table) holds.gate_a
-      (header_found 1 s good empty_table (omega arith) (omega arith) (empty_small s) (omega (arith, empty_size)) empty_again empty_within 0 half within_half image holds.behind)
+  found : open_header 0 half image ≡ Ok (Some (header 1 s good (empty_table s)))
+  found = header_there 0 half image (header 1 s good (empty_table s)) holds.gate_a
+      (header_found 1 s good (empty_table s) (omega arith) (omega arith) (empty_small s) (omega (arith, empty_size s)) (empty_again s good) empty_within 0 half within_half image holds.behind)
 
   abbrev first : SegmentImage
-  first = placed 1 s good empty_table (omega arith) (omega arith) (empty_small s) (omega (arith, empty_size)) empty_again empty_within 0 half within_half image holds.behind
+  first = placed 1 s good (empty_table s) (omega arith) (omega arith) (empty_small s) (omega (arith, empty_size s)) (empty_again s good) empty_within 0 half within_half image holds.behind
 
   first_read : read_image image ≡ Ok (record { live = first; older = None })
   first_read =
       by_both image sectors size (omega (arith, room))
       ∙ (λ i. by_headers half image (found i) (shut_header half half image holds.gate_b i))
       ∙ ap (λ (r : Result SegmentImage OpenError). with_older r None)
-      (segment_found 1 s good empty_table (omega arith) (omega arith) (empty_small s) (omega (arith, empty_size)) empty_again empty_within 0 half within_half image holds.behind)
+      (segment_found 1 s good (empty_table s) (omega arith) (omega arith) (empty_small s) (omega (arith, empty_size s)) (empty_again s good) empty_within 0 half within_half image holds.behind)
 
   -- a disk that was formatted recovers to it
-  pub empty_recovers : recovered image ≡ Ok (record { settings = s; table = empty_table })
+  pub empty_recovers : recovered image ≡ Ok (record { settings = s; table = empty_table s })
   unfolding recovered
   empty_recovers = ap state_of first_read
 
@@ -86,7 +87,7 @@ none_open sectors image size enough closed =
 
 -- what a stop leaves on the way is no formatted disk, save for the old one
 pub being_formatted : (old : DiskView) (s : Settings) → bad_field s ≡ None → least_sectors s ≤ old.sectors → (image : List ℕ)
-    → IsBeingFormatted old (old.sectors / 2) (segment_text 1 s empty_table) image → IsFormatting old s image
+    → IsBeingFormatted old (old.sectors / 2) (segment_text 1 s (empty_table s)) image → IsFormatting old s image
 being_formatted old s good room image is = ⊎_elim (λ was. inl was)
     (λ now. inr (⊎_elim
     (λ closed. inl (image_refused image NotFormatted (none_open old.sectors image now.0 (omega (arith, room)) closed)))

@@ -21,7 +21,7 @@ use Rattle.checkpoint.proofs.Switches.{stands_within, recovers}
 most_bytes : (s : Settings) → bad_field s ≡ None → most_snapshot s < 2 ^ 64
 most_bytes s good =
     let fit = limits s good in
-    omega (arith, fit.payload, fit.response, mul-le-mul_right (73 + s.payload + s.response) fit.events)
+    omega (arith, fit.payload, fit.response, mul-le-mul_right (78 + s.payload + s.response) fit.events)
 
 module _ (generation : ℕ) (s : Settings) (snapshot : Snapshot) (base other : ℕ) (image : List ℕ) (holds : HoldsSegment generation s snapshot base other image) where
   abbrev h : ℕ

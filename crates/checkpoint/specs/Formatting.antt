@@ -20,7 +20,7 @@ TellsLeast disk s result = (least : ℕ) → result ≡ Err (TooSmall least) →
 
 -- the disk has one image, which recovers to these settings and the empty table
 abbrev pub IsFormatted : DiskView → Settings → Type 0
-IsFormatted disk s = HasOneImage disk × RecoversTo s empty_table disk.content
+IsFormatted disk s = HasOneImage disk × RecoversTo s (empty_table s) disk.content
 
 -- two images that differ in the sectors of the gates alone, where segment B begins at this sector
 pub record DiffersInGates (second : ℕ) (earlier image : List ℕ) : Type 0 where
@@ -36,7 +36,7 @@ IsOldButForGates old second image = (earlier : List ℕ) × old.may_leave earlie
 abbrev pub IsFormatting : DiskView → Settings → List ℕ → Type 0
 IsFormatting old s image =
     IsOldButForGates old (old.sectors / 2) image
-    ⊎ ((recovered image ≡ Err NotFormatted) ⊎ RecoversTo s empty_table image)
+    ⊎ ((recovered image ≡ Err NotFormatted) ⊎ RecoversTo s (empty_table s) image)
 
 -- what a stop leaves at any moment while an honest disk is formatted
 abbrev pub LeavesFormatting : DiskView → DiskView → Settings → Type 0

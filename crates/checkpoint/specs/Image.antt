@@ -38,7 +38,7 @@ sector_at sector image = take 512 (drop (512 * sector) image)
 
 -- `AINVOKE` and the version
 abbrev pub magic : List ℕ
-magic = codes "AINVOKE" ++ (1 ∷ [])
+magic = codes "AINVOKE" ++ (2 ∷ [])
 
 -- magic 8, generation 8, snapshot length 8, settings length 4, settings
 abbrev pub header_front : ℕ → ℕ → Settings → List ℕ

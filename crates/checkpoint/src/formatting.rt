@@ -66,6 +66,7 @@ pub fn format<D: Disk>(alloc: Global, disk: &mut D, settings: &Settings) -> Resu
     let empty = Snapshot {
         number: 0,
         last_moment: 0,
+        policy: settings.policy(),
         rows: Rows::empty(alloc),
     };
     let segment = spell_segment(alloc, 1, settings, &empty)?;

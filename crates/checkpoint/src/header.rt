@@ -14,7 +14,7 @@ use retry_rules::Settings;
 use std::alloc::{AllocError, Global};
 
 // `AINVOKE` and the version.
-pub(crate) const MAGIC: [u8; 8] = *b"AINVOKE\x01";
+pub(crate) const MAGIC: [u8; 8] = *b"AINVOKE\x02";
 
 /// The greatest generation of a segment: behind it the disk is worn out for switches.
 pub const MOST_GENERATIONS: u64 = 1 << 62;

@@ -146,7 +146,7 @@ impl Pieces {
     // Zeros to the end of the last sector of so many bytes, and a closed gate.
     fn put_ending<D: Disk>(&mut self, disk: &mut D, size: u64) -> Result<(), Fault>
         requires room { HasSpace (D.view disk.old) self.old (length (ending size)) }
-        requires small { size < 2 ^ 30 }
+        requires small { size < 2 ^ 31 }
         ensures puts { Puts (D.view disk.old) (D.view disk.new) self.old self.new (ending size) result }
         ensures cause { HasCause (D.fault_count disk.old) (D.fault_count disk.new) result }
     {

@@ -19,8 +19,8 @@ pub(crate) fn most_snapshot(settings: &Settings) -> u64
     ensures exact { result ≡ most_snapshot settings.now }
     ensures bounded { result < 2 ^ 50 }
 {
-    let row = 73 + settings.payload as u64 + settings.response as u64;
-    20 + settings.events as u64 * row
+    let row = 78 + settings.payload as u64 + settings.response as u64;
+    25 + settings.events as u64 * row
 }
 
 // How many sectors a segment has at least under these settings.

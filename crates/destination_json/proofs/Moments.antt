@@ -5,13 +5,13 @@ use Rattle.retry_rules.specs.declared.settings.Settings.{Settings}
 use Rattle.invoke_records.specs.Spelling.{greatest_moment}
 use Rattle.invoke_records.specs.declared.command.Command.{Command}
 use Rattle.invoke_records.specs.declared.command.Kind.{Kind}
-use Rattle.invoke_records.specs.declared.command.Kind.TheVariants.{Accept, Start, Succeed, Fail, Throttle, Interrupt, Expire, Collect}
+use Rattle.invoke_records.specs.declared.command.Kind.TheVariants.{Accept, Start, Succeed, Fail, Throttle, Interrupt, Expire, Collect, Configure}
 use Rattle.invoke_records.specs.declared.row.Outcome.TheVariants.{RetriesExhausted}
 use Rattle.invoke_records.specs.declared.row.Standing.{Standing}
 use Rattle.invoke_records.specs.declared.row.Standing.TheVariants as standing
 use Rattle.async_core.specs.Lives.{life, names, collects, failures, push_backs}
-use Rattle.async_core.specs.Standings.{Rules, rules_in, standing_by}
-use Rattle.async_core.specs.History.{IsLegal, standing_of, standing_after, standing_in, table_of}
+use Rattle.async_core.specs.Standings.{Rules, standing_by}
+use Rattle.async_core.specs.History.{IsLegal, rules_of, standing_of, standing_after, standing_in, table_of}
 use Rattle.async_core.specs.laws.Lives.{life-nil, life-snoc, last_or-snoc}
 use Rattle.async_core.specs.laws.Held.{legally}
 use Rattle.async_core.specs.laws.Tables.{refusal-of_table, legal_time}
@@ -34,6 +34,7 @@ by_kind rules failures push_backs c Throttle within = tt
 by_kind rules failures push_backs c Interrupt within = tt
 by_kind rules failures push_backs c Expire within = within
 by_kind rules failures push_backs c Collect within = tt
+by_kind rules failures push_backs c (Configure policy) within = tt
 
 after_last : (rules : Rules) (l : List Command) (c : Command) → c.time ≤ greatest_moment → IsInTime (standing_of rules (l ++ c ∷ []))
 after_last rules l c within =
@@ -48,9 +49,9 @@ one_more rules l c false false within before = subst (λ x. IsInTime (standing_o
 
 pub in_time : (s : Settings) (h : List Command) → bad_field s ≡ None → IsLegal s h → (id : List ℕ) → IsInTime (standing_in s h id)
 unfolding standing_in
-in_time s h good legal =
-    legally s (λ l. (id : List ℕ) → IsInTime (standing_of (rules_in s) (life id l)))
-    (λ id. subst (λ l. IsInTime (standing_of (rules_in s) l)) (sym (life-nil id)) tt)
-    (λ l c is_legal passes before id. subst (λ x. IsInTime (standing_of (rules_in s) x)) (sym (life-snoc id l c))
-    (one_more (rules_in s) (life id l) c (collects id c) (names id c) (legal_time s (table_of s l) c (refusal-of_table s l c good is_legal ∙ passes)) (before id)))
-    h legal
+in_time s h good legal id =
+    legally s (λ l. (rules : Rules) (id : List ℕ) → IsInTime (standing_of rules (life id l)))
+    (λ rules id. subst (λ l. IsInTime (standing_of rules l)) (sym (life-nil id)) tt)
+    (λ l c is_legal passes before rules id. subst (λ x. IsInTime (standing_of rules x)) (sym (life-snoc id l c))
+    (one_more rules (life id l) c (collects id c) (names id c) (legal_time s (table_of s l) c (refusal-of_table s l c good is_legal ∙ passes)) (before rules id)))
+    h legal (rules_of s h id) id

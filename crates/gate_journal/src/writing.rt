@@ -23,13 +23,14 @@ fn id_size(id: &[u8; 16]) -> u64
 fn command_size(command: &Command) -> u64
     requires { command_fault command.now ≡ None }
     ensures size { result ≡ length (command_text command.now) }
-    ensures most { result ≤ 262176 }
+    ensures most { result ≤ 1048607 }
 {
-    let cause = match command.kind {
+    let detail = match command.kind {
         Kind::Fail(_) => 1,
+        Kind::Configure(_) => 5,
         _ => 0,
     };
-    15 + id_size(&command.id) + cause + command.bytes.len() as u64
+    15 + id_size(&command.id) + detail + command.bytes.len() as u64
 }
 
 // How many bytes a batch of commands fills.
@@ -37,7 +38,7 @@ pub(crate) fn batch_size(commands: &[Command]) -> u64
     requires count { length commands.now ≤ 256 }
     requires spelled { All (λ c. command_fault c ≡ None) commands.now }
     ensures size { result ≡ length (commands_text commands.now) }
-    ensures most { result ≤ 262176 * 256 }
+    ensures most { result ≤ 1048607 * 256 }
 {
     let mut size = 0;
     for command in commands {
@@ -88,7 +89,7 @@ pub(crate) fn spell_frame(
 ) -> Result<Vec<u8>, AppendError>
     requires count { length commands.now ≤ 256 }
     requires size { size ≡ length (commands_text commands.now) }
-    requires most { size ≤ 262176 * 256 }
+    requires most { size ≤ 1048607 * 256 }
     ensures frame { IfOk result (λ frame. frame.items ≡ body_text generation number commands.now ++ replicate 512 0) }
     ensures spelled { OnOk result (All IsCommand commands.now) }
     ensures memory { IfErr result (λ e. e ≡ OutOfMemory) }

@@ -6,7 +6,8 @@ use Rattle.invoke_records.specs.declared.snapshot.Snapshot.{Snapshot}
 use Rattle.invoke_records.specs.declared.command.Command.{Command}
 use Rattle.async_core.specs.State.{State}
 use Rattle.async_core.specs.History.{IsLegal, table_of}
-use Rattle.async_core.specs.laws.Tables.{IsLegal-take, number-table_of}
+use Rattle.async_core.specs.laws.Held.{IsLegal-take}
+use Rattle.async_core.specs.laws.Tables.{number-table_of}
 use Rattle.checkpoint.specs.declared.error.OpenError.{OpenError}
 use Rattle.checkpoint.specs.Live.{RecoversTo}
 use Rattle.group_commit.specs.History.{IsLegalStop}

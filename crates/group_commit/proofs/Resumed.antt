@@ -1,16 +1,16 @@
 -- That the attempt which runs may be marked as interrupted.
 use Rattle.std.proofs.Common.{◌≡◌, ℕ, ◌≤◌, ◌++◌, ◌∷◌, List, Bool, true, false, not, None, Some, Option, cond, refl, sym, ap, ◌∙◌, subst, arith, max}
-use Rattle.std.specs.Prelude.{◌||◌, nat_lt, Result, Err, IfErr}
-use Rattle.std.proofs.lemmas.Bool.{le-ltb, ltb-false, and_parts}
+use Rattle.std.specs.Prelude.{nat_lt, Result, Err, IfErr}
+use Rattle.std.proofs.lemmas.Bool.{le-ltb, and_parts}
 use Rattle.retry_rules.specs.declared.settings.Settings.{Settings}
 use Rattle.invoke_records.specs.declared.command.Command.{Command}
 use Rattle.invoke_records.specs.declared.row.Standing.{Standing}
 use Rattle.invoke_records.specs.declared.row.Standing.TheVariants as standing
-use Rattle.invoke_records.specs.Spelling.{command_fault, is_bad_environment, greatest_moment}
+use Rattle.invoke_records.specs.Spelling.{greatest_moment}
 use Rattle.async_core.specs.Standings.{is_running, is_unknown}
 use Rattle.async_core.specs.Checks.{refusal_in, shape_checks, clock_check, state_checks}
 use Rattle.async_core.specs.History.{refusal_of, situation_of, standing_in, last_moment, IsLegal, table_of}
-use Rattle.async_core.specs.laws.Tables.{refusal-of_table, legal_shape}
+use Rattle.async_core.specs.laws.Tables.{refusal-of_table, legal_time}
 use Rattle.async_core.specs.laws.Lives.{last_moment-snoc}
 use Rattle.async_core.specs.laws.Held.{legally}
 use Rattle.async_core.specs.laws.Refusals.{first_failed-none}
@@ -24,17 +24,9 @@ use Rattle.group_commit.specs.declared.error.IssueError.TheVariants as issue_err
 use Rattle.group_commit.specs.Broker.{settings_of, table_in, is_broken, IsReason}
 use Rattle.group_commit.specs.Resume.{interrupt_of, IsOwn, IsOwnReason}
 
--- a test that did not choose
-not_chosen : {A : Type 0} (b c : Bool) (x : A) (y : Option A) → cond (b || c) (Some x) y ≡ None → c ≡ false
-not_chosen false false x y e = refl
-not_chosen false true x y e = absurd cc
-not_chosen true c x y e = absurd cc
-
 -- each legal command has a moment
 moment_of_legal : (s : Settings) (h : List Command) (c : Command) → AreGood s → IsLegal s h → refusal_of s h c ≡ None → c.time ≤ 253402300799999
-moment_of_legal s h c good legal is =
-    let fault : command_fault c ≡ None = legal_shape s (table_of s h) c (refusal-of_table s h c good.check legal ∙ is) good.check in
-    ltb-false greatest_moment c.time (not_chosen (is_bad_environment c.kind c.environment) (nat_lt greatest_moment c.time) _ _ fault)
+moment_of_legal s h c good legal is = legal_time s (table_of s h) c (refusal-of_table s h c good.check legal ∙ is)
 
 -- and so has a legal history
 pub last_moment_bound : (s : Settings) (h : List Command) → AreGood s → IsLegal s h → last_moment h ≤ 253402300799999

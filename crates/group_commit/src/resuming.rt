@@ -9,10 +9,9 @@ ghost use Rattle.group_commit.specs.Resume.{interrupt_at, Resumes, TellsRest, Is
 use crate::{Broker, IssueError, Ticket};
 use invoke_records::{Bytes, Command, Kind};
 use sector_disk::Disk;
-use std::alloc::Global;
 
 // The command that says that an event's attempt was cut off.
-fn interrupt(alloc: Global, id: [u8; 16], time: u64) -> Command
+fn interrupt(id: [u8; 16], time: u64) -> Command
     ensures { result ≡ interrupt_at id time }
 {
     Command {
@@ -20,7 +19,7 @@ fn interrupt(alloc: Global, id: [u8; 16], time: u64) -> Command
         id,
         environment: 0,
         time,
-        bytes: Bytes::empty(alloc),
+        bytes: Bytes::empty(),
     }
 }
 
@@ -52,7 +51,7 @@ impl<D: Disk> Broker<D> {
         };
         let id = first.1;
         let time = now.max(self.table.last_moment());
-        match self.issue(interrupt(self.alloc, id, time)) {
+        match self.issue(interrupt(id, time)) {
             Ok(ticket) => Ok(Some(ticket)),
             Err(why) => Err(why),
         }

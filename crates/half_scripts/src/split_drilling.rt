@@ -111,13 +111,13 @@ pub fn drill_split_step(
 }
 
 // An event of its own.
-fn accept(alloc: Global, event: u64) -> Command {
+fn accept(event: u64) -> Command {
     Command {
         kind: Kind::Accept,
         id: id_of(event),
         environment: 0,
         time: 1000,
-        bytes: Bytes::empty(alloc),
+        bytes: Bytes::empty(),
     }
 }
 
@@ -127,7 +127,7 @@ fn steps_of_order(alloc: Global, order: u64, length: u64) -> Option<Vec<SplitSte
     let mut rest = order;
     for event in 0..length {
         let step = match rest % 5 {
-            0 => SplitStep::Issue(accept(alloc, event.saturating_add(1))),
+            0 => SplitStep::Issue(accept(event.saturating_add(1))),
             1 => SplitStep::Lend,
             2 => SplitStep::Write,
             3 => SplitStep::Settle,

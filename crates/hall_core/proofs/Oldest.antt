@@ -15,7 +15,7 @@ use Rattle.async_core.specs.History.{held, standing_in, last_number, IsLegal}
 use Rattle.async_core.specs.Choice.{ended_on, IsOldestEnded}
 use Rattle.async_core.specs.Readers.{Ending, ending_after}
 use Rattle.async_core.specs.laws.Lives.{life-snoc, life-nil, last_number-snoc}
-use Rattle.async_core.specs.laws.Held.{by_last, bytes_eq-true, bytes_eq-refl, times_held, size, is_nil, unknown-nil, held_once}
+use Rattle.async_core.specs.laws.Held.{by_last, bytes_eq-refl, named_id, times_held, size, is_nil, unknown-nil, held_once}
 use Rattle.async_core.specs.laws.Rows.{times_held-cons}
 use Rattle.hall_core.specs.Firsts.{Event, ended_rank, oldest_ended}
 use Rattle.hall_core.specs.Effects.{ending_of_event}
@@ -30,7 +30,7 @@ last_least id h = omega arith
 same_by : (a b : List ℕ) (h : List Command) (c : Command) (x y : Bool) → names a c ≡ x → names b c ≡ y
     → (last_number a h ≡ last_number b h → 0 < last_number a h → a ≡ b)
     → cond x (length h + 1) (last_number a h) ≡ cond y (length h + 1) (last_number b h) → 0 < cond x (length h + 1) (last_number a h) → a ≡ b
-same_by a b h c true true p q rest e more = bytes_eq-true a c.id p ∙ sym (bytes_eq-true b c.id q)
+same_by a b h c true true p q rest e more = named_id a c p ∙ sym (named_id b c q)
 same_by a b h c true false p q rest e more = absurd (omega (arith, last_least b h))
 same_by a b h c false true p q rest e more = absurd (omega (arith, last_least a h))
 same_by a b h c false false p q rest e more = rest e more

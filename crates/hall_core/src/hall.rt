@@ -182,7 +182,6 @@ impl<I: Issuer> Hall<I> {
     {
         let stops = is_stop(&call);
         let plan = plan_request(
-            self.alloc,
             self.issuer.table(),
             &self.environments,
             slot,
@@ -270,13 +269,7 @@ impl<I: Issuer> Hall<I> {
         ensures kept_answered { OnErr result (answered_slots self.new ≡ answered_slots self.old) }
         ensures err { OnErr result (IsSameHall (view_of I.view self.old) (view_of I.view self.new)) }
     {
-        let plan = plan_tick(
-            self.alloc,
-            self.issuer.table(),
-            &self.environments,
-            self.stops,
-            now,
-        );
+        let plan = plan_tick(self.issuer.table(), &self.environments, self.stops, now);
         let has_command = plan.command.is_some();
         if let Some(why) = self.refusal_of_moving(has_command) {
             return Err(why);

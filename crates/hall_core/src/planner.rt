@@ -11,12 +11,10 @@ use crate::plan::Plan;
 use api_core::Call;
 use async_core::Table;
 use invoke_records::{Bytes, Cause, Command, GREATEST_MOMENT, Kind, Standing};
-use std::alloc::Global;
 
 /// What a call is planned from: the table, the environments, and the moment of the call.
 #[derive(Clone, Copy)]
 pub(crate) struct Planner<'a> {
-    pub(crate) alloc: Global,
     pub(crate) table: &'a Table,
     pub(crate) environments: &'a Environments,
     /// In milliseconds since 1970, not earlier than the last command.
@@ -32,18 +30,12 @@ impl<'a> Planner<'a> {
 
     /// For a call that comes now: its moment is that of the last command where that is later. No command is of a moment
     /// later than the greatest that a record holds.
-    pub(crate) fn new(
-        alloc: Global,
-        table: &'a Table,
-        environments: &'a Environments,
-        now: u64,
-    ) -> Planner<'a>
+    pub(crate) fn new(table: &'a Table, environments: &'a Environments, now: u64) -> Planner<'a>
         ensures table { result.table.now ≡ table.now }
         ensures environments { result.environments.now ≡ environments.now }
         ensures moment { result.moment ≡ min (max now table.now.table.last_moment) greatest_moment }
     {
         Planner {
-            alloc,
             table,
             environments,
             moment: now.max(table.last_moment()).min(GREATEST_MOMENT),
@@ -67,7 +59,7 @@ impl<'a> Planner<'a> {
     pub(crate) fn bare(&self, kind: Kind, id: [u8; 16]) -> Command
         ensures { result ≡ command_for kind id self.now.moment [] }
     {
-        self.command(kind, id, Bytes::empty(self.alloc))
+        self.command(kind, id, Bytes::empty())
     }
 
     /// Whether the event runs and its attempt's time is over.
@@ -132,7 +124,6 @@ impl<'a> Planner<'a> {
 ///
 /// The request's environment is one of these, by condition.
 pub(crate) fn plan_request<'a>(
-    alloc: Global,
     table: &'a Table,
     environments: &'a Environments,
     slot: u64,
@@ -146,5 +137,5 @@ pub(crate) fn plan_request<'a>(
     ensures within { AreCallable environments.now result.called }
     ensures asked { MayAsk (drawn_by words) call result.effect.command }
 {
-    Planner::new(alloc, table, environments, now).request_of(slot, drawn_id(words), call)
+    Planner::new(table, environments, now).request_of(slot, drawn_id(words), call)
 }

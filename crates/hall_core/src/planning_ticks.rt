@@ -15,7 +15,6 @@ use crate::planner::Planner;
 use async_core::Table;
 use env_phase::EnvCall;
 use invoke_records::{Bytes, Cause, Command, Kind};
-use std::alloc::Global;
 
 impl<'a> Planner<'a> {
     #[tactic(auto, unfolding(crate::specs::Past::calls_of))]
@@ -45,7 +44,7 @@ impl<'a> Planner<'a> {
             id,
             environment: ready.unwrap_or(0),
             time: self.moment,
-            bytes: Bytes::empty(self.alloc),
+            bytes: Bytes::empty(),
         };
         let give = EnvCall::Give {
             id,
@@ -79,7 +78,8 @@ impl<'a> Planner<'a> {
             | Kind::Throttle
             | Kind::Interrupt
             | Kind::Expire
-            | Kind::Collect => Plan::does(self.bare(kind, id), Made::Nothing),
+            | Kind::Collect
+            | Kind::Configure(_) => Plan::does(self.bare(kind, id), Made::Nothing),
         }
     }
 
@@ -110,7 +110,6 @@ impl<'a> Planner<'a> {
 /// What a tick does now, decided before anything changes: nothing once the broker stops, an Interrupt for the running event
 /// that was accepted first of those that no environment holds, or else the next move of the table. It takes no memory.
 pub(crate) fn plan_tick<'a>(
-    alloc: Global,
     table: &'a Table,
     environments: &'a Environments,
     is_stopping: bool,
@@ -124,5 +123,5 @@ pub(crate) fn plan_tick<'a>(
     if is_stopping {
         return Plan::nothing();
     }
-    Planner::new(alloc, table, environments, now).tick()
+    Planner::new(table, environments, now).tick()
 }

@@ -30,8 +30,10 @@ fn response_of(alloc: Global, reply: Reply) -> Option<Answered>
 {
     let builder = with_headers(Response::builder(alloc), &reply);
     let Reply { status, body, .. } = reply;
-    let bytes = Bytes::from_vec(body.into_vec()).ok()?;
-    builder.status(status).body(Full::new(bytes)).ok()
+    builder
+        .status(status)
+        .body(Full::new(body.into_shared()))
+        .ok()
 }
 
 /// A reply that was released, to be told to a client.

@@ -1,4 +1,5 @@
 // What the committer sleeps on.
+use std::mem;
 use std::sync::{Condvar, Mutex, Wait};
 
 /// A call that one thread sleeps for. A call that comes while it is awake is kept, so that none is missed.
@@ -16,10 +17,12 @@ impl Wake {
         }
     }
 
-    /// Calls.
+    /// Calls. Where it was called already since the thread was last awake, that call wakes it.
     pub(crate) fn call<R: Wait>(&self, rt: &R) {
-        *self.called.lock(rt) = true;
-        self.calls.notify_one();
+        let was_called = mem::replace(&mut *self.called.lock(rt), true);
+        if !was_called {
+            self.calls.notify_one();
+        }
     }
 
     /// Sleeps until it is called, or has been since the last time.

@@ -2,6 +2,7 @@
 use Rattle.std.proofs.Common.{◌≡◌, ℕ, Bool, true, false, not, ◌||◌, ltb, List, length, Option, Some, None, if◌then◌else◌, Result, Ok, Err, refl, sym, ap, ◌∙◌}
 use Rattle.std.specs.List.{list_all}
 use Rattle.std.specs.Int.{Width, w16, w32, w64}
+use Rattle.retry_rules.specs.declared.policy.RetryPolicy.{RetryPolicy}
 use Rattle.retry_rules.specs.Settings.{is_outside, is_name_byte, is_plain_byte}
 use Rattle.invoke_records.specs.declared.limits.Limits.{Limits}
 use Rattle.invoke_records.specs.declared.command.Kind.{Kind}
@@ -13,10 +14,10 @@ use Rattle.invoke_records.specs.declared.row.EventRow.{EventRow}
 use Rattle.invoke_records.specs.declared.snapshot.Snapshot.{Snapshot}
 use Rattle.invoke_records.specs.declared.row_fields.Life.{Life}
 use Rattle.invoke_records.specs.declared.row_fields.Counts.{Counts}
-use Rattle.invoke_records.specs.Spelling.{is_bad_environment, greatest_moment, greatest_number, are_in_order}
+use Rattle.invoke_records.specs.Spelling.{is_bad_environment, is_bad_id, greatest_moment, greatest_number, are_in_order}
 use Rattle.invoke_records.specs.declared.error.RecordError.{RecordError}
 use Rattle.invoke_records.specs.declared.error.RecordError.TheVariants as fault
-use Rattle.invoke_records.specs.Reading.{◌>>=◌, Fails, unless, byte_at, bytes_at, number_at, small_at, limit_at, sized_at, text_at, limits_at, with_texts, settings_at, least_length, most_length, kind_at, fields_at, head_fault, body_at, command_at, life_at, counts_at, standing_of, answer_of, row_at, rows_at, snapshot_at, sound}
+use Rattle.invoke_records.specs.Reading.{◌>>=◌, Fails, unless, byte_at, bytes_at, number_at, small_at, limit_at, policy_at, sized_at, text_at, limits_at, with_texts, settings_at, least_length, most_length, kind_at, fields_at, head_fault, body_at, command_at, life_at, counts_at, standing_of, answer_of, row_at, rows_at, snapshot_at, sound}
 use Rattle.invoke_records.specs.laws.Fields.{done}
 use Rattle.invoke_records.specs.Steps.{Left, beside, with_rest, Reads, refused, refused_by, kind_behind, command_of, row_of}
 
@@ -83,6 +84,10 @@ limit_read w least most old n new e =
     sym (step (number_at w) old n new (λ x. unless (is_outside least most x.0) fault.BadKind x) e
     ∙ stop_refused (is_outside least most n) fault.BadKind new n ∙ ap (beside n) (refused_twice (ltb n least) (ltb most n) fault.BadKind new))
 
+pub policy_read : (s0 s1 s2 : Left) (p : RetryPolicy) → Reads (small_at 0 2) s0 p.retries s1 → Reads (limit_at w32 60 21600) s1 p.age s2 → Reads policy_at s0 p s2
+unfolding policy_at
+policy_read s0 s1 s2 p a b = sym (step (small_at 0 2) s0 p.retries s1 _ a ∙ step (limit_at w32 60 21600) s1 p.age s2 _ b ∙ stop p s2)
+
 pub sized_read : (least most : ℕ) (old : Left) (n : ℕ) (new : Left) → Reads (number_at w32) old n new
     → Reads (sized_at least most) old n (refused (ltb n least) fault.BadKind (refused (ltb most n) fault.TooLong new))
 unfolding sized_at
@@ -133,22 +138,23 @@ life_read s0 s1 s2 s3 s4 s5 s6 s7 s8 l a b c d e f g h =
     ∙ step (number_at w64) s7 l.moment s8 _ h
     ∙ stop l s8)
 
-pub counts_read : (s0 s1 s2 s3 s4 s5 s6 : Left) (n : Counts) → Reads (number_at w32) s0 n.starts s1 → Reads (number_at w32) s1 n.failures s2
-    → Reads (number_at w32) s2 n.push_backs s3 → Reads (small_at 0 2) s3 n.answer s4 → Reads (sized_at 1 262144) s4 n.payload_size s5
+pub counts_read : (s0 s1 s2 s3 s4 sp s5 s6 : Left) (n : Counts) → Reads (number_at w32) s0 n.starts s1 → Reads (number_at w32) s1 n.failures s2
+    → Reads (number_at w32) s2 n.push_backs s3 → Reads (small_at 0 2) s3 n.answer s4 → Reads policy_at s4 n.policy sp → Reads (sized_at 1 1048576) sp n.payload_size s5
     → Reads (sized_at 0 262144) s5 n.answer_size s6 → Reads counts_at s0 n s6
 unfolding counts_at
-counts_read s0 s1 s2 s3 s4 s5 s6 n a b c d e f =
+counts_read s0 s1 s2 s3 s4 sp s5 s6 n a b c d p e f =
     sym (step (number_at w32) s0 n.starts s1 _ a
     ∙ step (number_at w32) s1 n.failures s2 _ b
     ∙ step (number_at w32) s2 n.push_backs s3 _ c
     ∙ step (small_at 0 2) s3 n.answer s4 _ d
-    ∙ step (sized_at 1 262144) s4 n.payload_size s5 _ e
+    ∙ step policy_at s4 n.policy sp _ p
+    ∙ step (sized_at 1 1048576) sp n.payload_size s5 _ e
     ∙ step (sized_at 0 262144) s5 n.answer_size s6 _ f
     ∙ stop n s6)
 
 abbrev pub row_with : Life → Counts → List ℕ → Standing → Answer → EventRow
 row_with life counts payload standing given =
-    record { id = life.id; accepted = life.accepted; number = life.number; last_number = life.last_number; standing = standing; starts = counts.starts; failures = counts.failures; push_backs = counts.push_backs; payload = payload; answer = given }
+    record { id = life.id; accepted = life.accepted; number = life.number; last_number = life.last_number; standing = standing; starts = counts.starts; failures = counts.failures; push_backs = counts.push_backs; policy = counts.policy; payload = payload; answer = given }
 
 row_then : (life : Life) (counts : Counts) (payload rest : List ℕ) (a : Result Standing RecordError) (b : Result Answer RecordError)
     → (a >>= λ standing. b >>= λ given. found (row_with life counts payload standing given) rest)
@@ -205,11 +211,15 @@ faults false false true (Ok rest) = refl
 faults false false false (Ok rest) = refl
 
 pub head_checked : (h : Head) (left : Left)
-    → refused (ltb h.size (least_length h.kind)) fault.BadKind (refused (ltb (most_length h.kind) h.size) fault.TooLong (refused (ltb greatest_moment h.time) fault.BadKind (refused (is_bad_environment h.kind h.environment) fault.BadKind left)))
+    → refused (ltb h.size (least_length h.kind)) fault.BadKind (refused (ltb (most_length h.kind) h.size) fault.TooLong (refused (ltb greatest_moment h.time) fault.BadKind (refused (is_bad_id h.kind h.id) fault.BadKind (refused (is_bad_environment h.kind h.environment) fault.BadKind left))))
     ≡ refused_by (head_fault h) left
 head_checked h left =
-    sym (faults (is_bad_environment h.kind h.environment || ltb greatest_moment h.time) (ltb (most_length h.kind) h.size) (ltb h.size (least_length h.kind)) left
-    ∙ ap (λ (l : Left). refused (ltb h.size (least_length h.kind)) fault.BadKind (refused (ltb (most_length h.kind) h.size) fault.TooLong l)) (refused_twice (is_bad_environment h.kind h.environment) (ltb greatest_moment h.time) fault.BadKind left))
+    let id = is_bad_id h.kind h.id in
+    let late = ltb greatest_moment h.time in
+    let placed = is_bad_environment h.kind h.environment in
+    sym (faults (placed || (id || late)) (ltb (most_length h.kind) h.size) (ltb h.size (least_length h.kind)) left
+    ∙ ap (λ (l : Left). refused (ltb h.size (least_length h.kind)) fault.BadKind (refused (ltb (most_length h.kind) h.size) fault.TooLong l))
+    (refused_twice placed (id || late) fault.BadKind left ∙ refused_twice id late fault.BadKind (refused placed fault.BadKind left)))
 
 command_then : (made : Kind × List ℕ → Command) (rest : List ℕ) (r : Result (Kind × List ℕ) RecordError)
     → (r >>= λ parts. found (made parts) rest) ≡ with_rest (r >>= λ parts. done (made parts)) rest
@@ -236,16 +246,17 @@ command_read bytes s0 s1 s2 s3 s4 h body e long a good b =
 -- ## Snapshots
 
 -- the snapshot of these numbers and rows, where the rows are in order
-abbrev pub with_rows : ℕ → ℕ → List EventRow × List ℕ → Result (Snapshot × List ℕ) RecordError
-with_rows number last_moment rows =
-    unless (not (are_in_order rows.0)) fault.BadKind rows >>= λ ordered. found (record { number = number; last_moment = last_moment; rows = rows.0 }) rows.1
+abbrev pub with_rows : ℕ → ℕ → RetryPolicy → List EventRow × List ℕ → Result (Snapshot × List ℕ) RecordError
+with_rows number last_moment policy rows =
+    unless (not (are_in_order rows.0)) fault.BadKind rows >>= λ ordered. found (record { number = number; last_moment = last_moment; policy = policy; rows = rows.0 }) rows.1
 
-pub snapshot_read : (bytes : List ℕ) (s0 s1 s2 s3 : Left) (number last_moment count : ℕ) → s0 ≡ Ok bytes → Reads (limit_at w64 0 greatest_number) s0 number s1
-    → Reads (limit_at w64 0 greatest_moment) s1 last_moment s2 → Reads (sized_at 0 1024) s2 count s3
-    → snapshot_at bytes ≡ (s3 >>= λ rest. rows_at count rest >>= with_rows number last_moment)
+pub snapshot_read : (bytes : List ℕ) (s0 s1 s2 sp s3 : Left) (number last_moment : ℕ) (policy : RetryPolicy) (count : ℕ) → s0 ≡ Ok bytes → Reads (limit_at w64 0 greatest_number) s0 number s1
+    → Reads (limit_at w64 0 greatest_moment) s1 last_moment s2 → Reads policy_at s2 policy sp → Reads (sized_at 0 1024) sp count s3
+    → snapshot_at bytes ≡ (s3 >>= λ rest. rows_at count rest >>= with_rows number last_moment policy)
 unfolding snapshot_at
-snapshot_read bytes s0 s1 s2 s3 number last_moment count e a b c =
+snapshot_read bytes s0 s1 s2 sp s3 number last_moment policy count e a b p c =
     ap (λ left. left >>= snapshot_at) (sym e)
     ∙ step (limit_at w64 0 greatest_number) s0 number s1 _ a
     ∙ step (limit_at w64 0 greatest_moment) s1 last_moment s2 _ b
-    ∙ step (sized_at 0 1024) s2 count s3 _ c
+    ∙ step policy_at s2 policy sp _ p
+    ∙ step (sized_at 0 1024) sp count s3 _ c

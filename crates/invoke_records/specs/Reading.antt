@@ -4,8 +4,9 @@ use Rattle.std.specs.List.{list_all}
 use Rattle.std.specs.Int.{Width, w16, w32, w64, byte_len, from_be_bytes}
 use Rattle.invoke_records.specs.declared.command.Cause.TheVariants.{Reported, Timeout, Exited}
 use Rattle.invoke_records.specs.declared.command.Kind.{Kind}
-use Rattle.invoke_records.specs.declared.command.Kind.TheVariants.{Accept, Start, Succeed, Fail, Throttle, Interrupt, Expire, Collect}
+use Rattle.invoke_records.specs.declared.command.Kind.TheVariants.{Accept, Start, Succeed, Fail, Throttle, Interrupt, Expire, Collect, Configure}
 use Rattle.invoke_records.specs.declared.command.Command.{Command}
+use Rattle.retry_rules.specs.declared.policy.RetryPolicy.{RetryPolicy}
 use Rattle.retry_rules.specs.declared.settings.Settings.{Settings}
 use Rattle.retry_rules.specs.Settings.{is_outside, is_name_byte, is_plain_byte}
 use Rattle.invoke_records.specs.declared.limits.Limits.{Limits}
@@ -22,7 +23,7 @@ use Rattle.invoke_records.specs.declared.snapshot.Snapshot.{Snapshot}
 use Rattle.invoke_records.specs.declared.error.RecordError.{RecordError}
 use Rattle.invoke_records.specs.declared.error.RecordError.TheVariants as fault
 use Rattle.invoke_records.specs.declared.head.Head.{Head}
-use Rattle.invoke_records.specs.Spelling.{is_bad_environment, cause_text, least_bytes, most_bytes, greatest_moment, greatest_number, are_in_order}
+use Rattle.invoke_records.specs.Spelling.{is_bad_environment, is_bad_id, detail_text, least_bytes, most_bytes, greatest_moment, greatest_number, are_in_order}
 
 infixl 10 ◌>>=◌
 abbrev pub ◌>>=◌ : {A B : Type 0} → Result A RecordError → (A → Result B RecordError) → Result B RecordError
@@ -59,9 +60,32 @@ number_at w bytes =
     if nat_lt (length bytes) (byte_len w) then Err fault.Truncated
     else Ok (from_be_bytes w (take (byte_len w) bytes), drop (byte_len w) bytes)
 
+-- a byte within these bounds
+unfoldable pub small_at : ℕ → ℕ → List ℕ → Result (ℕ × List ℕ) RecordError
+small_at least most bytes = do
+  n ← byte_at bytes
+  unless (is_outside least most n.0) fault.BadKind n
+
+-- a number within these bounds
+unfoldable pub limit_at : Width → ℕ → ℕ → List ℕ → Result (ℕ × List ℕ) RecordError
+limit_at w least most bytes = do
+  n ← number_at w bytes
+  unless (is_outside least most n.0) fault.BadKind n
+
+-- a retry policy within its ranges
+unfoldable pub policy_at : List ℕ → Result (RetryPolicy × List ℕ) RecordError
+policy_at bytes = do
+  retries ← small_at 0 2 bytes
+  age ← limit_at w32 60 21600 retries.1
+  Ok (record { retries = retries.0; age = age.0 }, age.1)
+
 -- ## Commands
 
--- the kind that a byte names; the cause of a Fail comes with its bytes, and is Reported until then
+-- the retry policy of a Configure, until it is read
+abbrev pub no_policy : RetryPolicy
+no_policy = record { retries = 0; age = 0 }
+
+-- the kind that a byte names; the cause of a Fail comes with its bytes, and is Reported until then, as a Configure's policy is none
 abbrev pub kind_at : ℕ → Result Kind RecordError
 kind_at byte =
     if byte == 1 then Ok Accept
@@ -72,14 +96,15 @@ kind_at byte =
     else if byte == 6 then Ok Interrupt
     else if byte == 7 then Ok Expire
     else if byte == 8 then Ok Collect
+    else if byte == 9 then Ok (Configure no_policy)
     else Err fault.BadKind
 
--- what a command's length may be, a cause's byte included
+-- what a command's length may be, with what its kind says beside its byte
 abbrev pub least_length : Kind → ℕ
-least_length kind = length (cause_text kind) + least_bytes kind
+least_length kind = length (detail_text kind) + least_bytes kind
 
 abbrev pub most_length : Kind → ℕ
-most_length kind = length (cause_text kind) + most_bytes kind
+most_length kind = length (detail_text kind) + most_bytes kind
 
 -- the fields of a command in front of its bytes
 unfoldable pub fields_at : List ℕ → Result (Head × List ℕ) RecordError
@@ -95,7 +120,7 @@ fields_at bytes = do
 -- what keeps a command from having these fields: the first that is bad
 abbrev pub head_fault : Head → Option RecordError
 head_fault h =
-    if is_bad_environment h.kind h.environment || nat_lt greatest_moment h.time then Some fault.BadKind
+    if is_bad_environment h.kind h.environment || (is_bad_id h.kind h.id || nat_lt greatest_moment h.time) then Some fault.BadKind
     else if nat_lt (most_length h.kind) h.size then Some fault.TooLong
     else if nat_lt h.size (least_length h.kind) then Some fault.BadKind
     else None
@@ -118,10 +143,15 @@ failure_at byte error =
     else if byte == 3 then unless (nat_lt 0 (length error)) fault.TooLong (Fail Exited, error)
     else Err fault.BadKind
 
--- the kind of a command, now with its cause, and the bytes that it carries
+-- the retry policy of a Configure
+abbrev pub configured_at : List ℕ → Result (Kind × List ℕ) RecordError
+configured_at bytes = policy_at bytes >>= λ policy. Ok (Configure policy.0, policy.1)
+
+-- the kind of a command, now with its cause or its policy, and the bytes that it carries
 unfoldable pub body_at : Kind → List ℕ → Result (Kind × List ℕ) RecordError
 body_at (Fail cause) [] = Err fault.BadKind
 body_at (Fail cause) (byte ∷ error) = failure_at byte error
+body_at (Configure policy) bytes = configured_at bytes
 body_at kind bytes = Ok (kind, bytes)
 
 -- the command at the front of these bytes, and the bytes behind it
@@ -135,18 +165,6 @@ command_at bytes = do
   Ok (record { kind = parts.0; id = head.0.id; environment = head.0.environment; time = head.0.time; bytes = parts.1 }, body.1)
 
 -- ## Settings
-
--- a byte within these bounds
-unfoldable pub small_at : ℕ → ℕ → List ℕ → Result (ℕ × List ℕ) RecordError
-small_at least most bytes = do
-  n ← byte_at bytes
-  unless (is_outside least most n.0) fault.BadKind n
-
--- a number within these bounds
-unfoldable pub limit_at : Width → ℕ → ℕ → List ℕ → Result (ℕ × List ℕ) RecordError
-limit_at w least most bytes = do
-  n ← number_at w bytes
-  unless (is_outside least most n.0) fault.BadKind n
 
 -- a text of good bytes, at least one and at most so many, behind its length
 unfoldable pub text_at : ℕ → (ℕ → Bool) → List ℕ → Result (List ℕ × List ℕ) RecordError
@@ -181,7 +199,7 @@ limits_at bytes = do
   concurrency ← small_at 1 64 timeout.1
   environments ← small_at 1 16 concurrency.1
   events ← limit_at w16 1 1024 environments.1
-  payload ← limit_at w32 2 262144 events.1
+  payload ← limit_at w32 2 1048576 events.1
   response ← limit_at w32 2 262144 payload.1
   Ok (
     record {
@@ -247,7 +265,8 @@ counts_at bytes = do
   failures ← number_at w32 starts.1
   push_backs ← number_at w32 failures.1
   given ← small_at 0 2 push_backs.1
-  payload_size ← sized_at 1 262144 given.1
+  policy ← policy_at given.1
+  payload_size ← sized_at 1 1048576 policy.1
   answer_size ← sized_at 0 262144 payload_size.1
   Ok (
     record {
@@ -255,6 +274,7 @@ counts_at bytes = do
       failures = failures.0;
       push_backs = push_backs.0;
       answer = given.0;
+      policy = policy.0;
       payload_size = payload_size.0;
       answer_size = answer_size.0;
     },
@@ -304,6 +324,7 @@ row_at bytes = do
       starts = counts.0.starts;
       failures = counts.0.failures;
       push_backs = counts.0.push_backs;
+      policy = counts.0.policy;
       payload = payload.0;
       answer = given;
     },
@@ -324,7 +345,8 @@ unfoldable pub snapshot_at : List ℕ → Result (Snapshot × List ℕ) RecordEr
 snapshot_at bytes = do
   number ← limit_at w64 0 greatest_number bytes
   last_moment ← limit_at w64 0 greatest_moment number.1
-  count ← sized_at 0 1024 last_moment.1
+  policy ← policy_at last_moment.1
+  count ← sized_at 0 1024 policy.1
   rows ← rows_at count.0 count.1
   ordered ← unless (not (are_in_order rows.0)) fault.BadKind rows
-  Ok (record { number = number.0; last_moment = last_moment.0; rows = rows.0 }, rows.1)
+  Ok (record { number = number.0; last_moment = last_moment.0; policy = policy.0; rows = rows.0 }, rows.1)

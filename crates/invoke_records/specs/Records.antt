@@ -22,6 +22,6 @@ Finds {X} {Y} view IsSound text bytes result =
 abbrev pub AreApart : {A : Type 0} → (A → Type 0) → (A → List ℕ) → Type 0
 AreApart {A} IsSound text = (x y : A) (a b : List ℕ) → IsSound x → IsSound y → text x ++ a ≡ text y ++ b → (x ≡ y) × (a ≡ b)
 
--- a command's spelling is 31 bytes and its body, which has at most 262145
+-- a command's spelling is 31 bytes and its body, which has at most 1048576
 abbrev pub HasCommandLength : Command → Type 0
-HasCommandLength c = (length (command_text c) ≡ 31 + length (body_text c)) × (length (body_text c) ≤ 262145)
+HasCommandLength c = (length (command_text c) ≡ 31 + length (body_text c)) × (length (body_text c) ≤ 1048576)

@@ -1,15 +1,16 @@
 -- The one spelling of each record. Numbers are big-endian.
-use Rattle.std.specs.Prelude.{◌≡◌, ℕ, ◌<◌, ◌^◌, Bool, true, false, not, ◌&&◌, ◌||◌, nat_lt, nat_eq, List, [], ◌∷◌, ◌++◌, length, Option, Some, None, if◌then◌else◌, get_or}
+use Rattle.std.specs.Prelude.{◌≡◌, ℕ, ◌<◌, ◌^◌, ◌==◌, Bool, true, false, not, ◌&&◌, ◌||◌, nat_lt, nat_eq, List, [], ◌∷◌, ◌++◌, length, Option, Some, None, if◌then◌else◌, get_or}
 use Rattle.std.specs.List.{flat_map, list_all, AllByRecursion}
 use Rattle.std.specs.Cmp.Lexicographic.{pointwise}
 use Rattle.std.specs.Int.{w16, w32, w64, to_be_bytes}
+use Rattle.retry_rules.specs.declared.policy.RetryPolicy.{RetryPolicy}
 use Rattle.retry_rules.specs.declared.settings.Settings.{Settings}
 use Rattle.retry_rules.specs.declared.settings.Field.{Field}
 use Rattle.retry_rules.specs.declared.settings.Field.TheVariants as field
-use Rattle.retry_rules.specs.Settings.{bad_field}
+use Rattle.retry_rules.specs.Settings.{bad_field, is_bad_policy}
 use Rattle.invoke_records.specs.declared.command.Cause.TheVariants.{Reported, Timeout, Exited}
 use Rattle.invoke_records.specs.declared.command.Kind.{Kind}
-use Rattle.invoke_records.specs.declared.command.Kind.TheVariants.{Accept, Start, Succeed, Fail, Throttle, Interrupt, Expire, Collect}
+use Rattle.invoke_records.specs.declared.command.Kind.TheVariants.{Accept, Start, Succeed, Fail, Throttle, Interrupt, Expire, Collect, Configure}
 use Rattle.invoke_records.specs.declared.command.Command.{Command}
 use Rattle.invoke_records.specs.declared.row.Outcome.{Outcome}
 use Rattle.invoke_records.specs.declared.row.Outcome.TheVariants.{Success, RetriesExhausted, EventAgeExceeded}
@@ -26,6 +27,10 @@ use Rattle.invoke_records.specs.declared.error.RecordError.TheVariants.{BadKind,
 abbrev pub IsBytes : List ℕ → Type 0
 IsBytes bytes = (i : ℕ) → get_or bytes i 0 < 256
 
+-- retries 1, age 4
+abbrev pub policy_text : RetryPolicy → List ℕ
+policy_text p = (p.retries ∷ []) ++ to_be_bytes w32 p.age
+
 -- ## Commands
 
 abbrev pub kind_byte : Kind → ℕ
@@ -37,17 +42,19 @@ kind_byte Throttle = 5
 kind_byte Interrupt = 6
 kind_byte Expire = 7
 kind_byte Collect = 8
+kind_byte (Configure policy) = 9
 
--- the byte of a failure's cause
-abbrev pub cause_text : Kind → List ℕ
-cause_text (Fail Reported) = 1 ∷ []
-cause_text (Fail Timeout) = 2 ∷ []
-cause_text (Fail Exited) = 3 ∷ []
-cause_text kind = []
+-- what a kind says beside its byte: a failure's cause, a Configure's retry policy
+abbrev pub detail_text : Kind → List ℕ
+detail_text (Fail Reported) = 1 ∷ []
+detail_text (Fail Timeout) = 2 ∷ []
+detail_text (Fail Exited) = 3 ∷ []
+detail_text (Configure policy) = policy_text policy
+detail_text kind = []
 
 -- the bytes behind a command's length
 abbrev pub body_text : Command → List ℕ
-body_text c = cause_text c.kind ++ c.bytes
+body_text c = detail_text c.kind ++ c.bytes
 
 -- kind 1, id 16, environment 2, time 8, length 4, and so many bytes
 unfoldable pub command_text : Command → List ℕ
@@ -64,12 +71,25 @@ abbrev pub is_bad_environment : Kind → ℕ → Bool
 is_bad_environment Start environment = nat_lt environment 1 || nat_lt 16 environment
 is_bad_environment kind environment = nat_lt 0 environment
 
+abbrev pub is_zero : ℕ → Bool
+is_zero byte = byte == 0
+
+-- a Configure is of no event: its id is all zeros
+abbrev pub is_bad_id : Kind → List ℕ → Bool
+is_bad_id (Configure policy) id = not (list_all is_zero id)
+is_bad_id kind id = false
+
+-- a Configure's retry policy is within its ranges
+abbrev pub is_bad_detail : Kind → Bool
+is_bad_detail (Configure policy) = is_bad_policy policy
+is_bad_detail kind = false
+
 abbrev pub least_bytes : Kind → ℕ
 least_bytes Accept = 1
 least_bytes kind = 0
 
 abbrev pub most_bytes : Kind → ℕ
-most_bytes Accept = 262144
+most_bytes Accept = 1048576
 most_bytes Succeed = 262144
 most_bytes (Fail Reported) = 262144
 most_bytes kind = 0
@@ -77,9 +97,10 @@ most_bytes kind = 0
 -- what keeps a command from having a spelling: its first bad field
 abbrev pub command_fault : Command → Option RecordError
 command_fault c =
-    if is_bad_environment c.kind c.environment || nat_lt greatest_moment c.time then Some BadKind
+    if is_bad_environment c.kind c.environment || (is_bad_id c.kind c.id || nat_lt greatest_moment c.time) then Some BadKind
     else if nat_lt (most_bytes c.kind) (length c.bytes) then Some TooLong
     else if nat_lt (length c.bytes) (least_bytes c.kind) then Some BadKind
+    else if is_bad_detail c.kind then Some BadKind
     else None
 
 -- a command that has a spelling
@@ -176,16 +197,17 @@ life_text r =
     ++ ((ended_byte r.standing ∷ [])
     ++ (to_be_bytes w16 (environment_in r.standing) ++ to_be_bytes w64 (moment_in r.standing)))))))
 
--- starts 4, failures 4, push-backs 4, answer 1, payload length 4, answer length 4
+-- starts 4, failures 4, push-backs 4, answer 1, retries 1, age 4, payload length 4, answer length 4
 abbrev pub counts_text : EventRow → List ℕ
 counts_text r =
     to_be_bytes w32 r.starts
     ++ (to_be_bytes w32 r.failures
     ++ (to_be_bytes w32 r.push_backs
     ++ ((answer_byte r.answer ∷ [])
-    ++ (to_be_bytes w32 (length r.payload) ++ to_be_bytes w32 (length (answer_bytes r.answer))))))
+    ++ (policy_text r.policy
+    ++ (to_be_bytes w32 (length r.payload) ++ to_be_bytes w32 (length (answer_bytes r.answer)))))))
 
--- 73 bytes, then the payload and the answer
+-- 78 bytes, then the payload and the answer
 unfoldable pub row_text : EventRow → List ℕ
 row_text r = life_text r ++ (counts_text r ++ (r.payload ++ answer_bytes r.answer))
 
@@ -202,8 +224,9 @@ breaks_rule other = false
 -- what keeps a row from having a spelling: its first bad field, and then the rules between fields
 abbrev pub row_fault : EventRow → Option RecordError
 row_fault r =
-    if nat_lt greatest_moment r.accepted || (is_unknown r.standing || nat_lt 16 (environment_in r.standing)) then Some BadKind
-    else if nat_lt 262144 (length r.payload) then Some TooLong
+    if nat_lt greatest_moment r.accepted || (is_unknown r.standing || (nat_lt 16 (environment_in r.standing) || is_bad_policy r.policy))
+    then Some BadKind
+    else if nat_lt 1048576 (length r.payload) then Some TooLong
     else if nat_lt (length r.payload) 1 then Some BadKind
     else if nat_lt 262144 (length (answer_bytes r.answer)) then Some TooLong
     else if breaks_rule r.standing then Some BadKind
@@ -233,11 +256,11 @@ pub record IsRow (r : EventRow) : Type 0 where
 abbrev pub greatest_number : ℕ
 greatest_number = 2 ^ 62
 
--- number 8, last moment 8, count of rows 4, and the rows
+-- number 8, last moment 8, retries 1, age 4, count of rows 4, and the rows
 unfoldable pub snapshot_text : Snapshot → List ℕ
 snapshot_text s =
     to_be_bytes w64 s.number
-    ++ (to_be_bytes w64 s.last_moment ++ (to_be_bytes w32 (length s.rows) ++ flat_map row_text s.rows))
+    ++ (to_be_bytes w64 s.last_moment ++ (policy_text s.policy ++ (to_be_bytes w32 (length s.rows) ++ flat_map row_text s.rows)))
 
 -- a row was accepted before another, and has another id
 abbrev pub is_before : EventRow → EventRow → Bool
@@ -260,7 +283,7 @@ rows_fault (row ∷ rows) = first_of_two (row_fault row) (rows_fault rows)
 -- what keeps a snapshot from having a spelling: its first bad field, and then the rules between rows
 abbrev pub snapshot_fault : Snapshot → Option RecordError
 snapshot_fault s =
-    if nat_lt greatest_number s.number || nat_lt greatest_moment s.last_moment then Some BadKind
+    if nat_lt greatest_number s.number || (nat_lt greatest_moment s.last_moment || is_bad_policy s.policy) then Some BadKind
     else if nat_lt 1024 (length s.rows) then Some TooLong
     else first_of_two (rows_fault s.rows) (if are_in_order s.rows then None else Some BadKind)
 

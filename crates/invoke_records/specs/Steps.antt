@@ -62,6 +62,7 @@ row_of life counts payload text = do
     starts = counts.starts;
     failures = counts.failures;
     push_backs = counts.push_backs;
+    policy = counts.policy;
     payload = payload;
     answer = given;
   })

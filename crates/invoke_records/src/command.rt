@@ -1,5 +1,6 @@
 // A command: one step of the life of an event.
 use crate::Bytes;
+use retry_rules::RetryPolicy;
 
 /// The greatest moment, the end of the year 9999, in milliseconds since 1970.
 pub const GREATEST_MOMENT: u64 = 253402300799999;
@@ -34,13 +35,15 @@ pub enum Kind {
     Expire,
     /// The ended event's outcome was taken; its id is free.
     Collect,
+    /// Another retry policy is in force for all events that are accepted from here on. It is of no event.
+    Configure(RetryPolicy),
 }
 
 /// One step of the life of an event.
 #[derive(Debug, Drop)]
 pub struct Command {
     pub kind: Kind,
-    /// The event's id, which is a UUID's bytes.
+    /// The event's id, which is a UUID's bytes; zeros of a Configure.
     pub id: [u8; 16],
     /// The environment, from 1 on, of a Start; 0 of any other command.
     pub environment: u16,

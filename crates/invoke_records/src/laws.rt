@@ -18,5 +18,5 @@ pub fn spellings_are_apart()
 pub fn spellings_are_short()
     ensures commands { (c : Command) → IsCommand c → HasCommandLength c }
     ensures settings { (s : Settings) → AreSettings s → length (settings_text s) ≤ 414 }
-    ensures rows { (r : EventRow) → IsRow r → length (row_text r) ≡ 73 + length r.payload + length (answer_bytes r.answer) }
+    ensures rows { (r : EventRow) → IsRow r → length (row_text r) ≡ 78 + length r.payload + length (answer_bytes r.answer) }
 {}

@@ -30,8 +30,9 @@ mod snapshot_writing;
 mod widths;
 mod writer;
 
-pub use bytes::{Bytes, MOST_BYTES};
+pub use bytes::{Bytes, MOST_BYTES, MOST_PAYLOAD};
 pub use command::{Cause, Command, GREATEST_MOMENT, Kind};
+pub use command_reading::has_bad_id;
 pub use error::RecordError;
 pub use laws::{spellings_are_apart, spellings_are_short};
 pub use row::{Answer, EventRow, Outcome, Standing};

@@ -1,10 +1,11 @@
 // Reading fields one after another from the front of some bytes.
 ghost use Rattle.std.specs.Prelude.{◌≡◌, Ok};
 ghost use Rattle.std.specs.Int.{w16, w32, w64};
-ghost use Rattle.invoke_records.specs.Reading.{Gives, byte_at, bytes_at, number_at, small_at, limit_at, sized_at};
+ghost use Rattle.invoke_records.specs.Reading.{Gives, byte_at, bytes_at, number_at, small_at, limit_at, policy_at, sized_at};
 ghost use Rattle.invoke_records.specs.Steps.{Reads, refused};
 
 use crate::RecordError;
+use retry_rules::RetryPolicy;
 use std::marker::Model;
 
 /// What is left to read, or the first fault that was met. Behind a fault a number reads as 0, and bytes as none.
@@ -139,6 +140,16 @@ impl<'a> Reader<'a> {
         self.refuse(n < least, RecordError::BadKind);
         self.refuse(most < n, RecordError::BadKind);
         n
+    }
+
+    /// A retry policy within its ranges.
+    pub fn policy(&mut self) -> RetryPolicy
+        ensures { Reads policy_at self.old result self.new }
+    {
+        RetryPolicy {
+            retries: self.small(0, 2),
+            age: self.limit32(60, 21600),
+        }
     }
 
     /// A length or a count: above its greatest it is `TooLong`.

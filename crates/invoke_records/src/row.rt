@@ -1,5 +1,6 @@
 // A row of the table of events.
 use crate::Bytes;
+use retry_rules::RetryPolicy;
 
 /// How an event ended: the condition of its destination record.
 #[derive(Clone, Copy, Debug, PartialEq, Eq)]
@@ -49,6 +50,8 @@ pub struct EventRow {
     pub failures: u32,
     /// How often it was pushed back since its last failure.
     pub push_backs: u32,
+    /// What was in force when it was accepted: by this it is judged for all of its life.
+    pub policy: RetryPolicy,
     pub payload: Bytes,
     pub answer: Answer,
 }

@@ -1,4 +1,5 @@
 // The fields of a row in front of its texts.
+use retry_rules::RetryPolicy;
 
 /// The fields of a row up to its moment, as they are written.
 #[derive(Clone, Copy)]
@@ -23,6 +24,7 @@ pub struct Counts {
     pub push_backs: u32,
     /// 0 none, 1 response, 2 error.
     pub answer: u8,
+    pub policy: RetryPolicy,
     pub payload_size: u32,
     pub answer_size: u32,
 }

@@ -9,7 +9,7 @@ ghost use Rattle.invoke_records.specs.declared.error.RecordError.TheVariants.{Ou
 use crate::command::GREATEST_MOMENT;
 use crate::reader::Reader;
 use crate::row_fields::{Counts, Life};
-use crate::{Answer, Bytes, EventRow, MOST_BYTES, Outcome, RecordError, Standing};
+use crate::{Answer, Bytes, EventRow, MOST_BYTES, MOST_PAYLOAD, Outcome, RecordError, Standing};
 use std::alloc::Global;
 
 fn read_life(reader: &mut Reader) -> Life
@@ -35,7 +35,8 @@ fn read_counts(reader: &mut Reader) -> Counts
         failures: reader.u32(),
         push_backs: reader.u32(),
         answer: reader.small(0, 2),
-        payload_size: reader.sized(1, MOST_BYTES),
+        policy: reader.policy(),
+        payload_size: reader.sized(1, MOST_PAYLOAD),
         answer_size: reader.sized(0, MOST_BYTES),
     }
 }
@@ -95,7 +96,7 @@ fn read_answer(alloc: Global, byte: u8, bytes: &[u8]) -> Result<Answer, RecordEr
         }
         return Ok(Answer::None);
     }
-    let text = Bytes::from_vec(Vec::from_slice(alloc, bytes)?);
+    let text = Bytes::from_slice(alloc, bytes)?;
     if byte == 1 {
         return Ok(Answer::Response(text));
     }
@@ -114,7 +115,7 @@ fn row_of<'a>(
     ensures { Gives (λ x. (x.0, x.1.now)) result (with_rest (row_of life counts payload.now text.now) rest.now) }
 {
     let standing = read_standing(&life)?;
-    let payload = Bytes::from_vec(Vec::from_slice(alloc, payload)?);
+    let payload = Bytes::from_slice(alloc, payload)?;
     let answer = read_answer(alloc, counts.answer, text)?;
     let id = life.id;
     let row = EventRow {
@@ -126,6 +127,7 @@ fn row_of<'a>(
         starts: counts.starts,
         failures: counts.failures,
         push_backs: counts.push_backs,
+        policy: counts.policy,
         payload,
         answer,
     };

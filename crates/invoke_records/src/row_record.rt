@@ -24,9 +24,9 @@ impl EventRow {
     /// The one spelling of the row.
     ///
     /// A row has none where its accepted moment is past the greatest, its standing is `Unknown`, its environment is
-    /// above 16, its payload or answer is longer than 262144 bytes (`TooLong`) or its payload empty; then where it
-    /// runs in environment 0 or ended past the greatest moment. The first of these is the refusal, `BadKind` where no
-    /// other is named.
+    /// above 16, its retry policy bad, its payload longer than 1048576 bytes (`TooLong`) or empty, or its answer longer
+    /// than 262144 bytes (`TooLong`); then where it runs in environment 0 or ended past the greatest moment. The first
+    /// of these is the refusal, `BadKind` where no other is named.
     pub fn encode(&self, alloc: Global) -> Result<Vec<u8>, RecordError>
         ensures ok { IfOk result (λ text. text.items ≡ row_text self.now) }
         ensures spelled { OnOk result (IsRow self.now) }
@@ -41,7 +41,7 @@ impl EventRow {
 
     /// What the spelling of a row that has one begins with; its payload and its answer follow. It takes no memory.
     #[tactic(auto, unfolding(crate::specs::Spelling::row_text))]
-    pub fn head(&self) -> [u8; 73]
+    pub fn head(&self) -> [u8; 78]
         requires { row_fault self.now ≡ None }
         ensures { row_text self.now ≡ result ++ (self.now.payload ++ answer_bytes self.now.answer) }
     {

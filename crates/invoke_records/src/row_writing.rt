@@ -5,10 +5,11 @@ ghost use Rattle.invoke_records.specs.Reading.{sound};
 ghost use Rattle.invoke_records.specs.Steps.{Adds};
 
 use crate::command::GREATEST_MOMENT;
+use crate::command_writing::policy_bytes;
 use crate::placing::put_at;
 use crate::widths::{are_bytes, id_has_16};
 use crate::writer::Writer;
-use crate::{Answer, EventRow, MOST_BYTES, Outcome, RecordError, Standing};
+use crate::{Answer, EventRow, MOST_BYTES, MOST_PAYLOAD, Outcome, RecordError, Standing};
 
 fn standing_byte_of(standing: &Standing) -> u8
     ensures { result ≡ standing_byte standing.now }
@@ -104,11 +105,12 @@ pub fn check_row(row: &EventRow) -> Result<(), RecordError>
     let payload = row.payload.len();
     let answer = answer_bytes_of(&row.answer).len();
     if row.accepted > GREATEST_MOMENT
-        || (is_unknown_standing(&row.standing) || environment_of(&row.standing) > 16)
+        || (is_unknown_standing(&row.standing)
+            || (environment_of(&row.standing) > 16 || row.policy.is_bad()))
     {
         return Err(RecordError::BadKind);
     }
-    if payload > MOST_BYTES as usize {
+    if payload > MOST_PAYLOAD as usize {
         return Err(RecordError::TooLong);
     }
     if payload < 1 {
@@ -126,13 +128,13 @@ pub fn check_row(row: &EventRow) -> Result<(), RecordError>
 /// How long the row's spelling is.
 #[tactic(auto, using(crate::specs::laws::Rows::row_length))]
 pub fn row_size(row: &EventRow) -> u64
-    requires payload { length row.now.payload ≤ 262144 }
+    requires payload { length row.now.payload ≤ 1048576 }
     requires answer { length (answer_bytes row.now.answer) ≤ 262144 }
     ensures exact { result ≡ length (row_text row.now) }
-    ensures bounded { result ≤ 524361 }
+    ensures bounded { result ≤ 1310798 }
 {
     id_has_16(&row.id);
-    73 + row.payload.len() as u64 + answer_bytes_of(&row.answer).len() as u64
+    78 + row.payload.len() as u64 + answer_bytes_of(&row.answer).len() as u64
 }
 
 // What the types say of a row's numbers and bytes.
@@ -173,30 +175,31 @@ fn life_head(row: &EventRow) -> [u8; 52]
 }
 
 // What comes behind them: the counts and lengths.
-fn counts_head(row: &EventRow) -> [u8; 21]
-    requires payload { length row.now.payload ≤ 262144 }
+fn counts_head(row: &EventRow) -> [u8; 26]
+    requires payload { length row.now.payload ≤ 1048576 }
     requires answer { length (answer_bytes row.now.answer) ≤ 262144 }
     ensures { result ≡ counts_text row.now }
 {
     let payload_size = row.payload.len() as u32;
     let answer_size = answer_bytes_of(&row.answer).len() as u32;
-    let mut head = [0; 21];
+    let mut head = [0; 26];
     put_at(&mut head, 0, &row.starts.to_be_bytes());
     put_at(&mut head, 4, &row.failures.to_be_bytes());
     put_at(&mut head, 8, &row.push_backs.to_be_bytes());
     put_at(&mut head, 12, &[answer_byte_of(&row.answer)]);
-    put_at(&mut head, 13, &payload_size.to_be_bytes());
-    put_at(&mut head, 17, &answer_size.to_be_bytes());
+    put_at(&mut head, 13, &policy_bytes(row.policy));
+    put_at(&mut head, 18, &payload_size.to_be_bytes());
+    put_at(&mut head, 22, &answer_size.to_be_bytes());
     head
 }
 
 /// All fields of a row in front of its payload.
-pub fn row_head(row: &EventRow) -> [u8; 73]
-    requires payload { length row.now.payload ≤ 262144 }
+pub fn row_head(row: &EventRow) -> [u8; 78]
+    requires payload { length row.now.payload ≤ 1048576 }
     requires answer { length (answer_bytes row.now.answer) ≤ 262144 }
     ensures { result ≡ life_text row.now ++ counts_text row.now }
 {
-    let mut head = [0; 73];
+    let mut head = [0; 78];
     put_at(&mut head, 0, &life_head(row));
     put_at(&mut head, 52, &counts_head(row));
     head
@@ -204,7 +207,7 @@ pub fn row_head(row: &EventRow) -> [u8; 73]
 
 /// Writes the one spelling of the row.
 pub fn add_row(out: &mut Writer, row: &EventRow)
-    requires payload { length row.now.payload ≤ 262144 }
+    requires payload { length row.now.payload ≤ 1048576 }
     requires answer { length (answer_bytes row.now.answer) ≤ 262144 }
     ensures { Adds (row_text row.now) out.old out.new }
 {

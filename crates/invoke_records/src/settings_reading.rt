@@ -46,7 +46,7 @@ fn read_limits(reader: &mut Reader) -> Limits
         concurrency: reader.small(1, 64),
         environments: reader.small(1, 16),
         events: reader.limit16(1, 1024),
-        payload: reader.limit32(2, 262144),
+        payload: reader.limit32(2, 1048576),
         response: reader.limit32(2, 262144),
     }
 }

@@ -2,6 +2,7 @@
 ghost use Rattle.std.specs.Prelude.{◌≡◌, []};
 
 use crate::EventRow;
+use retry_rules::RetryPolicy;
 use std::alloc::Global;
 use std::marker::Model;
 
@@ -66,6 +67,8 @@ pub struct Snapshot {
     pub number: u64,
     /// The last command's moment, 0 where there is none.
     pub last_moment: u64,
+    /// What is in force for the events that are accepted next.
+    pub policy: RetryPolicy,
     /// The events that are held, in the order of their acceptance.
     pub rows: Rows,
 }

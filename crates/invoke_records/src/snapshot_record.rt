@@ -34,6 +34,7 @@ fn read_snapshot(alloc: Global, bytes: &[u8]) -> Result<(Snapshot, &[u8]), Recor
     let mut reader = Reader::new(bytes);
     let number = reader.limit64(0, GREATEST_NUMBER);
     let last_moment = reader.limit64(0, GREATEST_MOMENT);
+    let policy = reader.policy();
     let count = reader.sized(0, MOST_ROWS);
     let rest = reader.end()?;
     let (rows, rest) = read_rows(alloc, count, rest)?;
@@ -44,6 +45,7 @@ fn read_snapshot(alloc: Global, bytes: &[u8]) -> Result<(Snapshot, &[u8]), Recor
     let snapshot = Snapshot {
         number,
         last_moment,
+        policy,
         rows,
     };
     Ok((snapshot, rest))
@@ -69,7 +71,8 @@ impl Snapshot {
 
     /// The one spelling of the snapshot.
     ///
-    /// A snapshot has none where its number is above 2^62 or its last moment past the greatest (`BadKind`), where it
+    /// A snapshot has none where its number is above 2^62, its last moment past the greatest or its retry policy bad
+    /// (`BadKind`), where it
     /// has more than 1024 rows (`TooLong`), where a row has none, and where the rows' acceptance numbers do not rise or
     /// two ids are equal (`BadKind`). The first of these is the refusal.
     pub fn encode(&self, alloc: Global) -> Result<Vec<u8>, RecordError>
@@ -92,13 +95,13 @@ impl Snapshot {
     pub fn size(&self) -> u64
         requires { snapshot_fault self.now ≡ None }
         ensures exact { result ≡ length (snapshot_text self.now) }
-        ensures bounded { result < 2 ^ 30 }
+        ensures bounded { result < 2 ^ 31 }
     {
         snapshot_size(self)
     }
 
     /// What the spelling of a snapshot that has one begins with; its rows follow. It takes no memory.
-    pub fn head(&self) -> [u8; 20]
+    pub fn head(&self) -> [u8; 25]
         requires { snapshot_fault self.now ≡ None }
         ensures { snapshot_text self.now ≡ result ++ flat_map row_text self.now.rows }
     {

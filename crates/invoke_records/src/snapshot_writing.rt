@@ -6,6 +6,7 @@ ghost use Rattle.invoke_records.specs.Reading.{sound, FailsBy};
 ghost use Rattle.invoke_records.specs.Steps.{Adds};
 
 use crate::command::GREATEST_MOMENT;
+use crate::command_writing::policy_bytes;
 use crate::order::are_in_order;
 use crate::placing::put_at;
 use crate::row_writing::{add_row, check_row, row_is_within, row_size};
@@ -38,7 +39,7 @@ pub fn check_snapshot(s: &Snapshot) -> Result<(), RecordError>
     ensures spelled { OnOk result (IsSnapshot s.now) }
 {
     let rows = s.rows.as_slice();
-    if s.number > GREATEST_NUMBER || s.last_moment > GREATEST_MOMENT {
+    if s.number > GREATEST_NUMBER || (s.last_moment > GREATEST_MOMENT || s.policy.is_bad()) {
         return Err(RecordError::BadKind);
     }
     if rows.len() > MOST_ROWS as usize {
@@ -57,7 +58,7 @@ fn rows_size(rows: &[EventRow]) -> u64
     requires count { length rows.now ≤ 1024 }
     requires sound { rows_fault rows.now ≡ None }
     ensures exact { result ≡ length (flat_map row_text rows.now) }
-    ensures bounded { result ≤ 1024 * 524361 }
+    ensures bounded { result ≤ 1024 * 1310798 }
 {
     let mut size = 0;
     for row in rows {
@@ -71,22 +72,23 @@ fn rows_size(rows: &[EventRow]) -> u64
 pub fn snapshot_size(s: &Snapshot) -> u64
     requires { snapshot_fault s.now ≡ None }
     ensures exact { result ≡ length (snapshot_text s.now) }
-    ensures bounded { result < 2 ^ 30 }
+    ensures bounded { result < 2 ^ 31 }
 {
-    20 + rows_size(s.rows.as_slice())
+    25 + rows_size(s.rows.as_slice())
 }
 
 /// All fields of a snapshot in front of its rows.
 #[tactic(auto, unfolding(crate::specs::Spelling::snapshot_text))]
-pub fn snapshot_head(s: &Snapshot) -> [u8; 20]
+pub fn snapshot_head(s: &Snapshot) -> [u8; 25]
     requires { length s.now.rows ≤ 1024 }
     ensures { snapshot_text s.now ≡ result ++ flat_map row_text s.now.rows }
 {
     let count = s.rows.as_slice().len() as u32;
-    let mut head = [0; 20];
+    let mut head = [0; 25];
     put_at(&mut head, 0, &s.number.to_be_bytes());
     put_at(&mut head, 8, &s.last_moment.to_be_bytes());
-    put_at(&mut head, 16, &count.to_be_bytes());
+    put_at(&mut head, 16, &policy_bytes(s.policy));
+    put_at(&mut head, 21, &count.to_be_bytes());
     head
 }
 

@@ -4,6 +4,7 @@ ghost use Rattle.lambda_broker.specs.Auditing.{status_for};
 ghost use Rattle.lambda_broker.specs.Trial.{status_of};
 
 use crate::auditing::{Audit, OldDisk, audit_disk};
+use crate::configuring::{NewPolicy, configure_disk};
 use crate::formatting::{NewDisk, make_disk};
 use crate::serving::{Address, serve_disk};
 use crate::words::{Job, Task, read_task};
@@ -61,7 +62,7 @@ where
 // Does a command that waits for nobody, and prints what came of it.
 fn print_job<R, W>(rt: &R, job: &Job<'_>, out: &mut W) -> io::Result<u8>
 where
-    R: Files<File = File> + AllocGlobal,
+    R: Files<File = File> + Clock + AllocGlobal,
     W: Write,
     ensures { IfOk result (λ status. status ≤ 3) }
 {
@@ -69,6 +70,7 @@ where
         Job::Trial => print_trial(run_trial(rt.alloc()), out),
         Job::Format(new) => print_format(rt, new, out),
         Job::Audit(old) => print_audit(rt, old, out),
+        Job::Configure(new) => print_configure(rt, new, out),
     }
 }
 
@@ -123,6 +125,23 @@ fn print_audit<R: Files<File = File> + AllocGlobal, W: Write>(
 {
     match audit_disk(rt, old) {
         Ok(audit) => print_lines(&audit, out),
+        Err(fault) => print_fault(&fault, fault.is_device_fault(), out),
+    }
+}
+
+// Brings a retry policy in force on a disk, and prints what is in force then.
+fn print_configure<R: Files<File = File> + Clock + AllocGlobal, W: Write>(
+    rt: &R,
+    new: &NewPolicy<'_>,
+    out: &mut W,
+) -> io::Result<u8>
+    ensures { IfOk result (λ status. status ≤ 3) }
+{
+    match configure_disk(rt, new) {
+        Ok((retries, age)) => {
+            writeln!(out, "configured retries {retries} age {age}")?;
+            Ok(DONE)
+        }
         Err(fault) => print_fault(&fault, fault.is_device_fault(), out),
     }
 }

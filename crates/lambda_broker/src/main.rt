@@ -5,6 +5,7 @@
 
 mod auditing;
 mod command_line;
+mod configuring;
 mod formatting;
 mod serving;
 mod words;

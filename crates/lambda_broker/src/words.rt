@@ -1,5 +1,6 @@
 // The words of the command line: which command they are, and what it is told.
 use crate::auditing::OldDisk;
+use crate::configuring::NewPolicy;
 use crate::formatting::{Function, NewDisk, Numbers};
 use crate::serving::Address;
 use clap::builder::ValueParser;
@@ -22,6 +23,7 @@ pub enum Job<'a> {
     Trial,
     Format(NewDisk<'a>),
     Audit(OldDisk<'a>),
+    Configure(NewPolicy<'a>),
 }
 
 // An option with a value.
@@ -64,15 +66,18 @@ fn with_function<'a>(alloc: Global, command: Command<'a>) -> Result<Command<'a>,
         .arg(arn.required(true))
 }
 
+// How often and for how long an event is tried.
+const RETRIES: &str = "Retries after a function error, 0 to 2";
+
+const AGE: &str = "Greatest age of an event in seconds, 60 to 21600";
+
 // How its events are tried.
 fn with_rules<'a>(alloc: Global, command: Command<'a>) -> Result<Command<'a>, AllocError> {
-    let retries = "Retries after a function error, 0 to 2";
-    let age = "Greatest age of an event in seconds, 60 to 21600";
     let timeout = "Timeout of an attempt in seconds, 1 to 900";
     let concurrency = "Attempts that may run at once, 1 to 64";
     command
-        .arg(number(alloc, "retries", retries, "2", value_parser!(u8)))?
-        .arg(number(alloc, "age", age, "21600", value_parser!(u32)))?
+        .arg(number(alloc, "retries", RETRIES, "2", value_parser!(u8)))?
+        .arg(number(alloc, "age", AGE, "21600", value_parser!(u32)))?
         .arg(number(alloc, "timeout", timeout, "3", value_parser!(u16)))?
         .arg(number(alloc, "concurrency", concurrency, "10", value_parser!(u8)))
 }
@@ -81,7 +86,7 @@ fn with_rules<'a>(alloc: Global, command: Command<'a>) -> Result<Command<'a>, Al
 fn with_limits<'a>(alloc: Global, command: Command<'a>) -> Result<Command<'a>, AllocError> {
     let environments = "Environments, 1 to 16";
     let events = "Events that may be held at once, 1 to 1024";
-    let payload = "Greatest payload in bytes, 2 to 262144";
+    let payload = "Greatest payload in bytes, 2 to 1048576";
     let response = "Greatest response in bytes, 2 to 262144";
     command
         .arg(number(alloc, "environments", environments, "1", value_parser!(u8)))?
@@ -109,6 +114,18 @@ fn audit_command<'a>(alloc: Global) -> Result<Command<'a>, AllocError> {
         .arg(event.value_name("ID"))
 }
 
+fn configure_command<'a>(alloc: Global) -> Result<Command<'a>, AllocError> {
+    let retries = option(alloc, "retries", RETRIES);
+    let age = option(alloc, "age", AGE);
+    Command::new(alloc, "configure")
+        .about(
+            "Set how the events that are accepted from now on are tried; what is left out stays as it is",
+        )
+        .arg(disk(alloc))?
+        .arg(retries.value_parser(value_parser!(u8)))?
+        .arg(age.value_parser(value_parser!(u32)))
+}
+
 fn serve_command<'a>(alloc: Global) -> Result<Command<'a>, AllocError> {
     let help = "Port of the callers, 1024 to 65519; environment n has the port n behind it";
     let port = option(alloc, "port", help);
@@ -131,6 +148,7 @@ fn commands<'a>(alloc: Global) -> Result<Command<'a>, AllocError> {
         .subcommand(trial)?
         .subcommand(format_command(alloc)?)?
         .subcommand(audit_command(alloc)?)?
+        .subcommand(configure_command(alloc)?)?
         .subcommand(serve_command(alloc)?)
 }
 
@@ -186,6 +204,14 @@ fn old_disk<'a>(alloc: Global, matches: &ArgMatches<'a>) -> Result<Option<Task<'
     }
 }
 
+fn new_policy<'a>(matches: &ArgMatches<'a>) -> Option<NewPolicy<'a>> {
+    Some(NewPolicy {
+        path: matches.get_str("disk")?,
+        retries: matches.get_one("retries"),
+        age: matches.get_one("age"),
+    })
+}
+
 fn address<'a>(matches: &ArgMatches<'a>) -> Option<Address<'a>> {
     Some(Address {
         path: matches.get_str("disk")?,
@@ -204,6 +230,7 @@ pub fn read_task<'a>(alloc: Global, words: &'a [String]) -> Result<Option<Task<'
         "format" => Ok(new_disk(told).map(Job::Format).map(Task::Job)),
         "serve" => Ok(address(told).map(Task::Serve)),
         "audit" => old_disk(alloc, told),
+        "configure" => Ok(new_policy(told).map(Job::Configure).map(Task::Job)),
         _ => Ok(None),
     }
 }

@@ -3,15 +3,16 @@ use Rattle.std.proofs.Common.{◌≡◌, ℕ, zero, suc, ◌+◌, inl, inr, subs
 use Rattle.std.specs.Prelude.{option_map, if◌then◌else◌}
 use Rattle.std.specs.List.{range_with_len}
 use Rattle.std.proofs.lemmas.List.{map-append, append-nil}
+use Rattle.retry_rules.specs.declared.policy.RetryPolicy.{RetryPolicy}
 use Rattle.retry_rules.specs.declared.settings.Settings.{Settings}
 use Rattle.invoke_records.specs.declared.snapshot.Snapshot.{Snapshot}
 use Rattle.invoke_records.specs.declared.command.Command.{Command}
 use Rattle.invoke_records.specs.declared.command.Kind.{Kind}
-use Rattle.invoke_records.specs.declared.command.Kind.TheVariants.{Accept, Start, Succeed, Fail, Throttle, Interrupt, Expire, Collect}
+use Rattle.invoke_records.specs.declared.command.Kind.TheVariants.{Accept, Start, Succeed, Fail, Throttle, Interrupt, Expire, Collect, Configure}
 use Rattle.invoke_records.specs.declared.row.EventRow.{EventRow}
 use Rattle.invoke_records.specs.declared.row.Standing.{Standing}
 use Rattle.invoke_records.specs.declared.row.Standing.TheVariants as standing
-use Rattle.async_core.specs.Standings.{Rules, rules_in}
+use Rattle.async_core.specs.Policies.{policy_by}
 use Rattle.async_core.specs.Rules.{has_id, row_after, rows_after, change_row, remove_row, accepted_row, table_after}
 use Rattle.hall_core.specs.declared.issuing.Issued.{Issued}
 use Rattle.hall_core.specs.Run.{option_list}
@@ -52,32 +53,33 @@ bare_rows_twice (r ∷ rows) = ap (λ x. x ∷ map bare_row (map bare_row rows))
 abbrev bare_command : Command → Command
 bare_command c = record { kind = c.kind; id = c.id; environment = 0; time = c.time; bytes = [] }
 
-row_alike : (rules : Rules) (n : ℕ) (c : Command) (kind : Kind) (r : EventRow)
-    → bare_row (row_after rules n c kind r) ≡ bare_row (row_after rules n (bare_command c) kind (bare_row r))
-row_alike rules n c Accept r = refl
-row_alike rules n c Start r = refl
-row_alike rules n c Succeed r = refl
-row_alike rules n c (Fail cause) r = refl
-row_alike rules n c Throttle r = refl
-row_alike rules n c Interrupt r = refl
-row_alike rules n c Expire r = refl
-row_alike rules n c Collect r = refl
+row_alike : (s : Settings) (n : ℕ) (c : Command) (kind : Kind) (r : EventRow)
+    → bare_row (row_after s n c kind r) ≡ bare_row (row_after s n (bare_command c) kind (bare_row r))
+row_alike s n c Accept r = refl
+row_alike s n c Start r = refl
+row_alike s n c Succeed r = refl
+row_alike s n c (Fail cause) r = refl
+row_alike s n c Throttle r = refl
+row_alike s n c Interrupt r = refl
+row_alike s n c Expire r = refl
+row_alike s n c Collect r = refl
+row_alike s n c (Configure policy) r = refl
 
-module _ (rules : Rules) (n : ℕ) (c : Command) (kind : Kind) where
+module _ (s : Settings) (n : ℕ) (c : Command) (kind : Kind) where
   changes_here : (b : Bool) (r : EventRow) (rows : List EventRow)
-      → map bare_row (change_row c.id (row_after rules n c kind) rows) ≡ map bare_row (change_row c.id (row_after rules n (bare_command c) kind) (map bare_row rows))
-      → map bare_row (if b then row_after rules n c kind r ∷ rows else r ∷ change_row c.id (row_after rules n c kind) rows)
-      ≡ map bare_row (if b then row_after rules n (bare_command c) kind (bare_row r) ∷ map bare_row rows
-      else bare_row r ∷ change_row c.id (row_after rules n (bare_command c) kind) (map bare_row rows))
+      → map bare_row (change_row c.id (row_after s n c kind) rows) ≡ map bare_row (change_row c.id (row_after s n (bare_command c) kind) (map bare_row rows))
+      → map bare_row (if b then row_after s n c kind r ∷ rows else r ∷ change_row c.id (row_after s n c kind) rows)
+      ≡ map bare_row (if b then row_after s n (bare_command c) kind (bare_row r) ∷ map bare_row rows
+      else bare_row r ∷ change_row c.id (row_after s n (bare_command c) kind) (map bare_row rows))
   changes_here true r rows later =
-      ap (λ x. x ∷ map bare_row rows) (row_alike rules n c kind r)
-      ∙ ap (λ l. bare_row (row_after rules n (bare_command c) kind (bare_row r)) ∷ l) (sym (bare_rows_twice rows))
+      ap (λ x. x ∷ map bare_row rows) (row_alike s n c kind r)
+      ∙ ap (λ l. bare_row (row_after s n (bare_command c) kind (bare_row r)) ∷ l) (sym (bare_rows_twice rows))
   changes_here false r rows later =
-      ap (λ x. x ∷ map bare_row (change_row c.id (row_after rules n c kind) rows)) (sym (bare_row_twice r))
+      ap (λ x. x ∷ map bare_row (change_row c.id (row_after s n c kind) rows)) (sym (bare_row_twice r))
       ∙ ap (λ l. bare_row (bare_row r) ∷ l) later
 
   changes : (rows : List EventRow)
-      → map bare_row (change_row c.id (row_after rules n c kind) rows) ≡ map bare_row (change_row c.id (row_after rules n (bare_command c) kind) (map bare_row rows))
+      → map bare_row (change_row c.id (row_after s n c kind) rows) ≡ map bare_row (change_row c.id (row_after s n (bare_command c) kind) (map bare_row rows))
   changes [] = refl
   changes (r ∷ rows) = changes_here (has_id c.id r) r rows (changes rows)
 
@@ -93,29 +95,30 @@ module _ (id : List ℕ) where
   removes [] = refl
   removes (r ∷ rows) = removes_here (has_id id r) r rows (removes rows)
 
-adds : (n : ℕ) (c : Command) (rows : List EventRow)
-    → map bare_row (rows ++ accepted_row n c ∷ []) ≡ map bare_row (map bare_row rows ++ accepted_row n (bare_command c) ∷ [])
-adds n c rows =
-    map-append bare_row rows (accepted_row n c ∷ [])
-    ∙ ap (λ l. l ++ bare_row (accepted_row n c) ∷ []) (sym (bare_rows_twice rows))
-    ∙ sym (map-append bare_row (map bare_row rows) (accepted_row n (bare_command c) ∷ []))
+adds : (policy : RetryPolicy) (n : ℕ) (c : Command) (rows : List EventRow)
+    → map bare_row (rows ++ accepted_row policy n c ∷ []) ≡ map bare_row (map bare_row rows ++ accepted_row policy n (bare_command c) ∷ [])
+adds policy n c rows =
+    map-append bare_row rows (accepted_row policy n c ∷ [])
+    ∙ ap (λ l. l ++ bare_row (accepted_row policy n c) ∷ []) (sym (bare_rows_twice rows))
+    ∙ sym (map-append bare_row (map bare_row rows) (accepted_row policy n (bare_command c) ∷ []))
 
-rows_alike : (rules : Rules) (n : ℕ) (c : Command) (kind : Kind) (rows : List EventRow)
-    → map bare_row (rows_after rules n c kind rows) ≡ map bare_row (rows_after rules n (bare_command c) kind (map bare_row rows))
-rows_alike rules n c Accept rows = adds n c rows
-rows_alike rules n c Start rows = changes rules n c Start rows
-rows_alike rules n c Succeed rows = changes rules n c Succeed rows
-rows_alike rules n c (Fail cause) rows = changes rules n c (Fail cause) rows
-rows_alike rules n c Throttle rows = changes rules n c Throttle rows
-rows_alike rules n c Interrupt rows = changes rules n c Interrupt rows
-rows_alike rules n c Expire rows = changes rules n c Expire rows
-rows_alike rules n c Collect rows = removes c.id rows
+rows_alike : (s : Settings) (policy : RetryPolicy) (n : ℕ) (c : Command) (kind : Kind) (rows : List EventRow)
+    → map bare_row (rows_after s policy n c kind rows) ≡ map bare_row (rows_after s policy n (bare_command c) kind (map bare_row rows))
+rows_alike s policy n c Accept rows = adds policy n c rows
+rows_alike s policy n c Start rows = changes s n c Start rows
+rows_alike s policy n c Succeed rows = changes s n c Succeed rows
+rows_alike s policy n c (Fail cause) rows = changes s n c (Fail cause) rows
+rows_alike s policy n c Throttle rows = changes s n c Throttle rows
+rows_alike s policy n c Interrupt rows = changes s n c Interrupt rows
+rows_alike s policy n c Expire rows = changes s n c Expire rows
+rows_alike s policy n c Collect rows = removes c.id rows
+rows_alike s policy n c (Configure next) rows = sym (bare_rows_twice rows)
 
 -- what a command does shows in the bare table by the bare command
 after_alike : (s : Settings) (t : Snapshot) (c : Command) → bare (table_after s t c) ≡ bare (table_after s (bare t) (bare_command c))
 unfolding table_after
 after_alike s t c =
-    ap (λ rows. record { number = t.number + 1; last_moment = c.time; rows = rows }) (rows_alike (rules_in s) (t.number + 1) c c.kind t.rows)
+    ap (λ rows. record { number = t.number + 1; last_moment = c.time; policy = policy_by t.policy c.kind; rows = rows }) (rows_alike s t.policy (t.number + 1) c c.kind t.rows)
 
 -- two tables that tell the same do so after a command and its mark
 alike_after : (s : Settings) (t u : Snapshot) (c : Command) (mark : Mark) → TellTheSame t u → bare_command c ≡ command_of mark

@@ -2,6 +2,7 @@
 use Rattle.std.specs.Prelude.{ℕ, ◌==◌, Bool, not, ◌&&◌, ◌||◌, nat_lt, nat_le, List, [], ◌∷◌, length, Option, Some, None, if◌then◌else◌}
 use Rattle.std.specs.List.{list_all}
 use Rattle.retry_rules.specs.declared.settings.Settings.{Settings}
+use Rattle.retry_rules.specs.declared.policy.RetryPolicy.{RetryPolicy}
 use Rattle.retry_rules.specs.declared.settings.Field.{Field}
 use Rattle.retry_rules.specs.declared.settings.Field.TheVariants as field
 
@@ -33,7 +34,7 @@ checks s =
     ∷ (is_outside 1 64 s.concurrency, field.Concurrency)
     ∷ (is_outside 1 16 s.environments, field.Environments)
     ∷ (is_outside 1 1024 s.events, field.Events)
-    ∷ (is_outside 2 262144 s.payload, field.Payload)
+    ∷ (is_outside 2 1048576 s.payload, field.Payload)
     ∷ (is_outside 2 262144 s.response, field.Response)
     ∷ (is_bad_text 64 is_name_byte s.name, field.Name)
     ∷ (is_bad_text 128 is_plain_byte s.handler, field.Handler)
@@ -47,3 +48,13 @@ first_bad (check ∷ checks) = if check.0 then Some check.1 else first_bad check
 -- the first field outside its range
 abbrev pub bad_field : Settings → Option Field
 bad_field s = first_bad (checks s)
+
+-- ## Retry policies
+
+-- the retry policy that the settings bring
+abbrev pub policy_of : Settings → RetryPolicy
+policy_of s = record { retries = s.retries; age = s.age }
+
+-- its retries or its age are outside their ranges
+abbrev pub is_bad_policy : RetryPolicy → Bool
+is_bad_policy p = is_outside 0 2 p.retries || is_outside 60 21600 p.age

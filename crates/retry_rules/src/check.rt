@@ -1,9 +1,9 @@
 // Which settings are good.
 ghost use Rattle.std.specs.Prelude.{◌≡◌, ◌↔◌, IsOk, IfErr, None, Some};
 ghost use Rattle.std.specs.List.{list_all};
-ghost use Rattle.retry_rules.specs.Settings.{is_outside, is_name_byte, is_plain_byte, is_bad_text, bad_field};
+ghost use Rattle.retry_rules.specs.Settings.{is_outside, is_name_byte, is_plain_byte, is_bad_text, is_bad_policy, bad_field};
 
-use crate::{BadSettings, Field, Settings};
+use crate::{BadSettings, Field, RetryPolicy, Settings};
 
 fn is_outside(least: u32, most: u32, n: u32) -> bool
     ensures { result ≡ is_outside least most n }
@@ -51,6 +51,15 @@ fn is_bad_plain(most: usize, text: &[u8]) -> bool
     len < 1 || most < len || !has_plain_bytes(text)
 }
 
+impl RetryPolicy {
+    /// Whether its retries or its age are outside their ranges. It takes no memory.
+    pub fn is_bad(&self) -> bool
+        ensures { result ≡ is_bad_policy self.now }
+    {
+        is_outside(0, 2, self.retries as u32) || is_outside(60, 21600, self.age)
+    }
+}
+
 impl Settings {
     /// Whether each field is within its range. The first that is not is named. It takes no memory.
     pub fn check(&self) -> Result<(), BadSettings>
@@ -69,7 +78,7 @@ impl Settings {
             Field::Environments
         } else if is_outside(1, 1024, self.events as u32) {
             Field::Events
-        } else if is_outside(2, 262144, self.payload) {
+        } else if is_outside(2, 1048576, self.payload) {
             Field::Payload
         } else if is_outside(2, 262144, self.response) {
             Field::Response

@@ -6,11 +6,13 @@
 #![tactic(auto)]
 
 mod check;
+mod policy;
 mod settings;
 mod text;
 mod waits;
 
 pub use check::{has_name_bytes, has_plain_bytes};
+pub use policy::RetryPolicy;
 pub use settings::{BadSettings, Field, Settings};
 pub use text::Text;
 pub use waits::{after_failure, after_pushback, too_old};

@@ -1,7 +1,8 @@
 // The settings of a function.
 ghost use Rattle.std.specs.Prelude.{◌≡◌, IfOk};
+ghost use Rattle.retry_rules.specs.Settings.{policy_of};
 
-use crate::Text;
+use crate::{RetryPolicy, Text};
 use std::alloc::AllocError;
 use thiserror::Error;
 
@@ -9,6 +10,7 @@ use thiserror::Error;
 #[derive(Debug, Drop)]
 pub struct Settings {
     /// `MaximumRetryAttempts`: how often an event is tried again after a function error, 0 to 2.
+    /// With the age it is the retry policy of all events that are accepted before the first Configure.
     pub retries: u8,
     /// `MaximumEventAgeInSeconds`: 60 to 21600 seconds.
     pub age: u32,
@@ -20,7 +22,7 @@ pub struct Settings {
     pub environments: u8,
     /// How many events may be held at once, 1 to 1024.
     pub events: u16,
-    /// The greatest payload, 2 to 262144 bytes.
+    /// The greatest payload, 2 to 1048576 bytes.
     pub payload: u32,
     /// The greatest response or error body, 2 to 262144 bytes.
     pub response: u32,
@@ -68,6 +70,16 @@ pub struct BadSettings {
 }
 
 impl Settings {
+    /// The retry policy that is in force until a Configure brings another. It takes no memory.
+    pub fn policy(&self) -> RetryPolicy
+        ensures { result ≡ policy_of self.now }
+    {
+        RetryPolicy {
+            retries: self.retries,
+            age: self.age,
+        }
+    }
+
     /// Equal settings in memory of their own.
     pub fn copy(&self) -> Result<Settings, AllocError>
         ensures { IfOk result (λ copy. copy ≡ self.now) }

@@ -1,7 +1,7 @@
 // What a command that is legal does to the rows.
 
 use invoke_records::{Answer, Cause, Command, EventRow, Kind, Outcome, Standing};
-use retry_rules::{Settings, after_failure, after_pushback};
+use retry_rules::{RetryPolicy, Settings, after_failure, after_pushback};
 use std::alloc::AllocError;
 
 fn push_row(rows: &mut Vec<EventRow>, row: EventRow) -> Result<(), AllocError> {
@@ -9,8 +9,20 @@ fn push_row(rows: &mut Vec<EventRow>, row: EventRow) -> Result<(), AllocError> {
     Ok(())
 }
 
-/// The event that command number `number` accepts.
-fn accepted_event(number: u64, command: &Command) -> Result<EventRow, AllocError> {
+/// What is in force after a command of this kind.
+pub fn policy_after(before: RetryPolicy, kind: Kind) -> RetryPolicy {
+    match kind {
+        Kind::Configure(policy) => policy,
+        _ => before,
+    }
+}
+
+/// The event that command number `number` accepts, while this policy is in force.
+fn accepted_event(
+    policy: RetryPolicy,
+    number: u64,
+    command: &Command,
+) -> Result<EventRow, AllocError> {
     let payload = command.bytes.copy()?;
     Ok(EventRow {
         id: command.id,
@@ -21,14 +33,20 @@ fn accepted_event(number: u64, command: &Command) -> Result<EventRow, AllocError
         starts: 0,
         failures: 0,
         push_backs: 0,
+        policy,
         payload,
         answer: Answer::None,
     })
 }
 
 /// Adds the event that command number `number` accepts.
-fn accept(rows: &mut Vec<EventRow>, number: u64, command: &Command) -> Result<(), AllocError> {
-    let row = accepted_event(number, command)?;
+fn accept(
+    rows: &mut Vec<EventRow>,
+    policy: RetryPolicy,
+    number: u64,
+    command: &Command,
+) -> Result<(), AllocError> {
+    let row = accepted_event(policy, number, command)?;
     push_row(rows, row)
 }
 
@@ -58,8 +76,8 @@ fn push_backs_by(kind: Kind, n: u32) -> u32 {
     }
 }
 
-fn failed_at(settings: &Settings, failures: u32, time: u64) -> Standing {
-    if failures > u32::from(settings.retries) {
+fn failed_at(retries: u8, failures: u32, time: u64) -> Standing {
+    if failures > u32::from(retries) {
         return Standing::Ended {
             outcome: Outcome::RetriesExhausted,
             at: time,
@@ -79,6 +97,7 @@ fn pushed_back_at(push_backs: u32, time: u64) -> Standing {
 /// Where an event stands after the command, where it had failed and was pushed back so often before.
 fn standing_after(
     settings: &Settings,
+    policy: RetryPolicy,
     command: &Command,
     failures: u32,
     push_backs: u32,
@@ -94,7 +113,7 @@ fn standing_after(
             outcome: Outcome::Success,
             at: time,
         },
-        Kind::Fail(_) => failed_at(settings, one_more(failures), time),
+        Kind::Fail(_) => failed_at(policy.retries, one_more(failures), time),
         Kind::Throttle => pushed_back_at(one_more(push_backs), time),
         Kind::Interrupt => pushed_back_at(one_more(push_backs), time),
         Kind::Expire => Standing::Ended {
@@ -102,6 +121,7 @@ fn standing_after(
             at: time,
         },
         Kind::Collect => Standing::Unknown,
+        Kind::Configure(_) => Standing::Unknown,
     }
 }
 
@@ -129,7 +149,7 @@ fn update(
     answer: Option<Answer>,
 ) {
     let kind = command.kind;
-    row.standing = standing_after(settings, command, row.failures, row.push_backs);
+    row.standing = standing_after(settings, row.policy, command, row.failures, row.push_backs);
     row.last_number = number;
     row.starts = starts_by(kind, row.starts);
     row.failures = failures_by(kind, row.failures);
@@ -166,19 +186,21 @@ fn change_event(
     }
 }
 
-/// Does what command number `number` does to the rows.
+/// Does what command number `number` does to the rows, while this policy is in force.
 pub fn change(
     rows: &mut Vec<EventRow>,
     settings: &Settings,
+    policy: RetryPolicy,
     number: u64,
     command: &Command,
 ) -> Result<(), AllocError> {
     match command.kind {
-        Kind::Accept => accept(rows, number, command),
+        Kind::Accept => accept(rows, policy, number, command),
         Kind::Collect => {
             remove_event(rows, &command.id);
             Ok(())
         }
+        Kind::Configure(_) => Ok(()),
         _ => {
             let answer = new_answer(command)?;
             change_event(rows, settings, number, command, answer);

@@ -1,6 +1,6 @@
 // The row that goes first.
 
-use crate::situation::too_old_from;
+use crate::situation::expiry_of;
 use crate::standings::is_running;
 use async_core::Side;
 use invoke_records::{Cause, EventRow, Kind, Outcome, Standing};
@@ -13,8 +13,8 @@ pub enum Order {
     /// Those that run and were accepted by a later command than this one, by the number of that command.
     Running(u64),
     /// Those that have a move at this moment, by the moment from which they have something to do, and then by
-    /// acceptance: whether an environment is ready, whether as many attempts run as may, and the greatest age.
-    Moving(u64, bool, bool, u32),
+    /// acceptance: whether an environment is ready, and whether as many attempts run as may.
+    Moving(u64, bool, bool),
 }
 
 fn start_or_throttle(is_full: bool, has_ready: bool) -> Option<Kind> {
@@ -114,14 +114,8 @@ fn running_rank(above: u64, row: &EventRow) -> Option<(u128, u64)> {
     None
 }
 
-fn moving_rank(
-    now: u64,
-    has_ready: bool,
-    is_full: bool,
-    age: u32,
-    row: &EventRow,
-) -> Option<(u128, u64)> {
-    let too_old = too_old_from(row.accepted, age);
+fn moving_rank(now: u64, has_ready: bool, is_full: bool, row: &EventRow) -> Option<(u128, u64)> {
+    let too_old = expiry_of(row);
     match move_by(is_full, has_ready, too_old, now, row.standing) {
         Some(_) => Some((ripe_by(too_old, row.standing), row.number)),
         None => None,
@@ -133,9 +127,7 @@ fn rank(order: Order, row: &EventRow) -> Option<(u128, u64)> {
     match order {
         Order::Ended(side) => ended_rank(side, row),
         Order::Running(above) => running_rank(above, row),
-        Order::Moving(now, has_ready, is_full, age) => moving_rank(
-            now, has_ready, is_full, age, row,
-        ),
+        Order::Moving(now, has_ready, is_full) => moving_rank(now, has_ready, is_full, row),
     }
 }
 

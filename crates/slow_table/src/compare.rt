@@ -37,6 +37,7 @@ pub fn same_row(a: &EventRow, b: &EventRow) -> bool {
         && a.starts == b.starts
         && a.failures == b.failures
         && a.push_backs == b.push_backs
+        && a.policy == b.policy
         && a.payload.as_slice() == b.payload.as_slice()
         && same_answer(&a.answer, &b.answer)
 }
@@ -81,6 +82,7 @@ pub fn agree_on_order(
 ) -> bool {
     table.number() == slow.number()
         && table.last_moment() == slow.last_moment()
+        && table.in_force() == slow.in_force()
         && table.next_running(after) == slow.next_running(after)
         && table.next_running(0) == slow.next_running(0)
         && table.oldest_ended(Side::Success) == slow.oldest_ended(Side::Success)

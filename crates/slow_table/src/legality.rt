@@ -3,8 +3,8 @@
 use crate::situation::Situation;
 use crate::standings::{is_due, is_ended, is_past_deadline, is_running, is_unknown};
 use async_core::Illegal;
-use invoke_records::{Cause, Command, GREATEST_MOMENT, Kind};
-use retry_rules::Settings;
+use invoke_records::{Cause, Command, GREATEST_MOMENT, Kind, has_bad_id};
+use retry_rules::{RetryPolicy, Settings};
 
 fn check_shape_by(
     command: &Command,
@@ -20,6 +20,18 @@ fn check_shape_by(
         return Err(Illegal::TooLong);
     }
     if length < least {
+        return Err(Illegal::BadKind);
+    }
+    Ok(())
+}
+
+/// Whether a Configure with this policy names no event, carries no bytes and is within the ranges.
+fn check_configure(command: &Command, policy: RetryPolicy) -> Result<(), Illegal> {
+    let is_misplaced = command.environment > 0 || has_bad_id(Kind::Configure(policy), &command.id);
+    if let Err(why) = check_shape_by(command, is_misplaced, 0, 0) {
+        return Err(why);
+    }
+    if policy.is_bad() {
         return Err(Illegal::BadKind);
     }
     Ok(())
@@ -48,6 +60,7 @@ fn check_shape(settings: &Settings, command: &Command) -> Result<(), Illegal> {
         Kind::Interrupt => check_shape_by(command, has_environment, 0, 0),
         Kind::Expire => check_shape_by(command, has_environment, 0, 0),
         Kind::Collect => check_shape_by(command, has_environment, 0, 0),
+        Kind::Configure(policy) => check_configure(command, policy),
     }
 }
 
@@ -188,6 +201,7 @@ fn check_state(
         Kind::Interrupt => check_interrupt(situation),
         Kind::Expire => check_expire(situation, command.time),
         Kind::Collect => check_collect(situation),
+        Kind::Configure(_) => Ok(()),
     }
 }
 

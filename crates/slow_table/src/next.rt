@@ -2,7 +2,7 @@
 
 use crate::Table;
 use crate::choice::{Order, first_row, move_by};
-use crate::situation::{count_running, too_old_from};
+use crate::situation::{count_running, expiry_of};
 use async_core::{Move, Side};
 use invoke_records::{EventRow, Kind};
 use retry_rules::Settings;
@@ -17,14 +17,8 @@ fn environment_for(ready_env: Option<u16>, kind: Kind) -> u16 {
     }
 }
 
-fn move_of_row(
-    row: &EventRow,
-    age: u32,
-    is_full: bool,
-    now: u64,
-    ready_env: Option<u16>,
-) -> Option<Move> {
-    let too_old = too_old_from(row.accepted, age);
+fn move_of_row(row: &EventRow, is_full: bool, now: u64, ready_env: Option<u16>) -> Option<Move> {
+    let too_old = expiry_of(row);
     match move_by(is_full, ready_env.is_some(), too_old, now, row.standing) {
         Some(kind) => Some(Move {
             kind,
@@ -41,11 +35,10 @@ fn next_move_in(
     now: u64,
     ready_env: Option<u16>,
 ) -> Option<Move> {
-    let age = settings.age;
     let is_full = settings.concurrency as usize <= count_running(rows);
-    let order = Order::Moving(now, ready_env.is_some(), is_full, age);
+    let order = Order::Moving(now, ready_env.is_some(), is_full);
     match first_row(rows, order) {
-        Some(row) => move_of_row(row, age, is_full, now, ready_env),
+        Some(row) => move_of_row(row, is_full, now, ready_env),
         None => None,
     }
 }

@@ -33,17 +33,17 @@ pub fn standing_in_rows(rows: &[EventRow], id: &[u8; 16]) -> Standing {
     }
 }
 
-/// When an event was accepted, or 0.
-pub fn accepted_in_rows(rows: &[EventRow], id: &[u8; 16]) -> u64 {
-    match find_row(rows, id) {
-        Some(row) => row.accepted,
-        None => 0,
-    }
+/// The moment from which an event is too old, by the age that it was accepted with.
+pub fn expiry_of(row: &EventRow) -> u128 {
+    u128::from(row.accepted) + 1000 * u128::from(row.policy.age)
 }
 
-/// The moment from which an event of this age limit, in seconds, is too old.
-pub fn too_old_from(accepted: u64, age: u32) -> u128 {
-    u128::from(accepted) + 1000 * u128::from(age)
+/// The moment from which an event is too old, or 0.
+pub fn too_old_in_rows(rows: &[EventRow], id: &[u8; 16]) -> u128 {
+    match find_row(rows, id) {
+        Some(row) => expiry_of(row),
+        None => 0,
+    }
 }
 
 /// How many attempts run.

@@ -1,13 +1,11 @@
 // The table of events.
 
-use crate::changes::change;
+use crate::changes::{change, policy_after};
 use crate::legality::refuse;
-use crate::situation::{
-    Situation, accepted_in_rows, count_running, is_busy, standing_in_rows, too_old_from,
-};
+use crate::situation::{Situation, count_running, is_busy, standing_in_rows, too_old_in_rows};
 use async_core::{ApplyError, Illegal};
 use invoke_records::{Command, EventRow, Standing};
-use retry_rules::Settings;
+use retry_rules::{RetryPolicy, Settings};
 use std::alloc::Global;
 
 /// The table of events.
@@ -16,6 +14,7 @@ pub struct Table {
     pub(crate) settings: Settings,
     number: u64,
     last_moment: u64,
+    policy: RetryPolicy,
     /// In the order of their acceptance.
     pub(crate) rows: Vec<EventRow>,
 }
@@ -23,15 +22,17 @@ pub struct Table {
 impl Table {
     /// The table with no command. It takes no memory.
     pub fn new(alloc: Global, settings: Settings) -> Table {
+        let policy = settings.policy();
         Table {
             settings,
             number: 0,
             last_moment: 0,
+            policy,
             rows: Vec::new(alloc),
         }
     }
 
-    /// The settings that its events are judged by.
+    /// The settings of its disk.
     pub fn settings(&self) -> &Settings {
         &self.settings
     }
@@ -46,6 +47,11 @@ impl Table {
         self.last_moment
     }
 
+    /// The retries and the age that are in force for the events that are accepted next.
+    pub fn in_force(&self) -> (u8, u32) {
+        (self.policy.retries, self.policy.age)
+    }
+
     /// Where an event stands.
     pub fn standing(&self, id: &[u8; 16]) -> Standing {
         standing_in_rows(&self.rows, id)
@@ -53,14 +59,13 @@ impl Table {
 
     /// What a command meets in the table.
     fn situation(&self, command: &Command) -> Situation {
-        let accepted = accepted_in_rows(&self.rows, &command.id);
         Situation {
             last_moment: self.last_moment,
             held: self.rows.len(),
             running: count_running(&self.rows),
             is_busy: is_busy(command.environment, &self.rows),
             standing: standing_in_rows(&self.rows, &command.id),
-            too_old_from: too_old_from(accepted, self.settings.age),
+            too_old_from: too_old_in_rows(&self.rows, &command.id),
         }
     }
 
@@ -77,9 +82,10 @@ impl Table {
             return Err(ApplyError::Illegal(why));
         }
         let number = self.number.saturating_add(1);
-        change(&mut self.rows, &self.settings, number, command)?;
+        change(&mut self.rows, &self.settings, self.policy, number, command)?;
         self.number = number;
         self.last_moment = command.time;
+        self.policy = policy_after(self.policy, command.kind);
         Ok(())
     }
 }

@@ -1,6 +1,6 @@
 // Random commands, and the settings that they are judged by.
 use invoke_records::{Bytes, Cause, Command, Kind};
-use retry_rules::{Settings, Text};
+use retry_rules::{RetryPolicy, Settings, Text};
 use std::alloc::{AllocError, Global};
 
 /// A generator of numbers: the same seed gives the same numbers.
@@ -77,8 +77,8 @@ pub fn settings_for(alloc: Global, seed: u64, events: u64) -> Result<Settings, A
     })
 }
 
-/// A kind by a number from 0 to 9.
-pub fn kind_of(n: u64) -> Kind {
+/// A kind by a number from 0 to 10; a Configure has this policy.
+pub fn kind_of(n: u64, policy: RetryPolicy) -> Kind {
     match n {
         0 => Kind::Accept,
         1 => Kind::Start,
@@ -89,7 +89,8 @@ pub fn kind_of(n: u64) -> Kind {
         6 => Kind::Throttle,
         7 => Kind::Interrupt,
         8 => Kind::Expire,
-        _ => Kind::Collect,
+        9 => Kind::Collect,
+        _ => Kind::Configure(policy),
     }
 }
 
@@ -106,6 +107,7 @@ pub fn number_of_kind(kind: Kind) -> usize {
         Kind::Interrupt => 7,
         Kind::Expire => 8,
         Kind::Collect => 9,
+        Kind::Configure(_) => 10,
     }
 }
 
@@ -127,6 +129,6 @@ pub fn command(
         id,
         environment,
         time,
-        bytes: Bytes::from_vec(bytes),
+        bytes: Bytes::from_vec(bytes)?,
     })
 }

@@ -41,12 +41,13 @@ fn print_report(rt: &HostRuntime, name: &str, report: &Report) -> io::Result<()>
         interrupts,
         expiries,
         collects,
+        configures,
     ] = report.kinds;
     println!(rt;
         "  {accepts} accepts, {starts} starts, {successes} successes, {reported} reported, {timeouts} timeouts, {exits} exits"
     )?;
     println!(rt;
-        "  {throttles} throttles, {interrupts} interrupts, {expiries} expiries, {collects} collects; {behind} expiries behind one that waits"
+        "  {throttles} throttles, {interrupts} interrupts, {expiries} expiries, {collects} collects, {configures} configures; {behind} expiries behind one that waits"
     )?;
     Ok(())
 }

@@ -2,6 +2,7 @@
 use crate::commands::{Draw, command, id_of, kind_of, number_of_kind, settings_for};
 use async_core::Side;
 use invoke_records::{Cause, Command, GREATEST_NUMBER, Kind};
+use retry_rules::RetryPolicy;
 use slow_table::{agree_on_event, agree_on_order, same_rows};
 use std::alloc::{AllocError, Global};
 
@@ -14,7 +15,7 @@ pub struct Report {
     /// How many commands after which some answer differed.
     pub differ: u64,
     /// How many of each kind were applied.
-    pub kinds: [u64; 10],
+    pub kinds: [u64; 11],
     /// How often an event was to expire while one that waits for an environment was due before it.
     pub behind: u64,
 }
@@ -52,8 +53,35 @@ impl Race {
         command(self.alloc, Kind::Accept, id, 0, self.now, length)
     }
 
+    // A policy, one in eight times one that is refused.
+    fn drawn_policy(&mut self) -> RetryPolicy {
+        let is_bad = self.draw.below(8) == 0;
+        let retries = match u8::try_from(self.draw.below(3)) {
+            Ok(retries) => retries,
+            Err(_) => 0,
+        };
+        let longer = match u32::try_from(self.draw.below(4)) {
+            Ok(longer) => longer,
+            Err(_) => 0,
+        };
+        RetryPolicy {
+            retries: if is_bad && longer == 0 { 3 } else { retries },
+            age: if is_bad && longer > 0 {
+                59
+            } else {
+                60 + 10 * longer
+            },
+        }
+    }
+
+    fn configure(&mut self) -> Result<Command, AllocError> {
+        let kind = Kind::Configure(self.drawn_policy());
+        command(self.alloc, kind, [0; 16], 0, self.now, 0)
+    }
+
     fn any(&mut self) -> Result<Command, AllocError> {
-        let kind = kind_of(self.draw.below(10));
+        let policy = self.drawn_policy();
+        let kind = kind_of(self.draw.below(11), policy);
         let id = self.drawn_id();
         let environment = if self.draw.below(2) == 0 {
             0
@@ -133,11 +161,12 @@ impl Race {
         if self.draw.below(8) == 0 {
             self.now = self.now.saturating_add(self.draw.below(400));
         }
-        match self.draw.below(16) {
+        match self.draw.below(17) {
             0..=5 => self.next(),
             6..=8 => self.accept(),
             9..=11 => self.answer(),
             12..=14 => self.collect(),
+            15 => self.configure(),
             _ => self.any(),
         }
     }
@@ -245,7 +274,7 @@ pub fn run_race(
         refused: 0,
         most_held: 0,
         differ: 0,
-        kinds: [0; 10],
+        kinds: [0; 11],
         behind: 0,
     };
     for n in 0..commands {

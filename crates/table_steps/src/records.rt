@@ -2,9 +2,9 @@
 use crate::destinations::tell_stamp;
 use crate::refusals;
 use case_runner::{Reply, Text, Words, hex_bytes, kind_word, number_of_id, read_command};
-use invoke_records::{Command, EventRow, RecordError, Rows, SettingsRecord, Snapshot};
+use invoke_records::{Command, EventRow, Kind, RecordError, Rows, SettingsRecord, Snapshot};
 use retry_rules::{
-    Settings, after_failure, after_pushback, has_name_bytes, has_plain_bytes, too_old,
+    RetryPolicy, Settings, after_failure, after_pushback, has_name_bytes, has_plain_bytes, too_old,
 };
 use std::alloc::Global;
 
@@ -25,8 +25,18 @@ fn tell_size(size: usize, answer: &mut Text) -> Reply {
     Reply::Told
 }
 
+fn tell_policy(policy: RetryPolicy, answer: &mut Text) {
+    answer.add_with(" retries ", policy.retries as u64);
+    answer.add_with(" age ", policy.age as u64);
+}
+
 fn tell_command(command: &Command, answer: &mut Text) {
     answer.add(kind_word(command.kind));
+    if let Kind::Configure(policy) = command.kind {
+        tell_policy(policy, answer);
+        answer.add_with(" at ", command.time);
+        return;
+    }
     answer.add_with(" ", number_of_id(&command.id));
     answer.add_with(" in ", command.environment as u64);
     answer.add_with(" at ", command.time);
@@ -37,6 +47,7 @@ fn tell_command(command: &Command, answer: &mut Text) {
 fn tell_row(row: &EventRow, answer: &mut Text) {
     answer.add_number(number_of_id(&row.id));
     answer.add_with(" by ", row.last_number);
+    tell_policy(row.policy, answer);
     answer.add(" ");
     answer.add_body(row.payload.as_slice());
 }
@@ -44,6 +55,7 @@ fn tell_row(row: &EventRow, answer: &mut Text) {
 fn tell_snapshot(snapshot: &Snapshot, answer: &mut Text) {
     answer.add_with("number ", snapshot.number);
     answer.add_with(" moment ", snapshot.last_moment);
+    tell_policy(snapshot.policy, answer);
     answer.add_with(" rows ", snapshot.rows.as_slice().len() as u64);
 }
 
@@ -110,10 +122,11 @@ fn read(alloc: Global, words: &mut Words, answer: &mut Text) -> Reply {
     }
 }
 
-fn spell_empty(alloc: Global, answer: &mut Text) -> Reply {
+fn spell_empty(alloc: Global, settings: &Settings, answer: &mut Text) -> Reply {
     let empty = Snapshot {
         number: 0,
         last_moment: 0,
+        policy: settings.policy(),
         rows: Rows::empty(alloc),
     };
     spelling(empty.encode(alloc), answer)
@@ -126,12 +139,12 @@ fn spell_command(alloc: Global, words: &mut Words, answer: &mut Text) -> Reply {
     }
 }
 
-// `COMMAND`, `settings` (those of the case) or `empty` (the snapshot of no commands).
+// `COMMAND`, `settings` (those of the case) or `empty` (the snapshot of no commands under them).
 fn spell(alloc: Global, settings: &Settings, words: &mut Words, answer: &mut Text) -> Reply {
     if words.takes("settings") {
         spelling(settings.encode(alloc), answer)
     } else if words.takes("empty") {
-        spell_empty(alloc, answer)
+        spell_empty(alloc, settings, answer)
     } else {
         spell_command(alloc, words, answer)
     }

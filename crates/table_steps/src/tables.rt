@@ -140,6 +140,14 @@ fn next_move(table: &Table, words: &mut Words, answer: &mut Text) -> Reply {
     Reply::Told
 }
 
+// The retries and the age that are in force.
+fn in_force(table: &Table, answer: &mut Text) -> Reply {
+    let (retries, age) = table.in_force();
+    answer.add_with("retries ", retries as u64);
+    answer.add_with(" age ", age as u64);
+    Reply::Told
+}
+
 fn judge(alloc: Global, table: &Table, words: &mut Words) -> Reply {
     let command = match read_command(alloc, words) {
         Ok(command) => command,
@@ -186,6 +194,7 @@ pub fn table_step(
         "judge" => judge(alloc, table, words),
         "number" => Reply::Number(table.number()),
         "moment" => Reply::Number(table.last_moment()),
+        "in-force" => in_force(table, answer),
         "snapshot" => spell_part(alloc, table, None, answer),
         "row" => spell_part(alloc, table, Some(words.number()), answer),
         _ => {

@@ -6,6 +6,7 @@ use Rattle.std.specs.Cmp.Lexicographic.{pointwise}
 use Rattle.std.specs.Str.{bytes_eq}
 use Rattle.std.proofs.lemmas.Bool.{true≢false, and_parts, and_from, eqb-true, eq-eqb}
 use Rattle.std.proofs.lemmas.Slice.Eq.{bytes_eq-Decides, slice_eq-Decides}
+use Rattle.retry_rules.specs.declared.policy.RetryPolicy.{RetryPolicy}
 use Rattle.retry_rules.specs.declared.settings.Settings.{Settings}
 use Rattle.invoke_records.specs.declared.row.Outcome.{Outcome}
 use Rattle.invoke_records.specs.declared.row.Outcome.TheVariants.{Success, RetriesExhausted, EventAgeExceeded}
@@ -15,7 +16,7 @@ use Rattle.invoke_records.specs.declared.row.EventRow.{EventRow}
 use Rattle.invoke_records.specs.declared.row.Standing.{Standing}
 use Rattle.invoke_records.specs.declared.row.Standing.TheVariants as standing
 use Rattle.async_core.specs.State.{State}
-use Rattle.async_core.specs.Equality.{same_outcome, same_standing, same_answer, same_numbers, same_row, same_rules, same_settings, same_state}
+use Rattle.async_core.specs.Equality.{same_outcome, same_standing, same_answer, same_policy, same_numbers, same_row, same_rules, same_settings, same_state}
 
 number : (a b : ℕ) → (a == b) ≡ true → a ≡ b
 number a b h = eqb-true a b h
@@ -109,31 +110,43 @@ same_answer-itself answer.None = refl
 same_answer-itself (answer.Response a) = bytes-itself a
 same_answer-itself (answer.Error a) = bytes-itself a
 
+-- ## Policies
+
+policy_from : (a b : RetryPolicy) → a.retries ≡ b.retries → a.age ≡ b.age → record { retries = a.retries; age = a.age } ≡ b
+policy_from a b r g = rw (r, g) refl
+
+same_policy-equal : (a b : RetryPolicy) → same_policy a b ≡ true → a ≡ b
+same_policy-equal a b h = let both = and_parts _ _ h in policy_from a b (number _ _ both.0) (number _ _ both.1)
+
+same_policy-itself : (a : RetryPolicy) → same_policy a a ≡ true
+same_policy-itself a = and_from _ _ (number-itself a.retries) (number-itself a.age)
+
 -- ## Rows
 
-row_from : (a b : EventRow) → a.id ≡ b.id → a.accepted ≡ b.accepted → a.number ≡ b.number → a.last_number ≡ b.last_number → a.standing ≡ b.standing → a.starts ≡ b.starts → a.failures ≡ b.failures → a.push_backs ≡ b.push_backs → a.payload ≡ b.payload → a.answer ≡ b.answer
-    → record { id = a.id; accepted = a.accepted; number = a.number; last_number = a.last_number; standing = a.standing; starts = a.starts; failures = a.failures; push_backs = a.push_backs; payload = a.payload; answer = a.answer } ≡ b
-row_from a b i c n l s t f p y w = rw (i, c, n, l, s, t, f, p, y, w) refl
+row_from : (a b : EventRow) → a.id ≡ b.id → a.accepted ≡ b.accepted → a.number ≡ b.number → a.last_number ≡ b.last_number → a.standing ≡ b.standing → a.starts ≡ b.starts → a.failures ≡ b.failures → a.push_backs ≡ b.push_backs → a.policy ≡ b.policy → a.payload ≡ b.payload → a.answer ≡ b.answer
+    → record { id = a.id; accepted = a.accepted; number = a.number; last_number = a.last_number; standing = a.standing; starts = a.starts; failures = a.failures; push_backs = a.push_backs; policy = a.policy; payload = a.payload; answer = a.answer } ≡ b
+row_from a b i c n l s t f p o y w = rw (i, c, n, l, s, t, f, p, o, y, w) refl
 
 same_row-equal : (a b : EventRow) → same_row a b ≡ true → a ≡ b
 same_row-equal a b h =
     let answers = and_parts _ _ h in
     let payloads = and_parts _ _ answers.0 in
     let stands = and_parts _ _ payloads.0 in
-    let ids = and_parts _ _ stands.0 in
+    let policies = and_parts _ _ stands.0 in
+    let ids = and_parts _ _ policies.0 in
     let pushed = and_parts _ _ ids.1 in
     let failed = and_parts _ _ pushed.0 in
     let started = and_parts _ _ failed.0 in
     let last = and_parts _ _ started.0 in
     let first = and_parts _ _ last.0 in
     row_from a b (bytes _ _ ids.0) (number _ _ first.0) (number _ _ first.1) (number _ _ last.1) (same_standing-equal _ _ stands.1)
-    (number _ _ started.1) (number _ _ failed.1) (number _ _ pushed.1) (bytes _ _ payloads.1) (same_answer-equal _ _ answers.1)
+    (number _ _ started.1) (number _ _ failed.1) (number _ _ pushed.1) (same_policy-equal _ _ policies.1) (bytes _ _ payloads.1) (same_answer-equal _ _ answers.1)
 
 same_numbers-itself : (a : EventRow) → same_numbers a a ≡ true
 same_numbers-itself a = rw (number-itself a.accepted, number-itself a.number, number-itself a.last_number, number-itself a.starts, number-itself a.failures, number-itself a.push_backs) refl
 
 same_row-itself : (a : EventRow) → same_row a a ≡ true
-same_row-itself a = rw (bytes-itself a.id, same_numbers-itself a, same_standing-itself a.standing, bytes-itself a.payload, same_answer-itself a.answer) refl
+same_row-itself a = rw (bytes-itself a.id, same_numbers-itself a, same_policy-itself a.policy, same_standing-itself a.standing, bytes-itself a.payload, same_answer-itself a.answer) refl
 
 pub same_rows-Decides : (a b : List EventRow) → Decides (pointwise same_row a b) (a ≡ b)
 same_rows-Decides a b = slice_eq-Decides (decides same_row same_row-equal same_row-itself) a b _ refl
@@ -168,21 +181,22 @@ same_settings-itself a = rw (same_rules-itself a, bytes-itself a.name, bytes-its
 
 -- ## Tables
 
-table_from : (a b : State) → a.settings ≡ b.settings → a.table.number ≡ b.table.number → a.table.last_moment ≡ b.table.last_moment → a.table.rows ≡ b.table.rows
-    → record { settings = a.settings; table = record { number = a.table.number; last_moment = a.table.last_moment; rows = a.table.rows } } ≡ b
-table_from a b s n m r = rw (s, n, m, r) refl
+table_from : (a b : State) → a.settings ≡ b.settings → a.table.number ≡ b.table.number → a.table.last_moment ≡ b.table.last_moment → a.table.policy ≡ b.table.policy → a.table.rows ≡ b.table.rows
+    → record { settings = a.settings; table = record { number = a.table.number; last_moment = a.table.last_moment; policy = a.table.policy; rows = a.table.rows } } ≡ b
+table_from a b s n m p r = rw (s, n, m, p, r) refl
 
 same_state-equal : (a b : State) → same_state a b ≡ true → a ≡ b
 unfolding same_state
 same_state-equal a b h =
     let states = and_parts _ _ h in
     let rows = and_parts _ _ states.1 in
-    let numbers = and_parts _ _ rows.0 in
-    table_from a b (same_settings-equal _ _ states.0) (number _ _ numbers.0) (number _ _ numbers.1) ((same_rows-Decides _ _).0 rows.1)
+    let policies = and_parts _ _ rows.0 in
+    let numbers = and_parts _ _ policies.0 in
+    table_from a b (same_settings-equal _ _ states.0) (number _ _ numbers.0) (number _ _ numbers.1) (same_policy-equal _ _ policies.1) ((same_rows-Decides _ _).0 rows.1)
 
 same_state-itself : (a : State) → same_state a a ≡ true
 unfolding same_state
-same_state-itself a = rw (same_settings-itself a.settings, number-itself a.table.number, number-itself a.table.last_moment, (same_rows-Decides a.table.rows a.table.rows).1 refl) refl
+same_state-itself a = rw (same_settings-itself a.settings, number-itself a.table.number, number-itself a.table.last_moment, same_policy-itself a.table.policy, (same_rows-Decides a.table.rows a.table.rows).1 refl) refl
 
 -- the test is true exactly where both are equal
 pub same_state-Decides : (a b : State) → Decides (same_state a b) (a ≡ b)

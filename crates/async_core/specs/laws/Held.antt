@@ -1,10 +1,10 @@
 -- Lemmas: in a legal history an event is held, once, exactly where its life is not empty.
-use Rattle.std.proofs.Common.{◌≡◌, ℕ, zero, suc, nat_lt, if◌then◌else◌, ◌+◌, ◌<◌, List, [], ◌∷◌, ◌++◌, length, take, Bool, true, false, not, ◌&&◌, cond, refl, sym, ap, ◌∙◌, arith, filter, Some, None, append_assoc, subst}
+use Rattle.std.proofs.Common.{◌≡◌, ℕ, zero, suc, nat_lt, if◌then◌else◌, ◌+◌, ◌<◌, List, [], ◌∷◌, ◌++◌, length, take, drop, Bool, true, false, not, ◌&&◌, cond, refl, sym, ap, ◌∙◌, arith, filter, Some, None, append_assoc, subst}
 use Rattle.std.specs.Prelude.{slice_get}
 use Rattle.std.specs.List.{count_by}
 use Rattle.std.specs.Str.{bytes_eq}
-use Rattle.std.proofs.lemmas.Bool.{true≢false}
-use Rattle.std.proofs.lemmas.List.{append-nil, take-append-le}
+use Rattle.std.proofs.lemmas.Bool.{true≢false, and_parts}
+use Rattle.std.proofs.lemmas.List.{append-nil, take-append-le, take-append-drop}
 use Rattle.std.proofs.lemmas.List.Sums.{sum_by-append}
 use Rattle.std.proofs.lemmas.Option.{slice_get_within}
 use Rattle.std.proofs.lemmas.Slice.Eq.{bytes_eq-Decides}
@@ -13,12 +13,12 @@ use Rattle.std.proofs.Math.Seq.{take-append_seam}
 use Rattle.retry_rules.specs.declared.settings.Settings.{Settings}
 use Rattle.invoke_records.specs.declared.command.Command.{Command}
 use Rattle.invoke_records.specs.declared.command.Kind.{Kind}
-use Rattle.invoke_records.specs.declared.command.Kind.TheVariants.{Accept, Start, Succeed, Fail, Throttle, Interrupt, Expire, Collect}
-use Rattle.async_core.specs.Lives.{kind_is_accept, kind_is_collect, is_accept, names, collects, life, failures, push_backs}
+use Rattle.invoke_records.specs.declared.command.Kind.TheVariants.{Accept, Start, Succeed, Fail, Throttle, Interrupt, Expire, Collect, Configure}
+use Rattle.async_core.specs.Lives.{kind_is_accept, kind_is_collect, kind_names, is_accept, names, collects, life, failures, push_backs}
 use Rattle.invoke_records.specs.declared.row.Outcome.TheVariants.{RetriesExhausted}
 use Rattle.invoke_records.specs.declared.row.Standing.TheVariants as standing
 use Rattle.async_core.specs.Standings.{Rules, is_unknown, standing_by, after_failure}
-use Rattle.async_core.specs.History.{held, standing_in, standing_of, rules_of, rules_in, refusal_of, situation_of, IsLegal}
+use Rattle.async_core.specs.History.{held, standing_in, standing_of, rules_of, refusal_of, situation_of, IsLegal}
 use Rattle.async_core.specs.laws.Lives.{life-snoc, life-nil, held-snoc, held-nil, last_or-snoc, count_by-cons}
 use Rattle.async_core.specs.laws.Refusals.{presence}
 
@@ -49,6 +49,10 @@ IsLegal-front s h later legal = record {
       subst (λ front. refusal_of s front d ≡ None) before (legal.each n d (slice_get-before h later n lt ∙ found));
 }
 
+-- each front of a legal history is legal
+pub IsLegal-take : (s : Settings) (h : List Command) (n : ℕ) → IsLegal s h → IsLegal s (take n h)
+IsLegal-take s h n legal = IsLegal-front s (take n h) (drop n h) (subst (λ l. IsLegal s l) (sym (take-append-drop n h)) legal)
+
 pub IsLegal-last : (s : Settings) (h : List Command) (c : Command) → IsLegal s (h ++ c ∷ []) → refusal_of s h c ≡ None
 IsLegal-last s h c legal =
     subst (λ front. refusal_of s front c ≡ None) (take-append_seam h (c ∷ [])) (legal.each (length h) c (slice_get-seam h c))
@@ -67,6 +71,25 @@ bytes_eq-true a b h = (bytes_eq-Decides a b).0 h
 pub bytes_eq-refl : (a : List ℕ) → bytes_eq a a ≡ true
 bytes_eq-refl a = (bytes_eq-Decides a a).1 refl
 
+-- what a command names
+pub named_id : (id : List ℕ) (c : Command) → names id c ≡ true → id ≡ c.id
+named_id id c named = bytes_eq-true id c.id (and_parts (kind_names c.kind) (bytes_eq id c.id) named).1
+
+pub named_kind : (id : List ℕ) (c : Command) → names id c ≡ true → kind_names c.kind ≡ true
+named_kind id c named = (and_parts (kind_names c.kind) (bytes_eq id c.id) named).0
+
+-- another id is not named
+pub unnamed : (id : List ℕ) (c : Command) → bytes_eq id c.id ≡ false → names id c ≡ false
+unnamed id c apart = neither (kind_names c.kind) (bytes_eq id c.id) apart
+  where
+    neither : (a b : Bool) → b ≡ false → (a && b) ≡ false
+    neither true b h = h
+    neither false b h = refl
+
+-- and this one is, if the command is of an event
+pub named_by : (id : List ℕ) (c : Command) → kind_names c.kind ≡ true → bytes_eq id c.id ≡ true → names id c ≡ true
+named_by id c event same = rw event same
+
 -- ## Known events
 
 abbrev pub size : List Command → ℕ
@@ -77,19 +100,20 @@ abbrev pub is_nil : List Command → Bool
 is_nil [] = true
 is_nil (c ∷ commands) = false
 
-known_by : (rules : Rules) (failures push_backs : ℕ) (c : Command) (k : Kind) → kind_is_collect k ≡ false → is_unknown (standing_by rules failures push_backs c k) ≡ false
-known_by rules failures push_backs c Accept h = refl
-known_by rules failures push_backs c Start h = refl
-known_by rules failures push_backs c Succeed h = refl
-known_by rules failures push_backs c (Fail cause) h = failed_by (nat_lt rules.retries failures)
+known_by : (rules : Rules) (failures push_backs : ℕ) (c : Command) (k : Kind) → kind_is_collect k ≡ false → kind_names k ≡ true → is_unknown (standing_by rules failures push_backs c k) ≡ false
+known_by rules failures push_backs c Accept h n = refl
+known_by rules failures push_backs c Start h n = refl
+known_by rules failures push_backs c Succeed h n = refl
+known_by rules failures push_backs c (Fail cause) h n = failed_by (nat_lt rules.retries failures)
   where
     failed_by : (b : Bool) → is_unknown (if b then standing.Ended RetriesExhausted c.time else standing.DueAgain (c.time + after_failure failures)) ≡ false
     failed_by true = refl
     failed_by false = refl
-known_by rules failures push_backs c Throttle h = refl
-known_by rules failures push_backs c Interrupt h = refl
-known_by rules failures push_backs c Expire h = refl
-known_by rules failures push_backs c Collect h = absurd (true≢false h)
+known_by rules failures push_backs c Throttle h n = refl
+known_by rules failures push_backs c Interrupt h n = refl
+known_by rules failures push_backs c Expire h n = refl
+known_by rules failures push_backs c Collect h n = absurd (true≢false h)
+known_by rules failures push_backs c (Configure policy) h n = absurd (true≢false (sym n))
 
 and_false : (b : Bool) → (b && true) ≡ false → b ≡ false
 and_false true h = h
@@ -99,19 +123,22 @@ is_nil-snoc : (l : List Command) (c : Command) → is_nil (l ++ c ∷ []) ≡ fa
 is_nil-snoc [] c = refl
 is_nil-snoc (x ∷ l) c = refl
 
+life_unknown : (rules : Rules) (h : List Command) (id : List ℕ) → is_unknown (standing_of rules (life id h)) ≡ is_nil (life id h)
+life_unknown rules h id = by_last (λ h. is_unknown (standing_of rules (life id h)) ≡ is_nil (life id h)) (rw life-nil refl) step h
+  where
+    longer : (collected named : Bool) (l : List Command) (c : Command) → collected ≡ (kind_is_collect c.kind && named) → (named ≡ true → kind_names c.kind ≡ true) → is_unknown (standing_of rules l) ≡ is_nil l
+        → is_unknown (standing_of rules (cond collected [] (l ++ cond named (c ∷ []) []))) ≡ is_nil (cond collected [] (l ++ cond named (c ∷ []) []))
+    longer true named l c e k ih = refl
+    longer false false l c e k ih = rw append-nil ih
+    longer false true l c e k ih = rw (last_or-snoc None l c) (known_by rules (failures (l ++ c ∷ [])) (push_backs (l ++ c ∷ [])) c c.kind (and_false (kind_is_collect c.kind) (sym e)) (k refl) ∙ sym (is_nil-snoc l c))
+
+    step : (h : List Command) (c : Command) → is_unknown (standing_of rules (life id h)) ≡ is_nil (life id h) → is_unknown (standing_of rules (life id (h ++ c ∷ []))) ≡ is_nil (life id (h ++ c ∷ []))
+    step h c ih = rw (life-snoc id h c) (longer (collects id c) (names id c) (life id h) c refl (named_kind id c) ih)
+
 -- an event is unknown exactly where its life is empty
 pub unknown-nil : (s : Settings) (h : List Command) (id : List ℕ) → is_unknown (standing_in s h id) ≡ is_nil (life id h)
 unfolding standing_in
-unknown-nil s h id = by_last (λ h. is_unknown (standing_of (rules_of s h id) (life id h)) ≡ is_nil (life id h)) (rw life-nil refl) step h
-  where
-    longer : (collected named : Bool) (l : List Command) (c : Command) → collected ≡ (kind_is_collect c.kind && named) → is_unknown (standing_of (rules_in s) l) ≡ is_nil l
-        → is_unknown (standing_of (rules_in s) (cond collected [] (l ++ cond named (c ∷ []) []))) ≡ is_nil (cond collected [] (l ++ cond named (c ∷ []) []))
-    longer true named l c e ih = refl
-    longer false false l c e ih = rw append-nil ih
-    longer false true l c e ih = rw (last_or-snoc None l c) (known_by (rules_in s) (failures (l ++ c ∷ [])) (push_backs (l ++ c ∷ [])) c c.kind (and_false (kind_is_collect c.kind) (sym e)) ∙ sym (is_nil-snoc l c))
-
-    step : (h : List Command) (c : Command) → is_unknown (standing_of (rules_in s) (life id h)) ≡ is_nil (life id h) → is_unknown (standing_of (rules_in s) (life id (h ++ c ∷ []))) ≡ is_nil (life id (h ++ c ∷ []))
-    step h c ih = rw (life-snoc id h c) (longer (collects id c) (names id c) (life id h) c refl ih)
+unknown-nil s h id = life_unknown (rules_of s h id) h id
 
 -- ## Held once
 
@@ -151,11 +178,23 @@ times_held-new false n id new = refl
 added : {a b m n : ℕ} → a ≡ b → m ≡ n → a + m ≡ b + n
 added p q = rw (p, q) refl
 
+-- an Accept names its event
+accept_names : (k : Kind) (b : Bool) → (kind_is_accept k && b) ≡ (kind_is_accept k && (kind_names k && b))
+accept_names Accept b = refl
+accept_names Start b = refl
+accept_names Succeed b = refl
+accept_names (Fail cause) b = refl
+accept_names Throttle b = refl
+accept_names Interrupt b = refl
+accept_names Expire b = refl
+accept_names Collect b = refl
+accept_names (Configure policy) b = refl
+
 pub times_held-snoc : (id : List ℕ) (h : List Command) (c : Command) → times_held id (held (h ++ c ∷ [])) ≡ cond (not (collects id c)) (times_held id (held h)) 0 + cond (is_accept c && names id c) 1 0
 times_held-snoc id h c =
     ap (times_held id) (held-snoc h c)
     ∙ sum_by-append (λ (e : ℕ × List ℕ). cond (bytes_eq id e.1) 1 0) (filter (λ (e : ℕ × List ℕ). not (collects e.1 c)) (held h)) _
-    ∙ added (count_filtered (λ (e : ℕ × List ℕ). bytes_eq id e.1) (λ (e : ℕ × List ℕ). not (collects e.1 c)) (not (collects id c)) (λ e same. collects_same id e.1 c same) (held h)) (times_held-new (is_accept c) (length h + 1) id c.id)
+    ∙ added (count_filtered (λ (e : ℕ × List ℕ). bytes_eq id e.1) (λ (e : ℕ × List ℕ). not (collects e.1 c)) (not (collects id c)) (λ e same. collects_same id e.1 c same) (held h)) (times_held-new (is_accept c) (length h + 1) id c.id ∙ ap (λ b. cond b 1 0) (accept_names c.kind (bytes_eq id c.id)))
 
 size-snoc : (l : List Command) (c : Command) → size (l ++ c ∷ []) ≡ 1
 size-snoc [] c = refl
@@ -165,8 +204,8 @@ size-snoc (x ∷ l) c = refl
 pub nil_before : (s : Settings) (h : List Command) (c : Command) → refusal_of s h c ≡ None → (id : List ℕ) → names id c ≡ true → is_nil (life id h) ≡ is_accept c
 unfolding refusal_of
 nil_before s h c passes id named =
-    subst (λ a. is_nil (life a h) ≡ is_accept c) (sym (bytes_eq-true id c.id named))
-    (sym (unknown-nil s h c.id) ∙ presence s (situation_of s h c) c passes)
+    subst (λ a. is_nil (life a h) ≡ is_accept c) (sym (named_id id c named))
+    (sym (unknown-nil s h c.id) ∙ presence s (situation_of s h c) c (named_kind id c named) passes)
 
 not_both : (k : Kind) → (kind_is_accept k && kind_is_collect k) ≡ false
 not_both Accept = refl
@@ -177,6 +216,7 @@ not_both Throttle = refl
 not_both Interrupt = refl
 not_both Expire = refl
 not_both Collect = refl
+not_both (Configure policy) = refl
 
 grown : (accepts collecting named : Bool) (n : ℕ) (l : List Command) (c : Command) → (accepts && collecting) ≡ false → (named ≡ true → is_nil l ≡ accepts) → n ≡ size l
     → cond (not (collecting && named)) n 0 + cond (accepts && named) 1 0 ≡ size (cond (collecting && named) [] (l ++ cond named (c ∷ []) []))

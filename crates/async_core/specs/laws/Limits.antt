@@ -5,7 +5,8 @@ use Rattle.std.specs.List.{list_all, AllByRecursion, flat_map}
 use Rattle.std.proofs.Math.Nat.{mul-le-mul_right}
 use Rattle.std.proofs.lemmas.Bool.{true≢false, and_parts, and_from, or_parts, not-false, not_from_false, lt-ltb, le-ltb, le-leb, ltb-true, ltb-false, leb-true, leb-false}
 use Rattle.std.proofs.lemmas.List.Concat.{flat_map-cons}
-use Rattle.retry_rules.specs.Settings.{bad_field}
+use Rattle.retry_rules.specs.Settings.{bad_field, is_bad_policy}
+use Rattle.retry_rules.specs.declared.policy.RetryPolicy.{RetryPolicy}
 use Rattle.retry_rules.specs.declared.settings.Settings.{Settings}
 use Rattle.invoke_records.specs.Spelling.{greatest_moment, greatest_number, environment_in, answer_bytes, is_unknown, breaks_rule, row_text, row_fault, snapshot_text, snapshot_fault, is_before, are_in_order, first_of_two, rows_fault, IsWithinWidth, IsSnapshot}
 use Rattle.invoke_records.specs.laws.Rows.{is_sound_row, no_row_fault, row_length}
@@ -13,7 +14,7 @@ use Rattle.invoke_records.specs.laws.Snapshots.{is_sound_snapshot, no_snapshot_f
 use Rattle.invoke_records.specs.declared.error.RecordError.{RecordError}
 use Rattle.invoke_records.specs.declared.command.Command.{Command}
 use Rattle.invoke_records.specs.declared.command.Kind.{Kind}
-use Rattle.invoke_records.specs.declared.command.Kind.TheVariants.{Accept, Start, Succeed, Fail, Throttle, Interrupt, Expire, Collect}
+use Rattle.invoke_records.specs.declared.command.Kind.TheVariants.{Accept, Start, Succeed, Fail, Throttle, Interrupt, Expire, Collect, Configure}
 use Rattle.invoke_records.specs.declared.command.Cause.TheVariants.{Reported}
 use Rattle.invoke_records.specs.declared.row.Answer.{Answer}
 use Rattle.invoke_records.specs.declared.row.EventRow.{EventRow}
@@ -21,8 +22,9 @@ use Rattle.invoke_records.specs.declared.row.Outcome.TheVariants.{RetriesExhaust
 use Rattle.invoke_records.specs.declared.row.Standing.{Standing}
 use Rattle.invoke_records.specs.declared.row.Standing.TheVariants as standing
 use Rattle.invoke_records.specs.declared.snapshot.Snapshot.{Snapshot}
-use Rattle.async_core.specs.Lives.{kind_is_collect, answer_by}
-use Rattle.async_core.specs.Standings.{rules_in, standing_by}
+use Rattle.async_core.specs.Lives.{kind_is_collect, kind_names, answer_by}
+use Rattle.async_core.specs.Standings.{rules_with, standing_by}
+use Rattle.async_core.specs.Policies.{policy_by}
 use Rattle.async_core.specs.Checks.{shape_checks, state_checks}
 use Rattle.async_core.specs.History.{IsLegal, table_of}
 use Rattle.async_core.specs.Rules.{has_id, standing_or_unknown, standing_at, situation_at, refusal_at, accepted_row, row_after, change_row, remove_row, rows_after, table_after, empty_table}
@@ -161,6 +163,7 @@ record FitsRow (s : Settings) (n : ℕ) (r : EventRow) : Type 0 where
   accepted : r.accepted ≤ greatest_moment
   number : r.number ≤ n
   stands : Stands s r.standing
+  policy : is_bad_policy r.policy ≡ false
   payload_least : 1 ≤ length r.payload
   payload_most : length r.payload ≤ s.payload
   answer_most : length (answer_bytes r.answer) ≤ s.response
@@ -180,6 +183,7 @@ fits_row s n r none within number =
       accepted = ltb-false _ _ sound.accepted;
       number = number;
       stands = record { known = sound.known; environment = limits.2; rule = sound.rule };
+      policy = sound.policy;
       payload_least = sound.payload_least;
       payload_most = limits.0;
       answer_most = limits.1;
@@ -191,6 +195,7 @@ row_fault-none s n limits r fits =
       accepted = le-ltb _ _ fits.accepted;
       known = fits.stands.known;
       environment = le-ltb 16 (environment_in r.standing) (omega arith);
+      policy = fits.policy;
       payload_most = omega arith;
       payload_least = fits.payload_least;
       answer_most = omega arith;
@@ -218,36 +223,39 @@ module _ (s : Settings) (c : Command) (time : c.time ≤ greatest_moment) where
       record { known = refl; environment = ltb-false s.environments c.environment bounds.1; rule = le-ltb c.environment 1 (omega arith) }
 
   -- where an event stands after a command that leaves it in the table
-  stands_after : (k : Kind) (failures push_backs : ℕ) → NoneFails (shape_checks s c k) → kind_is_collect k ≡ false → Stands s (standing_by (rules_in s) failures push_backs c k)
-  stands_after Accept failures push_backs shape stays = record { known = refl; environment = omega arith; rule = refl }
-  stands_after Start failures push_backs shape stays = started_fits shape _
-  stands_after Succeed failures push_backs shape stays = record { known = refl; environment = omega arith; rule = ended_fits }
-  stands_after (Fail cause) failures push_backs shape stays = failed_fits (nat_lt s.retries failures) _
-  stands_after Throttle failures push_backs shape stays = record { known = refl; environment = omega arith; rule = refl }
-  stands_after Interrupt failures push_backs shape stays = record { known = refl; environment = omega arith; rule = refl }
-  stands_after Expire failures push_backs shape stays = record { known = refl; environment = omega arith; rule = ended_fits }
-  stands_after Collect failures push_backs shape stays = absurd (true≢false stays)
+  stands_after : (policy : RetryPolicy) (k : Kind) (failures push_backs : ℕ) → NoneFails (shape_checks s c k) → kind_names k ≡ true → kind_is_collect k ≡ false → Stands s (standing_by (rules_with s policy) failures push_backs c k)
+  stands_after policy Accept failures push_backs shape event stays = record { known = refl; environment = omega arith; rule = refl }
+  stands_after policy Start failures push_backs shape event stays = started_fits shape _
+  stands_after policy Succeed failures push_backs shape event stays = record { known = refl; environment = omega arith; rule = ended_fits }
+  stands_after policy (Fail cause) failures push_backs shape event stays = failed_fits (nat_lt policy.retries failures) _
+  stands_after policy Throttle failures push_backs shape event stays = record { known = refl; environment = omega arith; rule = refl }
+  stands_after policy Interrupt failures push_backs shape event stays = record { known = refl; environment = omega arith; rule = refl }
+  stands_after policy Expire failures push_backs shape event stays = record { known = refl; environment = omega arith; rule = ended_fits }
+  stands_after policy Collect failures push_backs shape event stays = absurd (true≢false stays)
+  stands_after policy (Configure next) failures push_backs shape event stays = absurd (true≢false (sym event))
 
   answer_fits : (k : Kind) (before : Answer) → NoneFails (shape_checks s c k) → length (answer_bytes before) ≤ s.response → length (answer_bytes (answer_by before k c.bytes)) ≤ s.response
   answer_fits Succeed before shape le = ltb-false _ _ shape.1.1.0
   answer_fits (Fail Reported) before shape le = ltb-false _ _ shape.1.1.0
   answer_fits k before shape le = le
 
-  row_after-fits : (n : ℕ) (k : Kind) → NoneFails (shape_checks s c k) → kind_is_collect k ≡ false → (r : EventRow) → FitsRow s n r → FitsRow s n (row_after (rules_in s) (n + 1) c k r)
-  row_after-fits n k shape stays r fits = record {
+  row_after-fits : (n : ℕ) (k : Kind) → NoneFails (shape_checks s c k) → kind_names k ≡ true → kind_is_collect k ≡ false → (r : EventRow) → FitsRow s n r → FitsRow s n (row_after s (n + 1) c k r)
+  row_after-fits n k shape event stays r fits = record {
     accepted = fits.accepted;
     number = fits.number;
-    stands = stands_after k _ _ shape stays;
+    stands = stands_after r.policy k _ _ shape event stays;
+    policy = fits.policy;
     payload_least = fits.payload_least;
     payload_most = fits.payload_most;
     answer_most = answer_fits k r.answer shape fits.answer_most;
   }
 
-  accepted_row-fits : (n : ℕ) → NoneFails (shape_checks s c Accept) → FitsRow s n (accepted_row n c)
-  accepted_row-fits n shape = record {
+  accepted_row-fits : (policy : RetryPolicy) (n : ℕ) → is_bad_policy policy ≡ false → NoneFails (shape_checks s c Accept) → FitsRow s n (accepted_row policy n c)
+  accepted_row-fits policy n good shape = record {
     accepted = time;
     number = omega arith;
     stands = record { known = refl; environment = omega arith; rule = refl };
+    policy = good;
     payload_least = ltb-false _ _ shape.1.1.1.0;
     payload_most = ltb-false _ _ shape.1.1.0;
     answer_most = omega arith;
@@ -255,7 +263,7 @@ module _ (s : Settings) (c : Command) (time : c.time ≤ greatest_moment) where
 
 later_row : (s : Settings) (n : ℕ) (r : EventRow) → FitsRow s n r → FitsRow s (n + 1) r
 later_row s n r fits =
-    record { accepted = fits.accepted; number = omega arith; stands = fits.stands; payload_least = fits.payload_least; payload_most = fits.payload_most; answer_most = fits.answer_most }
+    record { accepted = fits.accepted; number = omega arith; stands = fits.stands; policy = fits.policy; payload_least = fits.payload_least; payload_most = fits.payload_most; answer_most = fits.answer_most }
 
 -- ## The rows after a command
 
@@ -265,39 +273,39 @@ record Fit (s : Settings) (n : ℕ) (rows : List EventRow) : Type 0 where
   each : AllByRecursion (FitsRow s n) rows
   order : InOrder rows
 
-module _ (s : Settings) (n : ℕ) (c : Command) where
+module _ (s : Settings) (policy : RetryPolicy) (n : ℕ) (c : Command) where
   before_here : (b : Bool) (r : EventRow) (rows : List EventRow) → has_id c.id r ≡ b → FitsRow s n r
-      → (is_unknown (standing_or_unknown (find (has_id c.id) rows)) ≡ true → AllByRecursion (λ row. IsBefore row (accepted_row (n + 1) c)) rows)
-      → is_unknown (standing_or_unknown (cond b (Some r) (find (has_id c.id) rows))) ≡ true → AllByRecursion (λ row. IsBefore row (accepted_row (n + 1) c)) (r ∷ rows)
+      → (is_unknown (standing_or_unknown (find (has_id c.id) rows)) ≡ true → AllByRecursion (λ row. IsBefore row (accepted_row policy (n + 1) c)) rows)
+      → is_unknown (standing_or_unknown (cond b (Some r) (find (has_id c.id) rows))) ≡ true → AllByRecursion (λ row. IsBefore row (accepted_row policy (n + 1) c)) (r ∷ rows)
   before_here true r rows same fits rest unknown = absurd (true≢false (sym unknown ∙ fits.stands.known))
   before_here false r rows same fits rest unknown =
       (and_from _ _ (lt-ltb r.number (n + 1) (omega arith)) (not_from_false _ (bytes_eq-sym r.id c.id ∙ same)), rest unknown)
 
   -- each row is before that of an event that is not held
-  before_new : (rows : List EventRow) → AllByRecursion (FitsRow s n) rows → is_unknown (standing_or_unknown (find (has_id c.id) rows)) ≡ true → AllByRecursion (λ row. IsBefore row (accepted_row (n + 1) c)) rows
+  before_new : (rows : List EventRow) → AllByRecursion (FitsRow s n) rows → is_unknown (standing_or_unknown (find (has_id c.id) rows)) ≡ true → AllByRecursion (λ row. IsBefore row (accepted_row policy (n + 1) c)) rows
   before_new [] fit unknown = tt
   before_new (r ∷ rows) fit unknown = before_here (has_id c.id r) r rows refl fit.0 (before_new rows fit.1) unknown
 
-module _ (s : Settings) (table : Snapshot) (c : Command) (time : c.time ≤ greatest_moment) (fit : Fit s table.number table.rows) where
+module _ (s : Settings) (table : Snapshot) (c : Command) (time : c.time ≤ greatest_moment) (good : is_bad_policy table.policy ≡ false) (fit : Fit s table.number table.rows) where
   later_rows : (rows : List EventRow) → AllByRecursion (FitsRow s table.number) rows → AllByRecursion (FitsRow s (table.number + 1)) rows
   later_rows rows each = all_then (FitsRow s table.number) (FitsRow s (table.number + 1)) (later_row s table.number) rows each
 
-  fit_accepted : NoneFails (shape_checks s c Accept) → NoneFails (state_checks s (situation_at s table c) c Accept) → Fit s (table.number + 1) (table.rows ++ accepted_row (table.number + 1) c ∷ [])
+  fit_accepted : NoneFails (shape_checks s c Accept) → NoneFails (state_checks s (situation_at s table c) c Accept) → Fit s (table.number + 1) (table.rows ++ accepted_row table.policy (table.number + 1) c ∷ [])
   unfolding standing_at
   fit_accepted shape state =
       let room : length table.rows < s.events = leb-false _ _ state.1.0 in
       record {
-        count = omega (arith, length-append table.rows (accepted_row (table.number + 1) c ∷ []));
-        each = all_more (FitsRow s (table.number + 1)) table.rows (accepted_row (table.number + 1) c) (later_rows table.rows fit.each) (accepted_row-fits s c time (table.number + 1) shape);
-        order = order_more table.rows (accepted_row (table.number + 1) c) fit.order (before_new s table.number c table.rows fit.each (not-false _ state.0));
+        count = omega (arith, length-append table.rows (accepted_row table.policy (table.number + 1) c ∷ []));
+        each = all_more (FitsRow s (table.number + 1)) table.rows (accepted_row table.policy (table.number + 1) c) (later_rows table.rows fit.each) (accepted_row-fits s c time table.policy (table.number + 1) good shape);
+        order = order_more table.rows (accepted_row table.policy (table.number + 1) c) fit.order (before_new s table.policy table.number c table.rows fit.each (not-false _ state.0));
       }
 
-  fit_changed : (k : Kind) → NoneFails (shape_checks s c k) → kind_is_collect k ≡ false → Fit s (table.number + 1) (change_row c.id (row_after (rules_in s) (table.number + 1) c k) table.rows)
-  fit_changed k shape stays =
-      let change : EventRow → EventRow = row_after (rules_in s) (table.number + 1) c k in
+  fit_changed : (k : Kind) → NoneFails (shape_checks s c k) → kind_names k ≡ true → kind_is_collect k ≡ false → Fit s (table.number + 1) (change_row c.id (row_after s (table.number + 1) c k) table.rows)
+  fit_changed k shape event stays =
+      let change : EventRow → EventRow = row_after s (table.number + 1) c k in
       record {
         count = omega (arith, length-changed c.id change table.rows);
-        each = later_rows (change_row c.id change table.rows) (all_changed (FitsRow s table.number) c.id change (row_after-fits s c time table.number k shape stays) table.rows fit.each);
+        each = later_rows (change_row c.id change table.rows) (all_changed (FitsRow s table.number) c.id change (row_after-fits s c time table.number k shape event stays) table.rows fit.each);
         order = order_changed c.id change (record { before = λ r later is. is; behind = λ r later is. is }) table.rows fit.order;
       }
 
@@ -309,15 +317,19 @@ module _ (s : Settings) (table : Snapshot) (c : Command) (time : c.time ≤ grea
         order = order_fewer c.id table.rows fit.order;
       }
 
-  fit_after : (k : Kind) → NoneFails (shape_checks s c k) → NoneFails (state_checks s (situation_at s table c) c k) → Fit s (table.number + 1) (rows_after (rules_in s) (table.number + 1) c k table.rows)
+  fit_left : Fit s (table.number + 1) table.rows
+  fit_left = record { count = fit.count; each = later_rows table.rows fit.each; order = fit.order }
+
+  fit_after : (k : Kind) → NoneFails (shape_checks s c k) → NoneFails (state_checks s (situation_at s table c) c k) → Fit s (table.number + 1) (rows_after s table.policy (table.number + 1) c k table.rows)
   fit_after Accept shape state = fit_accepted shape state
-  fit_after Start shape state = fit_changed Start shape refl
-  fit_after Succeed shape state = fit_changed Succeed shape refl
-  fit_after (Fail cause) shape state = fit_changed (Fail cause) shape refl
-  fit_after Throttle shape state = fit_changed Throttle shape refl
-  fit_after Interrupt shape state = fit_changed Interrupt shape refl
-  fit_after Expire shape state = fit_changed Expire shape refl
+  fit_after Start shape state = fit_changed Start shape refl refl
+  fit_after Succeed shape state = fit_changed Succeed shape refl refl
+  fit_after (Fail cause) shape state = fit_changed (Fail cause) shape refl refl
+  fit_after Throttle shape state = fit_changed Throttle shape refl refl
+  fit_after Interrupt shape state = fit_changed Interrupt shape refl refl
+  fit_after Expire shape state = fit_changed Expire shape refl refl
   fit_after Collect shape state = fit_collected
+  fit_after (Configure next) shape state = fit_left
 
 -- ## The laws
 
@@ -342,13 +354,14 @@ fit_rows s table fit =
       order = in_order table.rows sound.order;
     }
 
-fit_from : (s : Settings) (table : Snapshot) → Limits s → table.number ≤ greatest_number → table.last_moment ≤ greatest_moment → Fit s table.number table.rows → IsFit s table
-fit_from s table limits number last_moment fit =
+fit_from : (s : Settings) (table : Snapshot) → Limits s → table.number ≤ greatest_number → table.last_moment ≤ greatest_moment → is_bad_policy table.policy ≡ false → Fit s table.number table.rows → IsFit s table
+fit_from s table limits number last_moment policy fit =
     let n = table.number in
     record {
       fault = no_snapshot_fault table (record {
         number = le-ltb _ _ number;
         last_moment = le-ltb _ _ last_moment;
+        policy = policy;
         count = omega arith;
         rows = rows_fault-none table.rows (all_then (FitsRow s n) (λ r. row_fault r ≡ None) (row_fault-none s n limits) table.rows fit.each);
         order = are_in_order-from table.rows fit.order;
@@ -357,8 +370,24 @@ fit_from s table limits number last_moment fit =
       numbers = all_then (FitsRow s n) (λ r. r.number ≤ n) (λ r fits. fits.number) table.rows fit.each;
     }
 
-pub empty_fit : (s : Settings) → IsFit s empty_table
-empty_fit s = record { fault = refl; within = and_from _ _ (le-leb 0 s.events (omega arith)) refl; numbers = tt }
+pub empty_fit : (s : Settings) → bad_field s ≡ None → IsFit s (empty_table s)
+empty_fit s good = record {
+  fault = no_snapshot_fault (empty_table s) (record { number = refl; last_moment = refl; policy = (limits s good).policy; count = omega arith; rows = refl; order = refl });
+  within = and_from _ _ (le-leb 0 s.events (omega arith)) refl;
+  numbers = tt;
+}
+
+-- what is in force stays within its ranges
+good_policy : (s : Settings) (c : Command) (policy : RetryPolicy) (k : Kind) → NoneFails (shape_checks s c k) → is_bad_policy policy ≡ false → is_bad_policy (policy_by policy k) ≡ false
+good_policy s c policy Accept shape good = good
+good_policy s c policy Start shape good = good
+good_policy s c policy Succeed shape good = good
+good_policy s c policy (Fail cause) shape good = good
+good_policy s c policy Throttle shape good = good
+good_policy s c policy Interrupt shape good = good
+good_policy s c policy Expire shape good = good
+good_policy s c policy Collect shape good = good
+good_policy s c policy (Configure next) shape good = shape.1.1.1.1.0
 
 -- a table stays fit under a command that is not refused
 pub after_fit : (s : Settings) (table : Snapshot) (c : Command) → bad_field s ≡ None → table.number < 2 ^ 62 → IsFit s table → refusal_at s table c ≡ None → IsFit s (table_after s table c)
@@ -366,14 +395,15 @@ unfolding refusal_at table_after
 after_fit s table c good below fit passes =
     let time : c.time ≤ greatest_moment = legal_time s table c passes in
     let x = situation_at s table c in
-    fit_from s (table_after s table c) (limits s good) (omega arith) time
-    (fit_after s table c time (fit_rows s table fit) c.kind (shape_passes s x c passes) (state_passes s x c passes))
+    let policy : is_bad_policy table.policy ≡ false = (is_sound_snapshot table fit.fault).policy in
+    fit_from s (table_after s table c) (limits s good) (omega arith) time (good_policy s c table.policy c.kind (shape_passes s x c passes) policy)
+    (fit_after s table c time policy (fit_rows s table fit) c.kind (shape_passes s x c passes) (state_passes s x c passes))
 
 -- the table of a legal history is fit
 pub history_fit : (s : Settings) (h : List Command) → bad_field s ≡ None → IsLegal s h → length h ≤ 2 ^ 62 → IsFit s (table_of s h)
 history_fit s h good legal short =
     legally s (λ h. length h ≤ 2 ^ 62 → IsFit s (table_of s h))
-    (λ _. subst (IsFit s) (sym (table_of-nil s)) (empty_fit s))
+    (λ _. subst (IsFit s) (sym (table_of-nil s)) (empty_fit s good))
     (λ h c legal passes fit short.
     let longer = length-append h (c ∷ []) in
     subst (IsFit s) (table_of-more s h c good legal passes)
@@ -382,7 +412,7 @@ history_fit s h good legal short =
     legal
     short
 
-rows_length : (s : Settings) (rows : List EventRow) → AllByRecursion IsWithinWidth rows → AllByRecursion (λ r. is_row_within s r ≡ true) rows → length (flat_map row_text rows) ≤ length rows * (73 + s.payload + s.response)
+rows_length : (s : Settings) (rows : List EventRow) → AllByRecursion IsWithinWidth rows → AllByRecursion (λ r. is_row_within s r ≡ true) rows → length (flat_map row_text rows) ≤ length rows * (78 + s.payload + s.response)
 rows_length s [] widths within = omega arith
 rows_length s (r ∷ rows) widths within =
     let most = within_parts s r within.0 in
@@ -393,7 +423,7 @@ pub spelled_within : (s : Settings) (table : Snapshot) → is_within s table ≡
 unfolding snapshot_text
 spelled_within s table within spelled =
     let parts = and_parts (nat_le (length table.rows) s.events) (list_all (is_row_within s) table.rows) within in
-    let each = 73 + s.payload + s.response in
+    let each = 78 + s.payload + s.response in
     omega (
       arith,
       rows_length s table.rows spelled.within (all_pass (is_row_within s) table.rows parts.1),

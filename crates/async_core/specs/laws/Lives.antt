@@ -1,14 +1,19 @@
 -- Lemmas: what one command more at the end of a history changes in the life of an event and in what is held.
-use Rattle.std.proofs.Common.{◌≡◌, ℕ, ◌+◌, ◌-◌, ◌≤◌, List, [], ◌∷◌, ◌++◌, length, Bool, true, false, not, ◌&&◌, ◌||◌, cond, refl, ap, ◌∙◌, arith, filter, length-append, drop, Option, Some, None, zero-add}
+use Rattle.std.proofs.Common.{◌≡◌, ℕ, ◌+◌, ◌-◌, ◌≤◌, List, [], ◌∷◌, ◌++◌, length, Bool, true, false, not, ◌&&◌, ◌||◌, cond, refl, ap, ◌∙◌, arith, filter, length-append, take, drop, Option, Some, None, zero-add}
 use Rattle.std.specs.List.{list_any, after_last, suffix_len, last_or, count_by}
-use Rattle.std.proofs.lemmas.List.{reverse-append, drop-append-le}
+use Rattle.std.proofs.lemmas.List.{reverse-append, drop-append-le, take-append-le}
+use Rattle.std.proofs.Math.Seq.{take-append_seam}
 use Rattle.std.proofs.lemmas.List.Folds.{list_any-append}
 use Rattle.std.proofs.lemmas.List.Elements.{filter-append}
 use Rattle.std.proofs.lemmas.List.Sums.{suffix_len-le-length, sum_by-append, sum_by-cons}
 use Rattle.std.proofs.Math.ListN.{drop_of_length-le}
+use Rattle.retry_rules.specs.declared.policy.RetryPolicy.{RetryPolicy}
+use Rattle.retry_rules.specs.declared.settings.Settings.{Settings}
+use Rattle.retry_rules.specs.Settings.{policy_of}
 use Rattle.invoke_records.specs.declared.command.Command.{Command}
 use Rattle.invoke_records.specs.declared.row.Answer.{Answer}
 use Rattle.async_core.specs.Lives.{is_accept, is_failure, is_push_back, collects, names, life, push_backs, answer_by, answer_after, answer_of}
+use Rattle.async_core.specs.Policies.{policy_by, last_policy, in_force, before_last}
 use Rattle.async_core.specs.History.{held_from, held, last_number, last_moment}
 
 -- ## Lists
@@ -40,6 +45,32 @@ count_by-cons p x xs = sum_by-cons (λ x. cond (p x) 1 0) x xs
 filter_cond : {X : Type 0} (p : X → Bool) (b : Bool) (xs : List X) (c : X) → filter p (cond b [] (xs ++ c ∷ [])) ≡ cond b [] (filter p xs ++ cond (p c) (c ∷ []) [])
 filter_cond p true xs c = refl
 filter_cond p false xs c = filter-append p xs (c ∷ [])
+
+-- what stands before the last that passes, after one more
+before_snoc : {X : Type 0} (b : Bool) (k : ℕ) (xs : List X) (c : X) → k ≤ length xs
+    → take ((length xs + 1) - (1 + cond (not b) (1 + k) 0)) (xs ++ c ∷ []) ≡ cond b xs (take (length xs - (1 + k)) xs)
+before_snoc true k xs c le =
+    let e : (length xs + 1) - (1 + 0) ≡ length xs = omega arith in
+    ap (λ n. take n (xs ++ c ∷ [])) e ∙ take-append_seam xs (c ∷ [])
+before_snoc false k xs c le =
+    let e : (length xs + 1) - (1 + (1 + k)) ≡ length xs - (1 + k) = omega arith in
+    ap (λ n. take n (xs ++ c ∷ [])) e ∙ take-append-le (length xs - (1 + k)) xs (c ∷ []) (omega arith)
+
+pub before_last-snoc : {X : Type 0} (p : X → Bool) (xs : List X) (c : X) → before_last p (xs ++ c ∷ []) ≡ cond (p c) xs (before_last p xs)
+before_last-snoc p xs c =
+    rw (length-append xs (c ∷ []), suffix_len-snoc (λ x. not (p x)) xs c) (before_snoc (p c) (suffix_len (λ x. not (p x)) xs) xs c (suffix_len-le-length (λ x. not (p x)) xs))
+
+last_policy-snoc : (before : RetryPolicy) (h : List Command) (c : Command) → last_policy before (h ++ c ∷ []) ≡ policy_by (last_policy before h) c.kind
+last_policy-snoc before [] c = refl
+last_policy-snoc before (x ∷ h) c = last_policy-snoc (policy_by before x.kind) h c
+
+pub in_force-snoc : (s : Settings) (h : List Command) (c : Command) → in_force s (h ++ c ∷ []) ≡ policy_by (in_force s h) c.kind
+unfolding in_force
+in_force-snoc s h c = last_policy-snoc (policy_of s) h c
+
+pub in_force-nil : (s : Settings) → in_force s [] ≡ policy_of s
+unfolding in_force
+in_force-nil s = refl
 
 -- ## Lives
 

@@ -12,7 +12,7 @@ use Rattle.invoke_records.specs.declared.row.Outcome.TheVariants.{RetriesExhaust
 use Rattle.invoke_records.specs.declared.row.Standing.{Standing}
 use Rattle.invoke_records.specs.declared.row.Standing.TheVariants as standing
 use Rattle.async_core.specs.declared.situation.Situation.{Situation}
-use Rattle.async_core.specs.Standings.{Rules, rules_in, standing_by, after_failure, after_pushback, is_due, is_running}
+use Rattle.async_core.specs.Standings.{Rules, standing_by, after_failure, after_pushback, is_due, is_running}
 use Rattle.async_core.specs.Checks.{state_checks}
 use Rattle.async_core.specs.laws.Refusals.{NoneFails}
 
@@ -78,31 +78,31 @@ failed_pace : (rules : Rules) (accepted starts failures time : ℕ) (ends : Bool
 failed_pace rules accepted starts failures time true a b = tt
 failed_pace rules accepted starts failures time false a b = (omega arith, omega arith)
 
-module _ (s : Settings) (x : Situation) (c : Command) (accepted starts failures push_backs : ℕ) (old : x.too_old_from ≡ accepted + 1000 * s.age) (clock : x.last_moment ≤ c.time) (p : Paced (rules_in s) x.last_moment accepted starts failures push_backs x.standing) where
-  pub paced_start : NoneFails (state_checks s x c Start) → Paced (rules_in s) c.time accepted (starts + 1) failures push_backs (standing_by (rules_in s) failures push_backs c Start)
+module _ (s : Settings) (rules : Rules) (x : Situation) (c : Command) (accepted starts failures push_backs : ℕ) (old : x.too_old_from ≡ accepted + 1000 * rules.age) (clock : x.last_moment ≤ c.time) (p : Paced rules x.last_moment accepted starts failures push_backs x.standing) where
+  pub paced_start : NoneFails (state_checks s x c Start) → Paced rules c.time accepted (starts + 1) failures push_backs (standing_by rules failures push_backs c Start)
   paced_start h =
-      let due = due_pace (rules_in s) x.last_moment accepted starts failures push_backs c.time x.standing (not-false _ h.1.0) p.pace in
+      let due = due_pace rules x.last_moment accepted starts failures push_backs c.time x.standing (not-false _ h.1.0) p.pace in
       let young : c.time < x.too_old_from = leb-false _ _ h.1.1.0 in
       let bound : failures ≤ starts = p.failures_bound in
       record { starts_bound = omega arith; push_backs_bound = p.push_backs_bound; failures_bound = omega arith; pace = (omega arith, omega arith, omega arith, omega arith, omega arith) }
 
-  pub paced_throttle : NoneFails (state_checks s x c Throttle) → Paced (rules_in s) c.time accepted starts failures (push_backs + 1) (standing_by (rules_in s) failures (push_backs + 1) c Throttle)
+  pub paced_throttle : NoneFails (state_checks s x c Throttle) → Paced rules c.time accepted starts failures (push_backs + 1) (standing_by rules failures (push_backs + 1) c Throttle)
   paced_throttle h =
-      let due = due_pace (rules_in s) x.last_moment accepted starts failures push_backs c.time x.standing (not-false _ h.1.0) p.pace in
+      let due = due_pace rules x.last_moment accepted starts failures push_backs c.time x.standing (not-false _ h.1.0) p.pace in
       let young : c.time < x.too_old_from = leb-false _ _ h.1.1.0 in
       let wait = pushback_wait (push_backs + 1) in
       record { starts_bound = p.starts_bound; push_backs_bound = omega arith; failures_bound = p.failures_bound; pace = (omega arith, omega arith) }
 
-  pub paced_interrupt : NoneFails (state_checks s x c Interrupt) → Paced (rules_in s) c.time accepted starts failures (push_backs + 1) (standing_by (rules_in s) failures (push_backs + 1) c Interrupt)
+  pub paced_interrupt : NoneFails (state_checks s x c Interrupt) → Paced rules c.time accepted starts failures (push_backs + 1) (standing_by rules failures (push_backs + 1) c Interrupt)
   paced_interrupt h =
-      let runs = running_pace (rules_in s) x.last_moment accepted starts failures push_backs x.standing (not-false _ h.1.0) p.pace in
+      let runs = running_pace rules x.last_moment accepted starts failures push_backs x.standing (not-false _ h.1.0) p.pace in
       let wait = pushback_wait (push_backs + 1) in
       record { starts_bound = p.starts_bound; push_backs_bound = omega arith; failures_bound = p.failures_bound; pace = (omega arith, omega arith) }
 
-  pub paced_failure : (cause : Cause) → is_running x.standing ≡ true → Paced (rules_in s) c.time accepted starts (failures + 1) 0 (standing_by (rules_in s) (failures + 1) 0 c (Fail cause))
+  pub paced_failure : (cause : Cause) → is_running x.standing ≡ true → Paced rules c.time accepted starts (failures + 1) 0 (standing_by rules (failures + 1) 0 c (Fail cause))
   paced_failure cause running =
-      let runs = running_pace (rules_in s) x.last_moment accepted starts failures push_backs x.standing running p.pace in
-      record { starts_bound = p.starts_bound; push_backs_bound = omega arith; failures_bound = omega arith; pace = failed_pace (rules_in s) accepted starts failures c.time (nat_lt s.retries (failures + 1)) (omega arith) (omega arith) }
+      let runs = running_pace rules x.last_moment accepted starts failures push_backs x.standing running p.pace in
+      record { starts_bound = p.starts_bound; push_backs_bound = omega arith; failures_bound = omega arith; pace = failed_pace rules accepted starts failures c.time (nat_lt rules.retries (failures + 1)) (omega arith) (omega arith) }
 
 -- an attempt that fails runs
 pub runs_failing : (s : Settings) (x : Situation) (c : Command) (cause : Cause) → NoneFails (state_checks s x c (Fail cause)) → is_running x.standing ≡ true

@@ -1,13 +1,13 @@
 -- Lemmas: what is known of a command that is not refused.
 use Rattle.std.proofs.Common.{◌≡◌, ◌≤◌, List, [], ◌∷◌, ◌++◌, Bool, true, false, refl, sym, ◌∙◌, Option, Some, None}
-use Rattle.std.proofs.lemmas.Bool.{ltb-false, not-false}
+use Rattle.std.proofs.lemmas.Bool.{true≢false, ltb-false, not-false}
 use Rattle.retry_rules.specs.declared.settings.Settings.{Settings}
 use Rattle.invoke_records.specs.declared.command.Command.{Command}
 use Rattle.invoke_records.specs.declared.command.Kind.{Kind}
-use Rattle.invoke_records.specs.declared.command.Kind.TheVariants.{Accept, Start, Succeed, Fail, Throttle, Interrupt, Expire, Collect}
+use Rattle.invoke_records.specs.declared.command.Kind.TheVariants.{Accept, Start, Succeed, Fail, Throttle, Interrupt, Expire, Collect, Configure}
 use Rattle.invoke_records.specs.declared.command.Cause.TheVariants.{Reported, Timeout, Exited}
 use Rattle.async_core.specs.declared.illegal.Illegal.{Illegal}
-use Rattle.async_core.specs.Lives.{kind_is_accept}
+use Rattle.async_core.specs.Lives.{kind_is_accept, kind_names}
 use Rattle.async_core.specs.Standings.{is_unknown}
 use Rattle.async_core.specs.declared.situation.Situation.{Situation}
 use Rattle.async_core.specs.Checks.{first_failed, shape_checks, clock_check, state_checks, refusal_in}
@@ -72,18 +72,19 @@ module _ (s : Settings) (x : Situation) (c : Command) (passes : refusal_in s x c
   pub state_passes : NoneFails (state_checks s x c c.kind)
   state_passes = parts.1.1
 
--- an Accept's event is unknown, and that of any other command is known
-presence_by : (s : Settings) (x : Situation) (c : Command) (k : Kind) → NoneFails (shape_checks s c k) → NoneFails (state_checks s x c k) → is_unknown x.standing ≡ kind_is_accept k
-presence_by s x c Accept shape h = not-false _ h.0
-presence_by s x c Start shape h = h.0
-presence_by s x c Succeed shape h = h.0
-presence_by s x c (Fail Reported) shape h = h.0
-presence_by s x c (Fail Timeout) shape h = h.0
-presence_by s x c (Fail Exited) shape h = h.0
-presence_by s x c Throttle shape h = h.0
-presence_by s x c Interrupt shape h = h.0
-presence_by s x c Expire shape h = h.0
-presence_by s x c Collect shape h = h.0
+-- an Accept's event is unknown, and that of any other command that names one is known
+presence_by : (s : Settings) (x : Situation) (c : Command) (k : Kind) → kind_names k ≡ true → NoneFails (shape_checks s c k) → NoneFails (state_checks s x c k) → is_unknown x.standing ≡ kind_is_accept k
+presence_by s x c Accept named shape h = not-false _ h.0
+presence_by s x c Start named shape h = h.0
+presence_by s x c Succeed named shape h = h.0
+presence_by s x c (Fail Reported) named shape h = h.0
+presence_by s x c (Fail Timeout) named shape h = h.0
+presence_by s x c (Fail Exited) named shape h = h.0
+presence_by s x c Throttle named shape h = h.0
+presence_by s x c Interrupt named shape h = h.0
+presence_by s x c Expire named shape h = h.0
+presence_by s x c Collect named shape h = h.0
+presence_by s x c (Configure policy) named shape h = absurd (true≢false (sym named))
 
-pub presence : (s : Settings) (x : Situation) (c : Command) → refusal_in s x c ≡ None → is_unknown x.standing ≡ kind_is_accept c.kind
-presence s x c passes = presence_by s x c c.kind (shape_passes s x c passes) (state_passes s x c passes)
+pub presence : (s : Settings) (x : Situation) (c : Command) → kind_names c.kind ≡ true → refusal_in s x c ≡ None → is_unknown x.standing ≡ kind_is_accept c.kind
+presence s x c named passes = presence_by s x c c.kind named (shape_passes s x c passes) (state_passes s x c passes)

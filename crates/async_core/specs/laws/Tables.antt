@@ -1,5 +1,5 @@
 -- Laws: a table that stands for a legal history refuses what is not legal after it, and else stands for the longer one.
-use Rattle.std.proofs.Common.{◌≡◌, ℕ, ◌+◌, ◌≤◌, ◌<◌, List, [], ◌∷◌, ◌++◌, length, take, drop, Bool, true, false, cond, refl, sym, ap, ◌∙◌, arith, map, Option, Some, None, length-append, subst, append_assoc, ◌⊎◌, inl, inr}
+use Rattle.std.proofs.Common.{◌≡◌, ℕ, ◌+◌, ◌*◌, ◌≤◌, ◌<◌, List, [], ◌∷◌, ◌++◌, length, take, drop, Bool, true, false, cond, refl, sym, ap, ◌∙◌, arith, map, Option, Some, None, length-append, subst, append_assoc, ◌⊎◌, inl, inr}
 use Rattle.std.specs.Prelude.{find, slice_get, option_map}
 use Rattle.std.specs.List.{count_by, list_any}
 use Rattle.std.specs.Str.{bytes_eq}
@@ -13,21 +13,22 @@ use Rattle.retry_rules.specs.declared.settings.Settings.{Settings}
 use Rattle.invoke_records.specs.Spelling.{command_fault, greatest_moment}
 use Rattle.invoke_records.specs.declared.command.Command.{Command}
 use Rattle.invoke_records.specs.declared.command.Kind.{Kind}
-use Rattle.invoke_records.specs.declared.command.Kind.TheVariants.{Accept, Start, Succeed, Fail, Throttle, Interrupt, Expire, Collect}
+use Rattle.invoke_records.specs.declared.command.Kind.TheVariants.{Accept, Start, Succeed, Fail, Throttle, Interrupt, Expire, Collect, Configure}
 use Rattle.invoke_records.specs.declared.command.Cause.TheVariants.{Reported, Timeout, Exited}
 use Rattle.invoke_records.specs.declared.row.EventRow.{EventRow}
 use Rattle.invoke_records.specs.declared.snapshot.Snapshot.{Snapshot}
-use Rattle.async_core.specs.Lives.{life, accepted, payload_of}
-use Rattle.async_core.specs.Standings.{rules_in, is_running, runs_in}
+use Rattle.async_core.specs.Lives.{life, accepted, accepts, payload_of}
+use Rattle.async_core.specs.Standings.{is_running, runs_in}
+use Rattle.async_core.specs.Policies.{in_force, judged_by, of_life, before_last, pair_of}
 use Rattle.async_core.specs.Checks.{refusal_in, shape_checks}
-use Rattle.async_core.specs.History.{held, standing_in, standing_of, row_of, table_of, refusal_of, situation_of, IsLegal}
-use Rattle.async_core.specs.Rules.{has_id, row_at, standing_or_unknown, accepted_or_zero, standing_at, situation_at, refusal_at, table_after, empty_table, replay}
-use Rattle.async_core.specs.Readers.{where_held, counts_of, counts_in, ending_at, ending_in}
-use Rattle.async_core.specs.laws.Lives.{last_moment-snoc, held-nil}
+use Rattle.async_core.specs.History.{held, standing_in, standing_of, rules_of, too_old_from, row_of, table_of, refusal_of, situation_of, IsLegal}
+use Rattle.async_core.specs.Rules.{has_id, row_at, standing_or_unknown, too_old_or_zero, standing_at, situation_at, refusal_at, table_after, empty_table, replay}
+use Rattle.async_core.specs.Readers.{where_held, counts_of, counts_in, judge_at, ending_at, ending_in}
+use Rattle.async_core.specs.laws.Lives.{last_moment-snoc, in_force-snoc, in_force-nil, held-nil}
 use Rattle.async_core.specs.laws.Rows.{times_held-cons, rows_by}
 use Rattle.async_core.specs.laws.Refusals.{NoneFails, shape_passes}
 use Rattle.async_core.specs.laws.Shapes.{limits, shaped}
-use Rattle.async_core.specs.laws.Held.{times_held, size, is_nil, bytes_eq-true, held_once, IsLegal-front, IsLegal-last, slice_get-before, slice_get-seam}
+use Rattle.async_core.specs.laws.Held.{times_held, size, is_nil, bytes_eq-true, held_once, IsLegal-front, IsLegal-last, IsLegal-take, slice_get-before, slice_get-seam}
 
 -- ## The row of an event
 
@@ -75,17 +76,18 @@ list_any-map p f (x ∷ xs) = rw (list_any-map p f xs) refl
 module _ (s : Settings) (h : List Command) (legal : IsLegal s h) where
   pub standing_at-table_of : (id : List ℕ) → standing_at (table_of s h) id ≡ standing_in s h id
   unfolding table_of standing_at standing_in
-  standing_at-table_of id = read_row s h id standing_or_unknown (λ l. standing_of (rules_in s) l) refl (λ n known. refl) (held_once s h legal id) (life id h) refl
+  standing_at-table_of id = read_row s h id standing_or_unknown (λ l. standing_of (rules_of s h id) l) refl (λ n known. refl) (held_once s h legal id) (life id h) refl
 
-  accepted-table_of : (id : List ℕ) → accepted_or_zero (row_at (table_of s h) id) ≡ accepted (life id h)
-  unfolding table_of
-  accepted-table_of id = read_row s h id accepted_or_zero accepted refl (λ n known. refl) (held_once s h legal id) (life id h) refl
+  too_old-table_of : (id : List ℕ) → too_old_or_zero (row_at (table_of s h) id) ≡ too_old_from s h id
+  unfolding table_of judged_by
+  too_old-table_of id =
+      read_row s h id too_old_or_zero (λ l. accepted l + 1000 * (of_life l (in_force s (before_last (accepts id) h))).age) refl (λ n known. refl) (held_once s h legal id) (life id h) refl
 
   -- a command meets in the table what it meets after the history
   pub situation-of_table : (c : Command) → situation_at s (table_of s h) c ≡ situation_of s h c
   unfolding table_of
   situation-of_table c =
-      rw (standing_at-table_of c.id, accepted-table_of c.id, length-map (held h) (row_of s h), count_by-map (λ (r : EventRow). is_running r.standing) (row_of s h) (held h), list_any-map (λ (r : EventRow). runs_in c.environment r.standing) (row_of s h) (held h)) refl
+      rw (standing_at-table_of c.id, too_old-table_of c.id, length-map (held h) (row_of s h), count_by-map (λ (r : EventRow). is_running r.standing) (row_of s h) (held h), list_any-map (λ (r : EventRow). runs_in c.environment r.standing) (row_of s h) (held h)) refl
 
   refused_alike : (c : Command) → refusal_at s (table_of s h) c ≡ refusal_of s h c
   unfolding refusal_at refusal_of
@@ -101,7 +103,7 @@ refusal-of_table s h c good legal = refused_alike s h legal c
 pub table_of-more : (s : Settings) (h : List Command) (c : Command) → bad_field s ≡ None → IsLegal s h → refusal_of s h c ≡ None → table_after s (table_of s h) c ≡ table_of s (h ++ c ∷ [])
 unfolding table_after table_of
 table_of-more s h c good legal passes =
-    rw (length-append h (c ∷ []), last_moment-snoc h c, rows_by s h good legal c.kind c.id c.environment c.time c.bytes passes) refl
+    rw (length-append h (c ∷ []), last_moment-snoc h c, in_force-snoc s h c, rows_by s h good legal c.kind c.id c.environment c.time c.bytes passes) refl
 
 more_at : (s : Settings) (h : List Command) (c : Command) → IsLegal s h → refusal_of s h c ≡ None → (n : ℕ) (d : Command) → slice_get (h ++ c ∷ []) n ≡ Some d → (n < length h) ⊎ (length h ≤ n) → refusal_of s (take n (h ++ c ∷ [])) d ≡ None
 more_at s h c legal passes n d found (inl lt) =
@@ -121,10 +123,6 @@ IsLegal-more s h c legal passes = record { each = λ n d found. more_at s h c le
 pub IsLegal-nil : (s : Settings) → IsLegal s []
 IsLegal-nil s = record { each = λ n d found. absurd (cc) }
 
--- the front of a legal history is legal
-pub IsLegal-take : (s : Settings) (h : List Command) (n : ℕ) → IsLegal s h → IsLegal s (take n h)
-IsLegal-take s h n legal = IsLegal-front s (take n h) (drop n h) (subst (λ l. IsLegal s l) (sym (take-append-drop n h)) legal)
-
 replay_from : (s : Settings) (h later : List Command) → bad_field s ≡ None → IsLegal s (h ++ later) → replay s (table_of s h) later ≡ Some (table_of s (h ++ later))
 replay_from s h [] good legal = rw append-nil refl
 replay_from s h (c ∷ later) good legal =
@@ -140,9 +138,9 @@ pub replay-history : (s : Settings) (h : List Command) (n : ℕ) → bad_field s
 replay-history s h n good legal le =
     replay_from s (take n h) (drop n h) good (subst (λ l. IsLegal s l) (sym (take-append-drop n h)) legal) ∙ ap (λ l. Some (table_of s l)) (take-append-drop n h)
 
-pub table_of-nil : (s : Settings) → table_of s [] ≡ empty_table
+pub table_of-nil : (s : Settings) → table_of s [] ≡ empty_table s
 unfolding table_of
-table_of-nil s = rw held-nil refl
+table_of-nil s = rw (held-nil, in_force-nil s) refl
 
 pub number-table_of : (s : Settings) (h : List Command) → (table_of s h).number ≡ length h
 unfolding table_of
@@ -172,6 +170,7 @@ within_time s c Throttle fits = ltb-false _ _ fits.1.0
 within_time s c Interrupt fits = ltb-false _ _ fits.1.0
 within_time s c Expire fits = ltb-false _ _ fits.1.0
 within_time s c Collect fits = ltb-false _ _ fits.1.0
+within_time s c (Configure policy) fits = ltb-false _ _ fits.1.0
 
 pub legal_time : (s : Settings) (table : Snapshot) (c : Command) → refusal_at s table c ≡ None → c.time ≤ greatest_moment
 unfolding refusal_at
@@ -197,6 +196,14 @@ module _ (s : Settings) (table : Snapshot) (h : List Command) (id : List ℕ) (l
   pub counts-by_history : option_map counts_of (row_at table id) ≡ where_held (life id h) (counts_in (life id h))
   counts-by_history = read_by (λ o. option_map counts_of o) (λ l. where_held l (counts_in l)) refl (λ n known. known_held _ (life id h) known)
 
+  pub judge-by_history : judge_at (row_at table id) ≡ where_held (life id h) (pair_of (judged_by s h id))
+  judge-by_history = read_by judge_at (λ l. where_held l (pair_of (judged_by s h id))) refl (λ n known. known_held _ (life id h) known)
+
   pub ending-by_history : ending_at (row_at table id) ≡ ending_in id (life id h) (standing_in s h id)
   unfolding standing_in
-  ending-by_history = read_by ending_at (λ l. ending_in id l (standing_of (rules_in s) l)) refl (λ n known. refl)
+  ending-by_history = read_by ending_at (λ l. ending_in id l (standing_of (rules_of s h id) l)) refl (λ n known. refl)
+
+-- what is in force by the table is in force after the history
+pub in_force-by_history : (s : Settings) (table : Snapshot) (h : List Command) → table ≡ table_of s h → table.policy ≡ in_force s h
+unfolding table_of
+in_force-by_history s table h is = ap (λ (t : Snapshot). t.policy) is

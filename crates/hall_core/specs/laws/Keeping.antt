@@ -9,11 +9,12 @@ use Rattle.retry_rules.specs.declared.settings.Settings.{Settings}
 use Rattle.invoke_records.specs.declared.command.Command.{Command}
 use Rattle.invoke_records.specs.declared.command.Kind.TheVariants.{Start}
 use Rattle.invoke_records.specs.declared.row.Standing.TheVariants as standing
-use Rattle.async_core.specs.Lives.{kind_is_collect, names, life}
-use Rattle.async_core.specs.Standings.{Rules, rules_in}
-use Rattle.async_core.specs.History.{standing_in, standing_of, refusal_of, IsLegal}
+use Rattle.async_core.specs.Lives.{kind_is_collect, kind_names, names, life}
+use Rattle.async_core.specs.Standings.{Rules, rules_with}
+use Rattle.async_core.specs.History.{standing_in, standing_of, rules_of, refusal_of, IsLegal}
 use Rattle.async_core.specs.laws.Lives.{life-snoc, last_or-snoc}
-use Rattle.async_core.specs.laws.Held.{bytes_eq-true, bytes_eq-refl}
+use Rattle.async_core.specs.laws.Held.{bytes_eq-true, bytes_eq-refl, unnamed, named_by}
+use Rattle.async_core.specs.laws.Rows.{judged_kept}
 use Rattle.async_core.specs.laws.Tables.{IsLegal-more}
 use Rattle.env_phase.specs.declared.call.EnvCall.{EnvCall}
 use Rattle.env_phase.specs.Environment.{running, deadline_of}
@@ -38,7 +39,8 @@ kept_life false false l c e = append-nil l
 pub stands_on : (s : Settings) (h : List Command) (c : Command) (id : List ℕ) → names id c ≡ false → standing_in s (h ++ c ∷ []) id ≡ standing_in s h id
 unfolding standing_in
 stands_on s h c id other =
-    ap (standing_of (rules_in s)) (life-snoc id h c ∙ kept_life (kind_is_collect c.kind) (names id c) (life id h) c other)
+    ap (λ p. standing_of (rules_with s p) (life id (h ++ c ∷ []))) (judged_kept s h c id other)
+    ∙ ap (standing_of (rules_of s h id)) (life-snoc id h c ∙ kept_life (kind_is_collect c.kind) (names id c) (life id h) c other)
 
 starts_life : (rules : Rules) (l : List Command) (c : Command) → c.kind ≡ Start → standing_of rules (l ++ c ∷ []) ≡ standing.Running c.environment (c.time + 1000 * rules.timeout)
 starts_life rules l c start = rw (last_or-snoc None l c, start) refl
@@ -51,8 +53,9 @@ named_life id l c named kept = rw (named, kept) refl
 pub runs_from : (s : Settings) (h : List Command) (c : Command) → c.kind ≡ Start → standing_in s (h ++ c ∷ []) c.id ≡ standing.Running c.environment (c.time + 1000 * s.timeout)
 unfolding standing_in
 runs_from s h c start =
-    ap (standing_of (rules_in s)) (life-snoc c.id h c ∙ named_life c.id (life c.id h) c (bytes_eq-refl c.id) (ap kind_is_collect start))
-    ∙ starts_life (rules_in s) (life c.id h) c start
+    let rules = rules_of s (h ++ c ∷ []) c.id in
+    ap (standing_of rules) (life-snoc c.id h c ∙ named_life c.id (life c.id h) c (named_by c.id c (ap kind_names start) (bytes_eq-refl c.id)) (ap kind_is_collect start))
+    ∙ starts_life rules (life c.id h) c start
 
 -- ## One environment
 
@@ -65,7 +68,7 @@ other_runs s h c environment calls id true same never runs there = absurd (never
 other_runs s h c environment calls id false same never runs there = record {
   deadline = there.deadline;
   given = there.given;
-  stands = stands_on s h c id same ∙ there.stands;
+  stands = stands_on s h c id (unnamed id c same) ∙ there.stands;
   one = there.one;
 }
 

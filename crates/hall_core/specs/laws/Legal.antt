@@ -6,7 +6,7 @@ use Rattle.retry_rules.specs.declared.settings.Settings.{Settings}
 use Rattle.invoke_records.specs.Spelling.{greatest_moment}
 use Rattle.invoke_records.specs.declared.command.Command.{Command}
 use Rattle.invoke_records.specs.declared.command.Kind.{Kind}
-use Rattle.invoke_records.specs.declared.command.Kind.TheVariants.{Accept, Start, Succeed, Fail, Throttle, Interrupt, Expire, Collect}
+use Rattle.invoke_records.specs.declared.command.Kind.TheVariants.{Accept, Start, Succeed, Fail, Throttle, Interrupt, Expire, Collect, Configure}
 use Rattle.invoke_records.specs.declared.command.Cause.TheVariants.{Reported, Timeout, Exited}
 use Rattle.invoke_records.specs.declared.row.Standing.{Standing}
 use Rattle.invoke_records.specs.declared.row.Standing.TheVariants as standing
@@ -47,7 +47,7 @@ ended_rests (standing.Ended outcome at) h = refl
 pub accepted_rests : (s : Settings) (h : List Command) (id : List ℕ) (now : ℕ) (bytes : List ℕ) → refusal_of s h (command_for Accept id now bytes) ≡ None → is_running (standing_in s h id) ≡ false
 unfolding refusal_of
 accepted_rests s h id now bytes passes =
-    unknown_rests (standing_in s h id) (presence s (situation_of s h (command_for Accept id now bytes)) (command_for Accept id now bytes) passes)
+    unknown_rests (standing_in s h id) (presence s (situation_of s h (command_for Accept id now bytes)) (command_for Accept id now bytes) refl passes)
 
 pub collected_rests : (s : Settings) (h : List Command) (id : List ℕ) (now : ℕ) (bytes : List ℕ) → refusal_of s h (command_for Collect id now bytes) ≡ None → is_running (standing_in s h id) ≡ false
 unfolding refusal_of
@@ -69,6 +69,7 @@ within_time s c Throttle fits = ltb-false _ _ fits.1.0
 within_time s c Interrupt fits = ltb-false _ _ fits.1.0
 within_time s c Expire fits = ltb-false _ _ fits.1.0
 within_time s c Collect fits = ltb-false _ _ fits.1.0
+within_time s c (Configure policy) fits = ltb-false _ _ fits.1.0
 
 legal_time : (s : Settings) (h : List Command) (c : Command) → refusal_of s h c ≡ None → c.time ≤ greatest_moment
 unfolding refusal_of

@@ -8,7 +8,7 @@ use Rattle.std.proofs.lemmas.List.Elements.{recursion_from_All}
 use Rattle.retry_rules.specs.declared.settings.Settings.{Settings}
 use Rattle.invoke_records.specs.declared.command.Command.{Command}
 use Rattle.invoke_records.specs.declared.command.Kind.{Kind}
-use Rattle.invoke_records.specs.declared.command.Kind.TheVariants.{Accept, Start, Succeed, Fail, Throttle, Interrupt, Expire, Collect}
+use Rattle.invoke_records.specs.declared.command.Kind.TheVariants.{Accept, Start, Succeed, Fail, Throttle, Interrupt, Expire, Collect, Configure}
 use Rattle.async_core.specs.declared.choice.Move.{Move}
 use Rattle.async_core.specs.Lives.{is_accept, collects}
 use Rattle.async_core.specs.History.{held_from, held}
@@ -103,6 +103,7 @@ command_by_kind x ready id Throttle = refl
 command_by_kind x ready id Interrupt = refl
 command_by_kind x ready id Expire = refl
 command_by_kind x ready id Collect = refl
+command_by_kind x ready id (Configure policy) = refl
 
 -- a tick's command is that of the move that the table answers
 pub next_move_is : (x : Scene) (ready : Option ℕ) (answered : Option Move) → IsNextMove x.settings x.past.history x.now ready answered

@@ -12,7 +12,7 @@ use Rattle.invoke_records.specs.declared.command.Kind.TheVariants.{Accept, Succe
 use Rattle.invoke_records.specs.declared.command.Cause.TheVariants.{Reported, Timeout, Exited}
 use Rattle.async_core.specs.declared.illegal.Illegal.{Illegal}
 use Rattle.async_core.specs.declared.illegal.Illegal.TheVariants as illegal
-use Rattle.async_core.specs.Lives.{kind_is_start}
+use Rattle.async_core.specs.Lives.{kind_is_start, kind_names}
 use Rattle.async_core.specs.Standings.{is_running}
 use Rattle.async_core.specs.History.{standing_in, refusal_of, last_moment}
 use Rattle.async_core.specs.Readers.{Ending}
@@ -152,13 +152,13 @@ module _ (x : Scene) (all : AllAgree x.settings x.past.history (calls_of x.past)
     runs_so : (environment : ℕ) (id : List ℕ) → running (calls_of x.past environment) ≡ Some id → is_running (standing_in x.settings x.past.history id) ≡ true
     runs_so environment id runs_it = ap is_running ((all.each environment).runs id runs_it).stands
 
-    ending : (c : Command) (environment : ℕ) (call : EnvCall) (answered : Option Told) → kind_is_start c.kind ≡ false → is_interrupt c.kind ≡ false → running (calls_of x.past environment) ≡ Some c.id → refusal_of x.settings x.past.history c ≡ None
+    ending : (c : Command) (environment : ℕ) (call : EnvCall) (answered : Option Told) → kind_names c.kind ≡ true → kind_is_start c.kind ≡ false → is_interrupt c.kind ≡ false → running (calls_of x.past environment) ≡ Some c.id → refusal_of x.settings x.past.history c ≡ None
         → env_refusal_of (calls_of x.past environment) call ≡ None → ends_event call ≡ true → is_shutdown call ≡ false
         → Fine x.settings x.past (record { command = Some c; made = (environment, call) ∷ []; reply = answered })
-    ending c environment call answered no_start no_interrupt runs_it passes accepted ends unshut = record {
+    ending c environment call answered event no_start no_interrupt runs_it passes accepted ends unshut = record {
       keeps = keeps_end x.settings x.past.history (calls_of x.past) all c environment call runs_it passes accepted ends;
       unshut = rw unshut refl;
-      leaves_none = λ id u. alone_end x.settings x.past.history (calls_of x.past) id c environment call no_start runs_it u;
+      leaves_none = λ id u. alone_end x.settings x.past.history (calls_of x.past) id c environment call event no_start runs_it u;
       interrupts = λ d same is. absurd (other_kind c d no_interrupt same is);
     }
 
@@ -173,13 +173,17 @@ module _ (x : Scene) (all : AllAgree x.settings x.past.history (calls_of x.past)
     exit_kind test true a b = a
     exit_kind test false a b = b
 
+    exit_names : (late : Bool) → kind_names (if late then Fail Timeout else Fail Exited) ≡ true
+    exit_names true = refl
+    exit_names false = refl
+
     exited : (environment : ℕ) (identifier : List ℕ) (o : Option EnvRefusal) → env_refusal_of (calls_of x.past environment) (env.ExtensionError identifier false x.now) ≡ o
         → (what : Option (List ℕ)) → running (calls_of x.past environment) ≡ what
         → Fine x.settings x.past (where_accepted o (record { command = option_map (exit_of x) what; made = (environment, env.ExtensionError identifier false x.now) ∷ []; reply = Some reply.taken }))
     exited environment identifier (Some why) passes what runs_it = quiet (refuses _) refl refl
     exited environment identifier None passes None runs_it = asked environment (env.ExtensionError identifier false x.now) (Some reply.taken) refl refl (λ passes ends. runs_it) None passes
     exited environment identifier None passes (Some id) runs_it =
-        ending (exit_of x id) environment (env.ExtensionError identifier false x.now) (Some reply.taken) (exit_kind kind_is_start (is_late x id) refl refl) (exit_kind is_interrupt (is_late x id) refl refl) runs_it
+        ending (exit_of x id) environment (env.ExtensionError identifier false x.now) (Some reply.taken) (exit_names (is_late x id)) (exit_kind kind_is_start (is_late x id) refl refl) (exit_kind is_interrupt (is_late x id) refl refl) runs_it
         (exit_is_legal environment id runs_it (is_late x id) refl) passes refl refl
 
     exiting : (environment : ℕ) (identifier : List ℕ) → Fine x.settings x.past (exits x environment identifier)
@@ -192,11 +196,11 @@ module _ (x : Scene) (all : AllAgree x.settings x.past.history (calls_of x.past)
       pub times_out : (environment : ℕ) (id : List ℕ) (answered : Option Told) → running (calls_of x.past environment) ≡ Some id → is_late x id ≡ true
           → Fine x.settings x.past (record { command = Some (command_for (Fail Timeout) id x.now []); made = (environment, env.Timeout x.now) ∷ []; reply = answered })
       times_out environment id answered runs_it late =
-          ending (command_for (Fail Timeout) id x.now []) environment (env.Timeout x.now) answered refl refl runs_it
+          ending (command_for (Fail Timeout) id x.now []) environment (env.Timeout x.now) answered refl refl refl runs_it
           (legal_timeout x.settings x.past.history x.now id clock bound (runs_so environment id runs_it) late)
           (timeout_is_accepted (calls_of x.past environment) id x.now (all.each environment).accepted (open_ones environment) runs_it) refl refl
 
-      answered_at : (environment : ℕ) (kind : Kind) (id bytes : List ℕ) → kind_is_start kind ≡ false → is_interrupt kind ≡ false → running (calls_of x.past environment) ≡ Some id
+      answered_at : (environment : ℕ) (kind : Kind) (id bytes : List ℕ) → kind_names kind ≡ true → kind_is_start kind ≡ false → is_interrupt kind ≡ false → running (calls_of x.past environment) ≡ Some id
           → (is_late x id ≡ false → refusal_of x.settings x.past.history (command_for kind id x.now bytes) ≡ None)
           → (late : Bool) → is_late x id ≡ late
           → Fine x.settings x.past (if late then record {
@@ -209,24 +213,24 @@ module _ (x : Scene) (all : AllAgree x.settings x.past.history (calls_of x.past)
             made = (environment, env.Answer id) ∷ [];
             reply = Some reply.taken;
           })
-      answered_at environment kind id bytes no_start no_interrupt runs_it legal true late = times_out environment id (Some (reply.refused refusal.InvalidRequestId)) runs_it late
-      answered_at environment kind id bytes no_start no_interrupt runs_it legal false late =
-          ending (command_for kind id x.now bytes) environment (env.Answer id) (Some reply.taken) no_start no_interrupt runs_it (legal late)
+      answered_at environment kind id bytes event no_start no_interrupt runs_it legal true late = times_out environment id (Some (reply.refused refusal.InvalidRequestId)) runs_it late
+      answered_at environment kind id bytes event no_start no_interrupt runs_it legal false late =
+          ending (command_for kind id x.now bytes) environment (env.Answer id) (Some reply.taken) event no_start no_interrupt runs_it (legal late)
           (answer_is_accepted (calls_of x.past environment) id (all.each environment).accepted (open_ones environment) runs_it) refl refl
 
-      responded : (environment : ℕ) (kind : Kind) (id bytes : List ℕ) → kind_is_start kind ≡ false → is_interrupt kind ≡ false
+      responded : (environment : ℕ) (kind : Kind) (id bytes : List ℕ) → kind_names kind ≡ true → kind_is_start kind ≡ false → is_interrupt kind ≡ false
           → (is_running (standing_in x.settings x.past.history id) ≡ true → is_late x id ≡ false → refusal_of x.settings x.past.history (command_for kind id x.now bytes) ≡ None)
           → (here : Bool) → runs (calls_of x.past environment) id ≡ here → Fine x.settings x.past (if here then answers_event x environment kind id bytes else refuses refusal.InvalidRequestId)
-      responded environment kind id bytes no_start no_interrupt legal true here =
+      responded environment kind id bytes event no_start no_interrupt legal true here =
           let runs_it = runs_is (calls_of x.past environment) id here in
-          answered_at environment kind id bytes no_start no_interrupt runs_it (legal (runs_so environment id runs_it)) (is_late x id) refl
-      responded environment kind id bytes no_start no_interrupt legal false here = quiet (refuses refusal.InvalidRequestId) refl refl
+          answered_at environment kind id bytes event no_start no_interrupt runs_it (legal (runs_so environment id runs_it)) (is_late x id) refl
+      responded environment kind id bytes event no_start no_interrupt legal false here = quiet (refuses refusal.InvalidRequestId) refl refl
 
-      responding : (environment : ℕ) (kind : Kind) (id : Option (List ℕ)) (bytes : List ℕ) → kind_is_start kind ≡ false → is_interrupt kind ≡ false
+      responding : (environment : ℕ) (kind : Kind) (id : Option (List ℕ)) (bytes : List ℕ) → kind_names kind ≡ true → kind_is_start kind ≡ false → is_interrupt kind ≡ false
           → ((id : List ℕ) → is_running (standing_in x.settings x.past.history id) ≡ true → is_late x id ≡ false → refusal_of x.settings x.past.history (command_for kind id x.now bytes) ≡ None)
           → Fine x.settings x.past (responds x environment kind id bytes)
-      responding environment kind None bytes no_start no_interrupt legal = quiet (refuses refusal.InvalidRequestId) refl refl
-      responding environment kind (Some id) bytes no_start no_interrupt legal = responded environment kind id bytes no_start no_interrupt (legal id) (runs (calls_of x.past environment) id) refl
+      responding environment kind None bytes event no_start no_interrupt legal = quiet (refuses refusal.InvalidRequestId) refl refl
+      responding environment kind (Some id) bytes event no_start no_interrupt legal = responded environment kind id bytes event no_start no_interrupt (legal id) (runs (calls_of x.past environment) id) refl
 
       -- ### Requests, by what they ask
 
@@ -238,9 +242,9 @@ module _ (x : Scene) (all : AllAgree x.settings x.past.history (calls_of x.past)
       request_is_fine slot drawn calls.StopBroker fits runs_on = absurd (true≢false runs_on)
       request_is_fine slot drawn (calls.RuntimeNext environment) fits runs_on = asking environment (env.RuntimeNext slot) None refl refl (no_end environment (env.RuntimeNext slot) refl)
       request_is_fine slot drawn (calls.Response environment id body) fits runs_on =
-          responding environment Succeed id body refl refl (λ id running_it late. legal_response x.settings x.past.history x.now id clock bound body fits running_it late)
+          responding environment Succeed id body refl refl refl (λ id running_it late. legal_response x.settings x.past.history x.now id clock bound body fits running_it late)
       request_is_fine slot drawn (calls.RuntimeError environment id body) fits runs_on =
-          responding environment (Fail Reported) id body refl refl (λ id running_it late. legal_error x.settings x.past.history x.now id clock bound body fits running_it late)
+          responding environment (Fail Reported) id body refl refl refl (λ id running_it late. legal_error x.settings x.past.history x.now id clock bound body fits running_it late)
       request_is_fine slot drawn (calls.RuntimeInitError environment) fits runs_on =
           asking environment (env.InitError x.now) (Some reply.taken) refl refl (λ passes ends. init_error_ends_nothing (calls_of x.past environment) x.now (all.each environment).accepted passes)
       request_is_fine slot drawn (calls.Register environment name events end) fits runs_on =

@@ -6,7 +6,7 @@ use Rattle.std.proofs.lemmas.Bool.{true≢false}
 use Rattle.invoke_records.specs.Spelling.{greatest_moment}
 use Rattle.invoke_records.specs.declared.command.Command.{Command}
 use Rattle.invoke_records.specs.declared.command.Kind.{Kind}
-use Rattle.invoke_records.specs.declared.command.Kind.TheVariants.{Accept, Start, Succeed, Fail, Throttle, Interrupt, Expire, Collect}
+use Rattle.invoke_records.specs.declared.command.Kind.TheVariants.{Accept, Start, Succeed, Fail, Throttle, Interrupt, Expire, Collect, Configure}
 use Rattle.invoke_records.specs.declared.command.Cause.TheVariants.{Reported, Timeout, Exited}
 use Rattle.async_core.specs.Standings.{is_running}
 use Rattle.async_core.specs.History.{standing_in, last_moment}
@@ -65,6 +65,7 @@ module _ (x : Scene) (all : AllAgree x.settings x.past.history (calls_of x.past)
     moved ready is none id Expire facts =
         commanding x all (command_for Expire id x.now []) None refl refl (legal_expiry x.settings x.past.history x.now id clock bound (is_some ready) facts) (idle_never x.settings x.past all id facts.1)
     moved ready is none id Collect facts = absurd facts
+    moved ready is none id (Configure policy) facts = absurd facts
 
     moving_by : (ready : Option ℕ) → ready_in x.settings x.past ≡ ready → first_unheld x.settings x.past ≡ None → (id : List ℕ) (o : Option Kind)
         → move_of x.settings x.past.history x.now (is_some ready) id ≡ o → Fine x.settings x.past (moves_by x ready id o)

@@ -8,14 +8,14 @@ use Rattle.std.proofs.lemmas.Option.{none-some}
 use Rattle.retry_rules.specs.declared.settings.Settings.{Settings}
 use Rattle.invoke_records.specs.declared.command.Command.{Command}
 use Rattle.invoke_records.specs.declared.command.Kind.{Kind}
-use Rattle.invoke_records.specs.declared.command.Kind.TheVariants.{Accept, Start, Succeed, Fail, Throttle, Interrupt, Expire, Collect}
+use Rattle.invoke_records.specs.declared.command.Kind.TheVariants.{Accept, Start, Succeed, Fail, Throttle, Interrupt, Expire, Collect, Configure}
 use Rattle.invoke_records.specs.declared.row.Outcome.TheVariants.{RetriesExhausted}
 use Rattle.invoke_records.specs.declared.row.Standing.TheVariants as standing
-use Rattle.async_core.specs.Lives.{kind_is_start, kind_is_collect, names, life, failures, push_backs}
-use Rattle.async_core.specs.Standings.{Rules, rules_in, standing_by, after_failure, is_running}
-use Rattle.async_core.specs.History.{standing_in, standing_of}
+use Rattle.async_core.specs.Lives.{kind_is_start, kind_is_collect, kind_names, names, life, failures, push_backs}
+use Rattle.async_core.specs.Standings.{Rules, standing_by, after_failure, is_running}
+use Rattle.async_core.specs.History.{standing_in, standing_of, rules_of}
 use Rattle.async_core.specs.laws.Lives.{life-snoc, last_or-snoc}
-use Rattle.async_core.specs.laws.Held.{bytes_eq-true, bytes_eq-refl}
+use Rattle.async_core.specs.laws.Held.{bytes_eq-refl, named_id, named_by}
 use Rattle.env_phase.specs.declared.call.EnvCall.{EnvCall}
 use Rattle.env_phase.specs.Environment.{running}
 use Rattle.env_phase.specs.Calls.{given_by, ends_event}
@@ -46,6 +46,7 @@ rests_by rules failures push_backs c Throttle h = refl
 rests_by rules failures push_backs c Interrupt h = refl
 rests_by rules failures push_backs c Expire h = refl
 rests_by rules failures push_backs c Collect h = refl
+rests_by rules failures push_backs c (Configure policy) h = refl
 
 rests_life : (rules : Rules) (collecting named : Bool) (l : List Command) (c : Command) → named ≡ true → kind_is_start c.kind ≡ false
     → is_running (standing_of rules (cond (collecting && named) [] (l ++ cond named (c ∷ []) []))) ≡ false
@@ -58,7 +59,8 @@ rests_life rules false true l c e h =
 pub rests_after : (s : Settings) (h : List Command) (c : Command) (id : List ℕ) → names id c ≡ true → kind_is_start c.kind ≡ false → is_running (standing_in s (h ++ c ∷ []) id) ≡ false
 unfolding standing_in
 rests_after s h c id named no_start =
-    ap (λ l. is_running (standing_of (rules_in s) l)) (life-snoc id h c) ∙ rests_life (rules_in s) (kind_is_collect c.kind) (names id c) (life id h) c named no_start
+    let rules = rules_of s (h ++ c ∷ []) id in
+    ap (λ l. is_running (standing_of rules l)) (life-snoc id h c) ∙ rests_life rules (kind_is_collect c.kind) (names id c) (life id h) c named no_start
 
 -- an event that runs after such a command ran before it, and is not the one that it names
 ran_before : (s : Settings) (h : List Command) (c : Command) (id : List ℕ) → kind_is_start c.kind ≡ false → is_running (standing_in s (h ++ c ∷ []) id) ≡ true
@@ -66,8 +68,8 @@ ran_before : (s : Settings) (h : List Command) (c : Command) (id : List ℕ) →
 ran_before s h c id no_start runs true named = absurd (true≢false (sym runs ∙ rests_after s h c id named no_start))
 ran_before s h c id no_start runs false other = (ap is_running (sym (stands_on s h c id other)) ∙ runs, other)
 
-not_named : (id : List ℕ) (c : Command) → names id c ≡ false → id ≡ c.id → ⊥
-not_named id c other is = true≢false (sym (ap (λ v. bytes_eq v c.id) is ∙ bytes_eq-refl c.id) ∙ other)
+not_named : (id : List ℕ) (c : Command) → kind_names c.kind ≡ true → names id c ≡ false → id ≡ c.id → ⊥
+not_named id c event other is = true≢false (sym (named_by id c event (ap (λ v. bytes_eq v c.id) is ∙ bytes_eq-refl c.id)) ∙ other)
 
 same_id : (a b : List ℕ) → Some a ≡ Some b → a ≡ b
 same_id a b h = cc
@@ -109,15 +111,15 @@ module _ (s : Settings) (h : List Command) (calls : ℕ → List EnvCall) (id : 
   }
 
   -- a command and a call for the event that the environment runs
-  pub alone_end : (c : Command) (at : ℕ) (call : EnvCall) → kind_is_start c.kind ≡ false → running (calls at) ≡ Some c.id
+  pub alone_end : (c : Command) (at : ℕ) (call : EnvCall) → kind_names c.kind ≡ true → kind_is_start c.kind ≡ false → running (calls at) ≡ Some c.id
       → RunsAlone s (h ++ c ∷ []) (λ environment. calls environment ++ calls_in environment ((at, call) ∷ [])) id → RunsAlone s h calls id
-  alone_end c at call no_start runs_it u =
+  alone_end c at call event no_start runs_it u =
       let before = ran_before s h c id no_start u.stands (names id c) refl in
       record {
         stands = before.0;
         alone = λ environment runs.
             u.alone environment
-            (by_environment (StillRuns id calls) at call calls (λ here. absurd (not_named id c before.1 (same_id id c.id (sym here ∙ runs_it)))) (λ environment apart runs. runs) environment runs);
+            (by_environment (StillRuns id calls) at call calls (λ here. absurd (not_named id c event before.1 (same_id id c.id (sym here ∙ runs_it)))) (λ environment apart runs. runs) environment runs);
       }
 
   started_other : (c : Command) (at deadline : ℕ) → running (calls at) ≡ None
@@ -126,7 +128,7 @@ module _ (s : Settings) (h : List Command) (calls : ℕ → List EnvCall) (id : 
   started_other c at deadline idle u true named =
       absurd (u.alone at
       (by_environment (λ environment l. at ≡ environment → running l ≡ Some id) at (env.Give c.id deadline) calls
-      (λ same. unanswered_snoc (calls at) (env.Give c.id deadline) ∙ ap (λ v. Some v) (sym (bytes_eq-true id c.id named)))
+      (λ same. unanswered_snoc (calls at) (env.Give c.id deadline) ∙ ap (λ v. Some v) (sym (named_id id c named)))
       (λ environment apart same. absurd (apart same)) at refl))
   started_other c at deadline idle u false other = record {
     stands = ap is_running (sym (stands_on s h c id other)) ∙ u.stands;

@@ -3,13 +3,13 @@ use Rattle.std.proofs.Common.{◌≡◌, ℕ, ◌^◌, ◌<◌, ◌≤◌, Bool,
 use Rattle.std.specs.List.{list_all}
 use Rattle.std.specs.Int.{Width, w32, to_be_bytes}
 use Rattle.std.proofs.lemmas.Bool.{ltb-false, le-ltb}
-use Rattle.retry_rules.specs.Settings.{is_outside, is_bad_text}
+use Rattle.retry_rules.specs.declared.policy.RetryPolicy.{RetryPolicy}
+use Rattle.retry_rules.specs.Settings.{is_outside, is_bad_text, is_bad_policy}
 use Rattle.invoke_records.specs.declared.error.RecordError.{RecordError}
 use Rattle.invoke_records.specs.declared.error.RecordError.TheVariants as fault
-use Rattle.invoke_records.specs.Spelling.{IsBytes, short_text}
-use Rattle.invoke_records.specs.Reading.{◌>>=◌, unless, byte_at, bytes_at, number_at, small_at, limit_at, sized_at, text_at}
-use Rattle.invoke_records.specs.laws.Fields.{bind_ok, unless_ok, Takes, Takes-then, byte_takes, bytes_takes, bytes_again, IsWide, number_takes, number_again, wide32}
-use Rattle.invoke_records.specs.laws.Commands.{both_false, either_false}
+use Rattle.invoke_records.specs.Spelling.{IsBytes, short_text, policy_text}
+use Rattle.invoke_records.specs.Reading.{◌>>=◌, unless, byte_at, bytes_at, number_at, small_at, limit_at, sized_at, text_at, policy_at}
+use Rattle.invoke_records.specs.laws.Fields.{bind_ok, unless_ok, Takes, Takes-then, byte_takes, bytes_takes, bytes_again, IsWide, number_takes, number_again, wide32, ok_is, both_false, either_false}
 
 pub small_takes : (least most : ℕ) (bytes : List ℕ) (x : ℕ × List ℕ) → IsBytes bytes → small_at least most bytes ≡ Ok x → Takes bytes (x.0 ∷ []) x.1 × (is_outside least most x.0 ≡ false)
 unfolding small_at
@@ -40,6 +40,23 @@ unfolding limit_at
 limit_again w limit wide least most n rest lt inside =
     ap (λ (r : Result (ℕ × List ℕ) RecordError). r >>= λ x. unless (is_outside least most x.0) fault.BadKind x) (number_again w limit wide n rest (omega (arith, lt, most_of least most n inside)))
     ∙ ap (λ (b : Bool). unless b fault.BadKind (n, rest)) inside
+
+pub policy_takes : (bytes : List ℕ) (x : RetryPolicy × List ℕ) → IsBytes bytes → policy_at bytes ≡ Ok x → Takes bytes (policy_text x.0) x.1 × (is_bad_policy x.0 ≡ false)
+unfolding policy_at
+policy_takes bytes x fits e =
+    let a = bind_ok (small_at 0 2 bytes) _ x e in
+    let b = bind_ok (limit_at w32 60 21600 a.0.1) _ x a.2 in
+    let ta = small_takes 0 2 bytes a.0 fits a.1 in
+    let tb = limit_takes w32 (2 ^ 32) wide32 60 21600 a.0.1 b.0 ta.0.rest_fits b.1 in
+    let made : RetryPolicy × List ℕ = (record { retries = a.0.0; age = b.0.0 }, b.0.1) in
+    subst (λ (y : RetryPolicy × List ℕ). Takes bytes (policy_text y.0) y.1 × (is_bad_policy y.0 ≡ false)) (ok_is made x b.2)
+    (Takes-then bytes (a.0.0 ∷ []) a.0.1 (to_be_bytes w32 b.0.0) b.0.1 ta.0 tb.0, either_false (is_outside 0 2 a.0.0) (is_outside 60 21600 b.0.0) ta.1 tb.1)
+
+pub policy_again : (p : RetryPolicy) (rest : List ℕ) → is_bad_policy p ≡ false → policy_at (policy_text p ++ rest) ≡ Ok (p, rest)
+unfolding policy_at
+policy_again p rest good =
+    let parts = both_false (is_outside 0 2 p.retries) (is_outside 60 21600 p.age) good in
+    rw (small_again 0 2 p.retries (to_be_bytes w32 p.age ++ rest) parts.0, limit_again w32 (2 ^ 32) wide32 60 21600 p.age rest (omega arith) parts.1) refl
 
 pub text_takes : (most : ℕ) (is_good : ℕ → Bool) (bytes : List ℕ) (x : List ℕ × List ℕ) → IsBytes bytes → text_at most is_good bytes ≡ Ok x → Takes bytes (short_text x.0) x.1 × (is_bad_text most is_good x.0 ≡ false)
 unfolding text_at

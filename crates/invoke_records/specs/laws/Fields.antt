@@ -1,5 +1,5 @@
 -- What is read of a field was spelled so, and what is spelled so is read: lemmas, for numbers and runs of bytes.
-use Rattle.std.proofs.Common.{◌≡◌, ℕ, suc, ◌+◌, ◌-◌, ◌^◌, ◌<◌, ◌≤◌, Bool, true, false, ltb, List, [], ◌∷◌, ◌++◌, length, take, drop, Option, Some, None, Result, Ok, Err, refl, sym, ap, subst, ◌∙◌, append_assoc, arith, inl, inr}
+use Rattle.std.proofs.Common.{◌≡◌, ℕ, suc, ◌+◌, ◌-◌, ◌^◌, ◌<◌, ◌≤◌, Bool, true, false, ◌||◌, ltb, List, [], ◌∷◌, ◌++◌, length, take, drop, Option, Some, None, Result, Ok, Err, refl, sym, ap, subst, ◌∙◌, append_assoc, arith, inl, inr}
 use Rattle.std.specs.Int.{Width, w16, w32, w64, byte_len, from_be_bytes, to_be_bytes}
 use Rattle.std.proofs.lemmas.Bool.{cases_lt, ltb-false, le-ltb}
 use Rattle.std.proofs.lemmas.List.{take_at, drop_at, take-append-drop, length-append, length-take, get_or-drop, get_or-take, get_or_past}
@@ -38,6 +38,13 @@ unless_ok false d x y e = (refl, cc)
 pub sound_ok : {A : Type 0} (fault : Option RecordError) (x y : A) → sound fault x ≡ Ok y → (fault ≡ None) × (x ≡ y)
 sound_ok (Some d) x y e = absurd cc
 sound_ok None x y e = (refl, cc)
+
+pub both_false : (a b : Bool) → (a || b) ≡ false → (a ≡ false) × (b ≡ false)
+both_false true b e = absurd cc
+both_false false b e = (refl, e)
+
+pub either_false : (a b : Bool) → a ≡ false → b ≡ false → (a || b) ≡ false
+either_false a b p q = rw (p, q) refl
 
 abbrev pub done : {A : Type 0} → A → Result A RecordError
 done x = Ok x

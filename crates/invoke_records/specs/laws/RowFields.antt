@@ -4,7 +4,7 @@ use Rattle.std.specs.Int.{w16, w32, w64, to_be_bytes}
 use Rattle.std.proofs.lemmas.Bool.{cases_Bool, ltb-false, eqb-true}
 use Rattle.std.proofs.lemmas.Bool.Decides.{eqb_tells}
 use Rattle.std.proofs.lemmas.List.{nil_from_length}
-use Rattle.retry_rules.specs.Settings.{is_outside}
+use Rattle.retry_rules.specs.Settings.{is_outside, is_bad_policy}
 use Rattle.invoke_records.specs.declared.row.Outcome.{Outcome}
 use Rattle.invoke_records.specs.declared.row.Outcome.TheVariants.{Success, RetriesExhausted, EventAgeExceeded}
 use Rattle.invoke_records.specs.declared.row.Standing.{Standing}
@@ -14,11 +14,10 @@ use Rattle.invoke_records.specs.declared.row.Answer.TheVariants as answer
 use Rattle.invoke_records.specs.declared.row_fields.Life.{Life}
 use Rattle.invoke_records.specs.declared.row_fields.Counts.{Counts}
 use Rattle.invoke_records.specs.declared.error.RecordError.TheVariants as fault
-use Rattle.invoke_records.specs.Spelling.{IsBytes, greatest_moment, standing_byte, outcome_byte, ended_byte, environment_in, moment_in, answer_byte, answer_bytes, is_unknown, breaks_rule}
-use Rattle.invoke_records.specs.Reading.{◌>>=◌, unless, bytes_at, number_at, small_at, limit_at, sized_at, life_at, counts_at, outcome_at, standing_of, answer_of}
-use Rattle.invoke_records.specs.laws.Fields.{bind_ok, unless_ok, ok_is, Takes, Takes-then, bytes_takes, bytes_again, number_takes, number_again, wide16, wide32, wide64}
-use Rattle.invoke_records.specs.laws.Commands.{both_false}
-use Rattle.invoke_records.specs.laws.Bounds.{small_takes, small_again, limit_takes, most_of, limit_again, sized_takes, sized_again}
+use Rattle.invoke_records.specs.Spelling.{IsBytes, greatest_moment, standing_byte, outcome_byte, ended_byte, environment_in, moment_in, policy_text, answer_byte, answer_bytes, is_unknown, breaks_rule}
+use Rattle.invoke_records.specs.Reading.{◌>>=◌, unless, bytes_at, number_at, small_at, limit_at, sized_at, policy_at, life_at, counts_at, outcome_at, standing_of, answer_of}
+use Rattle.invoke_records.specs.laws.Fields.{bind_ok, unless_ok, ok_is, Takes, Takes-then, bytes_takes, bytes_again, number_takes, number_again, wide16, wide32, wide64, both_false}
+use Rattle.invoke_records.specs.laws.Bounds.{small_takes, small_again, limit_takes, most_of, limit_again, policy_takes, policy_again, sized_takes, sized_again}
 
 -- ## The fields up to the moment
 
@@ -91,12 +90,13 @@ pub record CountsFit (c : Counts) : Type 0 where
   pub failures : c.failures < 2 ^ 32
   pub push_backs : c.push_backs < 2 ^ 32
   pub answer : is_outside 0 2 c.answer ≡ false
-  pub payload_most : c.payload_size ≤ 262144
+  pub policy : is_bad_policy c.policy ≡ false
+  pub payload_most : c.payload_size ≤ 1048576
   pub payload_least : 1 ≤ c.payload_size
   pub answer_most : c.answer_size ≤ 262144
 
 abbrev pub counts_bytes : Counts → List ℕ
-counts_bytes c = to_be_bytes w32 c.starts ++ (to_be_bytes w32 c.failures ++ (to_be_bytes w32 c.push_backs ++ ((c.answer ∷ []) ++ (to_be_bytes w32 c.payload_size ++ to_be_bytes w32 c.answer_size))))
+counts_bytes c = to_be_bytes w32 c.starts ++ (to_be_bytes w32 c.failures ++ (to_be_bytes w32 c.push_backs ++ ((c.answer ∷ []) ++ (policy_text c.policy ++ (to_be_bytes w32 c.payload_size ++ to_be_bytes w32 c.answer_size)))))
 
 pub counts_take : (bytes : List ℕ) (x : Counts × List ℕ) → IsBytes bytes → counts_at bytes ≡ Ok x → Takes bytes (counts_bytes x.0) x.1 × CountsFit x.0
 unfolding counts_at
@@ -105,26 +105,29 @@ counts_take bytes x fits e =
     let b = bind_ok (number_at w32 a.0.1) _ x a.2 in
     let c = bind_ok (number_at w32 b.0.1) _ x b.2 in
     let d = bind_ok (small_at 0 2 c.0.1) _ x c.2 in
-    let f = bind_ok (sized_at 1 262144 d.0.1) _ x d.2 in
+    let p = bind_ok (policy_at d.0.1) _ x d.2 in
+    let f = bind_ok (sized_at 1 1048576 p.0.1) _ x p.2 in
     let g = bind_ok (sized_at 0 262144 f.0.1) _ x f.2 in
     let ta = number_takes w32 (2 ^ 32) wide32 bytes a.0 fits a.1 in
     let tb = number_takes w32 (2 ^ 32) wide32 a.0.1 b.0 ta.0.rest_fits b.1 in
     let tc = number_takes w32 (2 ^ 32) wide32 b.0.1 c.0 tb.0.rest_fits c.1 in
     let td = small_takes 0 2 c.0.1 d.0 tc.0.rest_fits d.1 in
-    let tf = sized_takes 1 262144 d.0.1 f.0 td.0.rest_fits f.1 in
+    let tp = policy_takes d.0.1 p.0 td.0.rest_fits p.1 in
+    let tf = sized_takes 1 1048576 p.0.1 f.0 tp.0.rest_fits f.1 in
     let tg = sized_takes 0 262144 f.0.1 g.0 tf.0.rest_fits g.1 in
     let all = Takes-then bytes (to_be_bytes w32 a.0.0) a.0.1 _ g.0.1 ta.0 (Takes-then a.0.1 (to_be_bytes w32 b.0.0) b.0.1 _ g.0.1 tb.0 (Takes-then b.0.1 (to_be_bytes w32 c.0.0) c.0.1 _ g.0.1 tc.0
-    (Takes-then c.0.1 (d.0.0 ∷ []) d.0.1 _ g.0.1 td.0 (Takes-then d.0.1 (to_be_bytes w32 f.0.0) f.0.1 _ g.0.1 tf.0 tg.0)))) in
-    let made : Counts × List ℕ = (record { starts = a.0.0; failures = b.0.0; push_backs = c.0.0; answer = d.0.0; payload_size = f.0.0; answer_size = g.0.0 }, g.0.1) in
+    (Takes-then c.0.1 (d.0.0 ∷ []) d.0.1 _ g.0.1 td.0 (Takes-then d.0.1 (policy_text p.0.0) p.0.1 _ g.0.1 tp.0 (Takes-then p.0.1 (to_be_bytes w32 f.0.0) f.0.1 _ g.0.1 tf.0 tg.0))))) in
+    let made : Counts × List ℕ = (record { starts = a.0.0; failures = b.0.0; push_backs = c.0.0; answer = d.0.0; policy = p.0.0; payload_size = f.0.0; answer_size = g.0.0 }, g.0.1) in
     subst (λ (y : Counts × List ℕ). Takes bytes (counts_bytes y.0) y.1 × CountsFit y.0) (ok_is made x g.2)
-    (all, record { starts = ta.1; failures = tb.1; push_backs = tc.1; answer = td.1; payload_most = tf.1; payload_least = tf.2; answer_most = tg.1 })
+    (all, record { starts = ta.1; failures = tb.1; push_backs = tc.1; answer = td.1; policy = tp.1; payload_most = tf.1; payload_least = tf.2; answer_most = tg.1 })
 
 pub counts_again : (c : Counts) (rest : List ℕ) → CountsFit c → counts_at (counts_bytes c ++ rest) ≡ Ok (c, rest)
 unfolding counts_at
 counts_again c rest fits =
     let r6 : List ℕ = to_be_bytes w32 c.answer_size ++ rest in
     let r5 : List ℕ = to_be_bytes w32 c.payload_size ++ r6 in
-    let r4 : List ℕ = c.answer ∷ r5 in
+    let rp : List ℕ = policy_text c.policy ++ r5 in
+    let r4 : List ℕ = c.answer ∷ rp in
     let r3 : List ℕ = to_be_bytes w32 c.push_backs ++ r4 in
     let r2 : List ℕ = to_be_bytes w32 c.failures ++ r3 in
     let regrouped : counts_bytes c ++ rest ≡ to_be_bytes w32 c.starts ++ r2 = simp append_assoc in
@@ -133,8 +136,9 @@ counts_again c rest fits =
       number_again w32 (2 ^ 32) wide32 c.starts r2 fits.starts,
       number_again w32 (2 ^ 32) wide32 c.failures r3 fits.failures,
       number_again w32 (2 ^ 32) wide32 c.push_backs r4 fits.push_backs,
-      small_again 0 2 c.answer r5 fits.answer,
-      sized_again 1 262144 c.payload_size r6 (omega arith) fits.payload_most fits.payload_least,
+      small_again 0 2 c.answer rp fits.answer,
+      policy_again c.policy r5 fits.policy,
+      sized_again 1 1048576 c.payload_size r6 (omega arith) fits.payload_most fits.payload_least,
       sized_again 0 262144 c.answer_size rest (omega arith) fits.answer_most (omega arith),
     ) refl
 

@@ -3,7 +3,7 @@ use Rattle.std.proofs.Common.{◌≡◌, ℕ, ◌+◌, ◌≤◌, Bool, true, fa
 use Rattle.std.specs.Int.{w16, w64, to_be_bytes}
 use Rattle.std.proofs.lemmas.Bool.{ltb-false, le-ltb}
 use Rattle.std.proofs.lemmas.List.{length-append}
-use Rattle.retry_rules.specs.Settings.{is_outside}
+use Rattle.retry_rules.specs.Settings.{is_outside, is_bad_policy}
 use Rattle.invoke_records.specs.declared.row.Outcome.TheVariants.{Success, RetriesExhausted, EventAgeExceeded}
 use Rattle.invoke_records.specs.declared.row.Standing.{Standing}
 use Rattle.invoke_records.specs.declared.row.Standing.TheVariants as standing
@@ -15,22 +15,22 @@ use Rattle.invoke_records.specs.declared.row_fields.Counts.{Counts}
 use Rattle.invoke_records.specs.declared.error.RecordError.TheVariants as fault
 use Rattle.invoke_records.specs.Spelling.{IsBytes, greatest_moment, standing_byte, ended_byte, environment_in, moment_in, answer_byte, answer_bytes, life_text, counts_text, row_text, is_unknown, breaks_rule, row_fault, IsRow}
 use Rattle.invoke_records.specs.Reading.{bytes_at, life_at, counts_at, standing_of, answer_of, row_at}
-use Rattle.invoke_records.specs.laws.Fields.{bind_ok, ok_is, Takes, Takes-then, bytes_takes, bytes_again}
-use Rattle.invoke_records.specs.laws.Commands.{both_false, either_false}
+use Rattle.invoke_records.specs.laws.Fields.{bind_ok, ok_is, Takes, Takes-then, bytes_takes, bytes_again, both_false, either_false}
 use Rattle.invoke_records.specs.laws.RowFields.{LifeFits, life_bytes, life_takes, life_again, CountsFit, counts_bytes, counts_take, counts_again, Stands, standing_takes, standing_again, answer_takes, answer_again, life_made}
 
 abbrev pub life_of : EventRow → Life
 life_of r = life_made r.id r.accepted r.number r.last_number r.standing
 
 abbrev pub counts_of : EventRow → Counts
-counts_of r = record { starts = r.starts; failures = r.failures; push_backs = r.push_backs; answer = answer_byte r.answer; payload_size = length r.payload; answer_size = length (answer_bytes r.answer) }
+counts_of r = record { starts = r.starts; failures = r.failures; push_backs = r.push_backs; answer = answer_byte r.answer; policy = r.policy; payload_size = length r.payload; answer_size = length (answer_bytes r.answer) }
 
 -- the tests of a row, one by one
 pub record IsSoundRow (r : EventRow) : Type 0 where
   pub accepted : ltb greatest_moment r.accepted ≡ false
   pub known : is_unknown r.standing ≡ false
   pub environment : ltb 16 (environment_in r.standing) ≡ false
-  pub payload_most : length r.payload ≤ 262144
+  pub policy : is_bad_policy r.policy ≡ false
+  pub payload_most : length r.payload ≤ 1048576
   pub payload_least : 1 ≤ length r.payload
   pub answer_most : length (answer_bytes r.answer) ≤ 262144
   pub rule : breaks_rule r.standing ≡ false
@@ -46,15 +46,16 @@ five_passed false false false false false e = (refl, refl, refl, refl, refl)
 
 pub is_sound_row : (r : EventRow) → row_fault r ≡ None → IsSoundRow r
 is_sound_row r e =
-    let t = five_passed (ltb greatest_moment r.accepted || (is_unknown r.standing || ltb 16 (environment_in r.standing))) (ltb 262144 (length r.payload)) (ltb (length r.payload) 1) (ltb 262144 (length (answer_bytes r.answer))) (breaks_rule r.standing) e in
-    let u = both_false (ltb greatest_moment r.accepted) (is_unknown r.standing || ltb 16 (environment_in r.standing)) t.0 in
-    let v = both_false (is_unknown r.standing) (ltb 16 (environment_in r.standing)) u.1 in
-    record { accepted = u.0; known = v.0; environment = v.1; payload_most = ltb-false _ _ t.1; payload_least = ltb-false _ _ t.2; answer_most = ltb-false _ _ t.3; rule = t.4 }
+    let t = five_passed (ltb greatest_moment r.accepted || (is_unknown r.standing || (ltb 16 (environment_in r.standing) || is_bad_policy r.policy))) (ltb 1048576 (length r.payload)) (ltb (length r.payload) 1) (ltb 262144 (length (answer_bytes r.answer))) (breaks_rule r.standing) e in
+    let u = both_false (ltb greatest_moment r.accepted) (is_unknown r.standing || (ltb 16 (environment_in r.standing) || is_bad_policy r.policy)) t.0 in
+    let v = both_false (is_unknown r.standing) (ltb 16 (environment_in r.standing) || is_bad_policy r.policy) u.1 in
+    let w = both_false (ltb 16 (environment_in r.standing)) (is_bad_policy r.policy) v.1 in
+    record { accepted = u.0; known = v.0; environment = w.0; policy = w.1; payload_most = ltb-false _ _ t.1; payload_least = ltb-false _ _ t.2; answer_most = ltb-false _ _ t.3; rule = t.4 }
 
 pub no_row_fault : (r : EventRow) → IsSoundRow r → row_fault r ≡ None
 no_row_fault r s =
-    let a : (ltb greatest_moment r.accepted || (is_unknown r.standing || ltb 16 (environment_in r.standing))) ≡ false = either_false _ _ s.accepted (either_false _ _ s.known s.environment) in
-    let b : ltb 262144 (length r.payload) ≡ false = le-ltb _ _ s.payload_most in
+    let a : (ltb greatest_moment r.accepted || (is_unknown r.standing || (ltb 16 (environment_in r.standing) || is_bad_policy r.policy))) ≡ false = either_false _ _ s.accepted (either_false _ _ s.known (either_false _ _ s.environment s.policy)) in
+    let b : ltb 1048576 (length r.payload) ≡ false = le-ltb _ _ s.payload_most in
     let c : ltb (length r.payload) 1 ≡ false = le-ltb _ _ s.payload_least in
     let d : ltb 262144 (length (answer_bytes r.answer)) ≡ false = le-ltb _ _ s.answer_most in
     rw (a, b, c, d, s.rule) refl
@@ -101,7 +102,7 @@ life_fits r is =
 counts_fit : (r : EventRow) → IsRow r → CountsFit (counts_of r)
 counts_fit r is =
     let s = is_sound_row r is.fault in
-    record { starts = is.within.starts; failures = is.within.failures; push_backs = is.within.push_backs; answer = answer_inside r.answer; payload_most = s.payload_most; payload_least = s.payload_least; answer_most = s.answer_most }
+    record { starts = is.within.starts; failures = is.within.failures; push_backs = is.within.push_backs; answer = answer_inside r.answer; policy = s.policy; payload_most = s.payload_most; payload_least = s.payload_least; answer_most = s.answer_most }
 
 -- what is spelled so is read
 pub row_again : (r : EventRow) (rest : List ℕ) → IsRow r → row_at (row_text r ++ rest) ≡ Ok (r, rest)
@@ -124,7 +125,7 @@ row_again r rest is =
 
 abbrev row_made : Life → Standing → Counts → List ℕ → Answer → EventRow
 row_made l s c payload given =
-    record { id = l.id; accepted = l.accepted; number = l.number; last_number = l.last_number; standing = s; starts = c.starts; failures = c.failures; push_backs = c.push_backs; payload = payload; answer = given }
+    record { id = l.id; accepted = l.accepted; number = l.number; last_number = l.last_number; standing = s; starts = c.starts; failures = c.failures; push_backs = c.push_backs; policy = c.policy; payload = payload; answer = given }
 
 row_sound : (l : Life) (c : Counts) (payload text : List ℕ) (s : Standing) (given : Answer) → LifeFits l → CountsFit c → length payload ≡ c.payload_size → length text ≡ c.answer_size → Stands l s → answer_bytes given ≡ text → IsSoundRow (row_made l s c payload given)
 row_sound l c payload text s given life counts size answer_size stands same =
@@ -132,6 +133,7 @@ row_sound l c payload text s given life counts size answer_size stands same =
       accepted = (both_false (ltb l.accepted 0) (ltb greatest_moment l.accepted) life.accepted).1;
       known = stands.known;
       environment = ap (ltb 16) stands.environment ∙ (both_false (ltb l.environment 0) (ltb 16 l.environment) life.environment).1;
+      policy = counts.policy;
       payload_most = omega (arith, size, counts.payload_most);
       payload_least = omega (arith, size, counts.payload_least);
       answer_most = omega (arith, ap length same, answer_size, counts.answer_most);
@@ -187,8 +189,8 @@ row_apart r q a b is_r is_q e =
     let same : (r, a) ≡ (q, b) = ok_is (r, a) (q, b) (sym (row_again r a is_r) ∙ ap row_at e ∙ row_again q b is_q) in
     (ap (λ (x : EventRow × List ℕ). x.0) same, ap (λ (x : EventRow × List ℕ). x.1) same)
 
--- a spelling has 73 bytes, the payload and the answer
-pub row_length : (r : EventRow) → length r.id ≡ 16 → length (row_text r) ≡ 73 + length r.payload + length (answer_bytes r.answer)
+-- a spelling has 78 bytes, the payload and the answer
+pub row_length : (r : EventRow) → length r.id ≡ 16 → length (row_text r) ≡ 78 + length r.payload + length (answer_bytes r.answer)
 unfolding row_text
 row_length r id =
     omega (

@@ -10,8 +10,7 @@ use Rattle.retry_rules.specs.Settings.{is_outside, is_bad_text, is_name_byte, is
 use Rattle.invoke_records.specs.declared.limits.Limits.{Limits}
 use Rattle.invoke_records.specs.Spelling.{IsBytes, short_text, settings_text}
 use Rattle.invoke_records.specs.Reading.{small_at, limit_at, text_at, limits_at, with_texts, settings_at}
-use Rattle.invoke_records.specs.laws.Fields.{bind_ok, ok_is, Takes, Takes-then, wide16, wide32}
-use Rattle.invoke_records.specs.laws.Commands.{both_false}
+use Rattle.invoke_records.specs.laws.Fields.{bind_ok, ok_is, Takes, Takes-then, wide16, wide32, both_false}
 use Rattle.invoke_records.specs.laws.Bounds.{small_takes, small_again, limit_takes, most_of, limit_again, text_takes, text_again}
 
 -- ## The numbers
@@ -23,7 +22,7 @@ pub record AreLimits (l : Limits) : Type 0 where
   pub concurrency : is_outside 1 64 l.concurrency ≡ false
   pub environments : is_outside 1 16 l.environments ≡ false
   pub events : is_outside 1 1024 l.events ≡ false
-  pub payload : is_outside 2 262144 l.payload ≡ false
+  pub payload : is_outside 2 1048576 l.payload ≡ false
   pub response : is_outside 2 262144 l.response ≡ false
 
 abbrev text_of_limits : Limits → List ℕ
@@ -39,7 +38,7 @@ limits_take bytes x fits e =
     let d = bind_ok (small_at 1 64 c.0.1) _ x c.2 in
     let f = bind_ok (small_at 1 16 d.0.1) _ x d.2 in
     let g = bind_ok (limit_at w16 1 1024 f.0.1) _ x f.2 in
-    let h = bind_ok (limit_at w32 2 262144 g.0.1) _ x g.2 in
+    let h = bind_ok (limit_at w32 2 1048576 g.0.1) _ x g.2 in
     let k = bind_ok (limit_at w32 2 262144 h.0.1) _ x h.2 in
     let ta = small_takes 0 2 bytes a.0 fits a.1 in
     let tb = limit_takes w32 (2 ^ 32) wide32 60 21600 a.0.1 b.0 ta.0.rest_fits b.1 in
@@ -47,7 +46,7 @@ limits_take bytes x fits e =
     let td = small_takes 1 64 c.0.1 d.0 tc.0.rest_fits d.1 in
     let tf = small_takes 1 16 d.0.1 f.0 td.0.rest_fits f.1 in
     let tg = limit_takes w16 (2 ^ 16) wide16 1 1024 f.0.1 g.0 tf.0.rest_fits g.1 in
-    let th = limit_takes w32 (2 ^ 32) wide32 2 262144 g.0.1 h.0 tg.0.rest_fits h.1 in
+    let th = limit_takes w32 (2 ^ 32) wide32 2 1048576 g.0.1 h.0 tg.0.rest_fits h.1 in
     let tk = limit_takes w32 (2 ^ 32) wide32 2 262144 h.0.1 k.0 th.0.rest_fits k.1 in
     let all = Takes-then bytes (a.0.0 ∷ []) a.0.1 _ k.0.1 ta.0 (Takes-then a.0.1 (to_be_bytes w32 b.0.0) b.0.1 _ k.0.1 tb.0 (Takes-then b.0.1 (to_be_bytes w16 c.0.0) c.0.1 _ k.0.1 tc.0 (Takes-then c.0.1 (d.0.0 ∷ []) d.0.1 _ k.0.1 td.0
     (Takes-then d.0.1 (f.0.0 ∷ []) f.0.1 _ k.0.1 tf.0 (Takes-then f.0.1 (to_be_bytes w16 g.0.0) g.0.1 _ k.0.1 tg.0 (Takes-then g.0.1 (to_be_bytes w32 h.0.0) h.0.1 _ k.0.1 th.0 tk.0)))))) in
@@ -74,7 +73,7 @@ limits_again l rest good =
       small_again 1 64 l.concurrency r5 good.concurrency,
       small_again 1 16 l.environments r6 good.environments,
       limit_again w16 (2 ^ 16) wide16 1 1024 l.events r7 (omega arith) good.events,
-      limit_again w32 (2 ^ 32) wide32 2 262144 l.payload r8 (omega arith) good.payload,
+      limit_again w32 (2 ^ 32) wide32 2 1048576 l.payload r8 (omega arith) good.payload,
       limit_again w32 (2 ^ 32) wide32 2 262144 l.response rest (omega arith) good.response,
     ) refl
 
@@ -102,7 +101,7 @@ are_good s e =
     let d = passed (is_outside 1 64 s.concurrency) field.Concurrency _ c.1 in
     let f = passed (is_outside 1 16 s.environments) field.Environments _ d.1 in
     let g = passed (is_outside 1 1024 s.events) field.Events _ f.1 in
-    let h = passed (is_outside 2 262144 s.payload) field.Payload _ g.1 in
+    let h = passed (is_outside 2 1048576 s.payload) field.Payload _ g.1 in
     let k = passed (is_outside 2 262144 s.response) field.Response _ h.1 in
     let l = passed (is_bad_text 64 is_name_byte s.name) field.Name _ k.1 in
     let m = passed (is_bad_text 128 is_plain_byte s.handler) field.Handler _ l.1 in

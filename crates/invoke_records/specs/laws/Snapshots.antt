@@ -5,16 +5,15 @@ use Rattle.std.specs.Int.{w32, w64, to_be_bytes}
 use Rattle.std.proofs.lemmas.Bool.{ltb-false, le-ltb}
 use Rattle.std.proofs.lemmas.List.{append-nil}
 use Rattle.std.proofs.lemmas.List.Concat.{flat_map-cons}
-use Rattle.retry_rules.specs.Settings.{is_outside}
+use Rattle.retry_rules.specs.Settings.{is_outside, is_bad_policy}
 use Rattle.invoke_records.specs.declared.row.EventRow.{EventRow}
 use Rattle.invoke_records.specs.declared.snapshot.Snapshot.{Snapshot}
 use Rattle.invoke_records.specs.declared.error.RecordError.{RecordError}
 use Rattle.invoke_records.specs.declared.error.RecordError.TheVariants as fault
-use Rattle.invoke_records.specs.Spelling.{IsBytes, greatest_moment, greatest_number, row_text, row_fault, IsWithinWidth, IsRow, snapshot_text, are_in_order, rows_fault, first_of_two, snapshot_fault, IsSnapshot}
-use Rattle.invoke_records.specs.Reading.{◌>>=◌, Fails, unless, limit_at, sized_at, row_at, rows_at, snapshot_at}
-use Rattle.invoke_records.specs.laws.Fields.{bind_ok, unless_ok, ok_is, done, Takes, Takes-then, wide64}
-use Rattle.invoke_records.specs.laws.Commands.{both_false, either_false}
-use Rattle.invoke_records.specs.laws.Bounds.{limit_takes, limit_again, sized_takes, sized_again}
+use Rattle.invoke_records.specs.Spelling.{IsBytes, greatest_moment, greatest_number, policy_text, row_text, row_fault, IsWithinWidth, IsRow, snapshot_text, are_in_order, rows_fault, first_of_two, snapshot_fault, IsSnapshot}
+use Rattle.invoke_records.specs.Reading.{◌>>=◌, Fails, unless, limit_at, policy_at, sized_at, row_at, rows_at, snapshot_at}
+use Rattle.invoke_records.specs.laws.Fields.{bind_ok, unless_ok, ok_is, done, Takes, Takes-then, wide64, both_false, either_false}
+use Rattle.invoke_records.specs.laws.Bounds.{limit_takes, limit_again, policy_takes, policy_again, sized_takes, sized_again}
 use Rattle.invoke_records.specs.laws.Rows.{row_takes, row_again}
 
 -- ## Rows, one after another
@@ -63,6 +62,7 @@ no_rows_fault (r ∷ rows) are = ap (λ (f : Option RecordError). first_of_two f
 pub record IsSoundSnapshot (s : Snapshot) : Type 0 where
   pub number : ltb greatest_number s.number ≡ false
   pub last_moment : ltb greatest_moment s.last_moment ≡ false
+  pub policy : is_bad_policy s.policy ≡ false
   pub count : length s.rows ≤ 1024
   pub rows : rows_fault s.rows ≡ None
   pub order : are_in_order s.rows ≡ true
@@ -77,13 +77,14 @@ four_passed false false true None e = (refl, refl, refl, refl)
 
 pub is_sound_snapshot : (s : Snapshot) → snapshot_fault s ≡ None → IsSoundSnapshot s
 is_sound_snapshot s e =
-    let t = four_passed (ltb greatest_number s.number || ltb greatest_moment s.last_moment) (ltb 1024 (length s.rows)) (are_in_order s.rows) (rows_fault s.rows) e in
-    let u = both_false (ltb greatest_number s.number) (ltb greatest_moment s.last_moment) t.0 in
-    record { number = u.0; last_moment = u.1; count = ltb-false _ _ t.1; rows = t.2; order = t.3 }
+    let t = four_passed (ltb greatest_number s.number || (ltb greatest_moment s.last_moment || is_bad_policy s.policy)) (ltb 1024 (length s.rows)) (are_in_order s.rows) (rows_fault s.rows) e in
+    let u = both_false (ltb greatest_number s.number) (ltb greatest_moment s.last_moment || is_bad_policy s.policy) t.0 in
+    let v = both_false (ltb greatest_moment s.last_moment) (is_bad_policy s.policy) u.1 in
+    record { number = u.0; last_moment = v.0; policy = v.1; count = ltb-false _ _ t.1; rows = t.2; order = t.3 }
 
 pub no_snapshot_fault : (s : Snapshot) → IsSoundSnapshot s → snapshot_fault s ≡ None
 no_snapshot_fault s is =
-    let a : (ltb greatest_number s.number || ltb greatest_moment s.last_moment) ≡ false = either_false _ _ is.number is.last_moment in
+    let a : (ltb greatest_number s.number || (ltb greatest_moment s.last_moment || is_bad_policy s.policy)) ≡ false = either_false _ _ is.number (either_false _ _ is.last_moment is.policy) in
     let b : ltb 1024 (length s.rows) ≡ false = le-ltb _ _ is.count in
     rw (a, b, is.rows, is.order) refl
 
@@ -102,11 +103,13 @@ unfolding snapshot_at snapshot_text
 snapshot_again s rest is =
     let t = is_sound_snapshot s is.fault in
     let rows : List ℕ = flat_map row_text s.rows ++ rest in
-    let regrouped : snapshot_text s ++ rest ≡ to_be_bytes w64 s.number ++ (to_be_bytes w64 s.last_moment ++ (to_be_bytes w32 (length s.rows) ++ rows)) = simp append_assoc in
+    let counted : List ℕ = to_be_bytes w32 (length s.rows) ++ rows in
+    let regrouped : snapshot_text s ++ rest ≡ to_be_bytes w64 s.number ++ (to_be_bytes w64 s.last_moment ++ (policy_text s.policy ++ counted)) = simp append_assoc in
     ap snapshot_at regrouped
     ∙ rw (
-      limit_again w64 (2 ^ 64) wide64 0 greatest_number s.number (to_be_bytes w64 s.last_moment ++ (to_be_bytes w32 (length s.rows) ++ rows)) (omega arith) (outside_none greatest_number s.number t.number),
-      limit_again w64 (2 ^ 64) wide64 0 greatest_moment s.last_moment (to_be_bytes w32 (length s.rows) ++ rows) (omega arith) (outside_none greatest_moment s.last_moment t.last_moment),
+      limit_again w64 (2 ^ 64) wide64 0 greatest_number s.number (to_be_bytes w64 s.last_moment ++ (policy_text s.policy ++ counted)) (omega arith) (outside_none greatest_number s.number t.number),
+      limit_again w64 (2 ^ 64) wide64 0 greatest_moment s.last_moment (policy_text s.policy ++ counted) (omega arith) (outside_none greatest_moment s.last_moment t.last_moment),
+      policy_again s.policy counted t.policy,
       sized_again 0 1024 (length s.rows) rows (omega arith) t.count (omega arith),
       rows_again s.rows rest (are_rows s.rows is.within t.rows),
       t.order,
@@ -118,17 +121,20 @@ unfolding snapshot_at snapshot_text
 snapshot_takes bytes x fits e =
     let a = bind_ok (limit_at w64 0 greatest_number bytes) _ x e in
     let b = bind_ok (limit_at w64 0 greatest_moment a.0.1) _ x a.2 in
-    let c = bind_ok (sized_at 0 1024 b.0.1) _ x b.2 in
+    let p = bind_ok (policy_at b.0.1) _ x b.2 in
+    let c = bind_ok (sized_at 0 1024 p.0.1) _ x p.2 in
     let d = bind_ok (rows_at c.0.0 c.0.1) _ x c.2 in
     let o = bind_ok (unless (not (are_in_order d.0.0)) fault.BadKind d.0) _ x d.2 in
     let g = unless_ok (not (are_in_order d.0.0)) fault.BadKind d.0 o.0 o.1 in
     let ta = limit_takes w64 (2 ^ 64) wide64 0 greatest_number bytes a.0 fits a.1 in
     let tb = limit_takes w64 (2 ^ 64) wide64 0 greatest_moment a.0.1 b.0 ta.0.rest_fits b.1 in
-    let tc = sized_takes 0 1024 b.0.1 c.0 tb.0.rest_fits c.1 in
+    let tp = policy_takes b.0.1 p.0 tb.0.rest_fits p.1 in
+    let tc = sized_takes 0 1024 p.0.1 c.0 tp.0.rest_fits c.1 in
     let td = rows_take c.0.0 c.0.1 d.0 tc.0.rest_fits d.1 in
-    let all = Takes-then bytes (to_be_bytes w64 a.0.0) a.0.1 _ d.0.1 ta.0 (Takes-then a.0.1 (to_be_bytes w64 b.0.0) b.0.1 (to_be_bytes w32 c.0.0 ++ flat_map row_text d.0.0) d.0.1 tb.0 (Takes-then b.0.1 (to_be_bytes w32 c.0.0) c.0.1 (flat_map row_text d.0.0) d.0.1 tc.0 td.0)) in
-    let made : Snapshot × List ℕ = (record { number = a.0.0; last_moment = b.0.0; rows = d.0.0 }, d.0.1) in
-    let whole : Takes bytes (snapshot_text made.0) d.0.1 = subst (λ (n : ℕ). Takes bytes (to_be_bytes w64 a.0.0 ++ (to_be_bytes w64 b.0.0 ++ (to_be_bytes w32 n ++ flat_map row_text d.0.0))) d.0.1) (sym td.1) all in
+    let all = Takes-then bytes (to_be_bytes w64 a.0.0) a.0.1 _ d.0.1 ta.0 (Takes-then a.0.1 (to_be_bytes w64 b.0.0) b.0.1 (policy_text p.0.0 ++ (to_be_bytes w32 c.0.0 ++ flat_map row_text d.0.0)) d.0.1 tb.0
+    (Takes-then b.0.1 (policy_text p.0.0) p.0.1 (to_be_bytes w32 c.0.0 ++ flat_map row_text d.0.0) d.0.1 tp.0 (Takes-then p.0.1 (to_be_bytes w32 c.0.0) c.0.1 (flat_map row_text d.0.0) d.0.1 tc.0 td.0))) in
+    let made : Snapshot × List ℕ = (record { number = a.0.0; last_moment = b.0.0; policy = p.0.0; rows = d.0.0 }, d.0.1) in
+    let whole : Takes bytes (snapshot_text made.0) d.0.1 = subst (λ (n : ℕ). Takes bytes (to_be_bytes w64 a.0.0 ++ (to_be_bytes w64 b.0.0 ++ (policy_text p.0.0 ++ (to_be_bytes w32 n ++ flat_map row_text d.0.0)))) d.0.1) (sym td.1) all in
     subst (λ (y : Snapshot × List ℕ). Takes bytes (snapshot_text y.0) y.1 × IsSnapshot y.0) (ok_is made x o.2) (
       whole,
       record {
@@ -136,6 +142,7 @@ snapshot_takes bytes x fits e =
         fault = no_snapshot_fault made.0 (record {
           number = (both_false (ltb a.0.0 0) (ltb greatest_number a.0.0) ta.1).1;
           last_moment = (both_false (ltb b.0.0 0) (ltb greatest_moment b.0.0) tb.1).1;
+          policy = tp.1;
           count = omega (arith, td.1, tc.1);
           rows = no_rows_fault d.0.0 td.2;
           order = order_kept (are_in_order d.0.0) g.0;
@@ -149,9 +156,9 @@ snapshot_apart s t a b is_s is_t e =
     let same : (s, a) ≡ (t, b) = ok_is (s, a) (t, b) (sym (snapshot_again s a is_s) ∙ ap snapshot_at e ∙ snapshot_again t b is_t) in
     (ap (λ (x : Snapshot × List ℕ). x.0) same, ap (λ (x : Snapshot × List ℕ). x.1) same)
 
-pub snapshot_length : (s : Snapshot) → length (snapshot_text s) ≡ 20 + length (flat_map row_text s.rows)
+pub snapshot_length : (s : Snapshot) → length (snapshot_text s) ≡ 25 + length (flat_map row_text s.rows)
 unfolding snapshot_text
-snapshot_length s = omega (arith, length-append (to_be_bytes w64 s.number ++ (to_be_bytes w64 s.last_moment ++ to_be_bytes w32 (length s.rows))) (flat_map row_text s.rows))
+snapshot_length s = omega (arith, length-append (to_be_bytes w64 s.number ++ (to_be_bytes w64 s.last_moment ++ (policy_text s.policy ++ to_be_bytes w32 (length s.rows)))) (flat_map row_text s.rows))
 
 -- ## Loops over rows
 

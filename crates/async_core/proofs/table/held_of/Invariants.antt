@@ -3,4 +3,4 @@ use Rattle.std.specs.Vec.Iter.{into_iter_items}
 use Rattle.async_core.proofs.table.held_of.Given as goal
 
 abbrev pub invariant-loop-row : goal.invariant-loop-row
-invariant-loop-row l = (l.held.age ≡ l.age) × (l.held.rows ++ into_iter_items l.row-iterator ≡ l.fn.rows.items)
+invariant-loop-row l = l.held ++ into_iter_items l.row-iterator ≡ l.fn.rows.items

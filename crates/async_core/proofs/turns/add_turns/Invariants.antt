@@ -3,4 +3,4 @@ use Rattle.async_core.specs.Turns.{AddsTurns}
 use Rattle.async_core.proofs.turns.add_turns.Given as goal
 
 abbrev pub invariant-loop-index : goal.invariant-loop-index
-invariant-loop-index l = AddsTurns l.age l.place (Some l.facts) (take l.index-index l.indexes) l.fn.turns l.turns
+invariant-loop-index l = AddsTurns l.place (Some l.facts) (take l.index-index l.indexes) l.fn.turns l.turns

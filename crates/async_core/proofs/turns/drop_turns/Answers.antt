@@ -10,5 +10,5 @@ pub loop-index-preserved : goal.loop-index-preserved
 loop-index-preserved c =
     let all = c.args.indexes.now in
     let n = c.loop-index.index-index in
-    subst (λ (indexes : List Index). DropsTurns c.args.age c.args.place (Some c.args.gone) c.args.kept indexes c.args.turns.now c.drop_turn.new.turns) (sym (take_more all n _ (omega arith)))
-    (drops_then c.args.age c.args.place (Some c.args.gone) c.args.kept (take n all) _ c.args.turns.now c.loop-index.turns c.drop_turn.new.turns c.loop-index.invariant c.drop_turn.ensures)
+    subst (λ (indexes : List Index). DropsTurns c.args.place (Some c.args.gone) c.args.kept indexes c.args.turns.now c.drop_turn.new.turns) (sym (take_more all n _ (omega arith)))
+    (drops_then c.args.place (Some c.args.gone) c.args.kept (take n all) _ c.args.turns.now c.loop-index.turns c.drop_turn.new.turns c.loop-index.invariant c.drop_turn.ensures)

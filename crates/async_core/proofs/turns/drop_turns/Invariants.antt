@@ -3,4 +3,4 @@ use Rattle.async_core.specs.Turns.{DropsTurns}
 use Rattle.async_core.proofs.turns.drop_turns.Given as goal
 
 abbrev pub invariant-loop-index : goal.invariant-loop-index
-invariant-loop-index l = DropsTurns l.age l.place (Some l.gone) l.kept (take l.index-index l.indexes) l.fn.turns l.turns
+invariant-loop-index l = DropsTurns l.place (Some l.gone) l.kept (take l.index-index l.indexes) l.fn.turns l.turns

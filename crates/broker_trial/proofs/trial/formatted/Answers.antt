@@ -11,5 +11,5 @@ use Rattle.broker_trial.proofs.trial.formatted.Goals as goal
 pub returns : goal.returns
 returns c =
     let formatted = c.in_ok-format.ensures.formatted tt in
-    let recovers = subst (λ (s : Settings). RecoversTo s empty_table (memory_view c.format.new.disk).content) c.in_ok-settings.ensures formatted.1 in
+    let recovers = subst (λ (s : Settings). RecoversTo s (empty_table s) (memory_view c.format.new.disk).content) c.in_ok-settings.ensures formatted.1 in
     record { legal = IsLegal-nil trial_settings; stops = formatted_stops (memory_view c.format.new.disk) formatted.0 recovers }

@@ -13,22 +13,22 @@ pub write_first-requires-clause-whole : goal.write_first-requires-clause-whole
 write_first-requires-clause-whole g c =
     let s = c.args.settings.now in
     let room : least_sectors s ≤ (g.D.Disk.view c.args.disk.now).sectors = omega (arith, c.segment_sectors-least.ensures.exact, c.sectors-sectors.ensures, c.if-sectors-least.false) in
-    let segment = c.deref.ensures.value ∙ (rw c.empty.ensures at c.in_ok-segment.ensures) in
-    rw segment (segment_whole s c.requires empty_table (empty_small s) (g.D.Disk.view c.args.disk.now).sectors room)
+    let segment = c.deref.ensures.value ∙ (rw (c.empty.ensures, c.policy.ensures) at c.in_ok-segment.ensures) in
+    rw segment (segment_whole s c.requires (empty_table s) (empty_small s) (g.D.Disk.view c.args.disk.now).sectors room)
 
 pub write_first-requires-clause-before : goal.write_first-requires-clause-before
 write_first-requires-clause-before g c =
     let s = c.args.settings.now in
     let room : least_sectors s ≤ c.sectors-sectors.result = omega (arith, c.segment_sectors-least.ensures.exact, c.if-sectors-least.false) in
-    let segment = c.deref.ensures.value ∙ (rw c.empty.ensures at c.in_ok-segment.ensures) in
-    rw segment (segment_before s c.requires empty_table (empty_small s) c.sectors-sectors.result room)
+    let segment = c.deref.ensures.value ∙ (rw (c.empty.ensures, c.policy.ensures) at c.in_ok-segment.ensures) in
+    rw segment (segment_before s c.requires (empty_table s) (empty_small s) c.sectors-sectors.result room)
 
 pub returns-clause-formatted : goal.returns-clause-formatted
 returns-clause-formatted g c honest =
     let s = c.args.settings.now in
     let sectors = c.sectors-sectors.result in
     let room : least_sectors s ≤ sectors = omega (arith, c.segment_sectors-least.ensures.exact, c.if-sectors-least.false) in
-    let segment = c.deref.ensures.value ∙ (rw c.empty.ensures at c.in_ok-segment.ensures) in
+    let segment = c.deref.ensures.value ∙ (rw (c.empty.ensures, c.policy.ensures) at c.in_ok-segment.ensures) in
     let new = g.D.Disk.view c.write_first.new.disk in
     let size : length new.content ≡ 512 * sectors =
     omega (arith, (g.met.D.Disk.laws c.write_first.new.disk (c.write_first.ensures.same.honest.1 honest)).size, c.write_first.ensures.same.sectors, c.sectors-sectors.ensures) in
@@ -41,7 +41,7 @@ returns-clause-generation g c honest =
     let s = c.args.settings.now in
     let sectors = c.sectors-sectors.result in
     let room : least_sectors s ≤ sectors = omega (arith, c.segment_sectors-least.ensures.exact, c.if-sectors-least.false) in
-    let segment = c.deref.ensures.value ∙ (rw c.empty.ensures at c.in_ok-segment.ensures) in
+    let segment = c.deref.ensures.value ∙ (rw (c.empty.ensures, c.policy.ensures) at c.in_ok-segment.ensures) in
     let new = g.D.Disk.view c.write_first.new.disk in
     let size : length new.content ≡ 512 * sectors =
     omega (arith, (g.met.D.Disk.laws c.write_first.new.disk (c.write_first.ensures.same.honest.1 honest)).size, c.write_first.ensures.same.sectors, c.sectors-sectors.ensures) in
@@ -60,7 +60,7 @@ returns-in_err-write_first-clause-any_moment g c honest =
     let s = c.args.settings.now in
     let old = g.D.Disk.view c.args.disk.now in
     let room : least_sectors s ≤ old.sectors = omega (arith, c.segment_sectors-least.ensures.exact, c.sectors-sectors.ensures, c.if-sectors-least.false) in
-    let segment = c.deref.ensures.value ∙ (rw c.empty.ensures at c.in_ok-segment.ensures) in
+    let segment = c.deref.ensures.value ∙ (rw (c.empty.ensures, c.policy.ensures) at c.in_ok-segment.ensures) in
     let leaves = rw (segment, c.sectors-sectors.ensures) at c.write_first.ensures.any_moment honest in
     leaves_weaker _ (being_formatted old s c.requires room) leaves
 
@@ -69,6 +69,6 @@ returns-clause-any_moment g c honest =
     let s = c.args.settings.now in
     let old = g.D.Disk.view c.args.disk.now in
     let room : least_sectors s ≤ old.sectors = omega (arith, c.segment_sectors-least.ensures.exact, c.sectors-sectors.ensures, c.if-sectors-least.false) in
-    let segment = c.deref.ensures.value ∙ (rw c.empty.ensures at c.in_ok-segment.ensures) in
+    let segment = c.deref.ensures.value ∙ (rw (c.empty.ensures, c.policy.ensures) at c.in_ok-segment.ensures) in
     let leaves = rw (segment, c.sectors-sectors.ensures) at c.write_first.ensures.any_moment honest in
     leaves_weaker _ (being_formatted old s c.requires room) leaves

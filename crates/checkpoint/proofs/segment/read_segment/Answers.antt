@@ -1,6 +1,6 @@
 use Rattle.std.proofs.Common.{Err, ap, refl}
 use Rattle.std.proofs.lemmas.Result.{err_from_is_err_and}
-use Rattle.checkpoint.proofs.Refusals.{damage_refuses, journal_refuses}
+use Rattle.checkpoint.proofs.Refusals.{reads_more, damage_refuses, journal_refuses}
 use Rattle.checkpoint.proofs.Segments.{no_snapshot, behind_snapshot}
 use Rattle.checkpoint.proofs.segment.read_segment.Goals as goal
 
@@ -24,6 +24,9 @@ returns-in_err-journal-clause-refused g c honest =
     let frames = c.in_err-journal.ensures.damaged (mid.same.honest.1 honest) sector (ap Err is) in
     behind_snapshot found.base c.args.sectors found.header content snapshot (Err sector) (c.in_ok-snapshot.ensures.exact honest)
     (rw (c.sectors_for.ensures, (mid.untouched honest).content) at frames)))
+
+pub returns-clause-reads : goal.returns-clause-reads
+returns-clause-reads g c = reads_more c.snapshot_from.ensures.reads (record { same = c.read_all.ensures.same; untouched = c.read_all.ensures.untouched })
 
 pub returns-clause-exact : goal.returns-clause-exact
 returns-clause-exact g c honest =

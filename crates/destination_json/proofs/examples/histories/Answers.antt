@@ -2,6 +2,7 @@
 use Rattle.std.proofs.Common.{refl}
 use Rattle.async_core.specs.History.{standing_in}
 use Rattle.async_core.specs.Lives.{life}
+use Rattle.async_core.specs.Policies.{in_force, judged_by}
 use Rattle.destination_json.specs.Stamp.{stamp_text, year_of, month_of, day_of_month}
 use Rattle.destination_json.specs.Json.{is_json}
 use Rattle.destination_json.specs.Record.{answer_json, record_text, id_text}
@@ -13,7 +14,7 @@ use Rattle.serde_json.proofs.OnLiterals.{serde_json_on_literals}
 use Rattle.destination_json.proofs.examples.histories.Goals as goal
 
 pub returns : goal.returns
-unfolding standing_in life stamp_text year_of month_of day_of_month is_json answer_json record_text id_text digits is_utf8 chars utf8_lossy utf8_valid_len utf8_error_len uuid_on_literals serde_json_on_literals
+unfolding standing_in life in_force judged_by stamp_text year_of month_of day_of_month is_json answer_json record_text id_text digits is_utf8 chars utf8_lossy utf8_valid_len utf8_error_len uuid_on_literals serde_json_on_literals
 returns c = record {
   pushed_back = refl;
   still_running = refl;

@@ -13,6 +13,6 @@ returns c =
     ∙ step (small_at 1 64) _ _ _ _ c.small-2.ensures
     ∙ step (small_at 1 16) _ _ _ _ c.small-3.ensures
     ∙ step (limit_at w16 1 1024) _ _ _ _ c.limit16-2.ensures
-    ∙ step (limit_at w32 2 262144) _ _ _ _ c.limit32-2.ensures
+    ∙ step (limit_at w32 2 1048576) _ _ _ _ c.limit32-2.ensures
     ∙ step (limit_at w32 2 262144) _ _ _ _ c.limit32-3.ensures
     ∙ stop _ _)

@@ -8,20 +8,20 @@ use Rattle.async_core.proofs.KeptRows.{stays, changes, recount}
 use Rattle.async_core.proofs.held.Held.change.Goals as goal
 
 pub returns-in_default-clause-ok : goal.returns-in_default-clause-ok
-returns-in_default-clause-ok c = rw (← c.self.view_is) (ap (λ rows. record { age = c.self.inside.age; rows = rows }) (sym (unchanged_none _ _ _ c.self.invariant.held c.args.command.now.id _ c.in_default.ensures)))
+returns-in_default-clause-ok c = rw (← c.self.view_is) ((sym (unchanged_none _ _ _ c.self.invariant.held c.args.command.now.id _ c.in_default.ensures)))
 
 pub invariant_of-self : goal.invariant_of-self
-invariant_of-self c = stays _ _ _ _ _ _ c.self.invariant c.switch_turns.new.turns c.in-Some.place c.in-Some-get.row.now c.facts_of-old.result (sym c.in-Some-get.ensures.value) c.facts_of-old.ensures c.in_err-switch_turns.ensures.err
+invariant_of-self c = stays _ _ _ _ _ c.self.invariant c.switch_turns.new.turns c.in-Some.place c.in-Some-get.row.now c.facts_of-old.result (sym c.in-Some-get.ensures.value) c.facts_of-old.ensures c.in_err-switch_turns.ensures.err
 
 pub invariant_of-self-2 : goal.invariant_of-self-2
 invariant_of-self-2 c =
     let there = sym c.in-Some-get.ensures.value in
     let set = c.change_row.ensures c.in-Some-get.row.now there in
-    changes _ _ _ _ _ _ c.self.invariant c.change_row.new.rows c.switch_turns.new.turns c.in-Some.place c.in-Some-get.row.now _ c.recounted-running.result there refl set.0 set.1 set.2
+    changes _ _ _ _ _ c.self.invariant c.change_row.new.rows c.switch_turns.new.turns c.in-Some.place c.in-Some-get.row.now _ c.recounted-running.result there refl set.0 set.1 set.2
     (recount _ _ c.is_running-ran.result c.is_running-runs.result _ _ (c.is_running-ran.ensures ∙ ap (λ (f : Facts). is_running f.standing) c.facts_of-old.ensures) (c.is_running-runs.ensures ∙ ap (λ (f : Facts). is_running f.standing) c.changed_facts-new.ensures) c.recounted-running.ensures) c.facts_of-old.result c.changed_facts-new.result c.facts_of-old.ensures c.changed_facts-new.ensures c.in_ok-switch_turns.ensures.ok
 
 pub returns-clause-ok : goal.returns-clause-ok
 returns-clause-ok c =
     let there = sym c.in-Some-get.ensures.value in
     let set = c.change_row.ensures c.in-Some-get.row.now there in
-    rw (← c.self.view_is) (ap (λ rows. record { age = c.self.inside.age; rows = rows }) (ap values_of set.0 ∙ changed_first _ _ _ c.self.invariant.held c.args.command.now.id _ c.in-Some.place c.in-Some.ensures c.in-Some-get.row.now _ there refl))
+    rw (← c.self.view_is) ((ap values_of set.0 ∙ changed_first _ _ _ c.self.invariant.held c.args.command.now.id _ c.in-Some.place c.in-Some.ensures c.in-Some-get.row.now _ there refl))

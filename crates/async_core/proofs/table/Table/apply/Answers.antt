@@ -1,9 +1,9 @@
 -- The new table is the old one after the command.
 use Rattle.std.proofs.Common.{ℕ, List, ◌≡◌, ◌+◌, ◌∙◌, refl, ap, arith}
 use Rattle.async_core.specs.State.{State}
-use Rattle.async_core.specs.Kept.{Kept}
 use Rattle.async_core.specs.Rules.{rows_after, table_after}
-use Rattle.async_core.specs.Standings.{rules_in}
+use Rattle.async_core.specs.Policies.{policy_by}
+use Rattle.retry_rules.specs.declared.policy.RetryPolicy.{RetryPolicy}
 use Rattle.retry_rules.specs.declared.settings.Settings.{Settings}
 use Rattle.invoke_records.specs.declared.command.Command.{Command}
 use Rattle.invoke_records.specs.declared.row.EventRow.{EventRow}
@@ -16,16 +16,17 @@ change-requires c =
     let moment = legal_time _ _ c.args.command.now c.in_default.ensures.legal in
     omega arith
 
-table_after-is : (s : Settings) (n last : ℕ) (rows changed : List EventRow) (c : Command) → changed ≡ rows_after (rules_in s) (n + 1) c c.kind rows
-    → record { number = n + 1; last_moment = c.time; rows = changed } ≡ table_after s (record { number = n; last_moment = last; rows = rows }) c
+table_after-is : (s : Settings) (n last : ℕ) (policy next : RetryPolicy) (rows changed : List EventRow) (c : Command) → next ≡ policy_by policy c.kind → changed ≡ rows_after s policy (n + 1) c c.kind rows
+    → record { number = n + 1; last_moment = c.time; policy = next; rows = changed } ≡ table_after s (record { number = n; last_moment = last; policy = policy; rows = rows }) c
 unfolding table_after
-table_after-is s n last rows changed c h = rw h refl
+table_after-is s n last policy next rows changed c p h = rw (p, h) refl
 
 pub returns-clause-applied : goal.returns-clause-applied
 returns-clause-applied c =
+    let inside = c.self.inside in
     rw (← c.self.view_is)
-    (ap (λ (t : Snapshot). record { settings = c.self.inside.settings; table = t })
-    (table_after-is c.self.inside.settings c.self.inside.number c.self.inside.last_moment c.self.inside.held.rows c.change.new.held.rows c.args.command.now (ap (λ (k : Kept). k.rows) c.in_ok-change.ensures.ok)))
+    (ap (λ (t : Snapshot). record { settings = inside.settings; table = t })
+    (table_after-is inside.settings inside.number inside.last_moment inside.policy c.policy_after-self-inside.result inside.held c.change.new.held c.args.command.now c.policy_after-self-inside.ensures c.in_ok-change.ensures.ok))
 
 pub returns-clause-by_history : goal.returns-clause-by_history
 unfolding table_after

@@ -3,6 +3,9 @@ use Rattle.invoke_records.specs.Spelling.{snapshot_text}
 use Rattle.checkpoint.proofs.Puts.{puts_more, puts_as, leaves_within, written, same_parts}
 use Rattle.checkpoint.proofs.pieces.Pieces.write_segment.Goals as goal
 
+pub returns-in_err-put-clause-any_moment : goal.returns-in_err-put-clause-any_moment
+returns-in_err-put-clause-any_moment g c = leaves_within c.args.first c.args.last c.start.ensures c.put.ensures.puts
+
 pub returns-in_err-put_snapshot-clause-any_moment : goal.returns-in_err-put_snapshot-clause-any_moment
 returns-in_err-put_snapshot-clause-any_moment g c =
     leaves_within c.args.first c.args.last c.start.ensures (puts_more c.put_snapshot.result c.in_ok-put.ensures.puts c.put_snapshot.ensures.puts)

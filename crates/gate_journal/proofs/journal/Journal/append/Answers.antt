@@ -17,7 +17,7 @@ use Rattle.gate_journal.proofs.journal.Journal.append.Goals as goal
 use Rattle.gate_journal.proofs.journal.Journal.append.Goals.{After-deref}
 
 module _ (journal : Journal) (commands : List Command) (good : All IsCommand commands) (few : length commands ≤ 256) (numbers : number_of journal + length commands ≤ 2 ^ 62 + 1)
-    (generation : generation_of journal < 2 ^ 64) (short : length (commands_text commands) ≤ 262176 * 256) (room : fits journal (length (commands_text commands)) ≡ true)
+    (generation : generation_of journal < 2 ^ 64) (short : length (commands_text commands) ≤ 1048607 * 256) (room : fits journal (length (commands_text commands)) ≡ true)
     (content : List ℕ) (sectors : ℕ) (size : length content ≡ 512 * sectors) (inside : end_of journal ≤ sectors) where
   text_spelled : IsSpelled (generation_of journal) (number_of journal) commands (body_text (generation_of journal) (number_of journal) commands)
   text_spelled = spelled command_again (generation_of journal) (number_of journal) commands good generation numbers (omega arith) (omega arith)
@@ -46,7 +46,7 @@ abbrev made : (g : Over) (c : After-deref g) → (g.D.Disk.view c.args.disk.now)
 made g c honest area frames holds =
     let commands = c.args.commands.now in
     let journal = c.args.self.now in
-    let short : length (commands_text commands) ≤ 262176 * 256 = omega arith in
+    let short : length (commands_text commands) ≤ 1048607 * 256 = omega arith in
     let room : fits journal (length (commands_text commands)) ≡ true = ap (fits journal) (sym c.batch_size-size.ensures.size) ∙ sym c.if-not-fits.ensures in
     batch journal commands c.in_ok-frame.ensures.spelled c.requires.count c.requires.numbers (omega arith) short room (g.D.Disk.view c.args.disk.now).content
     (g.D.Disk.view c.args.disk.now).sectors (g.met.D.Disk.laws c.args.disk.now honest).size c.requires.room area frames holds
