@@ -18,13 +18,13 @@ use Rattle.std.proofs.lemmas.Map.Entries.{sum_by-set_value, sum_by-remove_entry}
 use Rattle.std.proofs.lemmas.Map.Keys.{IsDistinct-from_sorted}
 use Rattle.std.proofs.lemmas.Map.Views.{All-values_from_lookup}
 use Rattle.invoke_records.specs.declared.row.EventRow.{EventRow}
-use Rattle.async_core.specs.declared.turns.Facts.{Facts}
-use Rattle.async_core.specs.declared.turns.Index.{Index}
+use Rattle.async_core.specs.declared.keys.Facts.{Facts}
+use Rattle.async_core.specs.declared.keys.Index.{Index}
 use Rattle.async_core.specs.Choice.{NotBefore}
 use Rattle.async_core.specs.Standings.{is_running}
 use Rattle.async_core.specs.Rules.{running_at}
 use Rattle.async_core.specs.Ids.{by_id, is_named, has_name, PutsRow, TakesRow, IsFirstPlace}
-use Rattle.async_core.specs.Turns.{Turn, index_rank, by_turn, facts_of, turn_in, is_turn, has_turn, AreTurns, put_facts, Switches, StaysAt, IsAtMost, IsFirstTurn, within, turn_within, row_turn, IsFirstBy}
+use Rattle.async_core.specs.Keys.{Key, index_rank, by_key, facts_of, key_in, is_key, has_key, AreKeys, put_facts, Switches, StaysAt, IsAtMost, IsFirstKey, within, key_within, row_key, IsFirstBy}
 use Rattle.async_core.specs.Kept.{facts_in, IsIndexed, Enters, StaysOut}
 use Rattle.async_core.proofs.HeldRows.{row_in}
 use Rattle.async_core.proofs.HeldIds.{none_next, held_more, held_undone, held_fewer, is_name_at}
@@ -47,8 +47,8 @@ forgets s s' s'' own n added removed absent id q = forgets_by s s' s'' own n add
 
 -- ## Facts
 
-alike : (at other : ℕ → Option Facts) (turns : BTreeSet Turn) → ((q : ℕ) → at q ≡ other q) → AreTurns at turns → AreTurns other turns
-alike at other turns same are = λ i a b q. are i a b q ∙ ap (λ f. has_turn f i a b) (same q)
+alike : (at other : ℕ → Option Facts) (keys : BTreeSet Key) → ((q : ℕ) → at q ≡ other q) → AreKeys at keys → AreKeys other keys
+alike at other keys same are = λ i a b q. are i a b q ∙ ap (λ f. has_key f i a b) (same q)
 
 map_cond : (w o : Option EventRow) (b : Bool) → cond b (option_map facts_of w) (option_map facts_of o) ≡ option_map facts_of (cond b w o)
 map_cond w o true = refl
@@ -76,7 +76,7 @@ some_injective h = cc
 abbrev pub runs : EventRow → ℕ
 runs r = cond (is_running r.standing) 1 0
 
-module _ (m : BTreeMap ℕ EventRow) (s : BTreeSet (List ℕ × ℕ)) (turns : BTreeSet Turn) (running n : ℕ) (indexed : IsIndexed m s turns running n) where
+module _ (m : BTreeMap ℕ EventRow) (s : BTreeSet (List ℕ × ℕ)) (keys : BTreeSet Key) (running n : ℕ) (indexed : IsIndexed m s keys running n) where
   absent : (id : List ℕ) → is_named s id n ≡ false
   absent id = indexed.held.named id n ∙ ap (has_name id) (none_next m s n indexed.held (tree.get nat_cmp m n) refl)
 
@@ -85,31 +85,31 @@ module _ (m : BTreeMap ℕ EventRow) (s : BTreeSet (List ℕ × ℕ)) (turns : B
 
   -- ## An event that does not come in
 
-  pub stays_out : (s' : BTreeSet (List ℕ × ℕ)) (turns' : BTreeSet Turn) → StaysOut n s s' turns turns' → IsIndexed m s' turns' running n
-  stays_out s' turns' stays = record {
+  pub stays_out : (s' : BTreeSet (List ℕ × ℕ)) (keys' : BTreeSet Key) → StaysOut n s s' keys keys' → IsIndexed m s' keys' running n
+  stays_out s' keys' stays = record {
     held = record { ordered = indexed.held.ordered; below = indexed.held.below; named = λ id q. stays.0 absent id q ∙ indexed.held.named id q };
-    turned = stays.1 (facts_in m) indexed.turned no_facts;
+    keyed = stays.1 (facts_in m) indexed.keyed no_facts;
     counted = indexed.counted;
   }
 
-  pub goes_again : (m' : BTreeMap ℕ EventRow) (s' s'' : BTreeSet (List ℕ × ℕ)) (turns' turns'' : BTreeSet Turn) (id : List ℕ) (facts : Facts) → tree.IsUnchanged m m' → Enters n id facts s s' turns turns' → sorted.Updates by_id s' s'' (id, n) false
-      → Switches n (Some facts) None turns' turns'' → IsIndexed m' s'' turns'' running n
-  goes_again m' s' s'' turns' turns'' id facts same enters removed switched =
-      let entered : AreTurns (put_facts n (Some facts) (facts_in m)) turns' = enters.1 (facts_in m) indexed.turned no_facts in
-      let left : AreTurns (put_facts n None (put_facts n (Some facts) (facts_in m))) turns'' = switched (put_facts n (Some facts) (facts_in m)) entered (put_here n (Some facts) (facts_in m)) in
+  pub goes_again : (m' : BTreeMap ℕ EventRow) (s' s'' : BTreeSet (List ℕ × ℕ)) (keys' keys'' : BTreeSet Key) (id : List ℕ) (facts : Facts) → tree.IsUnchanged m m' → Enters n id facts s s' keys keys' → sorted.Updates by_id s' s'' (id, n) false
+      → Switches n (Some facts) None keys' keys'' → IsIndexed m' s'' keys'' running n
+  goes_again m' s' s'' keys' keys'' id facts same enters removed switched =
+      let entered : AreKeys (put_facts n (Some facts) (facts_in m)) keys' = enters.1 (facts_in m) indexed.keyed no_facts in
+      let left : AreKeys (put_facts n None (put_facts n (Some facts) (facts_in m))) keys'' = switched (put_facts n (Some facts) (facts_in m)) entered (put_here n (Some facts) (facts_in m)) in
       record {
         held = held_undone m s n indexed.held s' s'' m' id same enters.0 removed;
-        turned = alike _ (facts_in m') turns'' (λ q. put_back n (Some facts) (facts_in m) no_facts q (n == q) refl ∙ ap (λ es. option_map facts_of (lookup (is_at (nat_cmp q)) es)) (sym same)) left;
+        keyed = alike _ (facts_in m') keys'' (λ q. put_back n (Some facts) (facts_in m) no_facts q (n == q) refl ∙ ap (λ es. option_map facts_of (lookup (is_at (nat_cmp q)) es)) (sym same)) left;
         counted = indexed.counted ∙ ap (λ es. running_at (values_of es)) (sym same);
       }
 
   -- ## An event that comes
 
-  pub comes_in : (m' : BTreeMap ℕ EventRow) (s' : BTreeSet (List ℕ × ℕ)) (turns' : BTreeSet Turn) (r : EventRow) (facts : Facts) (now next : ℕ) → facts ≡ facts_of r → next ≡ n + 1 → now + 0 ≡ running + runs r → PutsRow m n r m' → Enters n r.id facts s s' turns turns'
-      → values_of m'.entries ≡ values_of m.entries ++ r ∷ [] → IsIndexed m' s' turns' now next
-  comes_in m' s' turns' r facts now next of_row is count put enters rows = record {
+  pub comes_in : (m' : BTreeMap ℕ EventRow) (s' : BTreeSet (List ℕ × ℕ)) (keys' : BTreeSet Key) (r : EventRow) (facts : Facts) (now next : ℕ) → facts ≡ facts_of r → next ≡ n + 1 → now + 0 ≡ running + runs r → PutsRow m n r m' → Enters n r.id facts s s' keys keys'
+      → values_of m'.entries ≡ values_of m.entries ++ r ∷ [] → IsIndexed m' s' keys' now next
+  comes_in m' s' keys' r facts now next of_row is count put enters rows = record {
     held = held_more m s n indexed.held m' s' r next is put enters.0;
-    turned = alike _ (facts_in m') turns' (facts_put m m' n (Some r) put.1) (subst (λ f. AreTurns (put_facts n (Some f) (facts_in m)) turns') of_row (enters.1 (facts_in m) indexed.turned no_facts));
+    keyed = alike _ (facts_in m') keys' (facts_put m m' n (Some r) put.1) (subst (λ f. AreKeys (put_facts n (Some f) (facts_in m)) keys') of_row (enters.1 (facts_in m) indexed.keyed no_facts));
     counted = no_more now ∙ count ∙ ap (λ k. k + runs r) indexed.counted ∙ sym (ap running_at rows ∙ sum_by-append (λ (x : EventRow). cond (is_running x.standing) 1 0) (values_of m.entries) (r ∷ []) ∙ one_more (running_at (values_of m.entries)) (runs r));
   }
     where
@@ -129,11 +129,11 @@ module _ (m : BTreeMap ℕ EventRow) (s : BTreeSet (List ℕ × ℕ)) (turns : B
       found q (Some r) is = rw is (each q r is)
 
   -- a row stands in the set where it stands in an index
-  pub stands : (i : Index) (q : ℕ) (r : EventRow) (at : ℕ × ℕ) → tree.get nat_cmp m q ≡ Some r → turn_in (facts_of r) i ≡ Some at → contains by_turn turns (index_rank i, at.0, at.1, q) ≡ true
-  stands i q r at there turn =
-      indexed.turned i at.0 at.1 q
-      ∙ ap (λ o. has_turn (option_map facts_of o) i at.0 at.1) there
-      ∙ ap (λ o. is_turn o at.0 at.1) turn
+  pub stands : (i : Index) (q : ℕ) (r : EventRow) (at : ℕ × ℕ) → tree.get nat_cmp m q ≡ Some r → key_in (facts_of r) i ≡ Some at → contains by_key keys (index_rank i, at.0, at.1, q) ≡ true
+  stands i q r at there key =
+      indexed.keyed i at.0 at.1 q
+      ∙ ap (λ o. has_key (option_map facts_of o) i at.0 at.1) there
+      ∙ ap (λ o. is_key o at.0 at.1) key
       ∙ rw (eq-eqb at.0 at.0 refl, eq-eqb at.1 at.1 refl) refl
 
   low_enough : (low a b : ℕ) → low ≤ a → IsAtMost (low, 0) (a, b)
@@ -150,8 +150,8 @@ module _ (m : BTreeMap ℕ EventRow) (s : BTreeSet (List ℕ × ℕ)) (turns : B
   up_to : (low last : ℕ) (at : ℕ × ℕ) → within low (Some last) at ≡ true → at.0 ≤ last
   up_to low last at h = leb-true at.0 last (and_parts _ _ h).1
 
-  -- a rank of a row is its turn, within the bounds
-  no_rank : (low : ℕ) (last : Option ℕ) (o : Option (ℕ × ℕ)) → ((at : ℕ × ℕ) → o ≡ Some at → within low last at ≡ true → ⊥) → turn_within low last o ≡ None
+  -- a rank of a row is its key, within the bounds
+  no_rank : (low : ℕ) (last : Option ℕ) (o : Option (ℕ × ℕ)) → ((at : ℕ × ℕ) → o ≡ Some at → within low last at ≡ true → ⊥) → key_within low last o ≡ None
   no_rank low last None none = refl
   no_rank low last (Some at) none = by_test (within low last at) refl (none at refl)
     where
@@ -159,9 +159,9 @@ module _ (m : BTreeMap ℕ EventRow) (s : BTreeSet (List ℕ × ℕ)) (turns : B
       by_test true h k = absurd (k h)
       by_test false h k = rw h refl
 
-  pub no_row : (i : Index) (low : ℕ) (last : Option ℕ) → IsFirstTurn turns i (low, 0) None → IsFirstBy (row_turn i low last) (values_of m.entries) None
-  no_row i low last none = rows_all (λ r. row_turn i low last r ≡ None) (λ q r there. no_rank low last (turn_in (facts_of r) i)
-      (λ at turn inside. true≢false (sym (stands i q r at there turn) ∙ none at.0 at.1 q (low_enough low at.0 at.1 (from_low low last at inside)))))
+  pub no_row : (i : Index) (low : ℕ) (last : Option ℕ) → IsFirstKey keys i (low, 0) None → IsFirstBy (row_key i low last) (values_of m.entries) None
+  no_row i low last none = rows_all (λ r. row_key i low last r ≡ None) (λ q r there. no_rank low last (key_in (facts_of r) i)
+      (λ at key inside. true≢false (sym (stands i q r at there key) ∙ none at.0 at.1 q (low_enough low at.0 at.1 (from_low low last at inside)))))
 
   not_below : (a b : ℕ × ℕ) → IsAtMost a b → a.0 ≤ b.0
   not_below a b (inl lt) = omega arith
@@ -172,10 +172,10 @@ module _ (m : BTreeMap ℕ EventRow) (s : BTreeSet (List ℕ × ℕ)) (turns : B
   before_within low None first at from le h = le-leb low first.0 from
   before_within low (Some last) first at from le h = and_from _ _ (le-leb low first.0 from) (le-leb first.0 last (omega (arith, up_to low last at h)))
 
-  pub no_row_outside : (i : Index) (low : ℕ) (last : Option ℕ) (first : ℕ × ℕ × ℕ) → IsFirstTurn turns i (low, 0) (Some first) → within low last (first.0, first.1) ≡ false → IsFirstBy (row_turn i low last) (values_of m.entries) None
-  no_row_outside i low last first is outside = rows_all (λ r. row_turn i low last r ≡ None) (λ q r there. no_rank low last (turn_in (facts_of r) i)
-      (λ at turn inside.
-      let behind = is.2 at.0 at.1 q (low_enough low at.0 at.1 (from_low low last at inside)) (stands i q r at there turn) in
+  pub no_row_outside : (i : Index) (low : ℕ) (last : Option ℕ) (first : ℕ × ℕ × ℕ) → IsFirstKey keys i (low, 0) (Some first) → within low last (first.0, first.1) ≡ false → IsFirstBy (row_key i low last) (values_of m.entries) None
+  no_row_outside i low last first is outside = rows_all (λ r. row_key i low last r ≡ None) (λ q r there. no_rank low last (key_in (facts_of r) i)
+      (λ at key inside.
+      let behind = is.2 at.0 at.1 q (low_enough low at.0 at.1 (from_low low last at inside)) (stands i q r at there key) in
       let first_inside = before_within low last (first.0, first.1) at (not_below (low, 0) (first.0, first.1) is.1) (not_below (first.0, first.1) at behind) inside in
       true≢false (sym first_inside ∙ outside)))
 
@@ -189,16 +189,16 @@ module _ (m : BTreeMap ℕ EventRow) (s : BTreeSet (List ℕ × ℕ)) (turns : B
           let found = rest (ap (λ b. cond b (Some e.1) (row_in es q)) (sym apart) ∙ there) in
           (suc found.0, omega (arith, found.1), found.2)
 
-  -- the facts that a turn belongs to
-  turned_row : (o : Option EventRow) (i : Index) (a b : ℕ) → has_turn (option_map facts_of o) i a b ≡ true → (r : EventRow) × (o ≡ Some r) × (turn_in (facts_of r) i ≡ Some (a, b))
-  turned_row None i a b h = absurd (true≢false (sym h))
-  turned_row (Some r) i a b h = (r, refl, is_at_turn (turn_in (facts_of r) i) h)
+  -- the facts that a key belongs to
+  keyed_row : (o : Option EventRow) (i : Index) (a b : ℕ) → has_key (option_map facts_of o) i a b ≡ true → (r : EventRow) × (o ≡ Some r) × (key_in (facts_of r) i ≡ Some (a, b))
+  keyed_row None i a b h = absurd (true≢false (sym h))
+  keyed_row (Some r) i a b h = (r, refl, is_at_key (key_in (facts_of r) i) h)
     where
-      is_at_turn : (o : Option (ℕ × ℕ)) → is_turn o a b ≡ true → o ≡ Some (a, b)
-      is_at_turn None h = absurd (true≢false (sym h))
-      is_at_turn (Some t) h = let parts = and_parts (t.0 == a) (t.1 == b) h in rw (← eqb-true t.0 a parts.0, ← eqb-true t.1 b parts.1) refl
+      is_at_key : (o : Option (ℕ × ℕ)) → is_key o a b ≡ true → o ≡ Some (a, b)
+      is_at_key None h = absurd (true≢false (sym h))
+      is_at_key (Some t) h = let parts = and_parts (t.0 == a) (t.1 == b) h in rw (← eqb-true t.0 a parts.0, ← eqb-true t.1 b parts.1) refl
 
-  least_of : (low : ℕ) (last : Option ℕ) (first : ℕ × ℕ) (o : Option (ℕ × ℕ)) → ((at : ℕ × ℕ) → o ≡ Some at → within low last at ≡ true → IsAtMost first at) → NotBefore first (turn_within low last o)
+  least_of : (low : ℕ) (last : Option ℕ) (first : ℕ × ℕ) (o : Option (ℕ × ℕ)) → ((at : ℕ × ℕ) → o ≡ Some at → within low last at ≡ true → IsAtMost first at) → NotBefore first (key_within low last o)
   least_of low last first None each = tt
   least_of low last first (Some at) each = by_test (within low last at) refl (each at refl)
     where
@@ -206,15 +206,15 @@ module _ (m : BTreeMap ℕ EventRow) (s : BTreeSet (List ℕ × ℕ)) (turns : B
       by_test true h k = rw h (k h)
       by_test false h k = rw h tt
 
-  pub first_row : (i : Index) (low : ℕ) (last : Option ℕ) (first : ℕ × ℕ × ℕ) → IsFirstTurn turns i (low, 0) (Some first) → within low last (first.0, first.1) ≡ true → (found : Option EventRow) → found ≡ tree.get nat_cmp m first.2 → IsFirstBy (row_turn i low last) (values_of m.entries) found
+  pub first_row : (i : Index) (low : ℕ) (last : Option ℕ) (first : ℕ × ℕ × ℕ) → IsFirstKey keys i (low, 0) (Some first) → within low last (first.0, first.1) ≡ true → (found : Option EventRow) → found ≡ tree.get nat_cmp m first.2 → IsFirstBy (row_key i low last) (values_of m.entries) found
   first_row i low last first is inside found same =
-      let row = turned_row (tree.get nat_cmp m first.2) i first.0 first.1 (sym (indexed.turned i first.0 first.1 first.2) ∙ is.0) in
+      let row = keyed_row (tree.get nat_cmp m first.2) i first.0 first.1 (sym (indexed.keyed i first.0 first.1 first.2) ∙ is.0) in
       rw (same, row.1) (record {
         is_there = contains_row m.entries first.2 row.0 row.1;
         at = (first.0, first.1);
-        has = ap (turn_within low last) row.2 ∙ rw inside refl;
-        least = rows_all (λ r. NotBefore (first.0, first.1) (row_turn i low last r)) (λ q r there. least_of low last (first.0, first.1) (turn_in (facts_of r) i)
-            (λ at turn within_it. is.2 at.0 at.1 q (low_enough low at.0 at.1 (from_low low last at within_it)) (stands i q r at there turn)));
+        has = ap (key_within low last) row.2 ∙ rw inside refl;
+        least = rows_all (λ r. NotBefore (first.0, first.1) (row_key i low last r)) (λ q r there. least_of low last (first.0, first.1) (key_in (facts_of r) i)
+            (λ at key within_it. is.2 at.0 at.1 q (low_enough low at.0 at.1 (from_low low last at within_it)) (stands i q r at there key)));
       })
 
   -- ## A change of an event
@@ -230,15 +230,15 @@ module _ (m : BTreeMap ℕ EventRow) (s : BTreeSet (List ℕ × ℕ)) (turns : B
   few_run = rw indexed.counted (omega (arith, count_by-le-length (λ (x : EventRow). is_running x.standing) (values_of m.entries), length-map m.entries (λ (e : ℕ × EventRow). e.1)))
 
   -- the row of an event is another one now
-  pub changes : (m' : BTreeMap ℕ EventRow) (turns' : BTreeSet Turn) (p : ℕ) (r w : EventRow) (now : ℕ) → tree.get nat_cmp m p ≡ Some r → w.id ≡ r.id → m'.entries ≡ set_value (is_at (nat_cmp p)) m.entries w → tree.Updates nat_cmp m m' p (Some w)
-      → tree.IsOrdered nat_cmp m' → now + runs r ≡ running + runs w → (old new : Facts) → old ≡ facts_of r → new ≡ facts_of w → Switches p (Some old) (Some new) turns turns' → IsIndexed m' s turns' now n
-  changes m' turns' p r w now there same entries update ordered count old new of_old of_new switched = record {
+  pub changes : (m' : BTreeMap ℕ EventRow) (keys' : BTreeSet Key) (p : ℕ) (r w : EventRow) (now : ℕ) → tree.get nat_cmp m p ≡ Some r → w.id ≡ r.id → m'.entries ≡ set_value (is_at (nat_cmp p)) m.entries w → tree.Updates nat_cmp m m' p (Some w)
+      → tree.IsOrdered nat_cmp m' → now + runs r ≡ running + runs w → (old new : Facts) → old ≡ facts_of r → new ≡ facts_of w → Switches p (Some old) (Some new) keys keys' → IsIndexed m' s keys' now n
+  changes m' keys' p r w now there same entries update ordered count old new of_old of_new switched = record {
     held = record {
       ordered = ordered;
       below = λ q found. indexed.held.below q (was_there q (is_at (nat_cmp p) q) refl found);
       named = λ id q. indexed.held.named id q ∙ names_stay id q (is_at (nat_cmp p) q) refl;
     };
-    turned = alike _ (facts_in m') turns' (facts_put m m' p (Some w) update) (subst (λ f. AreTurns (put_facts p (Some f) (facts_in m)) turns') of_new (switched (facts_in m) indexed.turned (ap (λ o. option_map facts_of o) there ∙ ap (λ f. Some f) (sym of_old))));
+    keyed = alike _ (facts_in m') keys' (facts_put m m' p (Some w) update) (subst (λ f. AreKeys (put_facts p (Some f) (facts_in m)) keys') of_new (switched (facts_in m) indexed.keyed (ap (λ o. option_map facts_of o) there ∙ ap (λ f. Some f) (sym of_old))));
     counted =
         let moved = sum_by-set_value runs (is_at (nat_cmp p)) m.entries r w there in
         let same_list : running_at (values_of m'.entries) ≡ running_at (values_of (set_value (is_at (nat_cmp p)) m.entries w)) = ap (λ es. running_at (values_of es)) entries in
@@ -258,20 +258,20 @@ module _ (m : BTreeMap ℕ EventRow) (s : BTreeSet (List ℕ × ℕ)) (turns : B
           ∙ ap (has_name id) (sym (update.0 q ∙ ap (λ b. cond b (Some w) (tree.get nat_cmp m q)) here))
       names_stay id q false apart = ap (has_name id) (sym (update.0 q ∙ ap (λ b. cond b (Some w) (tree.get nat_cmp m q)) apart))
 
-  pub stays : (turns' : BTreeSet Turn) (p : ℕ) (r : EventRow) (old : Facts) → tree.get nat_cmp m p ≡ Some r → old ≡ facts_of r → StaysAt p (Some old) turns turns' → IsIndexed m s turns' running n
-  stays turns' p r old there of_old same = record {
+  pub stays : (keys' : BTreeSet Key) (p : ℕ) (r : EventRow) (old : Facts) → tree.get nat_cmp m p ≡ Some r → old ≡ facts_of r → StaysAt p (Some old) keys keys' → IsIndexed m s keys' running n
+  stays keys' p r old there of_old same = record {
     held = indexed.held;
-    turned = same (facts_in m) indexed.turned (ap (λ o. option_map facts_of o) there ∙ ap (λ f. Some f) (sym of_old));
+    keyed = same (facts_in m) indexed.keyed (ap (λ o. option_map facts_of o) there ∙ ap (λ f. Some f) (sym of_old));
     counted = indexed.counted;
   }
 
   -- ## An event that goes
 
-  pub goes : (m' : BTreeMap ℕ EventRow) (s' : BTreeSet (List ℕ × ℕ)) (turns' : BTreeSet Turn) (id : List ℕ) (p : ℕ) (r : EventRow) (now : ℕ) → IsFirstPlace s id (Some p) → tree.get nat_cmp m p ≡ Some r → TakesRow m p m' → sorted.Updates by_id s s' (id, p) false
-      → now + runs r ≡ running + 0 → (old : Facts) → old ≡ facts_of r → Switches p (Some old) None turns turns' → IsIndexed m' s' turns' now n
-  goes m' s' turns' id p r now first there taken removed count old of_old switched = record {
+  pub goes : (m' : BTreeMap ℕ EventRow) (s' : BTreeSet (List ℕ × ℕ)) (keys' : BTreeSet Key) (id : List ℕ) (p : ℕ) (r : EventRow) (now : ℕ) → IsFirstPlace s id (Some p) → tree.get nat_cmp m p ≡ Some r → TakesRow m p m' → sorted.Updates by_id s s' (id, p) false
+      → now + runs r ≡ running + 0 → (old : Facts) → old ≡ facts_of r → Switches p (Some old) None keys keys' → IsIndexed m' s' keys' now n
+  goes m' s' keys' id p r now first there taken removed count old of_old switched = record {
     held = held_fewer m s n indexed.held id p first m' s' taken removed;
-    turned = alike _ (facts_in m') turns' (facts_put m m' p None taken.1) (switched (facts_in m) indexed.turned (ap (λ o. option_map facts_of o) there ∙ ap (λ f. Some f) (sym of_old)));
+    keyed = alike _ (facts_in m') keys' (facts_put m m' p None taken.1) (switched (facts_in m) indexed.keyed (ap (λ o. option_map facts_of o) there ∙ ap (λ f. Some f) (sym of_old)));
     counted =
         let fewer : count_by (λ (x : EventRow). is_running x.standing) (values_of (remove_entry (is_at (nat_cmp p)) m.entries)) + runs r ≡ running_at (values_of m.entries) =
         subst (λ (o : Option EventRow). count_by (λ (x : EventRow). is_running x.standing) (values_of (remove_entry (is_at (nat_cmp p)) m.entries)) + unwrap_or (option_map runs o) 0 ≡ running_at (values_of m.entries)) there

@@ -5,8 +5,8 @@ pub mod Firsts
 pub mod NamedPlaces
 pub mod HeldRows
 pub mod HeldIds
-pub mod TurnSteps
-pub mod FirstTurns
+pub mod KeySteps
+pub mod FirstKeys
 pub mod KeptRows
 pub mod Ranks
 pub mod Walks

@@ -7,11 +7,11 @@ use Rattle.std.specs.BTreeMap.{BTreeMap}
 use Rattle.std.specs.BTreeSet as sorted
 use Rattle.std.specs.BTreeSet.{BTreeSet, contains}
 use Rattle.invoke_records.specs.declared.row.EventRow.{EventRow}
-use Rattle.async_core.specs.declared.turns.Facts.{Facts}
+use Rattle.async_core.specs.declared.keys.Facts.{Facts}
 use Rattle.async_core.specs.Rules.{running_at, too_old_at}
 use Rattle.async_core.specs.Ids.{by_id, is_named, IsHeld}
-use Rattle.async_core.specs.declared.turns.Index.{Index}
-use Rattle.async_core.specs.Turns.{Turn, by_turn, index_rank, row_turn, AreTurns, Switches, StaysAt, facts_of, idle_turn}
+use Rattle.async_core.specs.declared.keys.Index.{Index}
+use Rattle.async_core.specs.Keys.{Key, by_key, index_rank, row_key, AreKeys, Switches, StaysAt, facts_of, idle_key}
 use Rattle.async_core.specs.Choice.{ChoosesAmong}
 use Rattle.async_core.specs.declared.choice.Order.{Order}
 
@@ -19,40 +19,40 @@ use Rattle.async_core.specs.declared.choice.Order.{Order}
 abbrev pub facts_in : BTreeMap ℕ EventRow → ℕ → Option Facts
 facts_in rows place = option_map facts_of (tree.get nat_cmp rows place)
 
--- the ids, the turns and the count are those of the rows
+-- the ids, the keys and the count are those of the rows
 pub record IsIndexed (rows : BTreeMap ℕ EventRow) (ids : BTreeSet (List ℕ × ℕ))
-    (turns : BTreeSet Turn) (running next : ℕ) : Type 0 where
+    (keys : BTreeSet Key) (running next : ℕ) : Type 0 where
   pub held : IsHeld rows ids next
-  pub turned : AreTurns (facts_in rows) turns
+  pub keyed : AreKeys (facts_in rows) keys
   pub counted : running ≡ running_at (values_of rows.entries)
 
--- an id comes to a place, with its turns
-abbrev pub Enters : ℕ → List ℕ → Facts → BTreeSet (List ℕ × ℕ) → BTreeSet (List ℕ × ℕ) → BTreeSet Turn → BTreeSet Turn → Type 0
-Enters place id facts ids named turns turned =
-    sorted.Updates by_id ids named (id, place) true × Switches place None (Some facts) turns turned
+-- an id comes to a place, with its keys
+abbrev pub Enters : ℕ → List ℕ → Facts → BTreeSet (List ℕ × ℕ) → BTreeSet (List ℕ × ℕ) → BTreeSet Key → BTreeSet Key → Type 0
+Enters place id facts ids named keys keyed =
+    sorted.Updates by_id ids named (id, place) true × Switches place None (Some facts) keys keyed
 
 -- where there was nothing at the place, all is as it was
-abbrev pub StaysOut : ℕ → BTreeSet (List ℕ × ℕ) → BTreeSet (List ℕ × ℕ) → BTreeSet Turn → BTreeSet Turn → Type 0
-StaysOut place ids named turns turned =
+abbrev pub StaysOut : ℕ → BTreeSet (List ℕ × ℕ) → BTreeSet (List ℕ × ℕ) → BTreeSet Key → BTreeSet Key → Type 0
+StaysOut place ids named keys keyed =
     (((id : List ℕ) → is_named ids id place ≡ false) → (id : List ℕ) (q : ℕ) → is_named named id q ≡ is_named ids id q)
-    × StaysAt place None turns turned
+    × StaysAt place None keys keyed
 
 -- no event that waits for an attempt is too old
 abbrev pub NoneExpired : ℕ → List EventRow → Type 0
-NoneExpired now rows = All (λ (r : EventRow). is_some (idle_turn (facts_of r) r.standing) ≡ true → now < too_old_at r) rows
+NoneExpired now rows = All (λ (r : EventRow). is_some (idle_key (facts_of r) r.standing) ≡ true → now < too_old_at r) rows
 
--- the rows with a turn in this index, up to this number, are among these rows
-abbrev pub HasTurned : BTreeMap ℕ EventRow → BTreeSet Turn → Index → ℕ → List EventRow → Type 0
-HasTurned rows turns i last more =
-    (a b q : ℕ) (r : EventRow) → contains by_turn turns (index_rank i, a, b, q) ≡ true → a ≤ last
+-- the rows with a key in this index, up to this number, are among these rows
+abbrev pub HasKeyed : BTreeMap ℕ EventRow → BTreeSet Key → Index → ℕ → List EventRow → Type 0
+HasKeyed rows keys i last more =
+    (a b q : ℕ) (r : EventRow) → contains by_key keys (index_rank i, a, b, q) ≡ true → a ≤ last
     → tree.get nat_cmp rows q ≡ Some r → Contains more r
 
-abbrev pub ChoosesByTurns : Order → BTreeMap ℕ EventRow → BTreeSet Turn → Index → ℕ → Option EventRow → Option EventRow → Type 0
-ChoosesByTurns order rows turns i last best chosen = ChoosesAmong order (values_of rows.entries) (HasTurned rows turns i last) best chosen
+abbrev pub ChoosesByKeys : Order → BTreeMap ℕ EventRow → BTreeSet Key → Index → ℕ → Option EventRow → Option EventRow → Type 0
+ChoosesByKeys order rows keys i last best chosen = ChoosesAmong order (values_of rows.entries) (HasKeyed rows keys i last) best chosen
 
 -- the rows that stand in this index, up to this number, are among these rows
 abbrev pub HasThose : List EventRow → Index → ℕ → List EventRow → Type 0
-HasThose rows i last more = All (λ (r : EventRow). is_some (row_turn i 0 (Some last) r) ≡ true → Contains more r) rows
+HasThose rows i last more = All (λ (r : EventRow). is_some (row_key i 0 (Some last) r) ≡ true → Contains more r) rows
 
 abbrev pub ChoosesUpTo : Order → List EventRow → Index → ℕ → Option EventRow → Option EventRow → Type 0
 ChoosesUpTo order rows i last best chosen = ChoosesAmong order rows (HasThose rows i last) best chosen

@@ -9,7 +9,7 @@ pub mod State
 pub mod Histories
 pub mod Readers
 pub mod Ids
-pub mod Turns
+pub mod Keys
 pub mod Kept
 pub mod Choice
 pub mod Equality

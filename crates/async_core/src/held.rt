@@ -8,19 +8,19 @@ ghost use Rattle.async_core.specs.Equality as meant;
 ghost use Rattle.async_core.specs.Rules.{has_id, remove_row, running_at};
 ghost use Rattle.async_core.specs.Steps as step;
 ghost use Rattle.async_core.specs.Ids.{PutsRow, TakesRow, SetsRow, ForRowAt};
-ghost use Rattle.async_core.specs.Kept.{Enters, StaysOut, ChoosesByTurns, ChoosesUpTo};
-ghost use Rattle.async_core.specs.Turns as turned;
-ghost use Rattle.async_core.specs.Turns.{within, row_turn, IsFirstBy};
+ghost use Rattle.async_core.specs.Kept.{Enters, StaysOut, ChoosesByKeys, ChoosesUpTo};
+ghost use Rattle.async_core.specs.Keys as keyed;
+ghost use Rattle.async_core.specs.Keys.{within, row_key, IsFirstBy};
 
 use crate::changes::{standing_after, update};
 use crate::choice::{Order, better};
 use crate::copies::copy_row;
 use crate::equality::same_row;
 use crate::ids::first_place;
-use crate::standings::is_running;
-use crate::turns::{
-    Facts, Index, Turn, facts_of, first_turn, insert_turns, rank, remove_turns, switch_turns,
+use crate::keys::{
+    Facts, Index, Key, facts_of, first_key, insert_keys, rank, remove_keys, switch_keys,
 };
+use crate::standings::is_running;
 use invoke_records::{Answer, Command, EventRow};
 use retry_rules::Settings;
 use std::alloc::{AllocError, Global};
@@ -33,7 +33,7 @@ pub(crate) struct Held {
     rows: BTreeMap<u64, EventRow>,
     /// Each row's id with its place.
     ids: BTreeSet<([u8; 16], u64)>,
-    turns: BTreeSet<Turn>,
+    keys: BTreeSet<Key>,
     /// How many run.
     running: usize,
     /// The place of the row that comes next.
@@ -50,7 +50,7 @@ impl Model for Held {
 
     ghost view = { λ h. values_of h.rows.entries };
 
-    ghost invariant = { λ h. IsIndexed h.rows h.ids h.turns h.running h.next };
+    ghost invariant = { λ h. IsIndexed h.rows h.ids h.keys h.running h.next };
 }
 
 fn put_row(rows: &mut BTreeMap<u64, EventRow>, place: u64, row: EventRow) -> Result<(), AllocError>
@@ -85,19 +85,19 @@ fn change_row(
     }
 }
 
-/// Enters an id and its turns at a place. A refusal, for want of memory, leaves all as it was.
+/// Enters an id and its keys at a place. A refusal, for want of memory, leaves all as it was.
 fn enter(
     ids: &mut BTreeSet<([u8; 16], u64)>,
-    turns: &mut BTreeSet<Turn>,
+    keys: &mut BTreeSet<Key>,
     place: u64,
     id: [u8; 16],
     facts: Facts,
 ) -> Result<(), AllocError>
-    ensures ok { OnOk result (Enters place id facts ids.old ids.new turns.old turns.new) }
-    ensures err { OnErr result (StaysOut place ids.old ids.new turns.old turns.new) }
+    ensures ok { OnOk result (Enters place id facts ids.old ids.new keys.old keys.new) }
+    ensures err { OnErr result (StaysOut place ids.old ids.new keys.old keys.new) }
 {
     ids.insert((id, place))?;
-    if let Err(error) = insert_turns(turns, place, facts) {
+    if let Err(error) = insert_keys(keys, place, facts) {
         let _ = ids.remove(&(id, place));
         return Err(error);
     }
@@ -117,21 +117,21 @@ fn recounted(running: usize, ran: bool, runs: bool) -> usize
 }
 
 /// The row that goes first in this order: of some rows where this one goes first, if there is one, and of those whose
-/// turns in an index are up to this number.
-fn first_by_turns<'a>(
+/// keys in an index are up to this number.
+fn first_by_keys<'a>(
     rows: &'a BTreeMap<u64, EventRow>,
-    turns: &BTreeSet<Turn>,
+    keys: &BTreeSet<Key>,
     order: Order,
     index: Index,
     last: u64,
     first: Option<&'a EventRow>,
 ) -> Option<&'a EventRow>
-    ensures { ChoosesByTurns order rows.now turns.now index last (option_copied first.entry) (option_copied result) }
+    ensures { ChoosesByKeys order rows.now keys.now index last (option_copied first.entry) (option_copied result) }
 {
     let rank = rank(index);
     let mut best = first;
-    for turn in turns.range((rank, 0, 0, 0)..(rank, u128::from(last) + 1, 0, 0)) {
-        if let Some(row) = rows.get(&turn.3) {
+    for key in keys.range((rank, 0, 0, 0)..(rank, u128::from(last) + 1, 0, 0)) {
+        if let Some(row) = rows.get(&key.3) {
             best = better(order, best, row);
         }
     }
@@ -181,7 +181,7 @@ impl Held {
         Held {
             rows: BTreeMap::new(alloc),
             ids: BTreeSet::new(alloc),
-            turns: BTreeSet::new(alloc),
+            keys: BTreeSet::new(alloc),
             running: 0,
             next: 0,
         }
@@ -213,9 +213,9 @@ impl Held {
 
     /// The first row in an index whose first number is at least this one, and at most that one if one is given.
     pub(crate) fn first_in(&self, index: Index, low: u128, last: Option<u64>) -> Option<&EventRow>
-        ensures { IsFirstBy (row_turn index low last) self.now (option_copied result) }
+        ensures { IsFirstBy (row_key index low last) self.now (option_copied result) }
     {
-        let Some(first) = first_turn(&self.turns, index, (low, 0)) else {
+        let Some(first) = first_key(&self.keys, index, (low, 0)) else {
             return None;
         };
         if !is_within(low, last, (first.0, first.1)) {
@@ -235,7 +235,7 @@ impl Held {
     ) -> Option<&'a EventRow>
         ensures { ChoosesUpTo order self.now index last (option_copied first.entry) (option_copied result) }
     {
-        first_by_turns(&self.rows, &self.turns, order, index, last, first)
+        first_by_keys(&self.rows, &self.keys, order, index, last, first)
     }
 
     /// Equal rows in memory of their own.
@@ -265,9 +265,9 @@ impl Held {
         let Some(next) = place.checked_add(1) else {
             return Err(AllocError);
         };
-        enter(&mut self.ids, &mut self.turns, place, id, facts)?;
+        enter(&mut self.ids, &mut self.keys, place, id, facts)?;
         if let Err(error) = put_row(&mut self.rows, place, row) {
-            remove_turns(&mut self.turns, place, facts);
+            remove_keys(&mut self.keys, place, facts);
             let _ = self.ids.remove(&(id, place));
             return Err(error);
         }
@@ -285,7 +285,7 @@ impl Held {
                 let _held = self.rows.len();
                 let facts = facts_of(row);
                 let running = recounted(self.running, is_running(facts.standing), false);
-                remove_turns(&mut self.turns, place, facts);
+                remove_keys(&mut self.keys, place, facts);
                 let id = *id;
                 let _ = self.ids.remove(&(id, place));
                 take_row(&mut self.rows, place);
@@ -318,7 +318,7 @@ impl Held {
         let new = changed_facts(row, settings, number, command);
         let (ran, runs) = (is_running(old.standing), is_running(new.standing));
         let running = recounted(self.running, ran, runs);
-        switch_turns(&mut self.turns, place, old, new)?;
+        switch_keys(&mut self.keys, place, old, new)?;
         self.running = running;
         change_row(&mut self.rows, place, settings, number, command, answer);
         Ok(())
@@ -328,7 +328,7 @@ impl Held {
 /// The facts of a row after the command.
 fn changed_facts(row: &EventRow, settings: &Settings, number: u64, command: &Command) -> Facts
     requires { command.now.time < 2 ^ 63 }
-    ensures { result ≡ turned.facts_of (step.row_with settings.now number command.now row.now) }
+    ensures { result ≡ keyed.facts_of (step.row_with settings.now number command.now row.now) }
 {
     Facts {
         accepted: row.accepted,

@@ -13,13 +13,13 @@ pub mod examples;
 mod held;
 mod ids;
 mod illegal;
+mod keys;
 mod legality;
 mod next;
 mod readers;
 mod situation;
 mod standings;
 mod table;
-mod turns;
 
 pub use choice::{Move, Side};
 pub use illegal::{ApplyError, Illegal};

@@ -9,8 +9,8 @@ ghost use Rattle.async_core.specs.Histories.{ForEachHistory};
 use crate::Table;
 use crate::choice::{Move, Order, Side, is_ranked, move_by};
 use crate::held::Held;
+use crate::keys::Index;
 use crate::situation::expiry_of;
-use crate::turns::Index;
 use invoke_records::{EventRow, Kind};
 use retry_rules::Settings;
 

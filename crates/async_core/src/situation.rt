@@ -4,7 +4,7 @@ ghost use Rattle.async_core.specs.Rules as meant;
 ghost use Rattle.async_core.specs.Rules.{has_id, standing_or_unknown, is_busy_at};
 
 use crate::held::Held;
-use crate::turns::Index;
+use crate::keys::Index;
 use invoke_records::{EventRow, Standing};
 
 /// What a command meets in the table.

@@ -103,7 +103,7 @@ pub(crate) fn open<L: Ledger, T: Trace, D: Disk + Drop>(
     requires fresh { IsFresh (settings_of hall.issuer) hall }
     requires name { blank.name ≡ L.name }
     requires parts { blank.parts ≡ L.parts }
-    requires seats { L.parts ≡ desk_count (settings_of hall.issuer) }
+    requires count { L.parts ≡ desk_count (settings_of hall.issuer) }
     ensures half { IfOk result (λ opened. broker_of opened.committer.half ≡ hall.issuer) }
 {
     let settings = hall.table().settings().copy()?;

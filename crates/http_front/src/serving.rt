@@ -320,7 +320,7 @@ where
     requires fresh { IsFresh (settings_of hall.issuer) hall }
     requires name { blank.name ≡ L.name }
     requires parts { blank.parts ≡ L.parts }
-    requires seats { L.parts ≡ desk_count (settings_of hall.issuer) }
+    requires count { L.parts ≡ desk_count (settings_of hall.issuer) }
     ensures ports { OnOk result (vec_len listeners + 2 ≤ desk_count (settings_of hall.issuer)) }
     ensures served { IfOk result (λ served. HasServed D.view D.fault_count hall.issuer (broker_of served.half)) }
 {

@@ -3,7 +3,7 @@ ghost use Rattle.std.specs.Prelude.{◌≡◌, ◌+◌, ◌<◌, IfSome, OnSome}
 ghost use Rattle.futures.specs.Task.{Covers, IsArmed, Keeps};
 ghost use Rattle.futures.specs.Poll.{IfReady, OnPending};
 
-use crate::seats::{Seat, Seats};
+use crate::permits::{Permit, Permits};
 use futures::task::{Context, Poll};
 use futures::{Future, Stream};
 use std::io;
@@ -21,12 +21,12 @@ pub(crate) trait Door: Drop {
     /// The future that serves a connection to its end.
     type Served: Future<Output = ()>;
 
-    /// What serves this connection, in its seat. None where memory was wanting; it is then closed.
-    fn serve(&self, socket: TcpStream, seat: Seat) -> Option<Self::Served>
+    /// What serves this connection, and keeps its permit. None where memory was wanting; it is then closed.
+    fn serve(&self, socket: TcpStream, permit: Permit) -> Option<Self::Served>
         ensures { IfSome result Self.Served.can_poll };
 }
 
-/// The connections that a door serves, until the front ends. Each has a seat, and while none is free nothing is accepted, so
+/// The connections that a door serves, until the front ends. Each has a permit, and while none is free nothing is accepted, so
 /// that those who come wait in the listener's queue.
 #[derive(Drop)]
 pub(crate) struct Connections<R, D> {
@@ -36,13 +36,13 @@ pub(crate) struct Connections<R, D> {
     pub(crate) incoming: Incoming,
     pub(crate) ending: WaitForCancellationFuture,
     pub(crate) pause: Option<Sleep>,
-    pub(crate) seats: Seats,
+    pub(crate) permits: Permits,
 }
 
 impl<R: Clock, D: Door> Connections<R, D> {
     // Whether nothing is accepted for now. The pause is over once it is not.
     fn poll_pause(&mut self, cx: &mut Context<'_>) -> Poll<()>
-        ensures seats { self.new.seats ≡ self.old.seats }
+        ensures permits { self.new.permits ≡ self.old.permits }
         ensures armed { OnPending result (IsArmed cx.new) }
         ensures kept { Keeps cx.old cx.new }
     {
@@ -59,13 +59,13 @@ impl<R: Clock, D: Door> Connections<R, D> {
     }
 
     // What serves a connection that has come.
-    fn seat(&mut self, socket: TcpStream) -> Option<D::Served>
-        requires { self.old.seats.taken < self.old.seats.most }
+    fn admit(&mut self, socket: TcpStream) -> Option<D::Served>
+        requires { self.old.permits.taken < self.old.permits.most }
         ensures value { IfSome result D.Served.can_poll }
-        ensures counted { OnSome result (self.new.seats.taken ≡ self.old.seats.taken + 1) }
+        ensures counted { OnSome result (self.new.permits.taken ≡ self.old.permits.taken + 1) }
     {
-        let seat = self.seats.take()?;
-        self.door.serve(socket, seat)
+        let permit = self.permits.take()?;
+        self.door.serve(socket, permit)
     }
 
     // The next connection that can be served. Where there is none, it is asked again at once, or after a pause.
@@ -74,15 +74,15 @@ impl<R: Clock, D: Door> Connections<R, D> {
         accepted: io::Result<TcpStream>,
         cx: &mut Context<'_>,
     ) -> Poll<Option<D::Served>>
-        requires { self.old.seats.taken < self.old.seats.most }
+        requires { self.old.permits.taken < self.old.permits.most }
         ensures value { IfReady result (λ next. IfSome next D.Served.can_poll) }
-        ensures counted { IfReady result (λ _. self.new.seats.taken ≡ self.old.seats.taken + 1) }
+        ensures counted { IfReady result (λ _. self.new.permits.taken ≡ self.old.permits.taken + 1) }
         ensures armed { OnPending result (IsArmed cx.new) }
         ensures kept { Keeps cx.old cx.new }
     {
         match accepted {
             Ok(socket) => {
-                if let Some(served) = self.seat(socket) {
+                if let Some(served) = self.admit(socket) {
                     return Poll::Ready(Some(served));
                 }
             }
@@ -104,7 +104,7 @@ impl<R: Clock + Drop, D: Door> Stream for Connections<R, D> {
         if self.ending.poll(cx).is_ready() {
             return Poll::Ready(None);
         }
-        if self.seats.poll_free(cx).is_pending() || self.poll_pause(cx).is_pending() {
+        if self.permits.poll_free(cx).is_pending() || self.poll_pause(cx).is_pending() {
             return Poll::Pending;
         }
         match self.incoming.poll_next(cx) {

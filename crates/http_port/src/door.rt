@@ -6,8 +6,8 @@ use crate::application::Application;
 use crate::connections::Door;
 use crate::limits::Limits;
 use crate::noted::Noted;
+use crate::permits::Permit;
 use crate::requests::Requests;
-use crate::seats::Seat;
 use crate::served::Served;
 use crate::timer::Timer;
 use crate::watch::Watch;
@@ -43,7 +43,7 @@ pub(crate) struct HttpDoor<R, A> {
 impl<R: Clock + Copy + Drop, A: Application> Door for HttpDoor<R, A> {
     type Served = Served<Ending<A>, R>;
 
-    fn serve(&self, socket: TcpStream, seat: Seat) -> Option<Self::Served> {
+    fn serve(&self, socket: TcpStream, permit: Permit) -> Option<Self::Served> {
         let watch = Rc::new(self.alloc, Watch::new()).ok()?;
         let requests = Requests {
             alloc: self.alloc,
@@ -57,6 +57,6 @@ impl<R: Clock + Copy + Drop, A: Application> Door for HttpDoor<R, A> {
         let ending = self.ending.cancelled().ok()?;
         let timer = Timer::new(self.rt, &self.timers, self.limits, watch)?;
         let conn = until(self.http.serve_connection(noted, requests), ending);
-        Some(Served::new(conn, timer, seat))
+        Some(Served::new(conn, timer, permit))
     }
 }

@@ -3,7 +3,7 @@ use crate::application::Application;
 use crate::connections::Connections;
 use crate::door::HttpDoor;
 use crate::limits::Limits;
-use crate::seats::Seats;
+use crate::permits::Permits;
 use hyper::server::conn::http1::Builder;
 use std::alloc::AllocGlobal;
 use std::hash::RandomState;
@@ -76,7 +76,7 @@ where
         incoming: listener.incoming(),
         ending: ending.cancelled()?,
         pause: None,
-        seats: Seats::new(alloc, limits.connections)?,
+        permits: Permits::new(alloc, limits.connections)?,
     };
     run(&rt, &mut runtime, connections)
 }

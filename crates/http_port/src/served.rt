@@ -3,19 +3,19 @@ ghost use Rattle.std.specs.Prelude.{IfSome};
 ghost use Rattle.futures.specs.Task.{IsArmed, Keeps};
 ghost use Rattle.futures.specs.Poll.{OnPending};
 
-use crate::seats::Seat;
+use crate::permits::Permit;
 use crate::timer::Timer;
 use futures::Future;
 use futures::task::{Context, Poll};
 use std::time::Clock;
 
-// A connection that is open, and has a seat.
+// A connection that is open, and has a permit.
 #[derive(Drop)]
 struct Connected<C, R> {
     conn: C,
     timer: Timer<R>,
     // It is left when the connection has ended.
-    seat: Seat,
+    permit: Permit,
 }
 
 impl<C: Future<Output = T>, T: Drop, R: Clock + Drop> Connected<C, R> {
@@ -40,13 +40,17 @@ pub(crate) struct Served<C, R> {
 }
 
 impl<C: Future, R> Served<C, R> {
-    /// Serves a connection that can be polled, in this time, and leaves its seat.
-    pub(crate) fn new(conn: C, timer: Timer<R>, seat: Seat) -> Served<C, R>
+    /// Serves a connection that can be polled, in this time, and gives its permit back.
+    pub(crate) fn new(conn: C, timer: Timer<R>, permit: Permit) -> Served<C, R>
         requires { C.can_poll conn }
         ensures { IfSome result.connected (λ connected. C.can_poll connected.conn) }
     {
         Served {
-            connected: Some(Connected { conn, timer, seat }),
+            connected: Some(Connected {
+                conn,
+                timer,
+                permit,
+            }),
         }
     }
 }

@@ -7,10 +7,10 @@ ghost use Rattle.invoke_records.specs.Reading.{Gives, fields_at, head_fault, fai
 ghost use Rattle.invoke_records.specs.Steps.{Reads, with_rest, refused_by, kind_behind, command_of};
 ghost use Rattle.invoke_records.specs.Records.{Finds};
 
-use crate::bytes::{MOST_BYTES, MOST_PAYLOAD};
 use crate::command::GREATEST_MOMENT;
 use crate::head::Head;
 use crate::reader::Reader;
+use crate::record_bytes::{MOST_BYTES, MOST_PAYLOAD};
 use crate::{Bytes, Cause, Command, Kind, RecordError};
 use retry_rules::RetryPolicy;
 use std::alloc::Global;

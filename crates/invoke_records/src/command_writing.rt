@@ -4,10 +4,10 @@ ghost use Rattle.std.specs.Int.{w16, w32, w64, to_be_bytes};
 ghost use Rattle.invoke_records.specs.Spelling.{command_text, command_fault, kind_byte, policy_text, detail_text, body_text, most_bytes, least_bytes, is_bad_detail, IsCommand};
 ghost use Rattle.invoke_records.specs.Reading.{sound, FailsBy};
 
-use crate::bytes::{MOST_BYTES, MOST_PAYLOAD};
 use crate::command::GREATEST_MOMENT;
 use crate::command_reading::{has_bad_environment, has_bad_id};
 use crate::placing::put_at;
+use crate::record_bytes::{MOST_BYTES, MOST_PAYLOAD};
 use crate::widths::{are_bytes, id_has_16};
 use crate::{Cause, Command, Kind, RecordError};
 use retry_rules::RetryPolicy;

@@ -5,7 +5,6 @@
 //! and that no spelling begins another.
 #![tactic(auto)]
 
-mod bytes;
 mod command;
 mod command_reading;
 mod command_writing;
@@ -16,6 +15,7 @@ mod limits;
 mod order;
 mod placing;
 mod reader;
+mod record_bytes;
 mod row;
 mod row_fields;
 mod row_reading;
@@ -30,11 +30,11 @@ mod snapshot_writing;
 mod widths;
 mod writer;
 
-pub use bytes::{Bytes, MOST_BYTES, MOST_PAYLOAD};
 pub use command::{Cause, Command, GREATEST_MOMENT, Kind};
 pub use command_reading::has_bad_id;
 pub use error::RecordError;
 pub use laws::{spellings_are_apart, spellings_are_short};
+pub use record_bytes::{Bytes, MOST_BYTES, MOST_PAYLOAD};
 pub use row::{Answer, EventRow, Outcome, Standing};
 pub use settings_record::SettingsRecord;
 pub use snapshot::{GREATEST_NUMBER, MOST_ROWS, Rows, Snapshot};

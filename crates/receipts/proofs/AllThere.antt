@@ -35,12 +35,12 @@ module _ (desk : ℕ) (own all : List Mark) where
   IsLeft rest i = (own ≡ history_of_desk desk all) ↔ (rest ≡ history_of_desk desk (drop i all))
 
 module _ {X : Type 0} (number : X → ℕ) (own : X → List Mark) (count parts : ℕ) (marks : List Mark) (desks : List X)
-    (seats : count ≡ parts) (a : Bool) (once : (a ≡ true) ↔ HaveEachOnce number count desks) where
+    (counted : count ≡ parts) (a : Bool) (once : (a ≡ true) ↔ HaveEachOnce number count desks) where
   same_once : HaveEachOnce number count desks → HaveEachOnce number parts desks
-  same_once all = subst (λ n. HaveEachOnce number n desks) seats all
+  same_once all = subst (λ n. HaveEachOnce number n desks) counted all
 
-  same_seats : HaveEachOnce number parts desks → HaveEachOnce number count desks
-  same_seats all = subst (λ n. HaveEachOnce number n desks) (sym seats) all
+  same_count : HaveEachOnce number parts desks → HaveEachOnce number count desks
+  same_count all = subst (λ n. HaveEachOnce number n desks) (sym counted) all
 
   pub all_there : a ≡ true → (b : Bool) → ((b ≡ true) ↔ All (λ desk. own desk ≡ history_of_desk (number desk) marks) desks)
       → (b ≡ true) ↔ AreAll number own parts marks desks
@@ -48,4 +48,4 @@ module _ {X : Type 0} (number : X → ℕ) (own : X → List Mark) (count parts 
       (λ t. record { once = same_once (once.0 is); own_history = own_histories.0 t }, λ all. own_histories.1 all.own_history)
 
   pub not_there : a ≡ false → (a ≡ true) ↔ AreAll number own parts marks desks
-  not_there is = (λ t. absurd (true≢false (sym t ∙ is)), λ all. once.1 (same_seats all.once))
+  not_there is = (λ t. absurd (true≢false (sym t ∙ is)), λ all. once.1 (same_count all.once))

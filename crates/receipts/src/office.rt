@@ -73,7 +73,7 @@ fn prepare<D: Disk, L: Ledger, T: Trace>(
 }
 
 // So many desks, each with one part of the share and no mark. There is room for them.
-fn seat<L: Ledger, T: Trace>(
+fn make_desks<L: Ledger, T: Trace>(
     alloc: Global,
     room: Vec<Desk<L, T>>,
     share: Share<L>,
@@ -118,7 +118,7 @@ impl<L: Ledger, T: Trace> Office<L, T> {
         requires fresh { IsFresh (settings_of hall.issuer) hall }
         requires name { blank.name ≡ L.name }
         requires parts { blank.parts ≡ L.parts }
-        requires seats { L.parts ≡ desk_count (settings_of hall.issuer) }
+        requires count { L.parts ≡ desk_count (settings_of hall.issuer) }
         ensures numbers { IfOk result (λ r. map (λ d. d.number) r.1.items ≡ range_with_len 0 L.parts) }
         ensures none { IfOk result (λ r. All (λ d. d.own.items ≡ []) r.1.items) }
         ensures untold { IfOk result (λ r. All (λ d. d.told ≡ 0) r.1.items) }
@@ -137,7 +137,7 @@ impl<L: Ledger, T: Trace> Office<L, T> {
         match hall.split() {
             Ok((hall, disk)) => {
                 let (book, share) = blank.open::<L>();
-                let seats = seat(alloc, room, share, count);
+                let made = make_desks(alloc, room, share, count);
                 let kept = Kept {
                     hall,
                     opening,
@@ -148,7 +148,7 @@ impl<L: Ledger, T: Trace> Office<L, T> {
                 let office = Office {
                     kept: Mutex::new(kept),
                 };
-                Ok((office, seats, disk))
+                Ok((office, made, disk))
             }
             Err(failure) => {
                 let cause = failure.cause;

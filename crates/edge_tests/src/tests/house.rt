@@ -75,7 +75,7 @@ fn house_over<L: Ledger, D: Disk + Drop>(
     requires fresh { IsFresh (settings_of hall.issuer) hall }
     requires name { blank.name ≡ L.name }
     requires parts { blank.parts ≡ L.parts }
-    requires seats { L.parts ≡ desk_count (settings_of hall.issuer) }
+    requires count { L.parts ≡ desk_count (settings_of hall.issuer) }
 {
     let durable = hall.durable();
     let Ok((office, desks, half)) = Office::<L, Mark>::new(alloc, hall, blank) else {
@@ -106,7 +106,7 @@ where
     requires fresh { IsFresh (settings_of hall.issuer) hall }
     requires name { blank.name ≡ L.name }
     requires parts { blank.parts ≡ L.parts }
-    requires seats { L.parts ≡ desk_count (settings_of hall.issuer) }
+    requires count { L.parts ≡ desk_count (settings_of hall.issuer) }
 {
     match house_over::<L, D>(rt.alloc(), hall, blank) {
         Some(house) => match story {

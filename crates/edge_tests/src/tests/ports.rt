@@ -84,7 +84,7 @@ where
     requires fresh { IsFresh (settings_of hall.issuer) hall }
     requires name { blank.name ≡ L.name }
     requires parts { blank.parts ≡ L.parts }
-    requires seats { L.parts ≡ desk_count (settings_of hall.issuer) }
+    requires count { L.parts ≡ desk_count (settings_of hall.issuer) }
 {
     let (listeners, doors) = doors(&rt, rt.alloc()).ok()?;
     let clients = thread::spawn(&rt, move || talk_at(&rt, doors, &watch, talk)).ok()?;

@@ -59,7 +59,7 @@ where
     requires fresh { IsFresh (settings_of hall.issuer) hall }
     requires name { blank.name ≡ L.name }
     requires parts { blank.parts ≡ L.parts }
-    requires seats { L.parts ≡ desk_count (settings_of hall.issuer) }
+    requires count { L.parts ≡ desk_count (settings_of hall.issuer) }
 {
     let Ok(listeners) = crowd(&rt, rt.alloc()) else {
         return false;

@@ -58,7 +58,7 @@ enum Visit {
     Late(&'static str, &'static str),
     /// A client whose reply waits for longer than the limits.
     Parked,
-    /// More clients than there are seats.
+    /// More clients than there are permits.
     Crowd,
 }
 
@@ -96,7 +96,7 @@ fn hears(client: &mut Option<TcpStream>) -> bool {
     }
 }
 
-// Both seats are taken. Who comes then is told nothing until one of them is left.
+// Both permits are taken. Who comes then is told nothing until one of them is given back.
 fn crowd<R>(rt: &R, to: SocketAddr) -> Result<(), Fail>
 where
     R: Abort + Clock + AllocGlobal + Net<Listener = TcpListener, Stream = TcpStream>,
@@ -236,6 +236,6 @@ fn a_reply_may_take_longer_than_the_limits(rt: HostRuntime) -> Result<(), Fail> 
 }
 
 #[test]
-fn one_more_than_the_seats_waits_until_one_is_left(rt: HostRuntime) -> Result<(), Fail> {
+fn one_more_than_the_permits_waits_until_one_is_given_back(rt: HostRuntime) -> Result<(), Fail> {
     serve_visit(rt, limits(), Visit::Crowd)
 }

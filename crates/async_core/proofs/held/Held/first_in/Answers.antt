@@ -1,4 +1,4 @@
--- The first turn's row.
+-- The first key's row.
 use Rattle.std.proofs.Common.{sym}
 use Rattle.std.specs.Option.{option_copied}
 use Rattle.async_core.proofs.KeptRows.{no_row, no_row_outside, first_row}

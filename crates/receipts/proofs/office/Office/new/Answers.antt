@@ -5,8 +5,8 @@ use Rattle.receipts.proofs.AllThere.{few_desks}
 use Rattle.receipts.proofs.Running.{runs_at_first}
 use Rattle.receipts.proofs.office.Office.new.Goals as goal
 
-pub seat-seats-requires-clause-few : goal.seat-seats-requires-clause-few
-seat-seats-requires-clause-few g c = few_desks (settings_of c.args.hall.issuer) _ c.args.hall.issuer.good.check (search rules)
+pub make_desks-made-requires-clause-few : goal.make_desks-made-requires-clause-few
+make_desks-made-requires-clause-few g c = few_desks (settings_of c.args.hall.issuer) _ c.args.hall.issuer.good.check (search rules)
 
 pub invariant_of-kept : goal.invariant_of-kept
 invariant_of-kept g c =

@@ -1,4 +1,4 @@
--- The first turn of an index.
+-- The first key of an index.
 use Rattle.std.proofs.Common.{◌≡◌, ℕ, ◌≤◌, ◌<◌, List, [], ◌∷◌, true, false, Some, None, refl, subst, arith, inl, inr}
 use Rattle.std.specs.declared.cmp.Ordering.{Ordering}
 use Rattle.std.specs.declared.cmp.Ordering.TheVariants.{Less, Equal, Greater}
@@ -8,11 +8,11 @@ use Rattle.std.specs.BTreeSet.{BTreeSet, contains, IsKeyRangeOf}
 use Rattle.std.proofs.lemmas.Bool.{true≢false, false_from_ne_true}
 use Rattle.std.proofs.lemmas.Bool.Decides.{nat_tests}
 use Rattle.std.proofs.lemmas.Map.Keys.{le_from_not_gt}
-use Rattle.async_core.specs.declared.turns.Index.{Index}
-use Rattle.async_core.specs.Turns.{Turn, index_rank, by_turn, IsAtMost, IsFirstTurn}
+use Rattle.async_core.specs.declared.keys.Index.{Index}
+use Rattle.async_core.specs.Keys.{Key, index_rank, by_key, IsAtMost, IsFirstKey}
 use Rattle.async_core.proofs.Firsts.{at_most, head_at_most, none_from, found_from, least_from}
 
--- one turn is at most another: by rank, then by the numbers, then by place
+-- one key is at most another: by rank, then by the numbers, then by place
 ordered_two : (a b : Ordering) → is_gt a ≡ false → (a ≡ Equal → is_gt b ≡ false) → is_gt (ordering_then a b) ≡ false
 ordered_two Less b h k = refl
 ordered_two Equal b h k = k refl
@@ -28,7 +28,7 @@ same_from : (m n : ℕ) → nat_cmp m n ≡ Equal → m ≡ n
 same_from m n is = grind (arith, nat_tests)
 
 -- from these two numbers on, in one index
-pub from_low : (rank : ℕ) (low : ℕ × ℕ) (a b q : ℕ) → IsAtMost low (a, b) → is_gt (by_turn (rank, low.0, low.1, 0) (rank, a, b, q)) ≡ false
+pub from_low : (rank : ℕ) (low : ℕ × ℕ) (a b q : ℕ) → IsAtMost low (a, b) → is_gt (by_key (rank, low.0, low.1, 0) (rank, a, b, q)) ≡ false
 from_low rank low a b q (inl lt) = rw (equal_from rank rank refl, less_from low.0 a lt) refl
 from_low rank low a b q (inr same) =
     rw (equal_from rank rank refl, equal_from low.0 a same.0) (ordered_two (nat_cmp low.1 b) (nat_cmp 0 q) (at_most low.1 b same.1) (λ _. at_most 0 q (omega arith)))
@@ -45,35 +45,35 @@ numbers_at_most a b x y p q h = by_first (nat_cmp a x) refl (head_at_most (order
     by_first Greater is k = absurd (true≢false (subst (λ o. is_gt (ordering_then o (nat_cmp b y)) ≡ false) is k))
 
 -- in one index, by the numbers
-in_index : (rank a b p x y q : ℕ) → is_gt (by_turn (rank, a, b, p) (rank, x, y, q)) ≡ false → IsAtMost (a, b) (x, y)
+in_index : (rank a b p x y q : ℕ) → is_gt (by_key (rank, a, b, p) (rank, x, y, q)) ≡ false → IsAtMost (a, b) (x, y)
 in_index rank a b p x y q h =
     numbers_at_most a b x y p q (subst (λ o. is_gt (ordering_then (ordering_then (ordering_then o (nat_cmp a x)) (nat_cmp b y)) (nat_cmp p q)) ≡ false) (equal_from rank rank refl) h)
 
-rank_at_most : (x y : Turn) → is_gt (by_turn x y) ≡ false → x.0 ≤ y.0
+rank_at_most : (x y : Key) → is_gt (by_key x y) ≡ false → x.0 ≤ y.0
 rank_at_most x y h =
     le_from_not_gt x.0 y.0 (head_at_most (nat_cmp x.0 y.0) (nat_cmp x.1 y.1) (head_at_most (ordering_then (nat_cmp x.0 y.0) (nat_cmp x.1 y.1)) (nat_cmp x.2 y.2) (head_at_most (ordering_then (ordering_then (nat_cmp x.0 y.0) (nat_cmp x.1 y.1)) (nat_cmp x.2 y.2)) (nat_cmp x.3 y.3) h)))
 
-module _ (s : BTreeSet Turn) (i : Index) (low : ℕ × ℕ) (r : List Turn) (range : IsKeyRangeOf by_turn (Included (index_rank i, low.0, low.1, 0)) Unbounded s r) where
-  bound : Turn
+module _ (s : BTreeSet Key) (i : Index) (low : ℕ × ℕ) (r : List Key) (range : IsKeyRangeOf by_key (Included (index_rank i, low.0, low.1, 0)) Unbounded s r) where
+  bound : Key
   bound = (index_rank i, low.0, low.1, 0)
 
-  pub no_turn : r ≡ [] → IsFirstTurn s i low None
-  no_turn is = λ a b q from. none_from by_turn (index_rank i, low.0, low.1, 0) s r range is (index_rank i, a, b, q) (from_low (index_rank i) low a b q from)
+  pub no_key : r ≡ [] → IsFirstKey s i low None
+  no_key is = λ a b q from. none_from by_key (index_rank i, low.0, low.1, 0) s r range is (index_rank i, a, b, q) (from_low (index_rank i) low a b q from)
 
-  pub found_turn : (k : Turn) (t : List Turn) → r ≡ k ∷ t → k.0 ≡ index_rank i → IsFirstTurn s i low (Some (k.1, k.2, k.3))
-  found_turn k t is same =
-      let there = found_from by_turn (index_rank i, low.0, low.1, 0) s k r t range is in (
-        subst (λ n. contains by_turn s (n, k.1, k.2, k.3) ≡ true) same there.1,
-        in_index (index_rank i) low.0 low.1 0 k.1 k.2 k.3 (subst (λ n. is_gt (by_turn (index_rank i, low.0, low.1, 0) (n, k.1, k.2, k.3)) ≡ false) same there.0),
+  pub found_key : (k : Key) (t : List Key) → r ≡ k ∷ t → k.0 ≡ index_rank i → IsFirstKey s i low (Some (k.1, k.2, k.3))
+  found_key k t is same =
+      let there = found_from by_key (index_rank i, low.0, low.1, 0) s k r t range is in (
+        subst (λ n. contains by_key s (n, k.1, k.2, k.3) ≡ true) same there.1,
+        in_index (index_rank i) low.0 low.1 0 k.1 k.2 k.3 (subst (λ n. is_gt (by_key (index_rank i, low.0, low.1, 0) (n, k.1, k.2, k.3)) ≡ false) same there.0),
         λ a b q from has.
-            let least : is_gt (by_turn (k.0, k.1, k.2, k.3) (index_rank i, a, b, q)) ≡ false = least_from by_turn (index_rank i, low.0, low.1, 0) s k r t range is (index_rank i, a, b, q) (from_low (index_rank i) low a b q from) has in
-            in_index (index_rank i) k.1 k.2 k.3 a b q (subst (λ n. is_gt (by_turn (n, k.1, k.2, k.3) (index_rank i, a, b, q)) ≡ false) same least),
+            let least : is_gt (by_key (k.0, k.1, k.2, k.3) (index_rank i, a, b, q)) ≡ false = least_from by_key (index_rank i, low.0, low.1, 0) s k r t range is (index_rank i, a, b, q) (from_low (index_rank i) low a b q from) has in
+            in_index (index_rank i) k.1 k.2 k.3 a b q (subst (λ n. is_gt (by_key (n, k.1, k.2, k.3) (index_rank i, a, b, q)) ≡ false) same least),
       )
 
-  pub other_turn : (k : Turn) (t : List Turn) → r ≡ k ∷ t → (k.0 ≡ index_rank i → ⊥) → IsFirstTurn s i low None
-  other_turn k t is apart = λ a b q from.
-      false_from_ne_true (contains by_turn s (index_rank i, a, b, q)) (λ has.
-      let there = found_from by_turn (index_rank i, low.0, low.1, 0) s k r t range is in
+  pub other_key : (k : Key) (t : List Key) → r ≡ k ∷ t → (k.0 ≡ index_rank i → ⊥) → IsFirstKey s i low None
+  other_key k t is apart = λ a b q from.
+      false_from_ne_true (contains by_key s (index_rank i, a, b, q)) (λ has.
+      let there = found_from by_key (index_rank i, low.0, low.1, 0) s k r t range is in
       let above = rank_at_most (index_rank i, low.0, low.1, 0) k there.0 in
-      let below = rank_at_most k (index_rank i, a, b, q) (least_from by_turn (index_rank i, low.0, low.1, 0) s k r t range is (index_rank i, a, b, q) (from_low (index_rank i) low a b q from) has) in
+      let below = rank_at_most k (index_rank i, a, b, q) (least_from by_key (index_rank i, low.0, low.1, 0) s k r t range is (index_rank i, a, b, q) (from_low (index_rank i) low a b q from) has) in
       apart (omega (arith, above, below)))

@@ -1,6 +1,6 @@
 use Rattle.std.proofs.Common.{◌≡◌, ◌+◌, [], map, All, vec_capacity, vec_len}
 use Rattle.std.specs.List.{range_with_len}
-use Rattle.receipts.proofs.office.seat.Given as goal
+use Rattle.receipts.proofs.office.make_desks.Given as goal
 
 abbrev pub invariant-loop-number : goal.invariant-loop-number
 invariant-loop-number g l = record {

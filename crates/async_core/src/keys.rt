@@ -1,7 +1,7 @@
-// Indexes of the rows: one ordered set of turns, each with the place of its row.
+// Indexes of the rows: one ordered set of keys, each with the place of its row.
 ghost use Rattle.std.specs.Prelude.{◌≡◌, OnOk, OnErr, Some, None, if◌then◌else◌, ◌==◌, [], ◌∷◌};
 ghost use Rattle.std.specs.BTreeSet as sorted;
-ghost use Rattle.async_core.specs.Turns as meant;
+ghost use Rattle.async_core.specs.Keys as meant;
 
 use crate::choice::{Side, is_on, lesser};
 use crate::situation::too_old_from;
@@ -29,7 +29,7 @@ pub enum Index {
 }
 
 /// The rank of an index, two numbers by which it is ordered, and the place of a row.
-pub type Turn = (u8, u128, u64, u64);
+pub type Key = (u8, u128, u64, u64);
 
 /// Where an index stands among the others in the set.
 pub fn rank(index: Index) -> u8
@@ -46,7 +46,7 @@ pub fn rank(index: Index) -> u8
     }
 }
 
-/// What the turns of an event depend on.
+/// What the keys of an event depend on.
 #[derive(Clone, Copy)]
 pub struct Facts {
     pub accepted: u64,
@@ -77,8 +77,8 @@ fn expiry(facts: Facts) -> u128
     too_old_from(facts.accepted, facts.age)
 }
 
-fn ripe_turn(facts: Facts) -> Option<(u128, u64)>
-    ensures { result ≡ meant.ripe_turn facts facts.standing }
+fn ripe_key(facts: Facts) -> Option<(u128, u64)>
+    ensures { result ≡ meant.ripe_key facts facts.standing }
 {
     let too_old = expiry(facts);
     match facts.standing {
@@ -89,8 +89,8 @@ fn ripe_turn(facts: Facts) -> Option<(u128, u64)>
     }
 }
 
-fn deadline_turn(facts: Facts) -> Option<(u128, u64)>
-    ensures { result ≡ meant.deadline_turn facts facts.standing }
+fn deadline_key(facts: Facts) -> Option<(u128, u64)>
+    ensures { result ≡ meant.deadline_key facts facts.standing }
 {
     match facts.standing {
         Standing::Running { deadline, .. } => Some((u128::from(deadline), facts.number)),
@@ -98,8 +98,8 @@ fn deadline_turn(facts: Facts) -> Option<(u128, u64)>
     }
 }
 
-fn running_turn(facts: Facts) -> Option<(u128, u64)>
-    ensures { result ≡ meant.running_turn facts facts.standing }
+fn running_key(facts: Facts) -> Option<(u128, u64)>
+    ensures { result ≡ meant.running_key facts facts.standing }
 {
     match facts.standing {
         Standing::Running { .. } => Some((u128::from(facts.number), 0)),
@@ -107,8 +107,8 @@ fn running_turn(facts: Facts) -> Option<(u128, u64)>
     }
 }
 
-fn environment_turn(facts: Facts) -> Option<(u128, u64)>
-    ensures { result ≡ meant.environment_turn facts facts.standing }
+fn environment_key(facts: Facts) -> Option<(u128, u64)>
+    ensures { result ≡ meant.environment_key facts facts.standing }
 {
     match facts.standing {
         Standing::Running { environment, .. } => Some((u128::from(environment), 0)),
@@ -116,8 +116,8 @@ fn environment_turn(facts: Facts) -> Option<(u128, u64)>
     }
 }
 
-fn idle_turn(facts: Facts) -> Option<(u128, u64)>
-    ensures { result ≡ meant.idle_turn facts facts.standing }
+fn idle_key(facts: Facts) -> Option<(u128, u64)>
+    ensures { result ≡ meant.idle_key facts facts.standing }
 {
     match facts.standing {
         Standing::Waiting { .. } => Some((expiry(facts), 0)),
@@ -126,8 +126,8 @@ fn idle_turn(facts: Facts) -> Option<(u128, u64)>
     }
 }
 
-fn ended_turn(side: Side, facts: Facts) -> Option<(u128, u64)>
-    ensures { result ≡ meant.ended_turn side facts facts.standing }
+fn ended_key(side: Side, facts: Facts) -> Option<(u128, u64)>
+    ensures { result ≡ meant.ended_key side facts facts.standing }
 {
     match facts.standing {
         Standing::Ended { outcome, .. } => {
@@ -141,100 +141,100 @@ fn ended_turn(side: Side, facts: Facts) -> Option<(u128, u64)>
 }
 
 /// Where an event stands in an index, if it stands there.
-fn turn_in(facts: Facts, index: Index) -> Option<(u128, u64)>
-    ensures { result ≡ meant.turn_in facts index }
+fn key_in(facts: Facts, index: Index) -> Option<(u128, u64)>
+    ensures { result ≡ meant.key_in facts index }
 {
     match index {
-        Index::Ripe => ripe_turn(facts),
-        Index::Deadline => deadline_turn(facts),
-        Index::Running => running_turn(facts),
-        Index::Environment => environment_turn(facts),
-        Index::Idle => idle_turn(facts),
-        Index::Success => ended_turn(Side::Success, facts),
-        Index::Failure => ended_turn(Side::Failure, facts),
+        Index::Ripe => ripe_key(facts),
+        Index::Deadline => deadline_key(facts),
+        Index::Running => running_key(facts),
+        Index::Environment => environment_key(facts),
+        Index::Idle => idle_key(facts),
+        Index::Success => ended_key(Side::Success, facts),
+        Index::Failure => ended_key(Side::Failure, facts),
     }
 }
 
-fn add_turn(
-    turns: &mut BTreeSet<Turn>,
+fn add_key(
+    keys: &mut BTreeSet<Key>,
     place: u64,
     facts: Facts,
     index: Index,
 ) -> Result<(), AllocError>
-    ensures ok { OnOk result (meant.AddsTurns place (Some facts) (index ∷ []) turns.old turns.new) }
-    ensures err { OnErr result (sorted.IsUnchanged turns.old turns.new) }
+    ensures ok { OnOk result (meant.AddsKeys place (Some facts) (index ∷ []) keys.old keys.new) }
+    ensures err { OnErr result (sorted.IsUnchanged keys.old keys.new) }
 {
-    if let Some(at) = turn_in(facts, index) {
-        turns.insert((rank(index), at.0, at.1, place))?;
+    if let Some(at) = key_in(facts, index) {
+        keys.insert((rank(index), at.0, at.1, place))?;
     }
     Ok(())
 }
 
 /// Whether an event with these facts, if there is one, stands there in an index.
-fn has_turn(facts: Option<Facts>, index: Index, at: (u128, u64)) -> bool
-    ensures { result ≡ meant.has_turn facts index at.0 at.1 }
+fn has_key(facts: Option<Facts>, index: Index, at: (u128, u64)) -> bool
+    ensures { result ≡ meant.has_key facts index at.0 at.1 }
 {
     match facts {
-        Some(facts) => match turn_in(facts, index) {
-            Some(turn) => turn.0 == at.0 && turn.1 == at.1,
+        Some(facts) => match key_in(facts, index) {
+            Some(key) => key.0 == at.0 && key.1 == at.1,
             None => false,
         },
         None => false,
     }
 }
 
-fn drop_turn(turns: &mut BTreeSet<Turn>, place: u64, gone: Facts, kept: Option<Facts>, index: Index)
-    ensures { meant.DropsTurns place (Some gone) kept (index ∷ []) turns.old turns.new }
+fn drop_key(keys: &mut BTreeSet<Key>, place: u64, gone: Facts, kept: Option<Facts>, index: Index)
+    ensures { meant.DropsKeys place (Some gone) kept (index ∷ []) keys.old keys.new }
 {
-    let Some(at) = turn_in(gone, index) else {
+    let Some(at) = key_in(gone, index) else {
         return;
     };
-    if has_turn(kept, index, at) {
+    if has_key(kept, index, at) {
         return;
     }
-    let _ = turns.remove(&(rank(index), at.0, at.1, place));
+    let _ = keys.remove(&(rank(index), at.0, at.1, place));
 }
 
-/// Adds the turns of an event in these indexes.
-fn add_turns(
-    turns: &mut BTreeSet<Turn>,
+/// Adds the keys of an event in these indexes.
+fn add_keys(
+    keys: &mut BTreeSet<Key>,
     place: u64,
     facts: Facts,
     indexes: &[Index],
 ) -> Result<(), AllocError>
-    ensures ok { OnOk result (meant.AddsTurns place (Some facts) indexes.now turns.old turns.new) }
-    ensures err { OnErr result (meant.AddsSome place (Some facts) turns.old turns.new) }
+    ensures ok { OnOk result (meant.AddsKeys place (Some facts) indexes.now keys.old keys.new) }
+    ensures err { OnErr result (meant.AddsSome place (Some facts) keys.old keys.new) }
 {
     for index in indexes {
-        add_turn(turns, place, facts, *index)?;
+        add_key(keys, place, facts, *index)?;
     }
     Ok(())
 }
 
-/// Drops the turns of an event in these indexes, save those that it keeps.
-fn drop_turns(
-    turns: &mut BTreeSet<Turn>,
+/// Drops the keys of an event in these indexes, save those that it keeps.
+fn drop_keys(
+    keys: &mut BTreeSet<Key>,
     place: u64,
     gone: Facts,
     kept: Option<Facts>,
     indexes: &[Index],
 )
-    ensures { meant.DropsTurns place (Some gone) kept indexes.now turns.old turns.new }
+    ensures { meant.DropsKeys place (Some gone) kept indexes.now keys.old keys.new }
 {
     for index in indexes {
-        drop_turn(turns, place, gone, kept, *index);
+        drop_key(keys, place, gone, kept, *index);
     }
 }
 
-/// Changes the turns of the event at a place. A refusal, for want of memory, leaves those that there were.
-pub fn switch_turns(
-    turns: &mut BTreeSet<Turn>,
+/// Changes the keys of the event at a place. A refusal, for want of memory, leaves those that there were.
+pub fn switch_keys(
+    keys: &mut BTreeSet<Key>,
     place: u64,
     old: Facts,
     new: Facts,
 ) -> Result<(), AllocError>
-    ensures ok { OnOk result (meant.Switches place (Some old) (Some new) turns.old turns.new) }
-    ensures err { OnErr result (meant.StaysAt place (Some old) turns.old turns.new) }
+    ensures ok { OnOk result (meant.Switches place (Some old) (Some new) keys.old keys.new) }
+    ensures err { OnErr result (meant.StaysAt place (Some old) keys.old keys.new) }
 {
     let indexes = [
         Index::Ripe,
@@ -245,18 +245,18 @@ pub fn switch_turns(
         Index::Success,
         Index::Failure,
     ];
-    if let Err(error) = add_turns(turns, place, new, &indexes) {
-        drop_turns(turns, place, new, Some(old), &indexes);
+    if let Err(error) = add_keys(keys, place, new, &indexes) {
+        drop_keys(keys, place, new, Some(old), &indexes);
         return Err(error);
     }
-    drop_turns(turns, place, old, Some(new), &indexes);
+    drop_keys(keys, place, old, Some(new), &indexes);
     Ok(())
 }
 
-/// Adds the turns of an event at a place that had none. A refusal, for want of memory, leaves those that there were.
-pub fn insert_turns(turns: &mut BTreeSet<Turn>, place: u64, new: Facts) -> Result<(), AllocError>
-    ensures ok { OnOk result (meant.Switches place None (Some new) turns.old turns.new) }
-    ensures err { OnErr result (meant.StaysAt place None turns.old turns.new) }
+/// Adds the keys of an event at a place that had none. A refusal, for want of memory, leaves those that there were.
+pub fn insert_keys(keys: &mut BTreeSet<Key>, place: u64, new: Facts) -> Result<(), AllocError>
+    ensures ok { OnOk result (meant.Switches place None (Some new) keys.old keys.new) }
+    ensures err { OnErr result (meant.StaysAt place None keys.old keys.new) }
 {
     let indexes = [
         Index::Ripe,
@@ -267,16 +267,16 @@ pub fn insert_turns(turns: &mut BTreeSet<Turn>, place: u64, new: Facts) -> Resul
         Index::Success,
         Index::Failure,
     ];
-    if let Err(error) = add_turns(turns, place, new, &indexes) {
-        drop_turns(turns, place, new, None, &indexes);
+    if let Err(error) = add_keys(keys, place, new, &indexes) {
+        drop_keys(keys, place, new, None, &indexes);
         return Err(error);
     }
     Ok(())
 }
 
-/// Drops the turns of the event at a place. It takes no memory.
-pub fn remove_turns(turns: &mut BTreeSet<Turn>, place: u64, old: Facts)
-    ensures { meant.Switches place (Some old) None turns.old turns.new }
+/// Drops the keys of the event at a place. It takes no memory.
+pub fn remove_keys(keys: &mut BTreeSet<Key>, place: u64, old: Facts)
+    ensures { meant.Switches place (Some old) None keys.old keys.new }
 {
     let indexes = [
         Index::Ripe,
@@ -287,19 +287,15 @@ pub fn remove_turns(turns: &mut BTreeSet<Turn>, place: u64, old: Facts)
         Index::Success,
         Index::Failure,
     ];
-    drop_turns(turns, place, old, None, &indexes);
+    drop_keys(keys, place, old, None, &indexes);
 }
 
-/// The first turn in an index from these two numbers on, and the place of its row.
-pub fn first_turn(
-    turns: &BTreeSet<Turn>,
-    index: Index,
-    low: (u128, u64),
-) -> Option<(u128, u64, u64)>
-    ensures { meant.IsFirstTurn turns.now index low result }
+/// The first key in an index from these two numbers on, and the place of its row.
+pub fn first_key(keys: &BTreeSet<Key>, index: Index, low: (u128, u64)) -> Option<(u128, u64, u64)>
+    ensures { meant.IsFirstKey keys.now index low result }
 {
     let rank = rank(index);
-    let Some(first) = turns.range((rank, low.0, low.1, 0)..).next() else {
+    let Some(first) = keys.range((rank, low.0, low.1, 0)..).next() else {
         return None;
     };
     if first.0 == rank {

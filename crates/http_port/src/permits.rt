@@ -1,4 +1,4 @@
-// The seats of a port: each open connection has one.
+// The permits of a port: each open connection has one.
 ghost use Rattle.std.specs.Prelude.{◌≡◌, ◌+◌, ◌≤◌, ◌<◌, IfOk, OnSome, None};
 ghost use Rattle.futures.specs.Task.{IsArmed, Keeps};
 ghost use Rattle.futures.specs.Poll.{IfReady, OnPending};
@@ -8,24 +8,24 @@ use std::alloc::{AllocError, Global};
 use std::cell::Cell;
 use std::rc::Rc;
 
-// Where seats tell that they were left.
+// Where permits tell that they were given back.
 #[derive(Drop)]
-struct Left {
+struct Returned {
     source: Source,
-    // How many were left since that was asked last.
+    // How many were given back since that was asked last.
     count: Cell<usize>,
     // The task that waits for one.
     waker: Cell<Option<Waker>>,
 }
 
-impl Left {
-    // A seat was left. A waker wakes its task when it is dropped.
+impl Returned {
+    // A permit was given back. A waker wakes its task when it is dropped.
     fn note(&self) {
         self.count.set(self.count.get().saturating_add(1));
         drop(self.waker.take());
     }
 
-    // The task is woken once a seat is left.
+    // The task is woken once a permit is given back.
     fn wait(&self, cx: &mut Context<'_>) -> Poll<()>
         ensures pending { result ≡ Poll.Pending }
         ensures armed { IsArmed cx.new }
@@ -38,55 +38,55 @@ impl Left {
     }
 }
 
-/// The seat of an open connection. It is left when it is dropped.
-pub(crate) struct Seat {
-    left: Rc<Left>,
+/// The permit of an open connection. It is given back when it is dropped.
+pub(crate) struct Permit {
+    returned: Rc<Returned>,
 }
 
-impl Drop for Seat {
+impl Drop for Permit {
     fn drop(self) {
-        let Seat { left } = self;
-        left.note();
+        let Permit { returned } = self;
+        returned.note();
     }
 }
 
-/// The seats of a port. No more are taken than there are.
+/// The permits of a port. No more are taken than there are.
 #[derive(Drop)]
-pub(crate) struct Seats {
+pub(crate) struct Permits {
     most: usize,
     taken: usize,
-    left: Rc<Left>,
+    returned: Rc<Returned>,
     ghost bounded: { taken ≤ most },
 }
 
-impl Seats {
-    /// So many seats, all free.
-    pub(crate) fn new(alloc: Global, most: usize) -> Result<Seats, AllocError>
-        ensures most { IfOk result (λ seats. seats.most ≡ most) }
-        ensures free { IfOk result (λ seats. seats.taken ≡ 0) }
+impl Permits {
+    /// So many permits, all free.
+    pub(crate) fn new(alloc: Global, most: usize) -> Result<Permits, AllocError>
+        ensures most { IfOk result (λ permits. permits.most ≡ most) }
+        ensures free { IfOk result (λ permits. permits.taken ≡ 0) }
     {
-        let left = Left {
+        let returned = Returned {
             source: Source::new(),
             count: Cell::new(0),
             waker: Cell::new(None),
         };
-        Ok(Seats {
+        Ok(Permits {
             most,
             taken: 0,
-            left: Rc::new(alloc, left)?,
+            returned: Rc::new(alloc, returned)?,
         })
     }
 
-    // Those that were left are free again.
+    // Those that were given back are free again.
     fn free(&mut self)
         ensures most { self.new.most ≡ self.old.most }
         ensures taken { self.new.taken ≤ self.old.taken }
     {
-        let left = self.left.count.replace(0);
-        self.taken = self.taken.saturating_sub(left);
+        let returned = self.returned.count.replace(0);
+        self.taken = self.taken.saturating_sub(returned);
     }
 
-    /// Ready while a seat is free.
+    /// Ready while a permit is free.
     pub(crate) fn poll_free(&mut self, cx: &mut Context<'_>) -> Poll<()>
         ensures most { self.new.most ≡ self.old.most }
         ensures free { IfReady result (λ _. self.new.taken < self.new.most) }
@@ -97,18 +97,18 @@ impl Seats {
         if self.taken < self.most {
             return Poll::Ready(());
         }
-        self.left.wait(cx)
+        self.returned.wait(cx)
     }
 
-    /// Takes a seat that is free. None where the count of those who know the seats is full.
-    pub(crate) fn take(&mut self) -> Option<Seat>
+    /// Takes a permit that is free. None where too many are out to be counted.
+    pub(crate) fn take(&mut self) -> Option<Permit>
         requires { self.old.taken < self.old.most }
         ensures most { self.new.most ≡ self.old.most }
         ensures taken { OnSome result (self.new.taken ≡ self.old.taken + 1) }
         ensures none { result ≡ None → self.new.taken ≡ self.old.taken }
     {
-        let left = Rc::clone(&self.left).ok()?;
+        let returned = Rc::clone(&self.returned).ok()?;
         self.taken += 1;
-        Some(Seat { left })
+        Some(Permit { returned })
     }
 }
