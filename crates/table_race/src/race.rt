@@ -69,7 +69,7 @@ impl Race {
             age: if is_bad && longer > 0 {
                 59
             } else {
-                60 + 10 * longer
+                longer.saturating_mul(10).saturating_add(60)
             },
         }
     }
@@ -172,7 +172,7 @@ impl Race {
     }
 
     // Every 512 commands the environments go or come back. Where they have gone, some events are too old.
-    fn turn(&mut self, n: u64) {
+    fn outage(&mut self, n: u64) {
         if self.has_outages && n % 512 == 511 {
             self.is_out = !self.is_out;
             if self.is_out {
@@ -278,7 +278,7 @@ pub fn run_race(
         behind: 0,
     };
     for n in 0..commands {
-        race.turn(n);
+        race.outage(n);
         let agrees = run_step(&mut race, &mut report)?;
         let is_whole = if n % 256 == 255 {
             race.is_whole()?
