@@ -47,7 +47,7 @@ pub enum ServingError {
     /// The clock could not be read, or a line not be printed.
     #[error("{0}")]
     System(#[from] io::Error),
-    /// An attempt that the last stop cut off was not marked.
+    /// No Interrupt was issued for an attempt that the last stop cut off.
     #[error("{0}")]
     Resume(#[from] IssueError),
     #[error("{0}")]
@@ -90,8 +90,8 @@ where
     Ok(listeners)
 }
 
-// Marks the attempts that the last stop cut off.
-fn mark_attempts<R: Clock + Wait, D: Disk>(
+// Issues an Interrupt for each attempt that the last stop cut off.
+fn interrupt_attempts<R: Clock + Wait, D: Disk>(
     rt: &R,
     broker: &mut Broker<D>,
 ) -> Result<(), ServingError>
@@ -107,12 +107,12 @@ fn mark_attempts<R: Clock + Wait, D: Disk>(
     Ok(())
 }
 
-// Marks the attempts that the last stop cut off, and makes that durable: nothing runs then.
+// Issues an Interrupt for each attempt that the last stop cut off, and makes that durable: nothing runs then.
 fn resume<R: Clock + Wait, D: Disk>(rt: &R, broker: &mut Broker<D>) -> Result<(), ServingError>
     ensures durable { OnOk result (pending_of broker.new ≡ []) }
     ensures rest { ForEachHistory D.view broker.old (λ history. OnOk result (ComesToRest D.view history broker.new)) }
 {
-    mark_attempts(rt, broker)?;
+    interrupt_attempts(rt, broker)?;
     match broker.commit() {
         Ok(_) => Ok(()),
         Err(why) => Err(ServingError::Commit(why)),
