@@ -23,4 +23,4 @@ returns-clause-exact g c honest =
     (c.in_ok-opened.ensures.parts honest) live.1 first (ap (λ (s : State). s.settings) c.in-Ok.ensures ∙ c.settings.ensures) (ap (λ (s : State). s.table) c.in-Ok.ensures)
     c.apply_all.new.table c.apply_all.ensures.settings c.in-Ok-apply_all.field-0 (rw c.deref.ensures.value at c.in-Ok-apply_all.ensures.replayed)
     _ c.generation.ensures c.number.ensures c.in-Ok-counts_of.ensures (c.in-Ok-older_of.ensures.told (c.open.ensures.same.honest.1 honest) live.0 live.3)
-    c.in_force.ensures.by_table
+    c.in_force-retries.ensures.by_table
