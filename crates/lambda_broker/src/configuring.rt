@@ -1,8 +1,9 @@
 // Setting the retry policy of a disk.
-ghost use Rattle.std.specs.Prelude.{◌≡◌, [], OnOk};
-ghost use Rattle.group_commit.specs.Broker.{pending_of};
+ghost use Rattle.std.specs.Prelude.{◌≡◌, [], IfErr, IfOk, OnOk};
+ghost use Rattle.async_core.specs.Policies.{pair_of};
+ghost use Rattle.group_commit.specs.Broker.{pending_of, table_in, IsReason};
 ghost use Rattle.group_commit.specs.Promises.{ForEachHistory};
-ghost use Rattle.lambda_broker.specs.Configuring.{bad_option, policy_for, IsConfigured, is_device_fault};
+ghost use Rattle.lambda_broker.specs.Configuring.{bad_option, policy_for, configure_at, IsConfigured, IsRefusal, IsAsked, IsBadOption, is_device_fault};
 
 use async_core::Table;
 use group_commit::{Broker, CommitError, IssueError, OpenError, without_disk};
@@ -96,18 +97,23 @@ fn issue<D: Disk>(
     new: &NewPolicy<'_>,
     now: u64,
 ) -> Result<(), IssueError>
+    ensures reason { IfErr result (IsReason broker.old (configure_at (table_in broker.old) new.now now)) }
+    ensures policy { OnOk result ((table_in broker.new).policy ≡ policy_for (table_in broker.old).policy new.now) }
     ensures configured { ForEachHistory D.view broker.old (λ history. OnOk result (IsConfigured D.view new.now now history broker.new)) }
 {
     let kind = Kind::Configure(policy_for(broker.table(), new));
     let time = now.max(broker.table().last_moment());
-    broker.issue(Command {
+    let command = Command {
         kind,
         id: [0; 16],
         environment: 0,
         time,
         bytes: Bytes::empty(),
-    })?;
-    Ok(())
+    };
+    match broker.issue(command) {
+        Ok(_) => Ok(()),
+        Err(why) => Err(why),
+    }
 }
 
 // Brings this retry policy in force, and makes that durable: what is in force then.
@@ -117,12 +123,18 @@ fn configure<D: Disk>(
     new: &NewPolicy<'_>,
     now: u64,
 ) -> Result<(u8, u32), ConfiguringError>
+    ensures told { IfOk result (λ pair. pair ≡ pair_of (policy_for (table_in broker.old).policy new.now)) }
+    ensures reason { IfErr result (IsRefusal broker.old (configure_at (table_in broker.old) new.now now)) }
     ensures durable { OnOk result (pending_of broker.new ≡ []) }
     ensures configured { ForEachHistory D.view broker.old (λ history. OnOk result (IsConfigured D.view new.now now history broker.new)) }
 {
-    issue(alloc, broker, new, now)?;
-    broker.commit()?;
-    Ok(broker.table().in_force())
+    if let Err(why) = issue(alloc, broker, new, now) {
+        return Err(ConfiguringError::Issue(why));
+    }
+    match broker.commit() {
+        Ok(_) => Ok(broker.table().in_force()),
+        Err(why) => Err(ConfiguringError::Commit(why)),
+    }
 }
 
 // The broker on a disk, which is given up where it is not opened.
@@ -136,7 +148,10 @@ fn open<D: Disk + Drop>(alloc: Global, disk: D) -> Result<Broker<D>, OpenError> 
 pub fn configure_disk<R: Files<File = File> + Clock + AllocGlobal>(
     rt: &R,
     new: &NewPolicy<'_>,
-) -> Result<(u8, u32), ConfiguringError> {
+) -> Result<(u8, u32), ConfiguringError>
+    ensures asked { IfOk result (IsAsked new.now) }
+    ensures bad { IfErr result (IsBadOption new.now) }
+{
     if let Some(field) = bad_option(new) {
         return Err(ConfiguringError::Settings(BadSettings { field }));
     }
