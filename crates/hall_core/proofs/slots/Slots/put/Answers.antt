@@ -15,7 +15,7 @@ pub returns-clause-ok : goal.returns-clause-ok
 returns-clause-ok c = record {
   each = λ other. search rules;
   count =
-    subst (λ (slots : Entries). length c.insert.new.self.entries + option_len (entry_at slots c.args.slot) ≡ length slots + 1) c.self.view_is
-    (subst (λ (old : Option OpenSlot). length c.insert.new.self.entries + option_len old ≡ length c.self.inside.slots.entries + 1)
-    c.in_ok-insert.ensures.old (counted _ _ c.in_ok-insert.field-0 c.in_ok-insert.ensures.len));
+      subst (λ (slots : Entries). length c.insert.new.self.entries + option_len (entry_at slots c.args.slot) ≡ length slots + 1) c.self.view_is
+      (subst (λ (old : Option OpenSlot). length c.insert.new.self.entries + option_len old ≡ length c.self.inside.slots.entries + 1)
+      c.in_ok-insert.ensures.old (counted _ _ c.in_ok-insert.field-0 c.in_ok-insert.ensures.len));
 }
