@@ -1,5 +1,5 @@
 -- The command that configures, behind a history.
-use Rattle.std.proofs.Common.{◌≡◌, ℕ, List, [], ◌∷◌, ◌++◌, Option, Some, None, refl, sym, ap, subst, ◌∙◌}
+use Rattle.std.proofs.Common.{◌≡◌, ℕ, List, [], ◌∷◌, ◌++◌, Option, Some, None, Result, Ok, Err, IfOk, refl, sym, ap, subst, ◌∙◌}
 use Rattle.sector_disk.specs.Disk.{DiskView}
 use Rattle.sector_disk.specs.declared.disk.Disk.{Ghosts}
 use Rattle.retry_rules.specs.declared.policy.RetryPolicy.{RetryPolicy}
@@ -12,6 +12,7 @@ use Rattle.async_core.specs.Rules.{table_after}
 use Rattle.group_commit.specs.declared.broker.Broker.{Broker}
 use Rattle.group_commit.specs.declared.error.IssueError.{IssueError}
 use Rattle.group_commit.specs.Broker.{settings_of, table_in, Stands, Issues, IsReason}
+use Rattle.lambda_broker.specs.declared.configuring.ConfiguringError.{ConfiguringError}
 use Rattle.lambda_broker.specs.declared.configuring.NewPolicy.{NewPolicy}
 use Rattle.lambda_broker.specs.Configuring.{told_or, policy_for, configure_after, configure_at, IsConfigured, IsAsked}
 
@@ -43,6 +44,11 @@ asked_once (Some n) before = refl
 asked_once None before = refl
 
 -- what is told then is what was asked for
-pub asked : (wanted : NewPolicy) (before : RetryPolicy) (pair : ℕ × ℕ) → pair ≡ pair_of (policy_for before wanted) → IsAsked wanted pair
+asked : (wanted : NewPolicy) (before : RetryPolicy) (pair : ℕ × ℕ) → pair ≡ pair_of (policy_for before wanted) → IsAsked wanted pair
 asked wanted before pair is =
     subst (IsAsked wanted) (sym is) (asked_once wanted.retries before.retries, asked_once wanted.age before.age)
+
+pub asked_for : (wanted : NewPolicy) (before : RetryPolicy) (result : Result (ℕ × ℕ) ConfiguringError)
+    → IfOk result (λ pair. pair ≡ pair_of (policy_for before wanted)) → IfOk result (IsAsked wanted)
+asked_for wanted before (Ok pair) is = asked wanted before pair is
+asked_for wanted before (Err why) is = is

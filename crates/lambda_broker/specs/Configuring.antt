@@ -4,7 +4,6 @@ use Rattle.sector_disk.specs.Disk.{DiskView}
 use Rattle.sector_disk.specs.declared.disk.Disk.{Ghosts}
 use Rattle.sector_disk.specs.declared.file.FileError.TheVariants as file_error
 use Rattle.retry_rules.specs.declared.policy.RetryPolicy.{RetryPolicy}
-use Rattle.retry_rules.specs.declared.settings.BadSettings.{BadSettings}
 use Rattle.retry_rules.specs.declared.settings.Field.{Field}
 use Rattle.retry_rules.specs.declared.settings.Field.TheVariants as field
 use Rattle.retry_rules.specs.declared.settings.Settings.{Settings}
@@ -69,10 +68,9 @@ IsRefusal broker command other = ⊥
 abbrev pub IsAsked : NewPolicy → ℕ × ℕ → Type 0
 IsAsked new pair = (pair.0 ≡ told_or new.retries pair.0) × (pair.1 ≡ told_or new.age pair.1)
 
--- a bad option is told, and only one that there is
-abbrev pub IsBadOption : NewPolicy → ConfiguringError → Type 0
-IsBadOption new (error.Settings bad) = bad_option new ≡ Some bad.field
-IsBadOption new other = bad_option new ≡ None
+-- it is refused for a bad option
+abbrev pub refused_for : Field → ConfiguringError
+refused_for field = error.Settings (record { field = field })
 
 abbrev pub is_device_fault : ConfiguringError → Bool
 is_device_fault (error.File file_error.Fault) = true

@@ -1,9 +1,10 @@
 // Setting the retry policy of a disk.
-ghost use Rattle.std.specs.Prelude.{◌≡◌, [], IfErr, IfOk, OnOk};
+ghost use Rattle.std.specs.Prelude.{◌≡◌, [], Some, Err, IfErr, IfOk, OnOk};
 ghost use Rattle.async_core.specs.Policies.{pair_of};
 ghost use Rattle.group_commit.specs.Broker.{pending_of, table_in, IsReason};
 ghost use Rattle.group_commit.specs.Promises.{ForEachHistory};
-ghost use Rattle.lambda_broker.specs.Configuring.{bad_option, policy_for, configure_at, IsConfigured, IsRefusal, IsAsked, IsBadOption, is_device_fault};
+ghost use Rattle.lambda_broker.specs.Configuring.{bad_option, policy_for, configure_at, IsConfigured, IsRefusal, IsAsked, refused_for, is_device_fault};
+ghost use Rattle.retry_rules.specs.declared.settings.Field.{Field};
 
 use async_core::Table;
 use group_commit::{Broker, CommitError, IssueError, OpenError, without_disk};
@@ -150,7 +151,7 @@ pub fn configure_disk<R: Files<File = File> + Clock + AllocGlobal>(
     new: &NewPolicy<'_>,
 ) -> Result<(u8, u32), ConfiguringError>
     ensures asked { IfOk result (IsAsked new.now) }
-    ensures bad { IfErr result (IsBadOption new.now) }
+    ensures bad { (field : Field) → bad_option new.now ≡ Some field → result ≡ Err (refused_for field) }
 {
     if let Some(field) = bad_option(new) {
         return Err(ConfiguringError::Settings(BadSettings { field }));
