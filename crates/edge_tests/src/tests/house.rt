@@ -27,7 +27,7 @@ pub const NOW: u64 = 1573755365568;
 
 /// An invoke of `{}`.
 pub fn invoke(alloc: Global) -> Result<Call, AllocError> {
-    let payload = Bytes::from_vec(Vec::from_slice(alloc, b"{}")?);
+    let payload = Bytes::from_slice(alloc, b"{}")?;
     Ok(Call::Invoke { payload })
 }
 
