@@ -1,6 +1,7 @@
 // Why a front was not served, or a request did not come to its hall.
 ghost use Rattle.std.specs.Prelude.{◌≡◌};
 ghost use Rattle.http_front.specs.declared.error.ArrivalError.TheVariants.{Hall, System};
+ghost use Rattle.http_front.specs.declared.error.ServeError.TheVariants as serve_error;
 
 use group_commit::SplitError;
 use hall_core::HallError;
@@ -12,16 +13,32 @@ use thiserror::Error;
 #[derive(Debug, Drop, Error)]
 pub enum ServeError {
     #[error("out of memory")]
-    OutOfMemory(#[from] AllocError),
+    OutOfMemory(AllocError),
     /// No office was opened over the hall.
     #[error("{0}")]
-    Office(#[from] SplitError),
+    Office(SplitError),
     /// There are more listeners than ports: one for callers and one for each environment, at least six.
     #[error("too many ports")]
     TooManyPorts,
     /// The system gave no thread, or nothing to wait for sockets with.
     #[error("{0}")]
-    System(#[from] io::Error),
+    System(io::Error),
+}
+
+impl From<AllocError> for ServeError {
+    ghost from_gives = { λ why error. error ≡ serve_error.OutOfMemory why };
+
+    fn from(why: AllocError) -> ServeError {
+        ServeError::OutOfMemory(why)
+    }
+}
+
+impl From<io::Error> for ServeError {
+    ghost from_gives = { λ why error. error ≡ serve_error.System why };
+
+    fn from(why: io::Error) -> ServeError {
+        ServeError::System(why)
+    }
 }
 
 /// Why a request did not come to the hall, which is as it was.

@@ -1,5 +1,5 @@
 // Opening a front over a hall.
-ghost use Rattle.std.specs.Prelude.{◌≡◌, [], IfOk};
+ghost use Rattle.std.specs.Prelude.{◌≡◌, ◌≤◌, [], vec_len, IsErrOf, IfOk};
 ghost use Rattle.group_commit.specs.Broker.{pending_of, settings_of};
 ghost use Rattle.group_commit.specs.Splitting.{broker_of};
 ghost use Rattle.hall_core.specs.Fresh.{IsFresh};
@@ -77,12 +77,15 @@ fn furnish<L: Ledger, T: Trace, D: Disk + Drop>(
     seats: Vec<Seated>,
     half: DiskHalf<D>,
 ) -> Result<Opened<L, T, D>, ServeError>
+    requires desks { 2 ≤ vec_len desks }
+    requires seats { 1 ≤ vec_len seats }
+    ensures ports { IsErrOf result ServeError.TooManyPorts → ⊥ }
     ensures half { IfOk result (λ opened. opened.committer.half ≡ half) }
 {
     let mut desks = desks;
     let mut seats = seats;
     let (Some(desk), Some(ticker), Some(seated)) = (desks.pop(), desks.pop(), seats.pop()) else {
-        return Err(ServeError::TooManyPorts);
+        unreachable!();
     };
     let ports = ports(alloc, &front, desks, seats)?;
     Ok(Opened {
@@ -104,6 +107,7 @@ pub(crate) fn open<L: Ledger, T: Trace, D: Disk + Drop>(
     requires name { blank.name ≡ L.name }
     requires parts { blank.parts ≡ L.parts }
     requires count { L.parts ≡ desk_count (settings_of hall.issuer) }
+    ensures ports { IsErrOf result ServeError.TooManyPorts → ⊥ }
     ensures half { IfOk result (λ opened. broker_of opened.committer.half ≡ hall.issuer) }
 {
     let settings = hall.table().settings().copy()?;

@@ -1,5 +1,5 @@
 // A whole front, until its last thread has ended.
-ghost use Rattle.std.specs.Prelude.{◌≡◌, ◌⊎◌, ◌≤◌, ◌+◌, [], vec_len, OnOk, IfOk};
+ghost use Rattle.std.specs.Prelude.{◌≡◌, ◌⊎◌, ◌≤◌, ◌<◌, ◌+◌, [], vec_len, IsErrOf, OnOk, IfOk};
 ghost use Rattle.commit_loop.specs.declared.gate.Turn.TheVariants as turn;
 ghost use Rattle.group_commit.specs.Broker.{pending_of, settings_of};
 ghost use Rattle.group_commit.specs.Splitting.{broker_of};
@@ -322,6 +322,7 @@ where
     requires parts { blank.parts ≡ L.parts }
     requires count { L.parts ≡ desk_count (settings_of hall.issuer) }
     ensures ports { OnOk result (vec_len listeners + 2 ≤ desk_count (settings_of hall.issuer)) }
+    ensures many { IsErrOf result ServeError.TooManyPorts → desk_count (settings_of hall.issuer) < vec_len listeners + 2 }
     ensures served { IfOk result (λ served. HasServed D.view D.fault_count hall.issuer (broker_of served.half)) }
 {
     if listeners.len() as u64 > port_count(hall.table().settings()) {
