@@ -29,18 +29,27 @@ pub returns-then-sectors-least-clause-reason : goal.returns-then-sectors-least-c
 returns-then-sectors-least-clause-reason g c honest =
     let old = g.D.Disk.view c.args.disk.now in
     let mid = g.D.Disk.view c.recover_either.new.disk in
-    let was = old_disk old mid c.in-Ok.opened c.in-Ok.table.table (c.recover_either.ensures.content honest) (sym c.is_old.ensures ∙ c.if-not-is_old.false) (c.in-Ok.ensures.live honest) in
-    (_, c.in-Ok.table.table, _, was, omega (arith, c.least_sectors-least.ensures.exact, c.settings.ensures),
-    omega (arith, c.if-sectors-least.true, c.sectors-sectors.ensures, c.recover_either.ensures.same.sectors))
+    let was = old_disk old mid c.in-Ok.opened c.in-Ok.table.table (c.recover_either.ensures.content honest) (sym c.is_old.ensures ∙ c.if-not-is_old.false) (c.in-Ok.ensures.live honest) in (
+      _,
+      c.in-Ok.table.table,
+      _,
+      was,
+      omega (arith, c.least_sectors-least.ensures.exact, c.settings.ensures),
+      omega (arith, c.if-sectors-least.true, c.sectors-sectors.ensures, c.recover_either.ensures.same.sectors),
+    )
 
 pub returns-then-generation-ge-MOST_GENERATIONS-clause-reason : goal.returns-then-generation-ge-MOST_GENERATIONS-clause-reason
 returns-then-generation-ge-MOST_GENERATIONS-clause-reason g c honest =
     let old = g.D.Disk.view c.args.disk.now in
     let mid = g.D.Disk.view c.recover_either.new.disk in
-    let was = old_disk old mid c.in-Ok.opened c.in-Ok.table.table (c.recover_either.ensures.content honest) (sym c.is_old.ensures ∙ c.if-not-is_old.false) (c.in-Ok.ensures.live honest) in
-    (_, c.in-Ok.table.table, _, was,
-    omega (arith, c.if-sectors-least.false, c.least_sectors-least.ensures.exact, c.sectors-sectors.ensures, c.recover_either.ensures.same.sectors),
-    omega (arith, c.if-generation-ge-MOST_GENERATIONS.true, c.generation-generation.ensures))
+    let was = old_disk old mid c.in-Ok.opened c.in-Ok.table.table (c.recover_either.ensures.content honest) (sym c.is_old.ensures ∙ c.if-not-is_old.false) (c.in-Ok.ensures.live honest) in (
+      _,
+      c.in-Ok.table.table,
+      _,
+      was,
+      omega (arith, c.if-sectors-least.false, c.least_sectors-least.ensures.exact, c.sectors-sectors.ensures, c.recover_either.ensures.same.sectors),
+      omega (arith, c.if-generation-ge-MOST_GENERATIONS.true, c.generation-generation.ensures),
+    )
 
 pub returns-clause-room : goal.returns-clause-room
 returns-clause-room g c = record {
