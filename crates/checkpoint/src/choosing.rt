@@ -35,6 +35,7 @@ pub(crate) fn choose(
     requires a { IfSome a (IsSoundHeader half) }
     requires b { IfSome b (IsSoundHeader half) }
     ensures exact { result ≡ chosen half a b }
+    ensures fault { IsErrOf result OpenError.Fault → ⊥ }
     ensures old { IsErrOf result OpenError.OldVersion → ⊥ }
     ensures live { IfOk result (λ found. IsSoundFound half found.0) }
     ensures older { IfOk result (λ found. IfSome found.1 (IsSoundFound half)) }
@@ -61,6 +62,7 @@ fn is_later_than(live: Version, older: Version) -> bool
 fn in_order(live: Found, older: Found) -> Result<(Found, Option<Found>), OpenError>
     requires small { older.base < 2 ^ 63 }
     ensures exact { result ≡ in_order live older }
+    ensures fault { IsErrOf result OpenError.Fault → ⊥ }
     ensures old { IsErrOf result OpenError.OldVersion → ⊥ }
     ensures same { IfOk result (λ found. found ≡ (live, Some older)) }
 {
@@ -76,6 +78,7 @@ fn choose_newer(half: u64, a: Header, b: Header) -> Result<(Found, Option<Found>
     requires a { IsSoundHeader half a }
     requires b { IsSoundHeader half b }
     ensures exact { result ≡ chosen half (Some a) (Some b) }
+    ensures fault { IsErrOf result OpenError.Fault → ⊥ }
     ensures old { IsErrOf result OpenError.OldVersion → ⊥ }
     ensures live { IfOk result (λ found. IsSoundFound half found.0) }
     ensures older { IfOk result (λ found. IfSome found.1 (IsSoundFound half)) }
