@@ -1,4 +1,6 @@
-use Rattle.std.proofs.Common.{sym, ap, subst, ◌∙◌, arith, Err}
+use Rattle.std.proofs.Common.{◌≡◌, sym, ap, subst, ◌∙◌, arith, Err}
+use Rattle.checkpoint.specs.Image.{least_sectors}
+use Rattle.checkpoint.specs.Live.{settings_of}
 use Rattle.group_commit.specs.declared.error.MigrateError.{MigrateError}
 use Rattle.group_commit.specs.Migrating.{IsMigrateReason, IsSoundRefusal}
 use Rattle.group_commit.proofs.Migrated.{unopened, fault_of, sound_unopened, not_old, old_disk}
@@ -34,12 +36,13 @@ returns-then-sectors-least-clause-reason g c honest =
       c.in-Ok.table.table,
       _,
       was,
-      omega (arith, c.least_sectors-least.ensures.exact, c.settings.ensures),
+      c.least_sectors-least.ensures.exact ∙ ap least_sectors c.settings.ensures,
       omega (arith, c.if-sectors-least.true, c.sectors-sectors.ensures, c.recover_either.ensures.same.sectors),
     )
 
 pub returns-then-generation-ge-MOST_GENERATIONS-clause-reason : goal.returns-then-generation-ge-MOST_GENERATIONS-clause-reason
 returns-then-generation-ge-MOST_GENERATIONS-clause-reason g c honest =
+    let exact : c.least_sectors-least.result ≡ least_sectors (settings_of c.in-Ok.opened) = c.least_sectors-least.ensures.exact ∙ ap least_sectors c.settings.ensures in
     let old = g.D.Disk.view c.args.disk.now in
     let mid = g.D.Disk.view c.recover_either.new.disk in
     let was = old_disk old mid c.in-Ok.opened c.in-Ok.table.table (c.recover_either.ensures.content honest) (sym c.is_old.ensures ∙ c.if-not-is_old.false) (c.in-Ok.ensures.live honest) in (
@@ -47,15 +50,17 @@ returns-then-generation-ge-MOST_GENERATIONS-clause-reason g c honest =
       c.in-Ok.table.table,
       _,
       was,
-      omega (arith, c.if-sectors-least.false, c.least_sectors-least.ensures.exact, c.sectors-sectors.ensures, c.recover_either.ensures.same.sectors),
+      omega (arith, c.if-sectors-least.false, exact, c.sectors-sectors.ensures, c.recover_either.ensures.same.sectors),
       omega (arith, c.if-generation-ge-MOST_GENERATIONS.true, c.generation-generation.ensures),
     )
 
 pub returns-clause-room : goal.returns-clause-room
-returns-clause-room g c = record {
-  least = omega (arith, c.if-sectors-least.false, c.least_sectors-least.ensures.exact, c.sectors-sectors.ensures);
-  end = c.in-Ok.ensures.room.end;
-}
+returns-clause-room g c =
+    let exact : c.least_sectors-least.result ≡ least_sectors (settings_of c.in-Ok.opened) = c.least_sectors-least.ensures.exact ∙ ap least_sectors c.settings.ensures in
+    record {
+      least = omega (arith, c.if-sectors-least.false, exact, c.sectors-sectors.ensures);
+      end = c.in-Ok.ensures.room.end;
+    }
 
 pub returns-clause-old : goal.returns-clause-old
 returns-clause-old g c honest =
