@@ -1,5 +1,5 @@
 -- Where the segments of a live disk stand, and what the one beside the live one holds.
-use Rattle.std.proofs.Common.{◌≡◌, inl, inr, ℕ, ◌*◌, ◌/◌, ◌≤◌, List, length, Option, Some, None, option_map, Result, Ok, refl, sym, ◌∙◌, ap, subst, arith, IfOk, IfErr, Vec}
+use Rattle.std.proofs.Common.{◌≡◌, inl, inr, ℕ, ◌*◌, ◌/◌, ◌≤◌, List, length, Option, Some, None, option_map, Result, Ok, sym, ◌∙◌, ap, subst, arith, IfOk, IfErr, Vec}
 use Rattle.std.proofs.lemmas.Bool.{eq-eqb, ne_eqb, cond-true, cond-false}
 use Rattle.std.proofs.lemmas.Result.{IfOk-weaker, IfErr-weaker}
 use Rattle.std.specs.Global.{Global}

@@ -1,6 +1,6 @@
 -- What an image reads while the other segment is made the live one, and once it is.
 use Rattle.std.proofs.Common.{◌≡◌, ◌⊎◌, inl, inr, ⊎_elim, ℕ, ◌+◌, ◌-◌, ◌*◌, ◌/◌, ◌^◌, ◌<◌, ◌≤◌, true, false, List, length, take, drop, Option, Some, None, is_some, is_none, Ok, refl, sym, ◌∙◌, ap, subst, arith}
-use Rattle.std.proofs.lemmas.Bool.{cases_Bool, and_parts, eq-eqb, ne_eqb, cond-true, cond-false}
+use Rattle.std.proofs.lemmas.Bool.{cases_Bool, and_parts}
 use Rattle.sector_disk.specs.laws.Written.{same_part}
 use Rattle.sector_disk.specs.Disk.{DiskView, IsDisk, HasOneImage}
 use Rattle.sector_disk.specs.Moments.{LeavesOnly}
@@ -24,7 +24,7 @@ use Rattle.checkpoint.specs.Pieces.{DiffersWithin, StandsFrom, parts_text}
 use Rattle.checkpoint.specs.Image.{other_base}
 use Rattle.checkpoint.specs.SwitchSteps.{HasGate, IsSwitching, IsSwitched}
 use Rattle.checkpoint.specs.Held.{AreSides}
-use Rattle.checkpoint.proofs.Images.{is_open_at, IsBeside, IsDiskImage, disk_image, image_is, header_is, header_is_not, header_there, shut_header}
+use Rattle.checkpoint.proofs.Images.{is_open_at, IsBeside, IsDiskImage, image_is, header_is, header_is_not, header_there, shut_header}
 use Rattle.checkpoint.proofs.Parts.{parts, header_room, inner, behind, open_header_same, segment_same}
 use Rattle.checkpoint.proofs.Sides as sides
 use Rattle.checkpoint.proofs.Appends.{beside_same}
