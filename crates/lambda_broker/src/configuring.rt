@@ -92,12 +92,7 @@ fn policy_for(table: &Table, new: &NewPolicy<'_>) -> RetryPolicy
 }
 
 // Issues the command that configures, at this moment or the last command's, if that is greater.
-fn issue<D: Disk>(
-    alloc: Global,
-    broker: &mut Broker<D>,
-    new: &NewPolicy<'_>,
-    now: u64,
-) -> Result<(), IssueError>
+fn issue<D: Disk>(broker: &mut Broker<D>, new: &NewPolicy<'_>, now: u64) -> Result<(), IssueError>
     ensures reason { IfErr result (IsReason broker.old (configure_at (table_in broker.old) new.now now)) }
     ensures policy { OnOk result ((table_in broker.new).policy ≡ policy_for (table_in broker.old).policy new.now) }
     ensures configured { ForEachHistory D.view broker.old (λ history. OnOk result (IsConfigured D.view new.now now history broker.new)) }
@@ -119,7 +114,6 @@ fn issue<D: Disk>(
 
 // Brings this retry policy in force, and makes that durable: what is in force then.
 fn configure<D: Disk>(
-    alloc: Global,
     broker: &mut Broker<D>,
     new: &NewPolicy<'_>,
     now: u64,
@@ -129,7 +123,7 @@ fn configure<D: Disk>(
     ensures durable { OnOk result (pending_of broker.new ≡ []) }
     ensures configured { ForEachHistory D.view broker.old (λ history. OnOk result (IsConfigured D.view new.now now history broker.new)) }
 {
-    if let Err(why) = issue(alloc, broker, new, now) {
+    if let Err(why) = issue(broker, new, now) {
         return Err(ConfiguringError::Issue(why));
     }
     match broker.commit() {
@@ -159,5 +153,5 @@ pub fn configure_disk<R: Files<File = File> + Clock + AllocGlobal>(
     let disk = FileDisk::open(rt, new.path)?;
     let now = now(rt)?;
     let mut broker = open(rt.alloc(), disk)?;
-    configure(rt.alloc(), &mut broker, new, now)
+    configure(&mut broker, new, now)
 }
