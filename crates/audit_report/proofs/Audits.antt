@@ -7,7 +7,7 @@ use Rattle.async_core.specs.State.{State}
 use Rattle.async_core.specs.Policies.{pair_of}
 use Rattle.async_core.specs.Rules.{replay}
 use Rattle.checkpoint.specs.declared.error.OpenError.{OpenError}
-use Rattle.checkpoint.specs.declared.error.OpenError.TheVariants.{Fault, OutOfMemory, NotFormatted, Damaged}
+use Rattle.checkpoint.specs.declared.error.OpenError.TheVariants.{Fault, OutOfMemory, NotFormatted, Damaged, OldVersion}
 use Rattle.checkpoint.specs.declared.opened.Opened.{Opened}
 use Rattle.checkpoint.specs.Image.{DiskImage, parts_of, read_image}
 use Rattle.checkpoint.specs.Live.{IsLive, settings_of, generation_of}
@@ -17,18 +17,27 @@ use Rattle.audit_report.specs.Counts.{AreCounts}
 use Rattle.audit_report.specs.Comparison.{table_in, TellsOlder}
 use Rattle.audit_report.specs.Report.{live_snapshot, IsAudit}
 
--- what is no finding is neither of the two
+-- what is no finding is none of the three
 pub no_lack : {A : Type 0} (why : OpenError) → IsNoFinding why → ◌≡◌ {A = Result A OpenError} (Err why) (Err NotFormatted) → ⊥
 no_lack Fault none is = absurd cc
 no_lack OutOfMemory none is = absurd cc
 no_lack NotFormatted none is = none
 no_lack (Damaged sector) none is = none
+no_lack OldVersion none is = none
 
 pub no_damage : {A : Type 0} (why : OpenError) (sector : ℕ) → IsNoFinding why → ◌≡◌ {A = Result A OpenError} (Err why) (Err (Damaged sector)) → ⊥
 no_damage Fault sector none is = absurd cc
 no_damage OutOfMemory sector none is = absurd cc
 no_damage NotFormatted sector none is = none
 no_damage (Damaged at) sector none is = none
+no_damage OldVersion sector none is = none
+
+pub no_old : {A : Type 0} (why : OpenError) → IsNoFinding why → ◌≡◌ {A = Result A OpenError} (Err why) (Err OldVersion) → ⊥
+no_old Fault none is = absurd cc
+no_old OutOfMemory none is = absurd cc
+no_old NotFormatted none is = none
+no_old (Damaged sector) none is = none
+no_old OldVersion none is = none
 
 image_is : (a b : DiskImage) → ◌≡◌ {A = Result DiskImage OpenError} (Ok a) (Ok b) → a ≡ b
 image_is a b is = cc

@@ -1,7 +1,7 @@
 // What a disk holds.
 ghost use Rattle.std.specs.Prelude.{◌≡◌, ◌≤◌, IsErrOf, IfOk, IfErr};
 ghost use Rattle.sector_disk.specs.Disk.{IsSameDisk, HasRisen};
-ghost use Rattle.checkpoint.specs.Opening.{TellsNotFormatted, TellsDamage};
+ghost use Rattle.checkpoint.specs.Opening.{TellsNotFormatted, TellsDamage, TellsOld};
 ghost use Rattle.audit_report.specs.Report.{IsAudit, IsReportOn, HasFailed};
 
 use crate::Report;
@@ -13,7 +13,7 @@ use sector_disk::Disk;
 use std::alloc::Global;
 
 /// Opens a disk and tells what it holds, beside its table after all that is durable. One barrier comes first, then reads
-/// alone; a disk that `open` of `checkpoint` refuses is refused so.
+/// alone; a disk that `open` of `checkpoint` refuses is refused so, one of version 1 as `OldVersion`.
 pub fn inspect<D: Disk>(alloc: Global, disk: &mut D) -> Result<(Table, Report), OpenError>
     ensures same { IsSameDisk (D.view disk.old) (D.view disk.new) }
     ensures later { D.fault_count disk.old ≤ D.fault_count disk.new }
@@ -22,6 +22,7 @@ pub fn inspect<D: Disk>(alloc: Global, disk: &mut D) -> Result<(Table, Report), 
     ensures exact { (D.view disk.old).honest → IfOk result (λ r. IsAudit (D.view disk.old).content r.0 r.1) }
     ensures not_formatted { TellsNotFormatted (D.view disk.old) result }
     ensures damaged { TellsDamage (D.view disk.old) result }
+    ensures old_version { TellsOld (D.view disk.old) result }
 {
     let (opened, snapshot, commands) = open(alloc, disk)?;
     let Ok(mut table) = table_from(alloc, opened.settings(), snapshot) else {
@@ -59,6 +60,7 @@ pub fn audit<D: Disk + Drop>(alloc: Global, disk: D) -> Result<Report, OpenError
     ensures exact { (D.view disk).honest → IfOk result (IsReportOn (D.view disk).content) }
     ensures not_formatted { TellsNotFormatted (D.view disk) result }
     ensures damaged { TellsDamage (D.view disk) result }
+    ensures old_version { TellsOld (D.view disk) result }
 {
     let mut disk = disk;
     let (_, report) = inspect(alloc, &mut disk)?;

@@ -5,6 +5,8 @@ use Rattle.sector_disk.specs.laws.Written.{same_part}
 use Rattle.retry_rules.specs.declared.settings.Settings.{Settings}
 use Rattle.invoke_records.specs.declared.command.Command.{Command}
 use Rattle.invoke_records.specs.declared.snapshot.Snapshot.{Snapshot}
+use Rattle.invoke_records.specs.declared.version.Version.{Version}
+use Rattle.invoke_records.specs.declared.version.Version.TheVariants.{Two}
 use Rattle.async_core.specs.Rules.{replay}
 use Rattle.gate_journal.specs.declared.area.Area.{Area}
 use Rattle.gate_journal.specs.declared.journal.Journal.{Journal}
@@ -12,23 +14,23 @@ use Rattle.gate_journal.specs.Frames.{is_open, sectors_for, Frames, frames_in, f
 use Rattle.gate_journal.specs.Journal as journal
 use Rattle.checkpoint.specs.declared.header.Header.{Header}
 use Rattle.checkpoint.specs.declared.opened.Opened.{Opened}
-use Rattle.checkpoint.specs.Image.{SegmentImage, DiskImage, half, header_at, snapshot_of, area_of, with_table, segment_at, open_header, read_image, folded, recovered, state_of}
-use Rattle.checkpoint.specs.Live.{IsLive, RecoversTo, settings_of}
+use Rattle.checkpoint.specs.Image.{SegmentImage, DiskImage, half, header_at, snapshot_of, area_of, with_table, segment_at, open_header, read_image, folded, folded_in}
+use Rattle.checkpoint.specs.Live.{IsLive, RecoversTo, settings_of, reads_as, as_new}
 use Rattle.checkpoint.proofs.Segments.{snapshot_same, behind_snapshot}
 use Rattle.checkpoint.specs.Held.{AreSides}
 use Rattle.checkpoint.proofs.Images.{is_open_at, IsBeside, IsDiskImage, disk_image, image_is, header_is, header_there}
 use Rattle.checkpoint.proofs.Parts.{parts, segment_of, header_room, inner, behind, open_header_same, segment_same}
-use Rattle.checkpoint.proofs.Folds.{folds_more}
+use Rattle.checkpoint.proofs.Folds.{folds_more, folded_new}
 
 -- ## Another segment's header and parts stand
 
 -- beside a live segment stands what stood there, where its sectors did not change
-pub beside_same : (h other generation : ℕ) (new old : List ℕ) → 2 ≤ h → behind other h new ≡ behind other h old → is_open_at other new ≡ is_open_at other old
-    → (older : Option SegmentImage) → IsBeside h other generation old (open_header other h old) older → IsBeside h other generation new (open_header other h new) older
-beside_same h other generation new old enough same gate None beside = open_header_same other h enough new old same gate ∙ beside
-beside_same h other generation new old enough same gate (Some older) (o, opened, below, is) =
+pub beside_same : (h other : ℕ) (version : Version) (generation : ℕ) (new old : List ℕ) → 2 ≤ h → behind other h new ≡ behind other h old → is_open_at other new ≡ is_open_at other old
+    → (older : Option SegmentImage) → IsBeside h other version generation old (open_header other h old) older → IsBeside h other version generation new (open_header other h new) older
+beside_same h other version generation new old enough same gate None beside = open_header_same other h enough new old same gate ∙ beside
+beside_same h other version generation new old enough same gate (Some older) (o, opened, below, kept, is) =
     let room = header_room h _ o (header_is other h old o opened).1 in
-    (o, open_header_same other h enough new old same gate ∙ opened, below, segment_same other h enough new old same o room ∙ is)
+    (o, open_header_same other h enough new old same gate ∙ opened, below, kept, segment_same other h enough new old same o room ∙ is)
 
 -- ## Other frames in the live segment's area
 
@@ -55,7 +57,7 @@ module _ (h base other : ℕ) (sides : AreSides h base other) (old new : List �
       snapshot_same header (drop (512 * (base + 2)) new) (drop (512 * (base + 2)) old) (same_part start (512 * (base + 2)) all new old outside.front (omega arith)) ∙ is
 
   pub live_there : (frames : Frames) (table : Snapshot) → open_header base h old ≡ Ok (Some header) → snapshot_of header (drop (512 * (base + 2)) old) ≡ Some snapshot
-      → frames_in (area_of base h header snapshot) new ≡ Ok frames → folded header.settings snapshot frames.commands ≡ Ok table
+      → frames_in (area_of base h header snapshot) new ≡ Ok frames → folded_in header.version header.settings snapshot frames.commands ≡ Ok table
       → (open_header base h new ≡ Ok (Some header)) × (segment_at base h header new ≡ Ok (segment_of base header snapshot (area_of base h header snapshot) frames table))
   live_there frames table opened is_snapshot read folds =
       let was = header_is base h old header opened in
@@ -83,7 +85,7 @@ module _ (h base other : ℕ) (sides : AreSides h base other) (old new : List �
   ]
 
 module _ (h : ℕ) (old new : List ℕ) (what : DiskImage) (frames : Frames) (table : Snapshot) (was : IsDiskImage h old what) (outside : SameOutside what.live.area old new)
-    (read : frames_in what.live.area new ≡ Ok frames) (folds : folded what.live.settings what.live.snapshot frames.commands ≡ Ok table) where
+    (read : frames_in what.live.area new ≡ Ok frames) (folds : folded_in what.live.version what.live.settings what.live.snapshot frames.commands ≡ Ok table) where
   pub still : IsDiskImage h new (image_with what frames table)
   still =
       let p = parts was.base h was.header old what.live was.live in
@@ -92,7 +94,7 @@ module _ (h : ℕ) (old new : List ℕ) (what : DiskImage) (frames : Frames) (ta
       let there = subst (λ (a : Area). SameOutside a old new) area outside in
       let live = live_there h was.base was.other was.sides old new was.header room p.snapshot there frames table was.opened p.is_snapshot
       (subst (λ (a : Area). frames_in a new ≡ Ok frames) area read)
-      ((λ i. folded (p.is_live i).settings (p.is_live i).snapshot frames.commands) ∙ folds) in
+      ((λ i. folded_in (p.is_live i).version (p.is_live i).settings (p.is_live i).snapshot frames.commands) ∙ folds) in
       let others = other_same h was.base was.other was.sides old new was.header room p.snapshot there in
       record {
         enough = omega (arith, was.enough, outside.size);
@@ -103,7 +105,7 @@ module _ (h : ℕ) (old new : List ℕ) (what : DiskImage) (frames : Frames) (ta
         header = was.header;
         opened = live.0;
         live = live.1 ∙ ap (λ (x : SegmentImage). Ok (live_with x frames table)) p.is_live;
-        beside = beside_same h was.other was.header.generation new old (omega (arith, room)) others.0 others.1 what.older was.beside;
+        beside = beside_same h was.other was.header.version was.header.generation new old (omega (arith, room)) others.0 others.1 what.older was.beside;
       }
 
 -- ## Before and after an append
@@ -118,24 +120,29 @@ module _ (disk : DiskView) (opened : Opened) (before after : Snapshot) (batch : 
   was : IsDiskImage (half disk.content) disk.content live.image
   was = disk_image disk.content live.image live.reads
 
-  is_folded : folded now.settings now.snapshot now.frames.commands ≡ Ok before
+  is_folded : folded_in now.version now.settings now.snapshot now.frames.commands ≡ Ok before
   is_folded =
       let p = parts was.base (half disk.content) was.header disk.content now was.live in
-      (λ i. folded (sym p.is_live i).settings (sym p.is_live i).snapshot (sym p.is_live i).frames.commands) ∙ p.is_folded
+      (λ i. folded_in (sym p.is_live i).version (sym p.is_live i).settings (sym p.is_live i).snapshot (sym p.is_live i).frames.commands) ∙ p.is_folded
       ∙ ap (λ (x : SegmentImage). Ok x.table) p.is_live ∙ ap (λ (t : Snapshot). Ok t) live.table_is
 
-  folds_longer : folded now.settings now.snapshot longer.commands ≡ Ok after
-  folds_longer = folds_more now.settings now.snapshot now.frames.commands before now.frames.next batch after is_folded
+  -- version 2 asks for no more than that they are legal
+  as_folded : (frames : Frames) → folded_in now.version now.settings now.snapshot frames.commands ≡ folded now.settings now.snapshot frames.commands
+  as_folded frames = (λ i. folded_in (live.version_is i) now.settings now.snapshot frames.commands) ∙ folded_new now.settings now.snapshot frames.commands
+
+  folds_longer : folded_in now.version now.settings now.snapshot longer.commands ≡ Ok after
+  folds_longer = as_folded longer ∙ folds_more now.settings now.snapshot now.frames.commands before now.frames.next batch after (sym (as_folded now.frames) ∙ is_folded)
       (subst (λ (s : Settings). replay s before batch ≡ Some after) (sym live.settings) replays)
 
   reads_still : (image : List ℕ) (frames : Frames) (table : Snapshot) → SameOutside now.area disk.content image → frames_in now.area image ≡ Ok frames
-      → folded now.settings now.snapshot frames.commands ≡ Ok table → read_image image ≡ Ok (image_with live.image frames table)
+      → folded_in now.version now.settings now.snapshot frames.commands ≡ Ok table → read_image image ≡ Ok (image_with live.image frames table)
   reads_still image frames table outside read folds =
       image_is (half disk.content) image (image_with live.image frames table) (still (half disk.content) disk.content image live.image frames table was outside read folds)
 
   recovers : (image : List ℕ) (frames : Frames) (table : Snapshot) → read_image image ≡ Ok (image_with live.image frames table) → RecoversTo (settings_of opened) table image
-  unfolding recovered
-  recovers image frames table reads = ap state_of reads ∙ ap (λ (s : Settings). Ok (record { settings = s; table = table })) live.settings
+  recovers image frames table reads =
+      as_new (settings_of opened) table image
+      (reads_as Two (settings_of opened) image (image_with live.image frames table) table reads live.version_is live.settings refl)
 
   pub before_or_after : (image : List ℕ) → journal.IsBeforeOrAfter now.area now.frames batch disk.content image
       → RecoversTo (settings_of opened) before image ⊎ RecoversTo (settings_of opened) after image
@@ -151,6 +158,7 @@ module _ (disk : DiskView) (opened : Opened) (before after : Snapshot) (batch : 
     settled = settled;
     image = image_with live.image longer after;
     reads = reads_still new.content longer after outside holds.reads folds_longer;
+    version_is = live.version_is;
     base = live.base;
     generation = live.generation;
     settings = live.settings;

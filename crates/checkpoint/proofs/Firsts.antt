@@ -1,21 +1,21 @@
 -- What a disk recovers to that was formatted.
-use Rattle.std.proofs.Common.{◌≡◌, inl, inr, ⊎_elim, ℕ, ◌+◌, ◌*◌, ◌/◌, ◌≤◌, true, List, [], length, None, Some, Result, Ok, Err, refl, sym, ◌∙◌, ap, subst, arith}
-use Rattle.std.proofs.lemmas.List.{append-nil}
+use Rattle.std.proofs.Common.{◌≡◌, inl, inr, ⊎_elim, ℕ, ◌+◌, ◌*◌, ◌/◌, ◌≤◌, true, List, length, None, Some, Result, Ok, Err, refl, sym, ◌∙◌, ap, subst, arith}
 use Rattle.std.proofs.lemmas.Bool.{and_from, le-leb}
 use Rattle.sector_disk.specs.Disk.{IsOnDisk}
 use Rattle.retry_rules.specs.declared.settings.Settings.{Settings}
 use Rattle.retry_rules.specs.Settings.{bad_field}
 use Rattle.invoke_records.specs.declared.snapshot.Snapshot.{Snapshot}
 use Rattle.invoke_records.specs.Spelling.{snapshot_text, IsSnapshot}
-use Rattle.invoke_records.specs.laws.Snapshots.{snapshot_again}
+use Rattle.invoke_records.specs.laws.Snapshots.{whole_again}
 use Rattle.async_core.specs.Rules.{empty_table}
-use Rattle.invoke_records.specs.Reading.{snapshot_at}
+use Rattle.invoke_records.specs.declared.version.Version.TheVariants.{Two}
+use Rattle.invoke_records.specs.Reading.{whole_at}
 use Rattle.std.specs.Result.{IsOkAnd}
 use Rattle.checkpoint.specs.declared.error.OpenError.{OpenError}
 use Rattle.checkpoint.specs.declared.error.OpenError.TheVariants.{NotFormatted}
 use Rattle.async_core.specs.Limits.{most_snapshot, is_within}
 use Rattle.async_core.specs.laws.Limits.{empty_fit}
-use Rattle.checkpoint.specs.Image.{SegmentImage, DiskImage, HasGeneration, segment_sectors, least_sectors, segment_text, open_header, with_older, by_headers, read_image, recovered, state_of}
+use Rattle.checkpoint.specs.Image.{SegmentImage, DiskImage, HasGeneration, segment_sectors, least_sectors, segment_text, open_header, with_older, by_headers, read_image, live_in, if_new, recovered}
 use Rattle.sector_disk.specs.Disk.{DiskView}
 use Rattle.checkpoint.specs.Formatting.{IsFormatting}
 use Rattle.checkpoint.specs.FormatSteps.{HoldsFirst, IsClosed, IsBeingFormatted}
@@ -43,8 +43,8 @@ is_empty s good = record { within = tt; fault = (empty_fit s good).fault }
 pub empty_small : (s : Settings) → length (snapshot_text (empty_table s)) ≤ most_snapshot s
 empty_small s = omega (arith, empty_size s)
 
-empty_again : (s : Settings) → bad_field s ≡ None → snapshot_at (snapshot_text (empty_table s)) ≡ Ok (empty_table s, [])
-empty_again s good = ap snapshot_at (sym (append-nil (snapshot_text (empty_table s)))) ∙ snapshot_again (empty_table s) [] (is_empty s good)
+empty_again : (s : Settings) → bad_field s ≡ None → whole_at Two (snapshot_text (empty_table s)) ≡ Ok (empty_table s)
+empty_again s good = whole_again (empty_table s) (is_empty s good)
 
 module _ (s : Settings) (good : bad_field s ≡ None) (sectors : ℕ) (room : least_sectors s ≤ sectors) (image : List ℕ) (size : length image ≡ 512 * sectors)
     (holds : HoldsFirst (sectors / 2) (segment_text 1 s (empty_table s)) image) where
@@ -74,7 +74,7 @@ module _ (s : Settings) (good : bad_field s ≡ None) (sectors : ℕ) (room : le
   -- a disk that was formatted recovers to it
   pub empty_recovers : recovered image ≡ Ok (record { settings = s; table = empty_table s })
   unfolding recovered
-  empty_recovers = ap state_of first_read
+  empty_recovers = ap (λ (r : Result DiskImage OpenError). if_new (live_in r)) first_read
 
   pub empty_generation : HasGeneration 1 image
   empty_generation = subst (λ (r : Result DiskImage OpenError). IsOkAnd r (λ image. image.live.generation ≡ 1)) (sym first_read) refl

@@ -7,7 +7,9 @@ use Rattle.async_core.specs.declared.illegal.Illegal.{Illegal}
 use Rattle.async_core.specs.Rules.{refusal_at, table_after, where_legal, replay}
 use Rattle.gate_journal.specs.Frames.{behind_gate}
 use Rattle.checkpoint.specs.declared.error.OpenError.{OpenError}
-use Rattle.checkpoint.specs.Image.{legal_or_damaged, folded}
+use Rattle.invoke_records.specs.declared.version.Version.{Version}
+use Rattle.invoke_records.specs.declared.version.Version.TheVariants.{Two}
+use Rattle.checkpoint.specs.Image.{legal_or_damaged, folded, next_to, kinds_in, folded_in}
 
 -- the value of a result that is Ok
 pub value_of : {A E : Type 0} (r : Result A E) → IsOk r → (x : A) × (r ≡ Ok x)
@@ -50,3 +52,29 @@ folds_more s table (c ∷ behind) before gate batch after is replayed =
     let legal = legal_ok c.0 (refusal_at s table c.1) (folded s (table_after s table c.1) behind) before is in
     ap (λ (refusal : Option Illegal). legal_or_damaged c.0 refusal (folded s (table_after s table c.1) (behind ++ behind_gate gate batch))) legal.0
     ∙ folds_more s (table_after s table c.1) behind before gate batch after legal.1 replayed
+
+-- ## In a version
+
+next_ok : {A : Type 0} (first : Result (Unit {0}) OpenError) (rest : Result A OpenError) (x : A) → next_to first rest ≡ Ok x → rest ≡ Ok x
+next_ok (Err why) rest x is = absurd cc
+next_ok (Ok done) rest x is = is
+
+-- what a segment's commands are folded to in its version, they are folded to
+pub folds_so : (version : Version) (s : Settings) (table : Snapshot) (behind : List (ℕ × Command)) (after : Snapshot) → folded_in version s table behind ≡ Ok after → folded s table behind ≡ Ok after
+folds_so version s table behind after is = next_ok (kinds_in version behind) (folded s table behind) after is
+
+-- and where each is of a kind that the version has, nothing else is asked
+pub all_kinds : (version : Version) (s : Settings) (table : Snapshot) (behind : List (ℕ × Command)) → kinds_in version behind ≡ Ok tt → folded_in version s table behind ≡ folded s table behind
+all_kinds version s table behind is = ap (λ (r : Result (Unit {0}) OpenError). next_to r (folded s table behind)) is
+
+-- a command of another kind is damage
+pub kinds_damaged : (version : Version) (s : Settings) (table : Snapshot) (behind : List (ℕ × Command)) (why : OpenError) → kinds_in version behind ≡ Err why → folded_in version s table behind ≡ Err why
+kinds_damaged version s table behind why is = ap (λ (r : Result (Unit {0}) OpenError). next_to r (folded s table behind)) is
+
+kinds_new : (behind : List (ℕ × Command)) → kinds_in Two behind ≡ Ok tt
+kinds_new [] = refl
+kinds_new (c ∷ behind) = kinds_new behind
+
+-- version 2 has all kinds
+pub folded_new : (s : Settings) (table : Snapshot) (behind : List (ℕ × Command)) → folded_in Two s table behind ≡ folded s table behind
+folded_new s table behind = all_kinds Two s table behind (kinds_new behind)

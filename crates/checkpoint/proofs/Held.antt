@@ -1,12 +1,12 @@
 -- What an image recovers to that holds a segment which a switch wrote.
-use Rattle.std.proofs.Common.{◌≡◌, ⊎_elim, ℕ, ◌+◌, ◌/◌, ◌^◌, ◌<◌, ◌≤◌, true, List, [], length, Option, Some, None, Ok, refl, sym, ◌∙◌, ap, arith, mul-le-mul_right}
-use Rattle.std.proofs.lemmas.List.{append-nil}
+use Rattle.std.proofs.Common.{◌≡◌, ⊎_elim, ℕ, ◌+◌, ◌/◌, ◌^◌, ◌<◌, ◌≤◌, true, List, length, Option, Some, None, Ok, refl, arith, mul-le-mul_right}
 use Rattle.retry_rules.specs.declared.settings.Settings.{Settings}
 use Rattle.retry_rules.specs.Settings.{bad_field}
 use Rattle.invoke_records.specs.declared.snapshot.Snapshot.{Snapshot}
 use Rattle.invoke_records.specs.Spelling.{snapshot_text}
-use Rattle.invoke_records.specs.Reading.{snapshot_at}
-use Rattle.invoke_records.specs.laws.Snapshots.{snapshot_again}
+use Rattle.invoke_records.specs.declared.version.Version.TheVariants.{Two}
+use Rattle.invoke_records.specs.Reading.{whole_at}
+use Rattle.invoke_records.specs.laws.Snapshots.{whole_again}
 use Rattle.async_core.specs.Limits.{most_snapshot, is_within}
 use Rattle.async_core.specs.laws.Limits.{spelled_within}
 use Rattle.async_core.specs.laws.Shapes.{limits}
@@ -36,8 +36,8 @@ module _ (generation : ℕ) (s : Settings) (snapshot : Snapshot) (base other : �
   below : length (snapshot_text snapshot) < 2 ^ 64
   below = omega (arith, small, most_bytes s holds.good)
 
-  again : snapshot_at (snapshot_text snapshot) ≡ Ok (snapshot, [])
-  again = ap snapshot_at (sym (append-nil (snapshot_text snapshot))) ∙ snapshot_again snapshot [] holds.spelled
+  again : whole_at Two (snapshot_text snapshot) ≡ Ok snapshot
+  again = whole_again snapshot holds.spelled
 
   room : segment_sectors s ≤ h
   room = omega (arith, holds.room)
@@ -46,7 +46,7 @@ module _ (generation : ℕ) (s : Settings) (snapshot : Snapshot) (base other : �
   abbrev with_it : Option SegmentImage → DiskImage
   with_it older = record { live = placed generation s holds.good snapshot holds.low holds.high small below again within base h room image holds.behind; older = older }
 
-  is_image : (older : Option SegmentImage) → IsBeside h other generation image (open_header other h image) older → IsDiskImage h image (with_it older)
+  is_image : (older : Option SegmentImage) → IsBeside h other Two generation image (open_header other h image) older → IsDiskImage h image (with_it older)
   is_image older beside = record {
     enough = omega (arith, holds.room, holds.size);
     halves = omega (arith, holds.size);
@@ -59,15 +59,15 @@ module _ (generation : ℕ) (s : Settings) (snapshot : Snapshot) (base other : �
     beside = beside;
   }
 
-  recovers_with : (older : Option SegmentImage) → IsBeside h other generation image (open_header other h image) older → RecoversTo s snapshot image × HasGeneration generation image
+  recovers_with : (older : Option SegmentImage) → IsBeside h other Two generation image (open_header other h image) older → RecoversTo s snapshot image × HasGeneration generation image
   recovers_with older beside =
       let reads = image_is h image (with_it older) (is_image older beside) in (
-        recovers s image (with_it older) snapshot reads refl refl,
+        recovers s image (with_it older) snapshot reads refl refl refl,
         rw reads refl,
       )
 
-  older_there : (o : IsOlder other h generation image) → IsBeside h other generation image (open_header other h image) (Some o.segment)
-  older_there o = (o.header, header_there other h image o.header o.gate o.header_reads, o.below, o.segment_reads)
+  older_there : (o : IsOlder other h generation image) → IsBeside h other Two generation image (open_header other h image) (Some o.segment)
+  older_there o = (o.header, header_there other h image o.header o.gate o.header_reads, o.below, refl, o.segment_reads)
 
   pub recovered_as_written : RecoversTo s snapshot image × HasGeneration generation image
   recovered_as_written = ⊎_elim (λ shut. recovers_with None (shut_header other h image shut)) (λ o. recovers_with (Some o.segment) (older_there o)) holds.beside

@@ -3,10 +3,12 @@ use Rattle.std.proofs.Common.{◌≡◌, ◌⊎◌, inl, inr, ⊎_elim, ℕ, ◌
 use Rattle.std.proofs.lemmas.Bool.{cases_Bool, lt-ltb, le-ltb, ltb-false, ltb-true, cond-true, cond-false, eqb-false, ne_eqb}
 use Rattle.std.proofs.Math.Arith.{lt_of_le-ne}
 use Rattle.gate_journal.specs.Frames.{is_open}
+use Rattle.invoke_records.specs.declared.version.Version.{Version}
 use Rattle.checkpoint.specs.declared.header.Header.{Header}
+use Rattle.checkpoint.specs.declared.choosing.Found.{Found}
 use Rattle.checkpoint.specs.declared.error.OpenError.{OpenError}
 use Rattle.checkpoint.specs.declared.error.OpenError.TheVariants.{NotFormatted}
-use Rattle.checkpoint.specs.Image.{SegmentImage, DiskImage, sector_at, header_in, half, or_damaged, open_header, chosen, with_older, segments_in, by_headers, segment_at, read_image}
+use Rattle.checkpoint.specs.Image.{SegmentImage, DiskImage, sector_at, header_in, half, or_damaged, open_header, is_later_than, in_order, found_at, chosen, with_older, segments_in, by_headers, segment_at, read_image}
 use Rattle.checkpoint.specs.Held.{AreSides}
 
 -- the gate at this sector is open
@@ -52,11 +54,11 @@ header_is_not base sectors image is = elim (cases_Bool (is_open_at base image)) 
 
 -- ## The live segment and the older one
 
--- beside a live segment of this generation the other one is closed, or it is older
-abbrev pub IsBeside : (half other generation : ℕ) → List ℕ → Result (Option Header) OpenError → Option SegmentImage → Type 0
-IsBeside half other generation image read None = read ≡ Ok None
-IsBeside half other generation image read (Some older) =
-    (o : Header) × (read ≡ Ok (Some o)) × (o.generation < generation) × (segment_at other half o image ≡ Ok older)
+-- beside a live segment of this version and generation the other one is closed, or it is older and of no later version
+abbrev pub IsBeside : (half other : ℕ) → Version → ℕ → List ℕ → Result (Option Header) OpenError → Option SegmentImage → Type 0
+IsBeside half other version generation image read None = read ≡ Ok None
+IsBeside half other version generation image read (Some older) =
+    (o : Header) × (read ≡ Ok (Some o)) × (o.generation < generation) × (is_later_than version o.version ≡ false) × (segment_at other half o image ≡ Ok older)
 
 -- how an image of two halves of so many sectors was read that holds these segments
 pub record IsDiskImage (h : ℕ) (image : List ℕ) (what : DiskImage) : Type 0 where
@@ -68,7 +70,7 @@ pub record IsDiskImage (h : ℕ) (image : List ℕ) (what : DiskImage) : Type 0 
   pub header : Header
   pub opened : open_header base h image ≡ Ok (Some header)
   pub live : segment_at base h header image ≡ Ok what.live
-  pub beside : IsBeside h other header.generation image (open_header other h image) what.older
+  pub beside : IsBeside h other header.version header.generation image (open_header other h image) what.older
 
 disk_is : (a b : DiskImage) → ◌≡◌ {A = Result DiskImage OpenError} (Ok a) (Ok b) → a ≡ b
 disk_is a b is = cc
@@ -90,35 +92,45 @@ pub record IsBased (half base other : ℕ) (image : List ℕ) (read beside : Res
   pub header : Header
   pub opened : read ≡ Ok (Some header)
   pub live : segment_at base half header image ≡ Ok what.live
-  pub beside_it : IsBeside half other header.generation image beside what.older
+  pub beside_it : IsBeside half other header.version header.generation image beside what.older
 
 based_alone : (half base other : ℕ) (image : List ℕ) (header : Header) (what : DiskImage) → with_older (segment_at base half header image) None ≡ Ok what
     → IsBased half base other image (Ok (Some header)) (Ok None) what
 based_alone half base other image header what is =
     let parts = live_alone (segment_at base half header image) what is in
-    record { header = header; opened = refl; live = parts.0; beside_it = subst (λ (o : Option SegmentImage). IsBeside half other header.generation image (Ok None) o) (sym parts.1) refl }
+    record { header = header; opened = refl; live = parts.0; beside_it = subst (λ (o : Option SegmentImage). IsBeside half other header.version header.generation image (Ok None) o) (sym parts.1) refl }
 
-based_beside : (half base other : ℕ) (image : List ℕ) (header o : Header) (what : DiskImage) → o.generation < header.generation
+based_beside : (half base other : ℕ) (image : List ℕ) (header o : Header) (what : DiskImage) → o.generation < header.generation → is_later_than header.version o.version ≡ false
     → with_older (segment_at base half header image) (Some (segment_at other half o image)) ≡ Ok what
     → IsBased half base other image (Ok (Some header)) (Ok (Some o)) what
-based_beside half base other image header o what below is =
+based_beside half base other image header o what below kept is =
     let parts = live_and_older (segment_at base half header image) (segment_at other half o image) what is in
     record {
       header = header;
       opened = refl;
       live = parts.0;
-      beside_it = subst (λ (s : Option SegmentImage). IsBeside half other header.generation image (Ok (Some o)) s) (sym parts.1.2) (o, refl, below, parts.1.1);
+      beside_it = subst (λ (s : Option SegmentImage). IsBeside half other header.version header.generation image (Ok (Some o)) s) (sym parts.1.2) (o, refl, below, kept, parts.1.1);
     }
+
+-- an older segment that was kept is of no later version
+ordered : (half : ℕ) (image : List ℕ) (live older : Found) (what : DiskImage) → segments_in half image (in_order live older) ≡ Ok what
+    → (is_later_than live.header.version older.header.version ≡ false) × (segments_in half image (Ok (live, Some older)) ≡ Ok what)
+ordered half image live older what is = elim (cases_Bool (is_later_than live.header.version older.header.version)) [
+  | inl later ↦ absurd (let no = sym (ap (segments_in half image) (cond-true _ _ _ later)) ∙ is in cc)
+  | inr kept ↦ (kept, sym (ap (segments_in half image) (cond-false _ _ _ kept)) ∙ is)
+]
 
 both_open : (half : ℕ) (image : List ℕ) (a b : Header) (what : DiskImage) → segments_in half image (chosen half (Some a) (Some b)) ≡ Ok what
     → IsBased half 0 half image (Ok (Some a)) (Ok (Some b)) what ⊎ IsBased half half 0 image (Ok (Some b)) (Ok (Some a)) what
 both_open half image a b what is = elim (cases_Bool (nat_eq a.generation b.generation)) [
   | inl same ↦ absurd (let no = sym (ap (segments_in half image) (cond-true _ _ _ same)) ∙ is in cc)
   | inr differ ↦ elim (cases_Bool (nat_lt b.generation a.generation)) [
-    | inl newer ↦ inl (based_beside half 0 half image a b what (ltb-true _ _ newer) (sym (ap (segments_in half image) (cond-false _ _ _ differ ∙ cond-true _ _ _ newer)) ∙ is))
-    | inr older ↦ inr (based_beside half half 0 image b a what
-        (lt_of_le-ne (ltb-false _ _ older) (eqb-false _ _ differ))
-        (sym (ap (segments_in half image) (cond-false _ _ _ differ ∙ cond-false _ _ _ older)) ∙ is))
+    | inl newer ↦
+        let kept = ordered half image (found_at 0 a) (found_at half b) what (sym (ap (segments_in half image) (cond-false _ _ _ differ ∙ cond-true _ _ _ newer)) ∙ is) in
+        inl (based_beside half 0 half image a b what (ltb-true _ _ newer) kept.0 kept.1)
+    | inr older ↦
+        let kept = ordered half image (found_at half b) (found_at 0 a) what (sym (ap (segments_in half image) (cond-false _ _ _ differ ∙ cond-false _ _ _ older)) ∙ is) in
+        inr (based_beside half half 0 image b a what (lt_of_le-ne (ltb-false _ _ older) (eqb-false _ _ differ)) kept.0 kept.1)
   ]
 ]
 
@@ -185,42 +197,42 @@ older_ok : (live older : SegmentImage) → with_older (Ok live) (Some (Ok older)
 older_ok live older = refl
 
 module _ (half : ℕ) (image : List ℕ) (header : Header) where
-  a_live : (b : Result (Option Header) OpenError) (what : DiskImage) → segment_at 0 half header image ≡ Ok what.live → IsBeside half half header.generation image b what.older
+  a_live : (b : Result (Option Header) OpenError) (what : DiskImage) → segment_at 0 half header image ≡ Ok what.live → IsBeside half half header.version header.generation image b what.older
       → (older : Option SegmentImage) → what.older ≡ older → by_headers half image (Ok (Some header)) b ≡ Ok what
   a_live b what live beside None is =
-      let shut : b ≡ Ok None = subst (λ (o : Option SegmentImage). IsBeside half half header.generation image b o) is beside in
+      let shut : b ≡ Ok None = subst (λ (o : Option SegmentImage). IsBeside half half header.version header.generation image b o) is beside in
       ap (λ (r : Result (Option Header) OpenError). by_headers half image (Ok (Some header)) r) shut
       ∙ ap (λ (r : Result SegmentImage OpenError). with_older r None) live ∙ ap (λ (o : Option SegmentImage). Ok (record { live = what.live; older = o })) (sym is)
   a_live b what live beside (Some older) is =
-      let there : IsBeside half half header.generation image b (Some older) = subst (λ (o : Option SegmentImage). IsBeside half half header.generation image b o) is beside in
+      let there : IsBeside half half header.version header.generation image b (Some older) = subst (λ (o : Option SegmentImage). IsBeside half half header.version header.generation image b o) is beside in
       ap (λ (r : Result (Option Header) OpenError). by_headers half image (Ok (Some header)) r) there.1
-      ∙ ap (segments_in half image) (cond-false _ _ _ (ne_eqb header.generation there.0.generation (λ same. absurd (omega (arith, same, there.2)))) ∙ cond-true _ _ _ (lt-ltb there.0.generation header.generation there.2))
-      ∙ (λ i. with_older (live i) (Some (there.3 i))) ∙ ap (λ (o : Option SegmentImage). Ok (record { live = what.live; older = o })) (sym is)
+      ∙ ap (segments_in half image) (cond-false _ _ _ (ne_eqb header.generation there.0.generation (λ same. absurd (omega (arith, same, there.2)))) ∙ cond-true _ _ _ (lt-ltb there.0.generation header.generation there.2) ∙ cond-false _ _ _ there.3)
+      ∙ (λ i. with_older (live i) (Some (there.4 i))) ∙ ap (λ (o : Option SegmentImage). Ok (record { live = what.live; older = o })) (sym is)
 
-  b_live : (a : Result (Option Header) OpenError) (what : DiskImage) → segment_at half half header image ≡ Ok what.live → IsBeside half 0 header.generation image a what.older
+  b_live : (a : Result (Option Header) OpenError) (what : DiskImage) → segment_at half half header image ≡ Ok what.live → IsBeside half 0 header.version header.generation image a what.older
       → (older : Option SegmentImage) → what.older ≡ older → by_headers half image a (Ok (Some header)) ≡ Ok what
   b_live a what live beside None is =
-      let shut : a ≡ Ok None = subst (λ (o : Option SegmentImage). IsBeside half 0 header.generation image a o) is beside in
+      let shut : a ≡ Ok None = subst (λ (o : Option SegmentImage). IsBeside half 0 header.version header.generation image a o) is beside in
       ap (λ (r : Result (Option Header) OpenError). by_headers half image r (Ok (Some header))) shut
       ∙ ap (λ (r : Result SegmentImage OpenError). with_older r None) live ∙ ap (λ (o : Option SegmentImage). Ok (record { live = what.live; older = o })) (sym is)
   b_live a what live beside (Some older) is =
-      let there : IsBeside half 0 header.generation image a (Some older) = subst (λ (o : Option SegmentImage). IsBeside half 0 header.generation image a o) is beside in
+      let there : IsBeside half 0 header.version header.generation image a (Some older) = subst (λ (o : Option SegmentImage). IsBeside half 0 header.version header.generation image a o) is beside in
       ap (λ (r : Result (Option Header) OpenError). by_headers half image r (Ok (Some header))) there.1
-      ∙ ap (segments_in half image) (cond-false _ _ _ (ne_eqb there.0.generation header.generation (λ same. absurd (omega (arith, same, there.2)))) ∙ cond-false _ _ _ (le-ltb header.generation there.0.generation (omega (arith, there.2))))
-      ∙ (λ i. with_older (live i) (Some (there.3 i))) ∙ ap (λ (o : Option SegmentImage). Ok (record { live = what.live; older = o })) (sym is)
+      ∙ ap (segments_in half image) (cond-false _ _ _ (ne_eqb there.0.generation header.generation (λ same. absurd (omega (arith, same, there.2)))) ∙ cond-false _ _ _ (le-ltb header.generation there.0.generation (omega (arith, there.2))) ∙ cond-false _ _ _ there.3)
+      ∙ (λ i. with_older (live i) (Some (there.4 i))) ∙ ap (λ (o : Option SegmentImage). Ok (record { live = what.live; older = o })) (sym is)
 
 pub image_is : (h : ℕ) (image : List ℕ) (what : DiskImage) → IsDiskImage h image what → read_image image ≡ Ok what
 image_is h image what is = by_halves h image is.halves is.enough ∙ elim is.sides [
   | inl a ↦
       let live = subst (λ (n : ℕ). segment_at n h is.header image ≡ Ok what.live) a.0 is.live in
       let opened = subst (λ (n : ℕ). open_header n h image ≡ Ok (Some is.header)) a.0 is.opened in
-      let beside = subst (λ (n : ℕ). IsBeside h n is.header.generation image (open_header n h image) what.older) a.1 is.beside in
+      let beside = subst (λ (n : ℕ). IsBeside h n is.header.version is.header.generation image (open_header n h image) what.older) a.1 is.beside in
       ap (λ (r : Result (Option Header) OpenError). by_headers h image r (open_header h h image)) opened
       ∙ a_live h image is.header (open_header h h image) what live beside what.older refl
   | inr b ↦
       let live = subst (λ (n : ℕ). segment_at n h is.header image ≡ Ok what.live) b.0 is.live in
       let opened = subst (λ (n : ℕ). open_header n h image ≡ Ok (Some is.header)) b.0 is.opened in
-      let beside = subst (λ (n : ℕ). IsBeside h n is.header.generation image (open_header n h image) what.older) b.1 is.beside in
+      let beside = subst (λ (n : ℕ). IsBeside h n is.header.version is.header.generation image (open_header n h image) what.older) b.1 is.beside in
       ap (λ (r : Result (Option Header) OpenError). by_headers h image (open_header 0 h image) r) opened
       ∙ b_live h image is.header (open_header 0 h image) what live beside what.older refl
 ]

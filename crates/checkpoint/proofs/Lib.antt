@@ -17,3 +17,4 @@ pub mod Puts
 pub mod Rewrites
 pub mod Switches
 pub mod Held
+pub mod Versions

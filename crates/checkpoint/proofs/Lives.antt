@@ -9,42 +9,45 @@ use Rattle.checkpoint.specs.declared.choosing.Found.{Found}
 use Rattle.checkpoint.specs.declared.error.OpenError.{OpenError}
 use Rattle.checkpoint.specs.declared.segment.Segment.{Segment}
 use Rattle.checkpoint.specs.declared.opened.Opened.{Opened}
-use Rattle.checkpoint.specs.Image.{SegmentImage, DiskImage, with_older, segments_in, area_of, with_table, found_in, read_image, folded, recovered, state_of}
-use Rattle.checkpoint.specs.Live.{IsLive}
+use Rattle.checkpoint.specs.Image.{SegmentImage, DiskImage, with_older, segments_in, area_of, with_table, found_in, read_image, folded_in, live_in, if_new, recovered}
+use Rattle.checkpoint.specs.Live.{IsLiveIn}
 use Rattle.checkpoint.specs.Opening.{Refuses}
 use Rattle.checkpoint.specs.OpenSteps.{IsRead, Opens, IsOpened, AreBoth, IsOpenedAs}
 use Rattle.checkpoint.proofs.Refusals.{refuses_along}
-use Rattle.checkpoint.proofs.Folds.{replays}
+use Rattle.checkpoint.proofs.Folds.{replays, folds_so}
 use Rattle.checkpoint.proofs.Segments.{behind_snapshot}
 
 -- what is wrong with what an image holds is wrong with what it recovers to
 pub image_refused : (content : List ℕ) (why : OpenError) → Refuses why (read_image content) → Refuses why (recovered content)
 unfolding recovered
-image_refused content why = refuses_along why (read_image content) (state_of (read_image content)) (λ e is. ap state_of is)
+image_refused content why = refuses_along why (read_image content) (if_new (live_in (read_image content))) (λ e is. ap (λ (r : Result DiskImage OpenError). if_new (live_in r)) is)
 
 pub opened_replays : (segment : Segment) (other_open : Bool) (opened : Opened) (snapshot : Snapshot) (commands : List Command) (opens : Opens segment other_open opened snapshot commands)
     → replay opened.settings snapshot commands ≡ Some opens.table
 opened_replays segment other_open opened snapshot commands opens =
-    (λ i. replay (opens.settings i) (opens.first i) (opens.others i)) ∙ replays segment.settings segment.snapshot segment.behind.items opens.table opens.folds
+    (λ i. replay (opens.settings i) (opens.first i) (opens.others i)) ∙ replays segment.settings segment.snapshot segment.behind.items opens.table
+    (folds_so segment.version segment.settings segment.snapshot segment.behind.items opens.table opens.folds)
 
 module _ (sectors : ℕ) (content : List ℕ) (found : Found) (segment : Segment) (read : IsRead sectors found content segment) where
   abbrev area : Area
   area = area_of found.base sectors found.header segment.snapshot
 
-  is_read : found_in sectors found content ≡ with_table found.base found.header segment.snapshot area read.frames (folded segment.settings segment.snapshot segment.behind.items)
+  is_read : found_in sectors found content ≡ with_table found.base found.header segment.snapshot area read.frames
+      (folded_in segment.version segment.settings segment.snapshot segment.behind.items)
   is_read =
       behind_snapshot found.base sectors found.header content segment.snapshot (Ok read.frames) read.snapshot read.holds.reads
-      ∙ (λ i. with_table found.base found.header segment.snapshot area read.frames (folded (sym read.settings i) segment.snapshot (read.behind i)))
+      ∙ (λ i. with_table found.base found.header segment.snapshot area read.frames (folded_in (sym read.version i) (sym read.settings i) segment.snapshot (read.behind i)))
 
   -- where a command is not legal, its gate is damaged
-  pub fold_refused : (why : OpenError) → Refuses why (folded segment.settings segment.snapshot segment.behind.items) → Refuses why (found_in sectors found content)
-  fold_refused why = refuses_along why (folded segment.settings segment.snapshot segment.behind.items) (found_in sectors found content)
+  pub fold_refused : (why : OpenError) → Refuses why (folded_in segment.version segment.settings segment.snapshot segment.behind.items) → Refuses why (found_in sectors found content)
+  fold_refused why = refuses_along why (folded_in segment.version segment.settings segment.snapshot segment.behind.items) (found_in sectors found content)
       (λ e is. is_read ∙ ap (with_table found.base found.header segment.snapshot area read.frames) is)
 
   pub is_opened : (other_open : Bool) (opened : Opened) (snapshot : Snapshot) (commands : List Command) (opens : Opens segment other_open opened snapshot commands)
       → IsOpened sectors found content other_open opened snapshot commands
   is_opened other_open opened snapshot commands opens = record {
     image = record {
+      version = found.header.version;
       base = found.base;
       generation = found.header.generation;
       settings = found.header.settings;
@@ -54,6 +57,7 @@ module _ (sectors : ℕ) (content : List ℕ) (found : Found) (segment : Segment
       table = opens.table;
     };
     reads = is_read ∙ ap (with_table found.base found.header segment.snapshot area read.frames) opens.folds;
+    version = sym (opens.version ∙ read.version);
     base = sym (opens.base ∙ read.base);
     generation = sym (opens.generation ∙ read.generation);
     settings = sym (opens.settings ∙ read.settings);
@@ -69,6 +73,7 @@ pub opened_alone : (sectors : ℕ) (live : Found) (bytes : List ℕ) (opened : O
 opened_alone sectors live bytes opened snapshot commands is = record {
   image = record { live = is.image; older = None };
   reads = ap (λ (r : Result SegmentImage OpenError). with_older r None) is.reads;
+  version = is.version;
   base = is.base;
   generation = is.generation;
   settings = is.settings;
@@ -84,6 +89,7 @@ pub opened_both : (sectors : ℕ) (live older : Found) (bytes : List ℕ) (opene
 opened_both sectors live older bytes opened snapshot commands are = record {
   image = record { live = are.first.image; older = Some are.beside };
   reads = λ i. with_older (are.first.reads i) (Some (are.beside_reads i));
+  version = are.first.version;
   base = are.first.base;
   generation = are.first.generation;
   settings = are.first.settings;
@@ -107,6 +113,7 @@ pub opened_along : (read other : Result DiskImage OpenError) (bytes : List ℕ) 
 opened_along read other bytes opened snapshot commands same is = record {
   image = is.image;
   reads = same ∙ is.reads;
+  version = is.version;
   base = is.base;
   generation = is.generation;
   settings = is.settings;
@@ -116,14 +123,15 @@ opened_along read other bytes opened snapshot commands same is = record {
   parts = is.parts;
 }
 
--- a disk with one image, which was read so, is live
+-- a disk with one image, which was read so, is live in that version
 module _ (content : List ℕ) (disk : DiskView) (settled : HasOneImage disk) (same : disk.content ≡ content) (opened : Opened) (snapshot : Snapshot) (commands : List Command)
     (was : IsOpenedAs (read_image content) content opened snapshot commands) where
-  pub is_live : IsLive disk opened was.image.live.table
+  pub is_live : IsLiveIn opened.version disk opened was.image.live.table
   is_live = record {
     settled = settled;
     image = was.image;
     reads = ap read_image same ∙ was.reads;
+    version_is = was.version;
     base = was.base;
     generation = was.generation;
     settings = was.settings;

@@ -6,6 +6,7 @@ use Rattle.std.proofs.lemmas.List.{drop-drop}
 use Rattle.std.proofs.lemmas.Bool.{cases_Bool, and_parts, leb-true}
 use Rattle.sector_disk.specs.laws.Written.{same_part}
 use Rattle.retry_rules.specs.declared.settings.Settings.{Settings}
+use Rattle.retry_rules.specs.Settings.{policy_of}
 use Rattle.invoke_records.specs.declared.snapshot.Snapshot.{Snapshot}
 use Rattle.invoke_records.specs.declared.error.RecordError.{RecordError}
 use Rattle.invoke_records.specs.Reading.{settings_at}
@@ -13,8 +14,8 @@ use Rattle.gate_journal.specs.declared.area.Area.{Area}
 use Rattle.gate_journal.specs.Frames.{sectors_for, Frames, frames_in, frames_at}
 use Rattle.checkpoint.specs.declared.header.Header.{Header}
 use Rattle.checkpoint.specs.declared.error.OpenError.{OpenError}
-use Rattle.async_core.specs.Limits.{most_snapshot}
-use Rattle.checkpoint.specs.Image.{SegmentImage, are_zeros, segment_sectors, header_at, header_with, header_in, snapshot_of, area_of, or_damaged, with_table, with_frames, folded, segment_at, open_header}
+use Rattle.invoke_records.specs.declared.version.Version.{Version}
+use Rattle.checkpoint.specs.Image.{SegmentImage, are_zeros, most_snapshot_in, segment_sectors_in, allows, version_byte, version_named, header_at, header_with, header_in, snapshot_of, area_of, or_damaged, with_table, with_frames, folded_in, segment_at, open_header}
 use Rattle.checkpoint.proofs.Segments.{snapshot_same}
 use Rattle.checkpoint.proofs.Images.{is_open_at, behind_gate, shut_header, header_or_damage}
 
@@ -30,6 +31,7 @@ segment_is a b is = cc
 -- a segment of these parts
 abbrev pub segment_of : ℕ → Header → Snapshot → Area → Frames → Snapshot → SegmentImage
 segment_of base header snapshot area frames table = record {
+  version = header.version;
   base = base;
   generation = header.generation;
   settings = header.settings;
@@ -45,7 +47,7 @@ table_ok base header snapshot area frames (Err why) live is = absurd cc
 table_ok base header snapshot area frames (Ok table) live is = (table, refl, segment_is (segment_of base header snapshot area frames table) live is)
 
 frames_ok : (base : ℕ) (header : Header) (snapshot : Snapshot) (area : Area) (read : Result Frames ℕ) (live : SegmentImage) → with_frames base header snapshot area read ≡ Ok live
-    → (frames : Frames) × (read ≡ Ok frames) × (with_table base header snapshot area frames (folded header.settings snapshot frames.commands) ≡ Ok live)
+    → (frames : Frames) × (read ≡ Ok frames) × (with_table base header snapshot area frames (folded_in header.version header.settings snapshot frames.commands) ≡ Ok live)
 frames_ok base header snapshot area (Err sector) live is = absurd cc
 frames_ok base header snapshot area (Ok frames) live is = (frames, refl, is)
 
@@ -55,7 +57,7 @@ pub record Parts (base sectors : ℕ) (header : Header) (image : List ℕ) (live
   pub table : Snapshot
   pub is_snapshot : snapshot_of header (drop (512 * (base + 2)) image) ≡ Some snapshot
   pub is_frames : frames_in (area_of base sectors header snapshot) image ≡ Ok frames
-  pub is_folded : folded header.settings snapshot frames.commands ≡ Ok table
+  pub is_folded : folded_in header.version header.settings snapshot frames.commands ≡ Ok table
   pub is_live : segment_of base header snapshot (area_of base sectors header snapshot) frames table ≡ live
 
 pub parts : (base sectors : ℕ) (header : Header) (image : List ℕ) (live : SegmentImage) → segment_at base sectors header image ≡ Ok live → Parts base sectors header image live
@@ -64,7 +66,7 @@ parts base sectors header image live is =
     let snapshot = damaged_ok (base + 2) (snapshot_of header (drop (512 * (base + 2)) image)) _ live is in
     let area = area_of base sectors header snapshot.0 in
     let frames = frames_ok base header snapshot.0 area (frames_in area image) live snapshot.2 in
-    let table = table_ok base header snapshot.0 area frames.0 (folded header.settings snapshot.0 frames.0.commands) live frames.2 in
+    let table = table_ok base header snapshot.0 area frames.0 (folded_in header.version header.settings snapshot.0 frames.0.commands) live frames.2 in
     record {
       snapshot = snapshot.0;
       frames = frames.0;
@@ -93,13 +95,17 @@ settings_room sectors bytes (Err e) header is = absurd cc
 settings_room sectors bytes (Ok (s, rest)) header is =
     let told = (from_be_bytes w32 (take 4 (drop 24 bytes)) + length rest == 484) && are_zeros rest in
     let size = from_be_bytes w64 (take 8 (drop 16 bytes)) in
-    let made : Header = record { generation = from_be_bytes w64 (take 8 (drop 8 bytes)); size = size; settings = s } in
-    let all = header_if (told && nat_le size (most_snapshot s) && nat_le (segment_sectors s) sectors) made header is in
-    let enough = and_parts (told && nat_le size (most_snapshot s)) (nat_le (segment_sectors s) sectors) all.0 in
-    let small = and_parts told (nat_le size (most_snapshot s)) enough.0 in
+    let version : Version = version_named (version_byte bytes) (policy_of s) in
+    let most = most_snapshot_in version s in
+    let least = segment_sectors_in version s in
+    let made : Header = record { version = version; generation = from_be_bytes w64 (take 8 (drop 8 bytes)); size = size; settings = s } in
+    let all = header_if (told && nat_le size most && nat_le least sectors && allows version s) made header is in
+    let both = and_parts (told && nat_le size most && nat_le least sectors) (allows version s) all.0 in
+    let enough = and_parts (told && nat_le size most) (nat_le least sectors) both.0 in
+    let small = and_parts told (nat_le size most) enough.0 in
     let same : size ≡ header.size = ap (λ (h : Header). h.size) all.1 in
-    let size_most : size ≤ most_snapshot s = leb-true size (most_snapshot s) small.1 in
-    let room : segment_sectors s ≤ sectors = leb-true (segment_sectors s) sectors enough.1 in
+    let size_most : size ≤ most = leb-true size most small.1 in
+    let room : least ≤ sectors = leb-true least sectors enough.1 in
     omega (arith, size_most, room, same)
 
 pub header_room : (sectors : ℕ) (bytes : List ℕ) (header : Header) → header_at sectors bytes ≡ Some header → sectors_for header.size + 5 ≤ sectors

@@ -1,11 +1,12 @@
 -- What is read of a segment that was spelled and stands behind its gate.
-use Rattle.std.proofs.Common.{◌≡◌, ℕ, ◌+◌, ◌*◌, ◌^◌, ◌<◌, ◌≤◌, true, List, [], ◌++◌, length, take, drop, replicate, Some, None, Ok, refl, sym, ◌∙◌, ap, arith, append_assoc, length-append, take-append-drop}
+use Rattle.std.proofs.Common.{◌≡◌, ℕ, ◌+◌, ◌*◌, ◌^◌, ◌<◌, ◌≤◌, true, List, ◌++◌, length, take, drop, replicate, Some, None, Ok, refl, sym, ◌∙◌, ap, arith, append_assoc, length-append, take-append-drop}
 use Rattle.std.proofs.lemmas.List.{take_at, drop_at, drop-drop}
 use Rattle.retry_rules.specs.declared.settings.Settings.{Settings}
 use Rattle.retry_rules.specs.Settings.{bad_field}
 use Rattle.invoke_records.specs.declared.snapshot.Snapshot.{Snapshot}
 use Rattle.invoke_records.specs.Spelling.{snapshot_text}
-use Rattle.invoke_records.specs.Reading.{snapshot_at}
+use Rattle.invoke_records.specs.declared.version.Version.TheVariants.{Two}
+use Rattle.invoke_records.specs.Reading.{whole_at}
 use Rattle.gate_journal.specs.declared.area.Area.{Area}
 use Rattle.gate_journal.specs.Frames.{is_open, sectors_for, padded, frames_in, no_frames}
 use Rattle.checkpoint.specs.declared.header.Header.{Header}
@@ -29,10 +30,10 @@ module _ (generation : ℕ) (s : Settings) (good : bad_field s ≡ None) (snapsh
       ∙ omega (arith, header_size generation (length text) s good, length-append (padded text) (replicate 512 0), length-padded text)
 
   abbrev pub header : Header
-  header = record { generation = generation; size = length text; settings = s }
+  header = record { version = Two; generation = generation; size = length text; settings = s }
 
   module _ (low : 1 ≤ generation) (high : generation ≤ 2 ^ 62) (small : length text ≤ most_snapshot s) (below : length text < 2 ^ 64)
-      (again : snapshot_at text ≡ Ok (snapshot, [])) (within : is_within s snapshot ≡ true) (base sectors : ℕ) (room : segment_sectors s ≤ sectors) (image : List ℕ)
+      (again : whole_at Two text ≡ Ok snapshot) (within : is_within s snapshot ≡ true) (base sectors : ℕ) (room : segment_sectors s ≤ sectors) (image : List ℕ)
       (holds : take (length segment) (drop (512 * (base + 1)) image) ≡ segment) where
     abbrev rest : List ℕ
     rest = replicate 512 0 ++ drop (length segment) (drop (512 * (base + 1)) image)
@@ -75,5 +76,5 @@ module _ (generation : ℕ) (s : Settings) (good : bad_field s ≡ None) (snapsh
 
     pub segment_found : segment_at base sectors header image ≡ Ok placed
     segment_found =
-        let some = ap (λ (l : List ℕ). snapshot_of header l) behind_header ∙ snapshot_there header snapshot rest refl again within in
+        let some = ap (λ (l : List ℕ). snapshot_of header l) behind_header ∙ snapshot_there header snapshot rest refl refl again within in
         behind_snapshot base sectors header image snapshot (Ok (no_frames area.number area.start)) some no_frames_yet

@@ -5,7 +5,7 @@ use Rattle.sector_disk.specs.laws.Moments.{untouched_more}
 use Rattle.gate_journal.specs.declared.error.ReadError.{ReadError}
 use Rattle.gate_journal.specs.declared.error.ReadError.TheVariants as read_error
 use Rattle.checkpoint.specs.declared.error.OpenError.{OpenError}
-use Rattle.checkpoint.specs.declared.error.OpenError.TheVariants.{Fault, OutOfMemory, NotFormatted, Damaged}
+use Rattle.checkpoint.specs.declared.error.OpenError.TheVariants.{Fault, OutOfMemory, NotFormatted, Damaged, OldVersion}
 use Rattle.checkpoint.specs.Opening.{OnlyReads, Refuses}
 use Rattle.checkpoint.specs.OpenSteps.{IsDamage}
 use Rattle.checkpoint.specs.Opening.{open_error_of}
@@ -26,6 +26,7 @@ pub damage_refuses : {A B : Type 0} (sector : ℕ) (found : Option A) (why : Ope
 damage_refuses sector found Fault read is gives = tt
 damage_refuses sector found OutOfMemory read is gives = tt
 damage_refuses sector found NotFormatted read is gives = absurd is
+damage_refuses sector found OldVersion read is gives = absurd is
 damage_refuses sector found (Damaged at) read is gives = gives is.1 ∙ (λ i. Err (Damaged (sym is.0 i)))
 
 -- what kept the journal from being read refuses where reading gives its damage
@@ -41,6 +42,7 @@ refuses_along Fault read other along is = tt
 refuses_along OutOfMemory read other along is = tt
 refuses_along NotFormatted read other along is = along NotFormatted is
 refuses_along (Damaged sector) read other along is = along (Damaged sector) is
+refuses_along OldVersion read other along is = along OldVersion is
 
 -- what reading gives refuses
 pub err_refuses : {A : Type 0} (why : OpenError) (read : Result A OpenError) → read ≡ Err why → Refuses why read
@@ -48,3 +50,4 @@ err_refuses Fault read is = tt
 err_refuses OutOfMemory read is = tt
 err_refuses NotFormatted read is = is
 err_refuses (Damaged sector) read is = is
+err_refuses OldVersion read is = is

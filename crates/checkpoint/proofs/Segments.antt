@@ -1,26 +1,19 @@
 -- The steps of reading a segment.
-use Rattle.std.proofs.Common.{◌≡◌, ℕ, ◌+◌, ◌*◌, ◌≤◌, ◌^◌, List, take, drop, Some, None, Result, Err, sym, ◌∙◌, ap, arith}
-use Rattle.std.proofs.lemmas.Bool.{ltb-false}
+use Rattle.std.proofs.Common.{◌≡◌, ℕ, ◌+◌, ◌*◌, ◌≤◌, List, take, drop, Some, None, Result, Err, sym, ◌∙◌, ap, arith}
 use Rattle.std.proofs.lemmas.List.{take-take}
 use Rattle.invoke_records.specs.declared.snapshot.Snapshot.{Snapshot}
-use Rattle.invoke_records.specs.Spelling.{IsSnapshot, greatest_number}
-use Rattle.invoke_records.specs.laws.Snapshots.{is_sound_snapshot}
-use Rattle.invoke_records.specs.Reading.{snapshot_at}
+use Rattle.invoke_records.specs.Reading.{whole_at}
 use Rattle.gate_journal.specs.Frames.{sectors_for, Frames, frames_in}
 use Rattle.checkpoint.specs.declared.header.Header.{Header}
 use Rattle.checkpoint.specs.declared.error.OpenError.TheVariants.{Damaged}
-use Rattle.checkpoint.specs.Image.{whole_snapshot, snapshot_of, area_of, or_damaged, with_frames, segment_at}
-
--- a snapshot's number is at most the greatest
-pub number_most : (snapshot : Snapshot) → IsSnapshot snapshot → snapshot.number ≤ 2 ^ 62
-number_most snapshot is = ltb-false greatest_number snapshot.number (is_sound_snapshot snapshot is.fault).number
+use Rattle.checkpoint.specs.Image.{within_limits, snapshot_of, area_of, or_damaged, with_frames, segment_at}
 
 -- a snapshot is read from its sectors alone
 pub snapshot_front : (header : Header) (bytes : List ℕ) → snapshot_of header (take (512 * sectors_for header.size) bytes) ≡ snapshot_of header bytes
 unfolding snapshot_of
 snapshot_front header bytes =
     let room : header.size ≤ 512 * sectors_for header.size = omega arith in
-    ap (λ (l : List ℕ). whole_snapshot header.settings (snapshot_at l)) (take-take header.size (512 * sectors_for header.size) bytes room)
+    ap (λ (l : List ℕ). within_limits header.settings (whole_at header.version l)) (take-take header.size (512 * sectors_for header.size) bytes room)
 
 -- and so from what agrees there
 pub snapshot_same : (header : Header) (a b : List ℕ) → take (512 * sectors_for header.size) a ≡ take (512 * sectors_for header.size) b → snapshot_of header a ≡ snapshot_of header b

@@ -1,22 +1,24 @@
 -- Where the segments of a live disk stand, and what the one beside the live one holds.
-use Rattle.std.proofs.Common.{◌≡◌, inl, inr, ℕ, ◌*◌, ◌/◌, ◌≤◌, List, length, Option, Some, None, option_map, Result, Ok, refl, sym, ◌∙◌, ap, subst, arith, IfOk, IfErr, Vec}
+use Rattle.std.proofs.Common.{◌≡◌, inl, inr, ℕ, ◌*◌, ◌/◌, ◌≤◌, List, length, Option, Some, None, option_map, Result, Ok, sym, ◌∙◌, ap, subst, arith, IfOk, IfErr, Vec}
 use Rattle.std.proofs.lemmas.Bool.{eq-eqb, ne_eqb, cond-true, cond-false}
 use Rattle.std.proofs.lemmas.Result.{IfOk-weaker, IfErr-weaker}
 use Rattle.std.specs.Global.{Global}
 use Rattle.sector_disk.specs.Disk.{DiskView}
 use Rattle.invoke_records.specs.declared.command.Command.{Command}
 use Rattle.invoke_records.specs.declared.snapshot.Snapshot.{Snapshot}
+use Rattle.invoke_records.specs.declared.version.Version.{Version}
+use Rattle.invoke_records.specs.declared.version.Version.TheVariants.{Two}
 use Rattle.checkpoint.specs.declared.opened.Opened.{Opened}
 use Rattle.checkpoint.specs.declared.error.OpenError.{OpenError}
-use Rattle.checkpoint.specs.declared.error.OpenError.TheVariants.{Fault, OutOfMemory, NotFormatted, Damaged}
+use Rattle.checkpoint.specs.declared.error.OpenError.TheVariants.{Fault, OutOfMemory, NotFormatted, Damaged, OldVersion}
 use Rattle.checkpoint.specs.Image.{SegmentImage, parts_of, half, least_sectors, open_header, other_base}
-use Rattle.checkpoint.specs.Live.{IsLive, settings_of}
+use Rattle.checkpoint.specs.Live.{IsLiveIn, IsLive, settings_of}
 use Rattle.checkpoint.specs.Opening.{IsNoFinding, Refuses}
 use Rattle.checkpoint.specs.Older.{read_parts, parts_behind, parts_at, older_parts, told_parts, IsOlderOf}
 use Rattle.checkpoint.proofs.Images.{IsBeside, IsDiskImage, disk_image}
 use Rattle.checkpoint.proofs.Parts.{parts}
 
-module _ (disk : DiskView) (opened : Opened) (before : Snapshot) (live : IsLive disk opened before) (sectors : ℕ) (size : length disk.content ≡ 512 * sectors) where
+module _ (version : Version) (disk : DiskView) (opened : Opened) (before : Snapshot) (live : IsLiveIn version disk opened before) (sectors : ℕ) (size : length disk.content ≡ 512 * sectors) where
   abbrev pub h : ℕ
   h = sectors / 2
 
@@ -36,17 +38,17 @@ module _ (disk : DiskView) (opened : Opened) (before : Snapshot) (live : IsLive 
   ]
 
 -- what stands beside a live segment has the parts of the older one
-beside_parts : (h other generation : ℕ) (image : List ℕ) (older : Option SegmentImage) → IsBeside h other generation image (open_header other h image) older
+beside_parts : (h other : ℕ) (version : Version) (generation : ℕ) (image : List ℕ) (older : Option SegmentImage) → IsBeside h other version generation image (open_header other h image) older
     → parts_at other h image ≡ Ok (option_map parts_of older)
-beside_parts h other generation image None is = ap (parts_behind other h image) is
-beside_parts h other generation image (Some older) (o, opened, below, is) = ap (parts_behind other h image) opened ∙ ap read_parts is
+beside_parts h other version generation image None is = ap (parts_behind other h image) is
+beside_parts h other version generation image (Some older) (o, opened, below, kept, is) = ap (parts_behind other h image) opened ∙ ap read_parts is
 
 pub older_is : (disk : DiskView) (opened : Opened) (table : Snapshot) (live : IsLive disk opened table) → length disk.content ≡ 512 * disk.sectors → least_sectors (settings_of opened) ≤ disk.sectors
     → older_parts disk opened ≡ Ok (option_map parts_of live.image.older)
 older_is disk opened table live size fits =
-    let there = is disk opened table live disk.sectors size in
-    ap (λ (n : ℕ). parts_at n (disk.sectors / 2) disk.content) (other_is disk opened table live disk.sectors size fits)
-    ∙ beside_parts (disk.sectors / 2) there.other there.header.generation disk.content live.image.older there.beside
+    let there = is Two disk opened table live disk.sectors size in
+    ap (λ (n : ℕ). parts_at n (disk.sectors / 2) disk.content) (other_is Two disk opened table live disk.sectors size fits)
+    ∙ beside_parts (disk.sectors / 2) there.other there.header.version there.header.generation disk.content live.image.older there.beside
 
 -- what can be read is refused by the device and the memory alone
 no_finding : {A : Type 0} (why : OpenError) (read : Result A OpenError) (x : A) → read ≡ Ok x → Refuses why read → IsNoFinding why
@@ -54,6 +56,7 @@ no_finding Fault read x is refused = tt
 no_finding OutOfMemory read x is refused = tt
 no_finding NotFormatted read x is refused = absurd (let no = sym is ∙ refused in cc)
 no_finding (Damaged sector) read x is refused = absurd (let no = sym is ∙ refused in cc)
+no_finding OldVersion read x is refused = absurd (let no = sym is ∙ refused in cc)
 
 some_is : {A : Type 0} (a b : A) → ◌≡◌ {A = Result A OpenError} (Ok a) (Ok b) → a ≡ b
 some_is a b is = cc

@@ -6,17 +6,18 @@ use Rattle.std.proofs.lemmas.Nat.{from_be_bytes-to_be_bytes_4, from_be_bytes-to_
 use Rattle.std.specs.List.{starts_with}
 use Rattle.std.specs.Int.{w32, w64, to_be_bytes, from_be_bytes}
 use Rattle.retry_rules.specs.declared.settings.Settings.{Settings}
-use Rattle.retry_rules.specs.Settings.{bad_field}
+use Rattle.retry_rules.specs.Settings.{bad_field, policy_of}
 use Rattle.invoke_records.specs.declared.snapshot.Snapshot.{Snapshot}
 use Rattle.invoke_records.specs.Spelling.{settings_text, snapshot_text}
-use Rattle.invoke_records.specs.Reading.{settings_at, snapshot_at}
+use Rattle.invoke_records.specs.declared.version.Version.TheVariants.{Two}
+use Rattle.invoke_records.specs.Reading.{settings_at, whole_at}
 use Rattle.invoke_records.specs.laws.Settings.{settings_again, settings_length_most}
 use Rattle.gate_journal.specs.declared.area.Area.{Area}
 use Rattle.gate_journal.specs.Frames.{is_open, sectors_for, padded, frames_in, frames_at, area_bytes, no_frames}
 use Rattle.checkpoint.specs.declared.header.Header.{Header}
 use Rattle.checkpoint.proofs.Judging.{behind_front}
 use Rattle.async_core.specs.Limits.{most_snapshot, is_within}
-use Rattle.checkpoint.specs.Image.{magic, header_front, header_text, header_at, header_with, are_zeros, segment_sectors, whole_snapshot, snapshot_of}
+use Rattle.checkpoint.specs.Image.{magic, letters, version_byte, is_version, version_named, header_front, header_text, header_at, header_of, header_with, are_zeros, segment_sectors, within_limits, snapshot_of}
 
 pub zeros_are : (n : ℕ) → are_zeros (replicate n 0) ≡ true
 zeros_are zero = refl
@@ -62,8 +63,14 @@ module _ (generation size : ℕ) (s : Settings) where
   header_size good = length-padded front ∙ omega (arith, front_size, settings_length_most s good)
 
   module _ (good : bad_field s ≡ None) (low : 1 ≤ generation) (high : generation ≤ 2 ^ 62) (bytes : List ℕ) (is : bytes ≡ parts) where
-    starts : starts_with nat_eq bytes magic ≡ true
-    starts = ap (λ (l : List ℕ). starts_with nat_eq l magic) is
+    starts : starts_with nat_eq bytes letters ≡ true
+    starts = ap (λ (l : List ℕ). starts_with nat_eq l letters) is
+
+    known : is_version (version_byte bytes) ≡ true
+    known = ap (λ (l : List ℕ). is_version (version_byte l)) is
+
+    named : version_named (version_byte bytes) (policy_of s) ≡ Two
+    named = ap (λ (l : List ℕ). version_named (version_byte l) (policy_of s)) is
 
     generation_again : from_be_bytes w64 (take 8 (drop 8 bytes)) ≡ generation
     generation_again = ap (λ (l : List ℕ). from_be_bytes w64 (take 8 (drop 8 l))) is ∙ from_be_bytes-to_be_bytes_8 generation (omega (arith, high))
@@ -82,23 +89,26 @@ module _ (generation size : ℕ) (s : Settings) where
       told_fits : from_be_bytes w32 (take 4 (drop 24 bytes)) + length (filling front) ≡ 484
       told_fits = omega (arith, told_again, so_many (512 * sectors_for (length front) - length front) 0, front_size, settings_length_most s good)
 
-      settings_there : header_with sectors bytes (Ok (s, filling front)) ≡ Some (record { generation = generation; size = size; settings = s })
+      settings_there : header_with sectors bytes (Ok (s, filling front)) ≡ Some (record { version = Two; generation = generation; size = size; settings = s })
       settings_there =
-          cond-true _ _ _
+          ap (header_of sectors bytes s (filling front)) named
+          ∙ cond-true _ _ _
+          (and_from _ _
           (and_from _ _
           (and_from _ _ (and_from _ _ (eq-eqb _ 484 told_fits) (zeros_are (512 * sectors_for (length front) - length front)))
           (ap (λ (n : ℕ). nat_le n (most_snapshot s)) (size_again below) ∙ le-leb size (most_snapshot s) within))
           (le-leb (segment_sectors s) sectors room))
-          ∙ (λ i. Some (record { generation = generation_again i; size = size_again below i; settings = s }))
+          refl)
+          ∙ (λ i. Some (record { version = Two; generation = generation_again i; size = size_again below i; settings = s }))
 
-      pub header_again : header_at sectors bytes ≡ Some (record { generation = generation; size = size; settings = s })
+      pub header_again : header_at sectors bytes ≡ Some (record { version = Two; generation = generation; size = size; settings = s })
       header_again =
-          behind_front sectors bytes (drop 28 bytes) refl starts (omega (arith, generation_again, low)) (omega (arith, generation_again, high))
+          behind_front sectors bytes (drop 28 bytes) refl starts known (omega (arith, generation_again, low)) (omega (arith, generation_again, high))
           ∙ ap (header_with sectors bytes) behind ∙ settings_there
 
 -- ## The snapshot
 
-module _ (header : Header) (snapshot : Snapshot) (rest : List ℕ) (size : header.size ≡ length (snapshot_text snapshot)) where
+module _ (header : Header) (snapshot : Snapshot) (rest : List ℕ) (size : header.size ≡ length (snapshot_text snapshot)) (new : header.version ≡ Two) where
   abbrev snapshot_bytes : List ℕ
   snapshot_bytes = padded (snapshot_text snapshot) ++ rest
 
@@ -108,10 +118,10 @@ module _ (header : Header) (snapshot : Snapshot) (rest : List ℕ) (size : heade
   told : take header.size snapshot_bytes ≡ snapshot_text snapshot
   told = (λ i. take (size i) (joined i)) ∙ take_at (snapshot_text snapshot) (filling (snapshot_text snapshot) ++ rest) (length (snapshot_text snapshot)) refl
 
-  pub snapshot_there : snapshot_at (snapshot_text snapshot) ≡ Ok (snapshot, []) → is_within header.settings snapshot ≡ true → snapshot_of header snapshot_bytes ≡ Some snapshot
+  pub snapshot_there : whole_at Two (snapshot_text snapshot) ≡ Ok snapshot → is_within header.settings snapshot ≡ true → snapshot_of header snapshot_bytes ≡ Some snapshot
   unfolding snapshot_of
   snapshot_there again within =
-      ap (λ (l : List ℕ). whole_snapshot header.settings (snapshot_at l)) told ∙ ap (whole_snapshot header.settings) again ∙ cond-true _ _ _ within
+      (λ i. within_limits header.settings (whole_at (new i) (told i))) ∙ ap (within_limits header.settings) again ∙ cond-true _ _ _ within
 
 -- ## No frames
 

@@ -1,14 +1,19 @@
--- What an image of a disk recovers to, by its bytes.
-use Rattle.std.specs.Prelude.{◌≡◌, ℕ, ◌+◌, ◌*◌, ◌/◌, ◌^◌, ◌==◌, nat_le, nat_lt, nat_eq, Bool, ◌&&◌, List, [], ◌∷◌, ◌++◌, length, take, drop, replicate, codes, Option, Some, None, Result, Ok, Err, if◌then◌else◌, option_map, map}
+-- What an image of a disk reads to, in either version of the format, and what it recovers to: by its bytes.
+use Rattle.std.specs.Prelude.{◌≡◌, ℕ, ◌+◌, ◌*◌, ◌/◌, ◌^◌, ◌==◌, nat_le, nat_lt, nat_eq, Bool, true, false, not, ◌&&◌, ◌||◌, List, [], ◌∷◌, ◌++◌, length, take, drop, replicate, codes, slice_index, Option, Some, None, Result, Ok, Err, if◌then◌else◌, option_map, map}
 use Rattle.std.specs.Result.{IsOkAnd}
 use Rattle.std.specs.List.{list_all, starts_with}
 use Rattle.std.specs.Int.{w32, w64, to_be_bytes, from_be_bytes}
+use Rattle.retry_rules.specs.declared.policy.RetryPolicy.{RetryPolicy}
 use Rattle.retry_rules.specs.declared.settings.Settings.{Settings}
+use Rattle.retry_rules.specs.Settings.{policy_of}
 use Rattle.invoke_records.specs.declared.command.Command.{Command}
 use Rattle.invoke_records.specs.declared.snapshot.Snapshot.{Snapshot}
+use Rattle.invoke_records.specs.declared.version.Version.{Version}
+use Rattle.invoke_records.specs.declared.version.Version.TheVariants.{One, Two}
 use Rattle.invoke_records.specs.declared.error.RecordError.{RecordError}
 use Rattle.invoke_records.specs.Spelling.{settings_text, snapshot_text}
-use Rattle.invoke_records.specs.Reading.{settings_at, snapshot_at}
+use Rattle.invoke_records.specs.Reading.{settings_at, whole_at}
+use Rattle.invoke_records.specs.Versions.{is_old, most_payload, row_front, snapshot_front, has_kind}
 use Rattle.async_core.specs.declared.illegal.Illegal.{Illegal}
 use Rattle.async_core.specs.State.{State}
 use Rattle.async_core.specs.Rules.{refusal_at, table_after}
@@ -18,11 +23,11 @@ use Rattle.gate_journal.specs.Frames.{is_open, sectors_for, padded, Frames, fram
 use Rattle.checkpoint.specs.declared.header.Header.{Header}
 use Rattle.checkpoint.specs.declared.choosing.Found.{Found}
 use Rattle.checkpoint.specs.declared.error.OpenError.{OpenError}
-use Rattle.checkpoint.specs.declared.error.OpenError.TheVariants.{NotFormatted, Damaged}
+use Rattle.checkpoint.specs.declared.error.OpenError.TheVariants.{NotFormatted, Damaged, OldVersion}
 
 -- ## Sizes
 
--- how many sectors a segment has at least: its gate, its header, the greatest snapshot, and room for one frame
+-- how many sectors a segment has at least that is written: its gate, its header, the greatest snapshot, and room for one frame
 abbrev pub segment_sectors : Settings → ℕ
 segment_sectors s = 2 + sectors_for (most_snapshot s) + 3
 
@@ -30,13 +35,42 @@ segment_sectors s = 2 + sectors_for (most_snapshot s) + 3
 abbrev pub least_sectors : Settings → ℕ
 least_sectors s = 2 * segment_sectors s
 
+-- the greatest length of a snapshot of this version
+abbrev pub most_snapshot_in : Version → Settings → ℕ
+most_snapshot_in version s = snapshot_front version + s.events * (row_front version + s.payload + s.response)
+
+-- how many sectors a segment of this version has at least
+abbrev pub segment_sectors_in : Version → Settings → ℕ
+segment_sectors_in version s = 2 + sectors_for (most_snapshot_in version s) + 3
+
+-- version 1 has no settings that let a payload be longer than it allows
+abbrev pub allows : Version → Settings → Bool
+allows (One policy) s = nat_le s.payload (most_payload (One policy))
+allows Two s = true
+
 -- the bytes of a sector of an image
 abbrev pub sector_at : ℕ → List ℕ → List ℕ
 sector_at sector image = take 512 (drop (512 * sector) image)
 
 -- ## The header
 
--- `AINVOKE` and the version
+-- what a header begins with
+abbrev pub letters : List ℕ
+letters = codes "AINVOKE"
+
+-- the byte behind them, which names the version
+abbrev pub version_byte : List ℕ → ℕ
+version_byte bytes = slice_index bytes 7
+
+-- there are two
+abbrev pub is_version : ℕ → Bool
+is_version byte = (byte == 1) || (byte == 2)
+
+-- the version that such a byte names: rows and snapshots of version 1 are given this retry policy
+abbrev pub version_named : ℕ → RetryPolicy → Version
+version_named byte policy = if byte == 1 then One policy else Two
+
+-- the letters and version 2, as they are written
 abbrev pub magic : List ℕ
 magic = codes "AINVOKE" ++ (2 ∷ [])
 
@@ -52,38 +86,44 @@ header_text generation size s = padded (header_front generation size s)
 abbrev pub are_zeros : List ℕ → Bool
 are_zeros bytes = list_all (λ b. b == 0) bytes
 
--- the header with these settings, of which these bytes are left, if a segment of so many sectors is large enough for them
-abbrev pub header_with : ℕ → List ℕ → Result (Settings × List ℕ) RecordError → Option Header
-header_with sectors bytes (Err e) = None
-header_with sectors bytes (Ok (s, rest)) =
+-- the header of this version with these settings, of which these bytes are left, if a segment of so many sectors is large
+-- enough for them
+abbrev pub header_of : ℕ → List ℕ → Settings → List ℕ → Version → Option Header
+header_of sectors bytes s rest version =
     if (from_be_bytes w32 (take 4 (drop 24 bytes)) + length rest == 484) && are_zeros rest
-    && nat_le (from_be_bytes w64 (take 8 (drop 16 bytes))) (most_snapshot s) && nat_le (segment_sectors s) sectors
+    && nat_le (from_be_bytes w64 (take 8 (drop 16 bytes))) (most_snapshot_in version s) && nat_le (segment_sectors_in version s) sectors
+    && allows version s
     then Some (record {
+      version = version;
       generation = from_be_bytes w64 (take 8 (drop 8 bytes));
       size = from_be_bytes w64 (take 8 (drop 16 bytes));
       settings = s;
     })
     else None
 
+-- the header with the settings that were read, in the version that its byte names
+abbrev pub header_with : ℕ → List ℕ → Result (Settings × List ℕ) RecordError → Option Header
+header_with sectors bytes (Err e) = None
+header_with sectors bytes (Ok (s, rest)) = header_of sectors bytes s rest (version_named (version_byte bytes) (policy_of s))
+
 -- the header that this sector is, in a segment of so many sectors, if it is one
 unfoldable pub header_at : ℕ → List ℕ → Option Header
 header_at sectors bytes =
-    if starts_with nat_eq bytes magic
+    if starts_with nat_eq bytes letters && is_version (version_byte bytes)
     && nat_le 1 (from_be_bytes w64 (take 8 (drop 8 bytes))) && nat_le (from_be_bytes w64 (take 8 (drop 8 bytes))) (2 ^ 62)
     then header_with sectors bytes (settings_at (drop 28 bytes))
     else None
 
 -- ## The snapshot
 
--- the snapshot that was read, where nothing is left behind it and it is within the settings' limits
-abbrev pub whole_snapshot : Settings → Result (Snapshot × List ℕ) RecordError → Option Snapshot
-whole_snapshot s (Err e) = None
-whole_snapshot s (Ok (snapshot, [])) = if is_within s snapshot then Some snapshot else None
-whole_snapshot s (Ok (snapshot, b ∷ rest)) = None
+-- the snapshot that was read, where it is within the settings' limits
+abbrev pub within_limits : Settings → Result Snapshot RecordError → Option Snapshot
+within_limits s (Err e) = None
+within_limits s (Ok snapshot) = if is_within s snapshot then Some snapshot else None
 
--- the snapshot at the front of these bytes that the header speaks of
+-- the snapshot at the front of these bytes that the header speaks of, in its version
 unfoldable pub snapshot_of : Header → List ℕ → Option Snapshot
-snapshot_of header bytes = whole_snapshot header.settings (snapshot_at (take header.size bytes))
+snapshot_of header bytes = within_limits header.settings (whole_at header.version (take header.size bytes))
 
 -- ## A segment
 
@@ -107,8 +147,23 @@ abbrev pub folded : Settings → Snapshot → List (ℕ × Command) → Result S
 folded s table [] = Ok table
 folded s table (c ∷ commands) = legal_or_damaged c.0 (refusal_at s table c.1) (folded s (table_after s table c.1) commands)
 
--- what a segment holds: where it begins, its snapshot, its frames, and the table after their commands
+-- where this went well, the rest
+abbrev pub next_to : {A : Type 0} → Result (Unit {0}) OpenError → Result A OpenError → Result A OpenError
+next_to (Err why) rest = Err why
+next_to (Ok done) rest = rest
+
+-- each command is of a kind that this version has; else the gate of the first that is not is damaged
+abbrev pub kinds_in : Version → List (ℕ × Command) → Result (Unit {0}) OpenError
+kinds_in version [] = Ok tt
+kinds_in version (c ∷ commands) = if has_kind version c.1.kind then kinds_in version commands else Err (Damaged c.0)
+
+-- the table after the commands of a segment of this version
+abbrev pub folded_in : Version → Settings → Snapshot → List (ℕ × Command) → Result Snapshot OpenError
+folded_in version s table commands = next_to (kinds_in version commands) (folded s table commands)
+
+-- what a segment holds: its version, where it begins, its snapshot, its frames, and the table after their commands
 pub record SegmentImage : Type 0 where
+  pub version : Version
   pub base : ℕ
   pub generation : ℕ
   pub settings : Settings
@@ -134,6 +189,7 @@ area_of base sectors header snapshot = record {
 abbrev pub with_table : ℕ → Header → Snapshot → Area → Frames → Result Snapshot OpenError → Result SegmentImage OpenError
 with_table base header snapshot area frames (Err why) = Err why
 with_table base header snapshot area frames (Ok table) = Ok (record {
+  version = header.version;
   base = base;
   generation = header.generation;
   settings = header.settings;
@@ -146,7 +202,7 @@ with_table base header snapshot area frames (Ok table) = Ok (record {
 abbrev pub with_frames : ℕ → Header → Snapshot → Area → Result Frames ℕ → Result SegmentImage OpenError
 with_frames base header snapshot area (Err sector) = Err (Damaged sector)
 with_frames base header snapshot area (Ok frames) =
-    with_table base header snapshot area frames (folded header.settings snapshot frames.commands)
+    with_table base header snapshot area frames (folded_in header.version header.settings snapshot frames.commands)
 
 -- the snapshot from this sector of an image on, of which the header speaks
 abbrev pub snapshot_in : ℕ → Header → List ℕ → Option Snapshot
@@ -186,6 +242,16 @@ open_header base sectors image =
 abbrev pub found_at : ℕ → Header → Found
 found_at base header = record { base = base; header = header }
 
+-- an older segment may not be of a later version than the live one: the first version is the live one's
+abbrev pub is_later_than : Version → Version → Bool
+is_later_than Two older = false
+is_later_than (One policy) older = not (is_old older)
+
+-- this segment is live and that one is older
+abbrev pub in_order : Found → Found → Result (Found × Option Found) OpenError
+in_order live older =
+    if is_later_than live.header.version older.header.version then Err (Damaged (older.base + 1)) else Ok (live, Some older)
+
 -- which of the open segments A and B is live, by its generation, and which one is older, if both are open
 abbrev pub chosen : ℕ → Option Header → Option Header → Result (Found × Option Found) OpenError
 chosen half None None = Err NotFormatted
@@ -193,8 +259,8 @@ chosen half (Some a) None = Ok (found_at 0 a, None)
 chosen half None (Some b) = Ok (found_at half b, None)
 chosen half (Some a) (Some b) =
     if a.generation == b.generation then Err (Damaged half)
-    else if nat_lt b.generation a.generation then Ok (found_at 0 a, Some (found_at half b))
-    else Ok (found_at half b, Some (found_at 0 a))
+    else if nat_lt b.generation a.generation then in_order (found_at 0 a) (found_at half b)
+    else in_order (found_at half b) (found_at 0 a)
 
 abbrev pub found_in : ℕ → Found → List ℕ → Result SegmentImage OpenError
 found_in sectors found image = segment_at found.base sectors found.header image
@@ -227,10 +293,21 @@ read_image image =
 abbrev pub HasGeneration : ℕ → List ℕ → Type 0
 HasGeneration generation image = IsOkAnd (read_image image) (λ image. image.live.generation ≡ generation)
 
-abbrev pub state_of : Result DiskImage OpenError → Result State OpenError
-state_of (Err why) = Err why
-state_of (Ok image) = Ok (record { settings = image.live.settings; table = image.live.table })
+-- the version of the live segment, the settings, and the table
+abbrev pub live_in : Result DiskImage OpenError → Result (Version × State) OpenError
+live_in (Err why) = Err why
+live_in (Ok image) = Ok (image.live.version, record { settings = image.live.settings; table = image.live.table })
+
+-- what an image reads to, as version 1 or 2: which of them, the settings and the table, or what is wrong and where
+abbrev pub read_as : List ℕ → Result (Version × State) OpenError
+read_as image = live_in (read_image image)
+
+-- version 2 alone is recovered: of a disk of version 1 it is told that it is old
+abbrev pub if_new : Result (Version × State) OpenError → Result State OpenError
+if_new (Err why) = Err why
+if_new (Ok (One policy, state)) = Err OldVersion
+if_new (Ok (Two, state)) = Ok state
 
 -- what an image recovers to: the settings and the table, or what is wrong and where
 unfoldable pub recovered : List ℕ → Result State OpenError
-recovered image = state_of (read_image image)
+recovered image = if_new (read_as image)

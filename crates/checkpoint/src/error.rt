@@ -53,6 +53,9 @@ pub enum OpenError {
     /// What stands at this sector is no part of a formatted disk.
     #[error("damaged at sector {sector}")]
     Damaged { sector: u64 },
+    /// All of the disk can be read, and its live segment is of version 1 of the format: it has to be migrated.
+    #[error("old version")]
+    OldVersion,
 }
 
 impl From<AllocError> for OpenError {

@@ -8,7 +8,7 @@ ghost use Rattle.checkpoint.specs.Formatting.{IsTooSmall, TellsLeast, IsFormatte
 ghost use Rattle.checkpoint.specs.FormatSteps.{IsFirst, LeavesFirst};
 
 use crate::FormatError;
-use crate::sizes::segment_sectors;
+use crate::sizes::least_sectors;
 use crate::writing::spell_segment;
 use invoke_records::{Rows, Snapshot};
 use retry_rules::Settings;
@@ -59,7 +59,7 @@ pub fn format<D: Disk>(alloc: Global, disk: &mut D, settings: &Settings) -> Resu
     ensures formatted { (D.view disk.old).honest → OnOk result (IsFormatted (D.view disk.new) settings.now) }
 {
     let sectors = disk.sectors();
-    let least = 2 * segment_sectors(settings);
+    let least = least_sectors(settings);
     if sectors < least {
         return Err(FormatError::TooSmall { least });
     }

@@ -1,8 +1,10 @@
 //! The segments of a disk: a header with the settings, a snapshot of the table, and a journal behind it.
 //!
 //! A disk is seen by what an image of it recovers to: the settings and the table after the snapshot and each command
-//! behind an open gate, or what is wrong and where. The crates above use that `open` gives just this, and that a stop
-//! at any moment of `append` leaves the table from before it or after the whole batch.
+//! behind an open gate, or what is wrong and where. Segments of version 1 of the format are read by their own sizes, and
+//! only version 2 is written: a disk whose live segment is of version 1 recovers to nothing, until a switch writes version 2.
+//! The crates above use that `open` gives just this, and that a stop at any moment of `append` leaves the table from before
+//! it or after the whole batch.
 #![tactic(auto)]
 
 mod choosing;
@@ -29,5 +31,6 @@ pub use header::MOST_GENERATIONS;
 pub use laws::what_is_recovered_is_what_was_written;
 pub use older::read_older;
 pub use opened::Opened;
-pub use opening::open;
+pub use opening::{open, open_either};
+pub use sizes::least_sectors;
 pub use switching::switch;

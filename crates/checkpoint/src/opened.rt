@@ -2,9 +2,10 @@
 ghost use Rattle.std.specs.Prelude.{◌≡◌, ◌↔◌, ◌+◌, ◌≤◌, ◌^◌, length, false, All, None, IsErrOf, OnOk, OnErr};
 ghost use Rattle.sector_disk.specs.Disk.{IsSameDisk, HasRisen};
 ghost use Rattle.invoke_records.specs.Spelling.{commands_text, command_fault};
+ghost use Rattle.invoke_records.specs.Versions.{is_old};
 
 use gate_journal::{AppendError, Journal};
-use invoke_records::Command;
+use invoke_records::{Command, Version};
 use retry_rules::Settings;
 use sector_disk::Disk;
 use std::alloc::Global;
@@ -12,6 +13,8 @@ use std::alloc::Global;
 /// The live segment of a disk that was opened.
 #[derive(Debug, Drop)]
 pub struct Opened {
+    // The version of the format that it is of. Only what is of version 2 is appended to.
+    pub(crate) version: Version,
     // The sector where it begins.
     pub(crate) base: u64,
     pub(crate) settings: Settings,
@@ -22,13 +25,20 @@ pub struct Opened {
 }
 
 impl Opened {
-    ghost use Rattle.checkpoint.specs.Live.{settings_of, generation_of, number_of, end_of, fits, Acknowledges, LeavesBeforeOrAfter};
+    ghost use Rattle.checkpoint.specs.Live.{version_of, settings_of, generation_of, number_of, end_of, fits, Acknowledges, LeavesBeforeOrAfter};
 
     /// The settings that the disk was formatted with.
     pub fn settings(&self) -> &Settings
         ensures { result.now ≡ settings_of self.now }
     {
         &self.settings
+    }
+
+    /// Whether the live segment is of version 1 of the format: it can be read, and has to be migrated.
+    pub fn is_old(&self) -> bool
+        ensures { result ≡ is_old (version_of self.now) }
+    {
+        self.version.is_old()
     }
 
     /// The generation of the live segment: one more with each switch, from 1 on.
@@ -61,6 +71,7 @@ impl Opened {
         ensures no_call_either { IsErrOf result AppendError.OutOfMemory → disk.new ≡ disk.old }
 
         ensures err { OnErr result (self.new ≡ self.old) }
+        ensures version { version_of self.new ≡ version_of self.old }
         ensures settings { settings_of self.new ≡ settings_of self.old }
         ensures generation { generation_of self.new ≡ generation_of self.old }
         ensures end { end_of self.new ≡ end_of self.old }

@@ -5,9 +5,9 @@ ghost use Rattle.sector_disk.specs.Moments.{LeavesOnly};
 ghost use Rattle.retry_rules.specs.Settings.{bad_field};
 ghost use Rattle.async_core.specs.Rules.{replay};
 ghost use Rattle.checkpoint.specs.declared.error.OpenError.TheVariants as open_error;
-ghost use Rattle.checkpoint.specs.Image.{folded, found_in, segments_in, read_image, recovered};
-ghost use Rattle.checkpoint.specs.Live.{settings_of, number_of, HasRoom};
-ghost use Rattle.checkpoint.specs.Opening.{IsRecovered, AreLiveParts, TellsNotFormatted, TellsDamage};
+ghost use Rattle.checkpoint.specs.Image.{folded_in, found_in, segments_in, read_image};
+ghost use Rattle.checkpoint.specs.Live.{version_of, settings_of, number_of, HasRoom, HasRoomFor};
+ghost use Rattle.checkpoint.specs.Opening.{IsReadIn, IsRecovered, AreLiveParts, TellsNotFormatted, TellsDamage, TellsOld, TellsUnread};
 ghost use Rattle.checkpoint.specs.Opening.{OnlyReads, Refuses};
 ghost use Rattle.checkpoint.specs.OpenSteps.{IsSoundFound, Opens, IsOpened, AreBoth, IsOpenedAs, AreOpened};
 
@@ -27,10 +27,13 @@ fn judged(
 ) -> Result<(Opened, Snapshot, Vec<Command>), OpenError>
     requires { segment.snapshot.number + length segment.behind.items ≤ 2 ^ 62 }
     ensures opens { IfOk result (λ r. Opens segment other_open r.0 r.1 r.2.items) }
-    ensures refused { IfErr result (λ why. Refuses why (folded segment.settings segment.snapshot segment.behind.items)) }
+    ensures refused { IfErr result
+        (λ why. Refuses why (folded_in segment.version segment.settings segment.snapshot segment.behind.items)) }
     ensures fault { IfErr result (λ why. why ≡ open_error.Fault → ⊥) }
+    ensures old { IfErr result (λ why. why ≡ open_error.OldVersion → ⊥) }
 {
     let Segment {
+        version,
         base,
         settings,
         generation,
@@ -38,9 +41,10 @@ fn judged(
         journal,
         behind,
     } = segment;
-    let snapshot = judge(alloc, &settings, snapshot, &behind)?;
+    let snapshot = judge(alloc, version, &settings, snapshot, &behind)?;
     let commands = without_gates(alloc, behind)?;
     let opened = Opened {
+        version,
         base,
         settings,
         generation,
@@ -64,8 +68,9 @@ pub(crate) fn read_opened<D: Disk>(
     ensures reads { OnlyReads (D.view disk.old) (D.view disk.new) }
     ensures later { D.fault_count disk.old ≤ D.fault_count disk.new }
     ensures fault { IsErrOf result OpenError.Fault → HasRisen (D.fault_count disk.old) (D.fault_count disk.new) }
+    ensures old { IsErrOf result OpenError.OldVersion → ⊥ }
     ensures settings { IfOk result (λ r. bad_field (settings_of r.0) ≡ None) }
-    ensures room { IfOk result (λ r. HasRoom (D.view disk.old).sectors r.0) }
+    ensures room { IfOk result (λ r. HasRoomFor (version_of r.0) (D.view disk.old).sectors r.0) }
     ensures number { IfOk result (λ r. number_of r.0 ≡ r.1.number + length r.2.items + 1) }
     ensures below { IfOk result (λ r. r.1.number + length r.2.items ≤ 2 ^ 62) }
     ensures legal { IfOk result (λ r. IsSome (replay (settings_of r.0) r.1 r.2.items)) }
@@ -92,8 +97,9 @@ fn read_both<D: Disk>(
     ensures reads { OnlyReads (D.view disk.old) (D.view disk.new) }
     ensures later { D.fault_count disk.old ≤ D.fault_count disk.new }
     ensures fault { IsErrOf result OpenError.Fault → HasRisen (D.fault_count disk.old) (D.fault_count disk.new) }
+    ensures old { IsErrOf result OpenError.OldVersion → ⊥ }
     ensures settings { IfOk result (λ r. bad_field (settings_of r.0) ≡ None) }
-    ensures room { IfOk result (λ r. HasRoom (D.view disk.old).sectors r.0) }
+    ensures room { IfOk result (λ r. HasRoomFor (version_of r.0) (D.view disk.old).sectors r.0) }
     ensures number { IfOk result (λ r. number_of r.0 ≡ r.1.number + length r.2.items + 1) }
     ensures below { IfOk result (λ r. r.1.number + length r.2.items ≤ 2 ^ 62) }
     ensures legal { IfOk result (λ r. IsSome (replay (settings_of r.0) r.1 r.2.items)) }
@@ -121,8 +127,9 @@ fn read_found<D: Disk>(
     ensures reads { OnlyReads (D.view disk.old) (D.view disk.new) }
     ensures later { D.fault_count disk.old ≤ D.fault_count disk.new }
     ensures fault { IsErrOf result OpenError.Fault → HasRisen (D.fault_count disk.old) (D.fault_count disk.new) }
+    ensures old { IsErrOf result OpenError.OldVersion → ⊥ }
     ensures settings { IfOk result (λ r. bad_field (settings_of r.0) ≡ None) }
-    ensures room { IfOk result (λ r. HasRoom (D.view disk.old).sectors r.0) }
+    ensures room { IfOk result (λ r. HasRoomFor (version_of r.0) (D.view disk.old).sectors r.0) }
     ensures number { IfOk result (λ r. number_of r.0 ≡ r.1.number + length r.2.items + 1) }
     ensures below { IfOk result (λ r. r.1.number + length r.2.items ≤ 2 ^ 62) }
     ensures legal { IfOk result (λ r. IsSome (replay (settings_of r.0) r.1 r.2.items)) }
@@ -137,7 +144,7 @@ fn read_found<D: Disk>(
     }
 }
 
-// What `open` answers, by reads alone.
+// What `open_either` answers, by reads alone.
 fn read_live<D: Disk>(
     alloc: Global,
     disk: &mut D,
@@ -145,14 +152,15 @@ fn read_live<D: Disk>(
     ensures reads { OnlyReads (D.view disk.old) (D.view disk.new) }
     ensures later { D.fault_count disk.old ≤ D.fault_count disk.new }
     ensures fault { IsErrOf result OpenError.Fault → HasRisen (D.fault_count disk.old) (D.fault_count disk.new) }
+    ensures old { IsErrOf result OpenError.OldVersion → ⊥ }
     ensures settings { IfOk result (λ r. bad_field (settings_of r.0) ≡ None) }
-    ensures room { IfOk result (λ r. HasRoom (D.view disk.old).sectors r.0) }
+    ensures room { IfOk result (λ r. HasRoomFor (version_of r.0) (D.view disk.old).sectors r.0) }
     ensures number { IfOk result (λ r. number_of r.0 ≡ r.1.number + length r.2.items + 1) }
     ensures below { IfOk result (λ r. r.1.number + length r.2.items ≤ 2 ^ 62) }
     ensures legal { IfOk result (λ r. IsSome (replay (settings_of r.0) r.1 r.2.items)) }
     ensures exact { (D.view disk.old).honest
         → IfOk result (λ r. IsOpenedAs (read_image (D.view disk.old).content) (D.view disk.old).content r.0 r.1 r.2.items) }
-    ensures refused { (D.view disk.old).honest → IfErr result (λ why. Refuses why (recovered (D.view disk.old).content)) }
+    ensures refused { (D.view disk.old).honest → IfErr result (λ why. Refuses why (read_image (D.view disk.old).content)) }
 {
     let sectors = disk.sectors();
     if sectors < 6 {
@@ -165,9 +173,39 @@ fn read_live<D: Disk>(
     read_found(alloc, disk, live, older, half)
 }
 
-/// Opens a formatted disk: its live segment, the snapshot and the commands behind it. One barrier comes first, then
-/// reads alone. What is not a formatted disk is refused by what is wrong and where, and nothing is written: both gates
-/// and the headers behind open ones are judged first, then the live segment, then the older one.
+/// Opens a disk whose live segment is of version 1 of the format, or of version 2: that segment, the snapshot and the commands
+/// behind it. One barrier comes first, then reads alone. What is not a formatted disk is refused by what is wrong and where,
+/// and nothing is written: both gates and the headers behind open ones are judged first, then the live segment, then the older
+/// one. Rows and snapshots of version 1 have the retries and the age of their header.
+pub fn open_either<D: Disk>(
+    alloc: Global,
+    disk: &mut D,
+) -> Result<(Opened, Snapshot, Vec<Command>), OpenError>
+    ensures same { IsSameDisk (D.view disk.old) (D.view disk.new) }
+    ensures later { D.fault_count disk.old ≤ D.fault_count disk.new }
+    ensures fault { IsErrOf result OpenError.Fault → HasRisen (D.fault_count disk.old) (D.fault_count disk.new) }
+    ensures old { IsErrOf result OpenError.OldVersion → ⊥ }
+    ensures content { (D.view disk.old).honest → (D.view disk.new).content ≡ (D.view disk.old).content }
+
+    // A stop at any moment of the call leaves an image from before it.
+    ensures any_moment { (D.view disk.old).honest → LeavesOnly (D.view disk.old) (D.view disk.new) (D.view disk.old).may_leave }
+
+    ensures settings { IfOk result (λ r. bad_field (settings_of r.0) ≡ None) }
+    ensures room { IfOk result (λ r. HasRoomFor (version_of r.0) (D.view disk.old).sectors r.0) }
+    ensures number { IfOk result (λ r. number_of r.0 ≡ r.1.number + length r.2.items + 1) }
+    ensures below { IfOk result (λ r. r.1.number + length r.2.items ≤ 2 ^ 62) }
+    ensures legal { IfOk result (λ r. IsSome (replay (settings_of r.0) r.1 r.2.items)) }
+
+    ensures live { (D.view disk.old).honest → IfOk result (λ r. IsReadIn (D.view disk.old) (D.view disk.new) r.0 r.1 r.2.items) }
+    ensures parts { (D.view disk.old).honest → IfOk result (λ r. AreLiveParts (D.view disk.old).content r.1 r.2.items) }
+    ensures refused { TellsUnread (D.view disk.old) result }
+{
+    disk.barrier()?;
+    read_live(alloc, disk)
+}
+
+/// Opens a formatted disk as `open_either` does. `OldVersion` says that all of it can be read, and that its live segment is of
+/// version 1.
 pub fn open<D: Disk>(
     alloc: Global,
     disk: &mut D,
@@ -190,7 +228,11 @@ pub fn open<D: Disk>(
     ensures parts { (D.view disk.old).honest → IfOk result (λ r. AreLiveParts (D.view disk.old).content r.1 r.2.items) }
     ensures not_formatted { TellsNotFormatted (D.view disk.old) result }
     ensures damaged { TellsDamage (D.view disk.old) result }
+    ensures old_version { TellsOld (D.view disk.old) result }
 {
-    disk.barrier()?;
-    read_live(alloc, disk)
+    let (opened, snapshot, commands) = open_either(alloc, disk)?;
+    if opened.is_old() {
+        return Err(OpenError::OldVersion);
+    }
+    Ok((opened, snapshot, commands))
 }

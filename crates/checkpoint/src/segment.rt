@@ -16,7 +16,7 @@ use crate::reading::{read_sector, read_sectors};
 use crate::sizes::sectors_for;
 use crate::snapshot::read_snapshot;
 use gate_journal::{Area, Journal};
-use invoke_records::{Command, Snapshot};
+use invoke_records::{Command, Snapshot, Version};
 use retry_rules::Settings;
 use sector_disk::Disk;
 use std::alloc::Global;
@@ -24,6 +24,7 @@ use std::alloc::Global;
 // A segment as it was read: the commands of its journal stand behind their gates.
 #[derive(Drop)]
 pub(crate) struct Segment {
+    pub(crate) version: Version,
     pub(crate) base: u64,
     pub(crate) settings: Settings,
     pub(crate) generation: u64,
@@ -43,6 +44,7 @@ fn header_from<D: Disk>(
     ensures reads { OnlyReads (D.view disk.old) (D.view disk.new) }
     ensures later { D.fault_count disk.old ≤ D.fault_count disk.new }
     ensures fault { IsErrOf result OpenError.Fault → HasRisen (D.fault_count disk.old) (D.fault_count disk.new) }
+    ensures old { IsErrOf result OpenError.OldVersion → ⊥ }
     ensures sound { IfOk result (IsSoundHeader sectors) }
     ensures exact { (D.view disk.old).honest → IfOk result (λ h. header_in sector sectors (D.view disk.old).content ≡ Some h) }
     ensures refused { (D.view disk.old).honest → IfErr result (IsDamage sector (header_in sector sectors (D.view disk.old).content)) }
@@ -68,6 +70,7 @@ pub(crate) fn open_header<D: Disk>(
     ensures reads { OnlyReads (D.view disk.old) (D.view disk.new) }
     ensures later { D.fault_count disk.old ≤ D.fault_count disk.new }
     ensures fault { IsErrOf result OpenError.Fault → HasRisen (D.fault_count disk.old) (D.fault_count disk.new) }
+    ensures old { IsErrOf result OpenError.OldVersion → ⊥ }
     ensures sound { IfOk result (λ found. IfSome found (IsSoundHeader sectors)) }
     ensures exact { (D.view disk.old).honest → IfOk result (λ h. open_header base sectors (D.view disk.old).content ≡ Ok h) }
     ensures refused { (D.view disk.old).honest → IfErr result (λ why. Refuses why (open_header base sectors (D.view disk.old).content)) }
@@ -93,6 +96,7 @@ fn snapshot_from<D: Disk>(
     ensures reads { OnlyReads (D.view disk.old) (D.view disk.new) }
     ensures later { D.fault_count disk.old ≤ D.fault_count disk.new }
     ensures fault { IsErrOf result OpenError.Fault → HasRisen (D.fault_count disk.old) (D.fault_count disk.new) }
+    ensures old { IsErrOf result OpenError.OldVersion → ⊥ }
     ensures number { IfOk result (λ snapshot. snapshot.number ≤ 2 ^ 62) }
     ensures exact { (D.view disk.old).honest → IfOk result (λ s. snapshot_in sector header.now (D.view disk.old).content ≡ Some s) }
     ensures refused { (D.view disk.old).honest
@@ -118,6 +122,8 @@ pub(crate) fn read_segment<D: Disk>(
     ensures reads { OnlyReads (D.view disk.old) (D.view disk.new) }
     ensures later { D.fault_count disk.old ≤ D.fault_count disk.new }
     ensures fault { IsErrOf result OpenError.Fault → HasRisen (D.fault_count disk.old) (D.fault_count disk.new) }
+    ensures old { IsErrOf result OpenError.OldVersion → ⊥ }
+    ensures version { IfOk result (λ segment. segment.version ≡ found.header.version) }
     ensures settings { IfOk result (λ segment. segment.settings ≡ found.header.settings) }
     ensures end { IfOk result (λ segment. journal.end_of segment.journal ≡ found.base + sectors) }
     ensures number { IfOk result (λ s. journal.number_of s.journal ≡ s.snapshot.number + length s.behind.items + 1) }
@@ -128,6 +134,7 @@ pub(crate) fn read_segment<D: Disk>(
     let Found { base, header } = found;
     let snapshot = snapshot_from(alloc, disk, base + 2, &header)?;
     let Header {
+        version,
         generation,
         size,
         settings,
@@ -140,6 +147,7 @@ pub(crate) fn read_segment<D: Disk>(
     };
     let (journal, behind) = Journal::read_all(alloc, disk, area)?;
     Ok(Segment {
+        version,
         base,
         settings,
         generation,

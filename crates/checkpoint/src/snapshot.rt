@@ -64,7 +64,7 @@ pub(crate) fn may_stand(settings: &Settings, snapshot: &Snapshot) -> bool
 }
 
 // The snapshot that fills these sectors, of which the header speaks, if it is one.
-#[tactic(auto, using(crate::proofs::Segments::number_most), unfolding(crate::specs::Image::snapshot_of))]
+#[tactic(auto, unfolding(crate::specs::Image::snapshot_of))]
 pub(crate) fn read_snapshot(
     alloc: Global,
     header: &Header,
@@ -76,11 +76,12 @@ pub(crate) fn read_snapshot(
     ensures number { IfOk result (λ found. IfSome found (λ snapshot. snapshot.number ≤ 2 ^ 62)) }
 {
     let (text, _) = bytes.split_at(header.size as usize);
-    match Snapshot::decode(alloc, text) {
-        Ok((snapshot, taken)) => {
-            let is_whole = taken >= text.len() && is_within(&header.settings, &snapshot);
-            Ok(if is_whole { Some(snapshot) } else { None })
-        }
+    match Snapshot::decode_whole(alloc, header.version, text) {
+        Ok(snapshot) => Ok(if is_within(&header.settings, &snapshot) {
+            Some(snapshot)
+        } else {
+            None
+        }),
         Err(why) => unread(why),
     }
 }

@@ -7,7 +7,9 @@ ghost use Rattle.invoke_records.specs.Spelling.{snapshot_text, snapshot_fault};
 ghost use Rattle.gate_journal.specs.Frames.{is_open, sectors_for};
 ghost use Rattle.checkpoint.specs.Image.{sector_at};
 ghost use Rattle.checkpoint.specs.Pieces.{StandsFrom, parts_text};
-ghost use Rattle.checkpoint.specs.Live.{settings_of, generation_of, number_of, HasRoom, may_stand, Switches, LeavesBeforeOrSnapshot};
+ghost use Rattle.invoke_records.specs.declared.version.Version.TheVariants.{Two};
+ghost use Rattle.checkpoint.specs.Live.{version_of, settings_of, generation_of, number_of, HasRoom, may_stand};
+ghost use Rattle.checkpoint.specs.Live.{Switches, LeavesBeforeOrSnapshot, SwitchesEither, LeavesOldOrSnapshot};
 ghost use Rattle.checkpoint.specs.Image.{other_base};
 ghost use Rattle.checkpoint.specs.SwitchSteps.{OnSettled, HasGate, IsBeingClosed, LeavesElsewhere, Rewrites, LeavesSwitching, IsSwitched};
 
@@ -18,7 +20,7 @@ use crate::snapshot::may_stand;
 use crate::writing::spell_header;
 use crate::{Opened, SwitchError};
 use gate_journal::{Area, Journal};
-use invoke_records::Snapshot;
+use invoke_records::{Snapshot, Version};
 use sector_disk::{Disk, Fault, SECTOR_SIZE};
 use std::alloc::Global;
 
@@ -103,7 +105,8 @@ fn write_live<D: Disk>(
     write_gate(disk, base, &open)
 }
 
-/// Makes the other segment the live one, with this snapshot, no frames, and the generation one higher.
+/// Makes the other segment the live one, with this snapshot, no frames, and the generation one higher. What it writes is of
+/// version 2 of the format, of whichever version the live segment was.
 ///
 /// The other segment's gate is closed first where it is open, and settled; a closed one is not written. Then its header,
 /// the snapshot and a closed first gate are written, 64 sectors at once, and settled, and then its gate is opened and
@@ -130,6 +133,7 @@ pub fn switch<D: Disk>(
     ensures err { OnErr result (opened.new ≡ opened.old) }
     ensures settings { settings_of opened.new ≡ settings_of opened.old }
     ensures room { HasRoom (D.view disk.new).sectors opened.new }
+    ensures version { OnOk result (version_of opened.new ≡ Two) }
     ensures generation { OnOk result (generation_of opened.new ≡ generation_of opened.old + 1) }
     ensures number { OnOk result (number_of opened.new ≡ snapshot.now.number + 1) }
 
@@ -137,6 +141,10 @@ pub fn switch<D: Disk>(
 
     // A stop at any moment of the call leaves the table from before it, or the snapshot.
     ensures any_moment { LeavesBeforeOrSnapshot (D.view disk.old) (D.view disk.new) opened.old snapshot.now }
+
+    // The same of a live segment of either version.
+    ensures switched_either { SwitchesEither (D.view disk.old) (D.view disk.new) opened.old opened.new snapshot.now result }
+    ensures any_moment_either { LeavesOldOrSnapshot (D.view disk.old) (D.view disk.new) opened.old snapshot.now }
 {
     if !may_stand(&opened.settings, snapshot) {
         return Err(SwitchError::BadKind);
@@ -156,6 +164,7 @@ pub fn switch<D: Disk>(
         &header,
         snapshot,
     )?;
+    opened.version = Version::Two;
     opened.base = base;
     opened.generation = generation;
     opened.journal = Journal::empty(Area {

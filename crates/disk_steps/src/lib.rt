@@ -8,6 +8,7 @@ mod disks;
 mod issuing;
 mod journals;
 mod memory;
+mod migrating;
 pub mod refusals;
 mod world;
 

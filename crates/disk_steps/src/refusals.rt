@@ -2,7 +2,9 @@
 use case_runner::{Reply, Text};
 use checkpoint::{FormatError, OpenError};
 use gate_journal::AppendError;
-use group_commit::{CommitError, IssueError, JoinError, LendError, SettleError, WriteError};
+use group_commit::{
+    CommitError, IssueError, JoinError, LendError, MigrateError, SettleError, WriteError,
+};
 use table_steps::illegal;
 
 /// Why a command is not issued.
@@ -86,6 +88,27 @@ pub fn open(why: OpenError, answer: &mut Text) -> Reply {
             answer.add_with("damaged ", sector);
             Reply::RefusalTold
         }
+        OpenError::OldVersion => Reply::Refused("old version"),
+    }
+}
+
+/// Why a disk is not migrated.
+pub fn migrate(why: MigrateError, answer: &mut Text) -> Reply {
+    match why {
+        MigrateError::NotFormatted => Reply::Refused("not formatted"),
+        MigrateError::Damaged { sector } => {
+            answer.add_with("damaged ", sector);
+            Reply::RefusalTold
+        }
+        MigrateError::NotOld => Reply::Refused("not old"),
+        MigrateError::TooSmall { least } => {
+            answer.add_with("too small ", least);
+            Reply::RefusalTold
+        }
+        MigrateError::WornOut => Reply::Refused("worn out"),
+        MigrateError::BadKind => Reply::Refused("bad table"),
+        MigrateError::OutOfMemory => Reply::Refused("out of memory"),
+        MigrateError::Fault => Reply::Refused("fault"),
     }
 }
 

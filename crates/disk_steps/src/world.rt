@@ -1,6 +1,7 @@
 // Where a case stands: its settings, its disk, and what a program has open on it.
 use crate::devices::{CaseDisk, Failures, SOUND, read_failures, unwrapped, wrapped};
 use crate::memory::{format_disk, halt};
+use crate::migrating::migrate_disk;
 use case_runner::{Reply, Scene, Text, Words, set, usual_settings};
 use retry_rules::Settings;
 use sector_disk::{Disk, MemDisk};
@@ -134,6 +135,18 @@ impl<S: Stage> World<S> {
         }
     }
 
+    // Migrates the disk, which nothing has open then.
+    fn migrate(&mut self, alloc: Global, answer: &mut Text) -> Reply {
+        match self.stage.take(&mut self.base) {
+            Some(disk) => {
+                let (disk, reply) = migrate_disk(alloc, disk, answer);
+                self.stage.put(disk);
+                reply
+            }
+            None => Reply::Unreadable,
+        }
+    }
+
     // `N [fuse N] [fault reads|changes K]`: a disk of zeros, or a formatted one, which is opened.
     fn make(
         &mut self,
@@ -224,6 +237,7 @@ impl<S: Stage> Scene for World<S> {
             "disk" => self.make(alloc, false, words, answer),
             "open" => self.open(alloc, answer),
             "close" => self.close(),
+            "migrate" => self.migrate(alloc, answer),
             "stop" => self.stop(alloc, words, answer),
             "device" => self.set_device(alloc, words, answer),
             "halt" | "format" | "barriers" | "drill" | "drill-split" => {

@@ -10,3 +10,4 @@ pub mod Taken
 pub mod Writes
 pub mod Joined
 pub mod SplitDrilled
+pub mod Migrated

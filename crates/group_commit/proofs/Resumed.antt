@@ -1,5 +1,5 @@
 -- That the attempt which runs may be marked as interrupted.
-use Rattle.std.proofs.Common.{◌≡◌, ℕ, ◌≤◌, ◌++◌, ◌∷◌, List, Bool, true, false, not, None, Some, Option, cond, refl, sym, ap, ◌∙◌, subst, arith, max}
+use Rattle.std.proofs.Common.{◌≡◌, ℕ, ◌≤◌, ◌++◌, ◌∷◌, List, true, false, not, None, Some, Option, refl, sym, ap, ◌∙◌, subst, arith, max}
 use Rattle.std.specs.Prelude.{nat_lt, Result, Err, IfErr}
 use Rattle.std.proofs.lemmas.Bool.{le-ltb, and_parts}
 use Rattle.retry_rules.specs.declared.settings.Settings.{Settings}

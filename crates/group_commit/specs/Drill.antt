@@ -11,7 +11,7 @@ use Rattle.group_commit.specs.declared.error.CommitError.TheVariants as commit_e
 use Rattle.checkpoint.specs.declared.error.OpenError.{OpenError}
 use Rattle.checkpoint.specs.declared.error.OpenError.TheVariants as open_error
 use Rattle.checkpoint.specs.Image.{recovered}
-use Rattle.group_commit.specs.Refusals.{IsCutOff, TellsNotFormatted, TellsDamage}
+use Rattle.group_commit.specs.Refusals.{IsCutOff, TellsNotFormatted, TellsDamage, TellsOld}
 use Rattle.group_commit.specs.declared.script.DrillFailure.{DrillFailure}
 use Rattle.group_commit.specs.declared.script.DrillFailure.TheVariants as drill_failure
 use Rattle.group_commit.specs.declared.script.Step.{Step}
@@ -93,10 +93,11 @@ IsAtOneOf count (drill_failure.AtStep step cause) = step < count
 abbrev pub Recovers : List ℕ → Type 0
 Recovers content = IsOk (recovered content)
 
--- the first opening tells a disk with this content that it is not formatted, or damaged at a sector, only where it is so; and a
+-- the first opening tells a disk with this content that it is not formatted, damaged at a sector, or old, only where it is so; and a
 -- step is begun only where it can be opened
 abbrev pub TellsOpening : List ℕ → DrillFailure → Type 0
-TellsOpening content (drill_failure.AtOpening cause) = TellsNotFormatted content cause × TellsDamage content cause
+TellsOpening content (drill_failure.AtOpening cause) =
+    TellsNotFormatted content cause × TellsDamage content cause × TellsOld content cause
 TellsOpening content (drill_failure.AtStep step cause) = Recovers content
 
 -- after the step the disk is opened again

@@ -2,6 +2,7 @@ pub mod Broker
 pub mod History
 pub mod Promises
 pub mod Refusals
+pub mod Migrating
 pub mod Drill
 pub mod DrillBroker
 pub mod Issuer
@@ -16,4 +17,5 @@ pub mod SplitDrill
 pub mod SplitSteps
 pub mod Resume
 pub mod Steps
+pub mod MigrateSteps
 pub mod laws

@@ -32,6 +32,10 @@ TellsNotFormatted image cause = cause ≡ open_error.NotFormatted → recovered 
 abbrev pub TellsDamage : List ℕ → OpenError → Type 0
 TellsDamage image cause = (sector : ℕ) → cause ≡ open_error.Damaged sector → recovered image ≡ Err (open_error.Damaged sector)
 
+-- the cause is that the disk is of version 1 only where this image says so
+abbrev pub TellsOld : List ℕ → OpenError → Type 0
+TellsOld image cause = cause ≡ open_error.OldVersion → recovered image ≡ Err open_error.OldVersion
+
 -- what refuses a disk that is sound: the device, or memory
 abbrev pub IsCutOff : OpenError → Type 0
 IsCutOff why = (why ≡ open_error.Fault) ⊎ (why ≡ open_error.OutOfMemory)

@@ -10,7 +10,7 @@ use Rattle.async_core.specs.State.{State, refusal_by}
 use Rattle.invoke_records.specs.declared.command.Command.{Command}
 use Rattle.invoke_records.specs.Spelling.{command_fault}
 use Rattle.checkpoint.specs.declared.opened.Opened.{Opened}
-use Rattle.checkpoint.specs.Live.{RecoversTo, RecoversToEither, IsLive}
+use Rattle.checkpoint.specs.Live.{ReadsAs, RecoversTo, RecoversToEither, IsLiveIn, IsLive, version_of}
 use Rattle.checkpoint.specs.Live.{settings_of as live_settings}
 use Rattle.group_commit.specs.declared.broker.Broker.{Broker}
 use Rattle.group_commit.specs.declared.error.IssueError.{IssueError}
@@ -25,6 +25,11 @@ IsErrorFor refusal otherwise error =
 -- the disk's content recovered to this table, which the live segment of the disk now stands for
 abbrev pub IsReadFrom : DiskView → DiskView → Opened → Snapshot → Type 0
 IsReadFrom old new opened table = RecoversTo (live_settings opened) table old.content × IsLive new opened table
+
+-- the same of a disk of either version
+abbrev pub IsReadAs : DiskView → DiskView → Opened → Snapshot → Type 0
+IsReadAs old new opened table =
+    ReadsAs (version_of opened) (live_settings opened) table old.content × IsLiveIn (version_of opened) new opened table
 
 -- this holds of the table on an honest disk from which the pending commands lead to that of the broker
 abbrev pub ForBothTables : {D : Type 0} {g : Ghosts D} → (D → DiskView) → Broker D g → (Snapshot → Type 0) → Type 0

@@ -43,12 +43,12 @@ pub struct Broker<D: Disk> {
 impl<D: Disk> Broker<D> {
     ghost use Rattle.group_commit.specs.Broker.{disk_of, settings_of, table_in, issued_of, pending_of, durable_of, is_broken};
     ghost use Rattle.group_commit.specs.Promises.{ForEachHistoryOn, LeavesLegalStops, LeavesWhatWas, IsRecovered, IsReceiptFor};
-    ghost use Rattle.group_commit.specs.Refusals.{TellsFault, TellsNotFormatted, TellsDamage, IsCutOff};
+    ghost use Rattle.group_commit.specs.Refusals.{TellsFault, TellsNotFormatted, TellsDamage, TellsOld, IsCutOff};
 
     /// Opens a formatted disk. What was durable is there, and what was written and not acknowledged may be.
     ///
-    /// A disk that is not opened is handed back with the cause: `Fault`, `OutOfMemory`, `NotFormatted`, or `Damaged`
-    /// with its sector. Nothing is written to the disk.
+    /// A disk that is not opened is handed back with the cause: `Fault`, `OutOfMemory`, `NotFormatted`, `Damaged` with its
+    /// sector, or `OldVersion` where nothing is damaged and the disk has to be migrated first. Nothing is written to the disk.
     pub fn open(alloc: Global, disk: D) -> Result<Broker<D>, OpenFailure<D>>
         ensures same { IfOk result (λ b. IsSameDisk (D.view disk) (D.view (disk_of b))) }
         ensures same_failed { IfErr result (λ e. IsSameDisk (D.view disk) (D.view e.disk)) }
@@ -58,6 +58,7 @@ impl<D: Disk> Broker<D> {
         ensures recovers { (D.view disk).honest → IfOk result (λ b. live.RecoversTo (settings_of b) (table_in b) (D.view disk).content) }
         ensures not_formatted { (D.view disk).honest → IfErr result (λ e. TellsNotFormatted (D.view disk).content e.cause) }
         ensures damaged { (D.view disk).honest → IfErr result (λ e. TellsDamage (D.view disk).content e.cause) }
+        ensures old_version { (D.view disk).honest → IfErr result (λ e. TellsOld (D.view disk).content e.cause) }
 
         // A stop at any moment of the call leaves an image from before it.
         ensures any_moment { (D.view disk).honest → IfOk result (λ b. LeavesWhatWas (D.view disk) (D.view (disk_of b))) }

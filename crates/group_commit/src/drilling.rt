@@ -3,7 +3,7 @@ ghost use Rattle.std.specs.Prelude.{◌≡◌, [], length, OnOk, IfOk, IfErr};
 ghost use Rattle.sector_disk.specs.Memory.{memory_view};
 ghost use Rattle.group_commit.specs.Broker.{settings_of, pending_of, durable_of};
 ghost use Rattle.group_commit.specs.Promises.{ForEachHistory, ForEachHistoryOn};
-ghost use Rattle.group_commit.specs.Refusals.{TellsNotFormatted, TellsDamage, IsCutOff};
+ghost use Rattle.group_commit.specs.Refusals.{TellsNotFormatted, TellsDamage, TellsOld, IsCutOff};
 ghost use Rattle.group_commit.specs.declared.script.Step.TheVariants as step;
 ghost use Rattle.group_commit.specs.Drill.{answer_to, cause_in, IsAtOneOf, Recovers, TellsOpening, MayBeCutOff, IsDrillFailure};
 ghost use Rattle.group_commit.specs.DrillBroker.{Leads, IsStarted, IsDrillOf};
@@ -24,6 +24,7 @@ pub(crate) fn start(alloc: Global, disk: MemDisk) -> Result<Broker<MemDisk>, Ope
     ensures opened { OnOk result (Recovers (memory_view disk).content) }
     ensures not_formatted { IfErr result (TellsNotFormatted (memory_view disk).content) }
     ensures damaged { IfErr result (TellsDamage (memory_view disk).content) }
+    ensures old_version { IfErr result (TellsOld (memory_view disk).content) }
 {
     without_disk(Broker::open(alloc, disk))
 }

@@ -3,14 +3,16 @@ ghost use Rattle.std.specs.Prelude.{◌≡◌, ◌+◌, ◌≤◌, ◌^◌, leng
 ghost use Rattle.sector_disk.specs.Disk.{IsSameDisk, HasRisen};
 ghost use Rattle.group_commit.specs.History.{AreGood};
 ghost use Rattle.async_core.specs.Rules.{replay};
-ghost use Rattle.checkpoint.specs.Live.{settings_of, number_of, HasRoom};
+ghost use Rattle.checkpoint.specs.Opening.{TellsUnread};
+ghost use Rattle.checkpoint.specs.Live.{version_of, settings_of, number_of, HasRoom, HasRoomFor};
 ghost use Rattle.group_commit.specs.Promises.{LeavesWhatWas};
-ghost use Rattle.group_commit.specs.Refusals.{TellsNotFormatted, TellsDamage};
-ghost use Rattle.group_commit.specs.Steps.{IsReadFrom};
+ghost use Rattle.group_commit.specs.Refusals.{TellsNotFormatted, TellsDamage, TellsOld};
+ghost use Rattle.group_commit.specs.Steps.{IsReadFrom, IsReadAs};
 
 use async_core::{ApplyError, Table};
 use checkpoint::{OpenError, Opened};
-use invoke_records::Command;
+use invoke_records::{Command, Snapshot};
+use retry_rules::Settings;
 use sector_disk::Disk;
 use std::alloc::{AllocError, Global};
 
@@ -32,7 +34,26 @@ fn apply_all(table: &mut Table, commands: &[Command]) -> Result<(), AllocError>
     Ok(())
 }
 
-// Opens a disk: its live segment, and the table after each command behind an open gate.
+// The table of a snapshot after commands that are legal, each after those before it.
+fn table_behind(
+    alloc: Global,
+    settings: &Settings,
+    snapshot: Snapshot,
+    commands: &[Command],
+) -> Result<Table, AllocError>
+    requires legal { IsSome (replay settings.now snapshot commands.now) }
+    requires below { snapshot.number + length commands.now ≤ 2 ^ 62 }
+    ensures settings { IfOk result (λ table. table.settings ≡ settings.now) }
+    ensures replayed { IfOk result (λ table. replay settings.now snapshot commands.now ≡ Some table.table) }
+    ensures number { IfOk result (λ table. table.table.number ≡ snapshot.number + length commands.now) }
+{
+    let settings = settings.copy()?;
+    let mut table = Table::from_snapshot(alloc, snapshot, settings)?;
+    apply_all(&mut table, commands)?;
+    Ok(table)
+}
+
+// Opens a disk of version 2: its live segment, and the table after each command behind an open gate.
 pub(crate) fn recover<D: Disk>(alloc: Global, disk: &mut D) -> Result<(Opened, Table), OpenError>
     ensures same { IsSameDisk (D.view disk.old) (D.view disk.new) }
     ensures later { D.fault_count disk.old ≤ D.fault_count disk.new }
@@ -48,16 +69,38 @@ pub(crate) fn recover<D: Disk>(alloc: Global, disk: &mut D) -> Result<(Opened, T
     ensures live { (D.view disk.old).honest → IfOk result (λ r. IsReadFrom (D.view disk.old) (D.view disk.new) r.0 r.1.table) }
     ensures not_formatted { (D.view disk.old).honest → IfErr result (TellsNotFormatted (D.view disk.old).content) }
     ensures damaged { (D.view disk.old).honest → IfErr result (TellsDamage (D.view disk.old).content) }
+    ensures old_version { (D.view disk.old).honest → IfErr result (TellsOld (D.view disk.old).content) }
 {
     let (opened, snapshot, commands) = checkpoint::open(alloc, disk)?;
-    let Ok(settings) = opened.settings().copy() else {
-        return Err(OpenError::OutOfMemory);
-    };
-    let Ok(mut table) = Table::from_snapshot(alloc, snapshot, settings) else {
-        return Err(OpenError::OutOfMemory);
-    };
-    match apply_all(&mut table, &commands) {
-        Ok(()) => Ok((opened, table)),
+    match table_behind(alloc, opened.settings(), snapshot, &commands) {
+        Ok(table) => Ok((opened, table)),
+        Err(AllocError) => Err(OpenError::OutOfMemory),
+    }
+}
+
+// The same of a disk of either version.
+pub(crate) fn recover_either<D: Disk>(
+    alloc: Global,
+    disk: &mut D,
+) -> Result<(Opened, Table), OpenError>
+    ensures same { IsSameDisk (D.view disk.old) (D.view disk.new) }
+    ensures later { D.fault_count disk.old ≤ D.fault_count disk.new }
+    ensures fault { IsErrOf result OpenError.Fault → HasRisen (D.fault_count disk.old) (D.fault_count disk.new) }
+    ensures old { IsErrOf result OpenError.OldVersion → ⊥ }
+    ensures content { (D.view disk.old).honest → (D.view disk.new).content ≡ (D.view disk.old).content }
+    ensures any_moment { (D.view disk.old).honest → LeavesWhatWas (D.view disk.old) (D.view disk.new) }
+
+    ensures settings { IfOk result (λ r. r.1.settings ≡ settings_of r.0) }
+    ensures good { IfOk result (λ r. AreGood (settings_of r.0)) }
+    ensures room { IfOk result (λ r. HasRoomFor (version_of r.0) (D.view disk.new).sectors r.0) }
+    ensures below { IfOk result (λ r. r.1.table.number ≤ 2 ^ 62) }
+
+    ensures live { (D.view disk.old).honest → IfOk result (λ r. IsReadAs (D.view disk.old) (D.view disk.new) r.0 r.1.table) }
+    ensures refused { TellsUnread (D.view disk.old) result }
+{
+    let (opened, snapshot, commands) = checkpoint::open_either(alloc, disk)?;
+    match table_behind(alloc, opened.settings(), snapshot, &commands) {
+        Ok(table) => Ok((opened, table)),
         Err(AllocError) => Err(OpenError::OutOfMemory),
     }
 }

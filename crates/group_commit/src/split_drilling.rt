@@ -2,7 +2,7 @@
 ghost use Rattle.std.specs.Prelude.{◌≡◌, length, OnOk, IfOk, IfErr};
 ghost use Rattle.sector_disk.specs.Memory.{memory_view};
 ghost use Rattle.group_commit.specs.Promises.{ForEachHistoryOn};
-ghost use Rattle.group_commit.specs.Refusals.{TellsNotFormatted, TellsDamage, IsCutOff};
+ghost use Rattle.group_commit.specs.Refusals.{TellsNotFormatted, TellsDamage, TellsOld, IsCutOff};
 ghost use Rattle.group_commit.specs.Drill.{cause_in, IsAtOneOf, Recovers, TellsOpening};
 ghost use Rattle.group_commit.specs.declared.split_script.SplitStep.TheVariants as split_step;
 ghost use Rattle.group_commit.specs.SplitDrill.{MayBeCutOff, IsSplitDrillOf, IsSplitDrillFailure};
@@ -42,6 +42,7 @@ fn begin(alloc: Global, disk: MemDisk) -> Result<Halves, OpenError>
     ensures opened { OnOk result (Recovers (memory_view disk).content) }
     ensures not_formatted { IfErr result (TellsNotFormatted (memory_view disk).content) }
     ensures damaged { IfErr result (TellsDamage (memory_view disk).content) }
+    ensures old_version { IfErr result (TellsOld (memory_view disk).content) }
 {
     let broker = match start(alloc, disk) {
         Ok(broker) => broker,

@@ -12,12 +12,15 @@ use Rattle.invoke_records.specs.declared.row.Standing.{Standing}
 use Rattle.invoke_records.specs.declared.row.Answer.{Answer}
 use Rattle.invoke_records.specs.declared.row.EventRow.{EventRow}
 use Rattle.invoke_records.specs.declared.snapshot.Snapshot.{Snapshot}
+use Rattle.invoke_records.specs.declared.version.Version.{Version}
+use Rattle.invoke_records.specs.declared.version.Version.TheVariants.{One}
 use Rattle.invoke_records.specs.declared.row_fields.Life.{Life}
 use Rattle.invoke_records.specs.declared.row_fields.Counts.{Counts}
 use Rattle.invoke_records.specs.Spelling.{is_bad_environment, is_bad_id, greatest_moment, greatest_number, are_in_order}
 use Rattle.invoke_records.specs.declared.error.RecordError.{RecordError}
 use Rattle.invoke_records.specs.declared.error.RecordError.TheVariants as fault
-use Rattle.invoke_records.specs.Reading.{◌>>=◌, Fails, unless, byte_at, bytes_at, number_at, small_at, limit_at, policy_at, sized_at, text_at, limits_at, with_texts, settings_at, least_length, most_length, kind_at, fields_at, head_fault, body_at, command_at, life_at, counts_at, standing_of, answer_of, row_at, rows_at, snapshot_at, sound}
+use Rattle.invoke_records.specs.Reading.{◌>>=◌, Fails, unless, byte_at, bytes_at, number_at, small_at, limit_at, policy_at, policy_in, sized_at, text_at, limits_at, with_texts, settings_at, least_length, most_length, kind_at, fields_at, head_fault, body_at, command_at, life_at, counts_at, standing_of, answer_of, row_at, rows_at, snapshot_at, sound}
+use Rattle.invoke_records.specs.Versions.{most_payload}
 use Rattle.invoke_records.specs.laws.Fields.{done}
 use Rattle.invoke_records.specs.Steps.{Left, beside, with_rest, Reads, refused, refused_by, kind_behind, command_of, row_of}
 
@@ -88,6 +91,11 @@ pub policy_read : (s0 s1 s2 : Left) (p : RetryPolicy) → Reads (small_at 0 2) s
 unfolding policy_at
 policy_read s0 s1 s2 p a b = sym (step (small_at 0 2) s0 p.retries s1 _ a ∙ step (limit_at w32 60 21600) s1 p.age s2 _ b ∙ stop p s2)
 
+-- the policy that version 1 is given stands nowhere
+pub given_policy : (policy : RetryPolicy) (left : Left) → Reads (policy_in (One policy)) left policy left
+given_policy policy (Ok rest) = refl
+given_policy policy (Err f) = refl
+
 pub sized_read : (least most : ℕ) (old : Left) (n : ℕ) (new : Left) → Reads (number_at w32) old n new
     → Reads (sized_at least most) old n (refused (ltb n least) fault.BadKind (refused (ltb most n) fault.TooLong new))
 unfolding sized_at
@@ -138,17 +146,17 @@ life_read s0 s1 s2 s3 s4 s5 s6 s7 s8 l a b c d e f g h =
     ∙ step (number_at w64) s7 l.moment s8 _ h
     ∙ stop l s8)
 
-pub counts_read : (s0 s1 s2 s3 s4 sp s5 s6 : Left) (n : Counts) → Reads (number_at w32) s0 n.starts s1 → Reads (number_at w32) s1 n.failures s2
-    → Reads (number_at w32) s2 n.push_backs s3 → Reads (small_at 0 2) s3 n.answer s4 → Reads policy_at s4 n.policy sp → Reads (sized_at 1 1048576) sp n.payload_size s5
-    → Reads (sized_at 0 262144) s5 n.answer_size s6 → Reads counts_at s0 n s6
+pub counts_read : (version : Version) (s0 s1 s2 s3 s4 sp s5 s6 : Left) (n : Counts) → Reads (number_at w32) s0 n.starts s1 → Reads (number_at w32) s1 n.failures s2
+    → Reads (number_at w32) s2 n.push_backs s3 → Reads (small_at 0 2) s3 n.answer s4 → Reads (policy_in version) s4 n.policy sp → Reads (sized_at 1 (most_payload version)) sp n.payload_size s5
+    → Reads (sized_at 0 262144) s5 n.answer_size s6 → Reads (counts_at version) s0 n s6
 unfolding counts_at
-counts_read s0 s1 s2 s3 s4 sp s5 s6 n a b c d p e f =
+counts_read version s0 s1 s2 s3 s4 sp s5 s6 n a b c d p e f =
     sym (step (number_at w32) s0 n.starts s1 _ a
     ∙ step (number_at w32) s1 n.failures s2 _ b
     ∙ step (number_at w32) s2 n.push_backs s3 _ c
     ∙ step (small_at 0 2) s3 n.answer s4 _ d
-    ∙ step policy_at s4 n.policy sp _ p
-    ∙ step (sized_at 1 1048576) sp n.payload_size s5 _ e
+    ∙ step (policy_in version) s4 n.policy sp _ p
+    ∙ step (sized_at 1 (most_payload version)) sp n.payload_size s5 _ e
     ∙ step (sized_at 0 262144) s5 n.answer_size s6 _ f
     ∙ stop n s6)
 
@@ -163,14 +171,14 @@ row_then life counts payload rest (Ok standing) (Ok given) = refl
 row_then life counts payload rest (Ok standing) (Err e) = refl
 row_then life counts payload rest (Err e) b = refl
 
-pub row_read : (bytes : List ℕ) (s0 s1 s2 s3 s4 : Left) (life : Life) (counts : Counts) (payload text : List ℕ) → s0 ≡ Ok bytes → Reads life_at s0 life s1
-    → Reads counts_at s1 counts s2 → Reads (bytes_at counts.payload_size) s2 payload s3 → Reads (bytes_at counts.answer_size) s3 text s4
-    → row_at bytes ≡ (s4 >>= with_rest (row_of life counts payload text))
+pub row_read : (version : Version) (bytes : List ℕ) (s0 s1 s2 s3 s4 : Left) (life : Life) (counts : Counts) (payload text : List ℕ) → s0 ≡ Ok bytes → Reads life_at s0 life s1
+    → Reads (counts_at version) s1 counts s2 → Reads (bytes_at counts.payload_size) s2 payload s3 → Reads (bytes_at counts.answer_size) s3 text s4
+    → row_at version bytes ≡ (s4 >>= with_rest (row_of life counts payload text))
 unfolding row_at row_of
-row_read bytes s0 s1 s2 s3 s4 life counts payload text e a b c d =
-    ap (λ left. left >>= row_at) (sym e)
+row_read version bytes s0 s1 s2 s3 s4 life counts payload text e a b c d =
+    ap (λ left. left >>= row_at version) (sym e)
     ∙ step life_at s0 life s1 _ a
-    ∙ step counts_at s1 counts s2 _ b
+    ∙ step (counts_at version) s1 counts s2 _ b
     ∙ step (bytes_at counts.payload_size) s2 payload s3 _ c
     ∙ step (bytes_at counts.answer_size) s3 text s4 _ d
     ∙ under s4 _ _ (λ rest. row_then life counts payload rest (standing_of life) (answer_of counts.answer text))
@@ -250,13 +258,13 @@ abbrev pub with_rows : ℕ → ℕ → RetryPolicy → List EventRow × List ℕ
 with_rows number last_moment policy rows =
     unless (not (are_in_order rows.0)) fault.BadKind rows >>= λ ordered. found (record { number = number; last_moment = last_moment; policy = policy; rows = rows.0 }) rows.1
 
-pub snapshot_read : (bytes : List ℕ) (s0 s1 s2 sp s3 : Left) (number last_moment : ℕ) (policy : RetryPolicy) (count : ℕ) → s0 ≡ Ok bytes → Reads (limit_at w64 0 greatest_number) s0 number s1
-    → Reads (limit_at w64 0 greatest_moment) s1 last_moment s2 → Reads policy_at s2 policy sp → Reads (sized_at 0 1024) sp count s3
-    → snapshot_at bytes ≡ (s3 >>= λ rest. rows_at count rest >>= with_rows number last_moment policy)
+pub snapshot_read : (version : Version) (bytes : List ℕ) (s0 s1 s2 sp s3 : Left) (number last_moment : ℕ) (policy : RetryPolicy) (count : ℕ) → s0 ≡ Ok bytes → Reads (limit_at w64 0 greatest_number) s0 number s1
+    → Reads (limit_at w64 0 greatest_moment) s1 last_moment s2 → Reads (policy_in version) s2 policy sp → Reads (sized_at 0 1024) sp count s3
+    → snapshot_at version bytes ≡ (s3 >>= λ rest. rows_at version count rest >>= with_rows number last_moment policy)
 unfolding snapshot_at
-snapshot_read bytes s0 s1 s2 sp s3 number last_moment policy count e a b p c =
-    ap (λ left. left >>= snapshot_at) (sym e)
+snapshot_read version bytes s0 s1 s2 sp s3 number last_moment policy count e a b p c =
+    ap (λ left. left >>= snapshot_at version) (sym e)
     ∙ step (limit_at w64 0 greatest_number) s0 number s1 _ a
     ∙ step (limit_at w64 0 greatest_moment) s1 last_moment s2 _ b
-    ∙ step policy_at s2 policy sp _ p
+    ∙ step (policy_in version) s2 policy sp _ p
     ∙ step (sized_at 0 1024) sp count s3 _ c

@@ -1,15 +1,15 @@
 -- What is written piece by piece is written at once: lemmas.
-use Rattle.std.proofs.Common.{◌≡◌, ℕ, true, List, [], ◌∷◌, ◌++◌, length, Vec, Result, Ok, Err, IfOk, MatchResult, sym, ap, subst, ◌∙◌, append_assoc}
+use Rattle.std.proofs.Common.{◌≡◌, ℕ, true, List, [], ◌∷◌, ◌++◌, Vec, Result, Ok, Err, IfOk, MatchResult, sym, ap, subst, ◌∙◌, append_assoc}
 use Rattle.std.specs.Global.{Global}
 use Rattle.std.specs.List.{flat_map}
-use Rattle.std.specs.Int.{w16, w32, w64, to_be_bytes}
+use Rattle.std.specs.Int.{w16, w32, to_be_bytes}
 use Rattle.retry_rules.specs.declared.settings.Settings.{Settings}
 use Rattle.invoke_records.specs.declared.row.EventRow.{EventRow}
 use Rattle.invoke_records.specs.declared.snapshot.Snapshot.{Snapshot}
 use Rattle.invoke_records.specs.declared.error.RecordError.{RecordError}
 use Rattle.invoke_records.specs.declared.error.RecordError.TheVariants.{OutOfMemory}
 use Rattle.invoke_records.specs.declared.writer.Writer.{Writer}
-use Rattle.invoke_records.specs.Spelling.{standing_byte, ended_byte, environment_in, moment_in, answer_byte, answer_bytes, life_text, counts_text, row_text, short_text, limits_text, settings_text, snapshot_text}
+use Rattle.invoke_records.specs.Spelling.{answer_bytes, life_text, counts_text, row_text, short_text, limits_text, settings_text, snapshot_text}
 use Rattle.invoke_records.specs.Steps.{Adds}
 
 pub adds_then : (a b : List ℕ) (first between last : Writer) → Adds a first between → Adds b between last → Adds (a ++ b) first last

@@ -1,4 +1,5 @@
 pub mod Spelling
+pub mod Versions
 pub mod Reading
 pub mod Steps
 pub mod Records

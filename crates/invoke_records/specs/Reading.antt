@@ -20,10 +20,13 @@ use Rattle.invoke_records.specs.declared.row.EventRow.{EventRow}
 use Rattle.invoke_records.specs.declared.row_fields.Life.{Life}
 use Rattle.invoke_records.specs.declared.row_fields.Counts.{Counts}
 use Rattle.invoke_records.specs.declared.snapshot.Snapshot.{Snapshot}
+use Rattle.invoke_records.specs.declared.version.Version.{Version}
+use Rattle.invoke_records.specs.declared.version.Version.TheVariants.{One, Two}
 use Rattle.invoke_records.specs.declared.error.RecordError.{RecordError}
 use Rattle.invoke_records.specs.declared.error.RecordError.TheVariants as fault
 use Rattle.invoke_records.specs.declared.head.Head.{Head}
 use Rattle.invoke_records.specs.Spelling.{is_bad_environment, is_bad_id, detail_text, least_bytes, most_bytes, greatest_moment, greatest_number, are_in_order}
+use Rattle.invoke_records.specs.Versions.{most_payload}
 
 infixl 10 ◌>>=◌
 abbrev pub ◌>>=◌ : {A B : Type 0} → Result A RecordError → (A → Result B RecordError) → Result B RecordError
@@ -78,6 +81,11 @@ policy_at bytes = do
   retries ← small_at 0 2 bytes
   age ← limit_at w32 60 21600 retries.1
   Ok (record { retries = retries.0; age = age.0 }, age.1)
+
+-- the retry policy of a row or a snapshot: in version 1 there is none, and it is given this one
+abbrev pub policy_in : Version → List ℕ → Result (RetryPolicy × List ℕ) RecordError
+policy_in (One policy) bytes = Ok (policy, bytes)
+policy_in Two bytes = policy_at bytes
 
 -- ## Commands
 
@@ -259,14 +267,14 @@ life_at bytes = do
   )
 
 -- and the others in front of its texts
-unfoldable pub counts_at : List ℕ → Result (Counts × List ℕ) RecordError
-counts_at bytes = do
+unfoldable pub counts_at : Version → List ℕ → Result (Counts × List ℕ) RecordError
+counts_at version bytes = do
   starts ← number_at w32 bytes
   failures ← number_at w32 starts.1
   push_backs ← number_at w32 failures.1
   given ← small_at 0 2 push_backs.1
-  policy ← policy_at given.1
-  payload_size ← sized_at 1 1048576 policy.1
+  policy ← policy_in version given.1
+  payload_size ← sized_at 1 (most_payload version) policy.1
   answer_size ← sized_at 0 262144 payload_size.1
   Ok (
     record {
@@ -306,10 +314,10 @@ answer_of byte bytes =
     else Ok (answer.Error bytes)
 
 -- the row at the front of these bytes, and the bytes behind it: the first bad field decides, then the rules between fields
-unfoldable pub row_at : List ℕ → Result (EventRow × List ℕ) RecordError
-row_at bytes = do
+unfoldable pub row_at : Version → List ℕ → Result (EventRow × List ℕ) RecordError
+row_at version bytes = do
   life ← life_at bytes
-  counts ← counts_at life.1
+  counts ← counts_at version life.1
   payload ← bytes_at counts.0.payload_size counts.1
   text ← bytes_at counts.0.answer_size payload.1
   standing ← standing_of life.0
@@ -333,20 +341,24 @@ row_at bytes = do
 
 -- ## Snapshots
 
-unfoldable pub rows_at : ℕ → List ℕ → Result (List EventRow × List ℕ) RecordError
-rows_at zero bytes = Ok ([], bytes)
-rows_at (suc n) bytes = do
-  first ← row_at bytes
-  others ← rows_at n first.1
+unfoldable pub rows_at : Version → ℕ → List ℕ → Result (List EventRow × List ℕ) RecordError
+rows_at version zero bytes = Ok ([], bytes)
+rows_at version (suc n) bytes = do
+  first ← row_at version bytes
+  others ← rows_at version n first.1
   Ok (first.0 ∷ others.0, others.1)
 
 -- the snapshot at the front of these bytes, and the bytes behind it: the first bad field decides, then the rules between rows
-unfoldable pub snapshot_at : List ℕ → Result (Snapshot × List ℕ) RecordError
-snapshot_at bytes = do
+unfoldable pub snapshot_at : Version → List ℕ → Result (Snapshot × List ℕ) RecordError
+snapshot_at version bytes = do
   number ← limit_at w64 0 greatest_number bytes
   last_moment ← limit_at w64 0 greatest_moment number.1
-  policy ← policy_at last_moment.1
+  policy ← policy_in version last_moment.1
   count ← sized_at 0 1024 policy.1
-  rows ← rows_at count.0 count.1
+  rows ← rows_at version count.0 count.1
   ordered ← unless (not (are_in_order rows.0)) fault.BadKind rows
   Ok (record { number = number.0; last_moment = last_moment.0; policy = policy.0; rows = rows.0 }, rows.1)
+
+-- the snapshot that these bytes are, with nothing behind it
+abbrev pub whole_at : Version → List ℕ → Result Snapshot RecordError
+whole_at version bytes = snapshot_at version bytes >>= λ snapshot. unless (nat_lt 0 (length snapshot.1)) fault.TooLong snapshot.0

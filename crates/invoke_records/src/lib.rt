@@ -1,4 +1,5 @@
-//! The records of the disk: commands, rows of the table of events, snapshots and settings, each with one spelling.
+//! The records of the disk: commands, rows of the table of events, snapshots and settings, each with one spelling. Rows and
+//! snapshots of version 1 of the format are read too, and never written.
 //!
 //! A record is seen as the record of its fields, its texts as lists of bytes, a snapshot's rows as a list. The crates
 //! above use that `encode` gives the one spelling, that `decode` is Ok exactly where the bytes begin with a spelling,
@@ -27,6 +28,7 @@ mod settings_writing;
 mod snapshot;
 mod snapshot_record;
 mod snapshot_writing;
+mod version;
 mod widths;
 mod writer;
 
@@ -38,3 +40,4 @@ pub use record_bytes::{Bytes, MOST_BYTES, MOST_PAYLOAD};
 pub use row::{Answer, EventRow, Outcome, Standing};
 pub use settings_record::SettingsRecord;
 pub use snapshot::{GREATEST_NUMBER, MOST_ROWS, Rows, Snapshot};
+pub use version::Version;

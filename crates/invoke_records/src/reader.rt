@@ -1,10 +1,10 @@
 // Reading fields one after another from the front of some bytes.
 ghost use Rattle.std.specs.Prelude.{◌≡◌, Ok};
 ghost use Rattle.std.specs.Int.{w16, w32, w64};
-ghost use Rattle.invoke_records.specs.Reading.{Gives, byte_at, bytes_at, number_at, small_at, limit_at, policy_at, sized_at};
+ghost use Rattle.invoke_records.specs.Reading.{Gives, byte_at, bytes_at, number_at, small_at, limit_at, policy_at, policy_in, sized_at};
 ghost use Rattle.invoke_records.specs.Steps.{Reads, refused};
 
-use crate::RecordError;
+use crate::{RecordError, Version};
 use retry_rules::RetryPolicy;
 use std::marker::Model;
 
@@ -149,6 +149,16 @@ impl<'a> Reader<'a> {
         RetryPolicy {
             retries: self.small(0, 2),
             age: self.limit32(60, 21600),
+        }
+    }
+
+    /// The retry policy of a row or a snapshot, which does not stand there in version 1.
+    pub fn policy_in(&mut self, version: Version) -> RetryPolicy
+        ensures { Reads (policy_in version) self.old result self.new }
+    {
+        match version {
+            Version::One(policy) => policy,
+            Version::Two => self.policy(),
         }
     }
 

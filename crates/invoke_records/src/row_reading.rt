@@ -9,7 +9,7 @@ ghost use Rattle.invoke_records.specs.declared.error.RecordError.TheVariants.{Ou
 use crate::command::GREATEST_MOMENT;
 use crate::reader::Reader;
 use crate::row_fields::{Counts, Life};
-use crate::{Answer, Bytes, EventRow, MOST_BYTES, MOST_PAYLOAD, Outcome, RecordError, Standing};
+use crate::{Answer, Bytes, EventRow, MOST_BYTES, Outcome, RecordError, Standing, Version};
 use std::alloc::Global;
 
 fn read_life(reader: &mut Reader) -> Life
@@ -27,16 +27,16 @@ fn read_life(reader: &mut Reader) -> Life
     }
 }
 
-fn read_counts(reader: &mut Reader) -> Counts
-    ensures { Reads counts_at reader.old result reader.new }
+fn read_counts(reader: &mut Reader, version: Version) -> Counts
+    ensures { Reads (counts_at version) reader.old result reader.new }
 {
     Counts {
         starts: reader.u32(),
         failures: reader.u32(),
         push_backs: reader.u32(),
         answer: reader.small(0, 2),
-        policy: reader.policy(),
-        payload_size: reader.sized(1, MOST_PAYLOAD),
+        policy: reader.policy_in(version),
+        payload_size: reader.sized(1, version.most_payload()),
         answer_size: reader.sized(0, MOST_BYTES),
     }
 }
@@ -134,13 +134,17 @@ fn row_of<'a>(
     Ok((row, rest))
 }
 
-/// The row at the front of the bytes, and the bytes behind it.
-pub fn read_row(alloc: Global, bytes: &[u8]) -> Result<(EventRow, &[u8]), RecordError>
-    ensures { Gives (λ x. (x.0, x.1.now)) result (row_at bytes.now) }
+/// The row of this version at the front of the bytes, and the bytes behind it.
+pub fn read_row(
+    alloc: Global,
+    version: Version,
+    bytes: &[u8],
+) -> Result<(EventRow, &[u8]), RecordError>
+    ensures { Gives (λ x. (x.0, x.1.now)) result (row_at version bytes.now) }
 {
     let mut reader = Reader::new(bytes);
     let life = read_life(&mut reader);
-    let counts = read_counts(&mut reader);
+    let counts = read_counts(&mut reader, version);
     let payload = reader.slice(counts.payload_size as usize);
     let text = reader.slice(counts.answer_size as usize);
     let rest = reader.end()?;

@@ -1,6 +1,7 @@
 // The record of a row.
 ghost use Rattle.std.specs.Prelude.{◌≡◌, ◌++◌, None, IfOk, IfErr, OnOk, MatchResult, drop, length, List, ℕ, Ok};
 ghost use Rattle.invoke_records.specs.declared.row.EventRow.{EventRow};
+ghost use Rattle.invoke_records.specs.declared.version.Version.TheVariants.{Two};
 ghost use Rattle.invoke_records.specs.Spelling.{answer_bytes, row_text, row_fault, IsRow};
 ghost use Rattle.invoke_records.specs.Reading.{Gives, FailsBy, row_at};
 ghost use Rattle.invoke_records.specs.Records.{Finds};
@@ -8,7 +9,7 @@ ghost use Rattle.invoke_records.specs.Records.{Finds};
 use crate::row_reading::read_row;
 use crate::row_writing::{add_row, answer_bytes_of, check_row, row_head, row_is_within};
 use crate::writer::Writer;
-use crate::{Answer, EventRow, RecordError};
+use crate::{Answer, EventRow, RecordError, Version};
 use std::alloc::Global;
 
 impl Answer {
@@ -53,13 +54,13 @@ impl EventRow {
     /// The first bad field from the left is the refusal: one that is cut off is `Truncated`, a length above its
     /// greatest is `TooLong`, any other `BadKind`; then the rules between fields, which are `BadKind`.
     pub fn decode(alloc: Global, bytes: &[u8]) -> Result<(EventRow, usize), RecordError>
-        ensures exact { Gives (λ x. (x.0, drop x.1 bytes.now)) result (row_at bytes.now) }
+        ensures exact { Gives (λ x. (x.0, drop x.1 bytes.now)) result (row_at Two bytes.now) }
         ensures spelled { IfOk result (λ x. IsRow x.0) }
         ensures size { IfOk result (λ x. x.1 ≡ length (row_text x.0)) }
         ensures found { IfOk result (λ x. bytes.now ≡ row_text x.0 ++ drop x.1 bytes.now) }
         ensures only { Finds (λ r. r) IsRow row_text bytes.now result }
     {
-        let (row, rest) = read_row(alloc, bytes)?;
+        let (row, rest) = read_row(alloc, Version::Two, bytes)?;
         let len = bytes.len() - rest.len();
         Ok((row, len))
     }

@@ -6,6 +6,7 @@ ghost use Rattle.lambda_broker.specs.Trial.{status_of};
 use crate::auditing::{Audit, OldDisk, audit_disk};
 use crate::configuring::{NewPolicy, configure_disk};
 use crate::formatting::{NewDisk, make_disk};
+use crate::migrating::{Migrated, OldVersion, migrate_file};
 use crate::serving::{Address, serve_disk};
 use crate::words::{Job, Task, read_task};
 use audit_report::Older;
@@ -71,6 +72,7 @@ where
         Job::Format(new) => print_format(rt, new, out),
         Job::Audit(old) => print_audit(rt, old, out),
         Job::Configure(new) => print_configure(rt, new, out),
+        Job::Migrate(old) => print_migrate(rt, old, out),
     }
 }
 
@@ -140,6 +142,23 @@ fn print_configure<R: Files<File = File> + Clock + AllocGlobal, W: Write>(
     match configure_disk(rt, new) {
         Ok((retries, age)) => {
             writeln!(out, "configured retries {retries} age {age}")?;
+            Ok(DONE)
+        }
+        Err(fault) => print_fault(&fault, fault.is_device_fault(), out),
+    }
+}
+
+// Migrates a disk, and prints what it then holds.
+fn print_migrate<R: Files<File = File> + AllocGlobal, W: Write>(
+    rt: &R,
+    old: &OldVersion<'_>,
+    out: &mut W,
+) -> io::Result<u8>
+    ensures { IfOk result (λ status. status ≤ 3) }
+{
+    match migrate_file(rt, old) {
+        Ok(Migrated { generation, number }) => {
+            writeln!(out, "migrated generation {generation} number {number}")?;
             Ok(DONE)
         }
         Err(fault) => print_fault(&fault, fault.is_device_fault(), out),

@@ -7,6 +7,7 @@ mod auditing;
 mod command_line;
 mod configuring;
 mod formatting;
+mod migrating;
 mod serving;
 mod words;
 

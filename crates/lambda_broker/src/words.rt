@@ -2,6 +2,7 @@
 use crate::auditing::OldDisk;
 use crate::configuring::NewPolicy;
 use crate::formatting::{Function, NewDisk, Numbers};
+use crate::migrating::OldVersion;
 use crate::serving::Address;
 use clap::builder::ValueParser;
 use clap::error::ErrorKind;
@@ -24,6 +25,7 @@ pub enum Job<'a> {
     Format(NewDisk<'a>),
     Audit(OldDisk<'a>),
     Configure(NewPolicy<'a>),
+    Migrate(OldVersion<'a>),
 }
 
 // An option with a value.
@@ -126,6 +128,12 @@ fn configure_command<'a>(alloc: Global) -> Result<Command<'a>, AllocError> {
         .arg(age.value_parser(value_parser!(u32)))
 }
 
+fn migrate_command<'a>(alloc: Global) -> Result<Command<'a>, AllocError> {
+    Command::new(alloc, "migrate")
+        .about("Make a disk that an older version wrote one of this version; its events stay")
+        .arg(disk(alloc))
+}
+
 fn serve_command<'a>(alloc: Global) -> Result<Command<'a>, AllocError> {
     let help = "Port of the callers, 1024 to 65519; environment n has the port n behind it";
     let port = option(alloc, "port", help);
@@ -149,6 +157,7 @@ fn commands<'a>(alloc: Global) -> Result<Command<'a>, AllocError> {
         .subcommand(format_command(alloc)?)?
         .subcommand(audit_command(alloc)?)?
         .subcommand(configure_command(alloc)?)?
+        .subcommand(migrate_command(alloc)?)?
         .subcommand(serve_command(alloc)?)
 }
 
@@ -212,6 +221,12 @@ fn new_policy<'a>(matches: &ArgMatches<'a>) -> Option<NewPolicy<'a>> {
     })
 }
 
+fn old_version<'a>(matches: &ArgMatches<'a>) -> Option<OldVersion<'a>> {
+    Some(OldVersion {
+        path: matches.get_str("disk")?,
+    })
+}
+
 fn address<'a>(matches: &ArgMatches<'a>) -> Option<Address<'a>> {
     Some(Address {
         path: matches.get_str("disk")?,
@@ -231,6 +246,7 @@ pub fn read_task<'a>(alloc: Global, words: &'a [String]) -> Result<Option<Task<'
         "serve" => Ok(address(told).map(Task::Serve)),
         "audit" => old_disk(alloc, told),
         "configure" => Ok(new_policy(told).map(Job::Configure).map(Task::Job)),
+        "migrate" => Ok(old_version(told).map(Job::Migrate).map(Task::Job)),
         _ => Ok(None),
     }
 }

@@ -35,6 +35,13 @@ limit_takes w limit wide least most bytes x fits e =
 pub most_of : (least most n : ℕ) → is_outside least most n ≡ false → n ≤ most
 most_of least most n inside = ltb-false most n (both_false (ltb n least) (ltb most n) inside).1
 
+pub limit_most : (w : Width) (least most : ℕ) (bytes : List ℕ) (x : ℕ × List ℕ) → limit_at w least most bytes ≡ Ok x → x.0 ≤ most
+unfolding limit_at
+limit_most w least most bytes x e =
+    let a = bind_ok (number_at w bytes) _ x e in
+    let g = unless_ok (is_outside least most a.0.0) fault.BadKind a.0 x a.2 in
+    subst (λ (y : ℕ × List ℕ). y.0 ≤ most) g.1 (most_of least most a.0.0 g.0)
+
 pub limit_again : (w : Width) (limit : ℕ) (wide : IsWide w limit) (least most n : ℕ) (rest : List ℕ) → most < limit → is_outside least most n ≡ false → limit_at w least most (to_be_bytes w n ++ rest) ≡ Ok (n, rest)
 unfolding limit_at
 limit_again w limit wide least most n rest lt inside =

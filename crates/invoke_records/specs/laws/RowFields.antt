@@ -15,6 +15,7 @@ use Rattle.invoke_records.specs.declared.row_fields.Life.{Life}
 use Rattle.invoke_records.specs.declared.row_fields.Counts.{Counts}
 use Rattle.invoke_records.specs.declared.error.RecordError.TheVariants as fault
 use Rattle.invoke_records.specs.Spelling.{IsBytes, greatest_moment, standing_byte, outcome_byte, ended_byte, environment_in, moment_in, policy_text, answer_byte, answer_bytes, is_unknown, breaks_rule}
+use Rattle.invoke_records.specs.declared.version.Version.TheVariants.{Two}
 use Rattle.invoke_records.specs.Reading.{◌>>=◌, unless, bytes_at, number_at, small_at, limit_at, sized_at, policy_at, life_at, counts_at, outcome_at, standing_of, answer_of}
 use Rattle.invoke_records.specs.laws.Fields.{bind_ok, unless_ok, ok_is, Takes, Takes-then, bytes_takes, bytes_again, number_takes, number_again, wide16, wide32, wide64, both_false}
 use Rattle.invoke_records.specs.laws.Bounds.{small_takes, small_again, limit_takes, most_of, limit_again, policy_takes, policy_again, sized_takes, sized_again}
@@ -98,7 +99,7 @@ pub record CountsFit (c : Counts) : Type 0 where
 abbrev pub counts_bytes : Counts → List ℕ
 counts_bytes c = to_be_bytes w32 c.starts ++ (to_be_bytes w32 c.failures ++ (to_be_bytes w32 c.push_backs ++ ((c.answer ∷ []) ++ (policy_text c.policy ++ (to_be_bytes w32 c.payload_size ++ to_be_bytes w32 c.answer_size)))))
 
-pub counts_take : (bytes : List ℕ) (x : Counts × List ℕ) → IsBytes bytes → counts_at bytes ≡ Ok x → Takes bytes (counts_bytes x.0) x.1 × CountsFit x.0
+pub counts_take : (bytes : List ℕ) (x : Counts × List ℕ) → IsBytes bytes → counts_at Two bytes ≡ Ok x → Takes bytes (counts_bytes x.0) x.1 × CountsFit x.0
 unfolding counts_at
 counts_take bytes x fits e =
     let a = bind_ok (number_at w32 bytes) _ x e in
@@ -121,7 +122,7 @@ counts_take bytes x fits e =
     subst (λ (y : Counts × List ℕ). Takes bytes (counts_bytes y.0) y.1 × CountsFit y.0) (ok_is made x g.2)
     (all, record { starts = ta.1; failures = tb.1; push_backs = tc.1; answer = td.1; policy = tp.1; payload_most = tf.1; payload_least = tf.2; answer_most = tg.1 })
 
-pub counts_again : (c : Counts) (rest : List ℕ) → CountsFit c → counts_at (counts_bytes c ++ rest) ≡ Ok (c, rest)
+pub counts_again : (c : Counts) (rest : List ℕ) → CountsFit c → counts_at Two (counts_bytes c ++ rest) ≡ Ok (c, rest)
 unfolding counts_at
 counts_again c rest fits =
     let r6 : List ℕ = to_be_bytes w32 c.answer_size ++ rest in
@@ -131,7 +132,7 @@ counts_again c rest fits =
     let r3 : List ℕ = to_be_bytes w32 c.push_backs ++ r4 in
     let r2 : List ℕ = to_be_bytes w32 c.failures ++ r3 in
     let regrouped : counts_bytes c ++ rest ≡ to_be_bytes w32 c.starts ++ r2 = simp append_assoc in
-    ap counts_at regrouped
+    ap (counts_at Two) regrouped
     ∙ rw (
       number_again w32 (2 ^ 32) wide32 c.starts r2 fits.starts,
       number_again w32 (2 ^ 32) wide32 c.failures r3 fits.failures,

@@ -14,6 +14,7 @@ use Rattle.invoke_records.specs.declared.row_fields.Life.{Life}
 use Rattle.invoke_records.specs.declared.row_fields.Counts.{Counts}
 use Rattle.invoke_records.specs.declared.error.RecordError.TheVariants as fault
 use Rattle.invoke_records.specs.Spelling.{IsBytes, greatest_moment, standing_byte, ended_byte, environment_in, moment_in, answer_byte, answer_bytes, life_text, counts_text, row_text, is_unknown, breaks_rule, row_fault, IsRow}
+use Rattle.invoke_records.specs.declared.version.Version.TheVariants.{Two}
 use Rattle.invoke_records.specs.Reading.{bytes_at, life_at, counts_at, standing_of, answer_of, row_at}
 use Rattle.invoke_records.specs.laws.Fields.{bind_ok, ok_is, Takes, Takes-then, bytes_takes, bytes_again, both_false, either_false}
 use Rattle.invoke_records.specs.laws.RowFields.{LifeFits, life_bytes, life_takes, life_again, CountsFit, counts_bytes, counts_take, counts_again, Stands, standing_takes, standing_again, answer_takes, answer_again, life_made}
@@ -105,7 +106,7 @@ counts_fit r is =
     record { starts = is.within.starts; failures = is.within.failures; push_backs = is.within.push_backs; answer = answer_inside r.answer; policy = s.policy; payload_most = s.payload_most; payload_least = s.payload_least; answer_most = s.answer_most }
 
 -- what is spelled so is read
-pub row_again : (r : EventRow) (rest : List ℕ) → IsRow r → row_at (row_text r ++ rest) ≡ Ok (r, rest)
+pub row_again : (r : EventRow) (rest : List ℕ) → IsRow r → row_at Two (row_text r ++ rest) ≡ Ok (r, rest)
 unfolding row_at row_text
 row_again r rest is =
     let s = is_sound_row r is.fault in
@@ -113,7 +114,7 @@ row_again r rest is =
     let regrouped : row_text r ++ rest ≡ life_bytes (life_of r) ++ (counts_bytes (counts_of r) ++ texts) =
     append_assoc (life_bytes (life_of r)) (counts_bytes (counts_of r) ++ (r.payload ++ answer_bytes r.answer)) rest
     ∙ ap (λ (t : List ℕ). life_bytes (life_of r) ++ t) (append_assoc (counts_bytes (counts_of r)) (r.payload ++ answer_bytes r.answer) rest ∙ ap (λ (t : List ℕ). counts_bytes (counts_of r) ++ t) (append_assoc r.payload (answer_bytes r.answer) rest)) in
-    ap row_at regrouped
+    ap (row_at Two) regrouped
     ∙ rw (
       life_again (life_of r) (counts_bytes (counts_of r) ++ texts) (life_fits r is),
       counts_again (counts_of r) texts (counts_fit r is),
@@ -147,11 +148,11 @@ same_fields l c payload text s given size answer_size stands byte same =
     rw (← stands.standing, ← stands.outcome, ← stands.environment, ← stands.moment, ← byte, ← size, ← answer_size, ← same) refl
 
 -- what is read is spelled so
-pub row_takes : (bytes : List ℕ) (x : EventRow × List ℕ) → IsBytes bytes → row_at bytes ≡ Ok x → Takes bytes (row_text x.0) x.1 × IsRow x.0
+pub row_takes : (bytes : List ℕ) (x : EventRow × List ℕ) → IsBytes bytes → row_at Two bytes ≡ Ok x → Takes bytes (row_text x.0) x.1 × IsRow x.0
 unfolding row_at
 row_takes bytes x fits e =
     let l = bind_ok (life_at bytes) _ x e in
-    let c = bind_ok (counts_at l.0.1) _ x l.2 in
+    let c = bind_ok (counts_at Two l.0.1) _ x l.2 in
     let p = bind_ok (bytes_at c.0.0.payload_size c.0.1) _ x c.2 in
     let t = bind_ok (bytes_at c.0.0.answer_size p.0.1) _ x p.2 in
     let s = bind_ok (standing_of l.0.0) _ x t.2 in
@@ -186,7 +187,7 @@ row_takes bytes x fits e =
 -- no spelling begins another
 pub row_apart : (r q : EventRow) (a b : List ℕ) → IsRow r → IsRow q → row_text r ++ a ≡ row_text q ++ b → (r ≡ q) × (a ≡ b)
 row_apart r q a b is_r is_q e =
-    let same : (r, a) ≡ (q, b) = ok_is (r, a) (q, b) (sym (row_again r a is_r) ∙ ap row_at e ∙ row_again q b is_q) in
+    let same : (r, a) ≡ (q, b) = ok_is (r, a) (q, b) (sym (row_again r a is_r) ∙ ap (row_at Two) e ∙ row_again q b is_q) in
     (ap (λ (x : EventRow × List ℕ). x.0) same, ap (λ (x : EventRow × List ℕ). x.1) same)
 
 -- a spelling has 78 bytes, the payload and the answer

@@ -1,6 +1,6 @@
 use Rattle.std.proofs.Common.{◌∙◌, ap}
 use Rattle.async_core.specs.State.{State}
-use Rattle.audit_report.proofs.Audits.{no_lack, no_damage, is_audit}
+use Rattle.audit_report.proofs.Audits.{no_lack, no_damage, no_old, is_audit}
 use Rattle.audit_report.proofs.auditing.inspect.Goals as goal
 
 pub returns-in-Err-clause-not_formatted : goal.returns-in-Err-clause-not_formatted
@@ -12,6 +12,11 @@ pub returns-in-Err-clause-damaged : goal.returns-in-Err-clause-damaged
 returns-in-Err-clause-damaged g c honest sector is =
     let live = c.in_ok-opened.ensures.live honest in
     absurd (no_damage c.in-Err.why sector (c.in-Err.ensures.refused (c.open.ensures.same.honest.1 honest) live.0 live.3) is)
+
+pub returns-in-Err-clause-old_version : goal.returns-in-Err-clause-old_version
+returns-in-Err-clause-old_version g c honest is =
+    let live = c.in_ok-opened.ensures.live honest in
+    absurd (no_old c.in-Err.why (c.in-Err.ensures.refused (c.open.ensures.same.honest.1 honest) live.0 live.3) is)
 
 pub returns-clause-exact : goal.returns-clause-exact
 returns-clause-exact g c honest =

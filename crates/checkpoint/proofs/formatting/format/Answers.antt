@@ -12,14 +12,14 @@ use Rattle.checkpoint.proofs.formatting.format.Goals as goal
 pub write_first-requires-clause-whole : goal.write_first-requires-clause-whole
 write_first-requires-clause-whole g c =
     let s = c.args.settings.now in
-    let room : least_sectors s ≤ (g.D.Disk.view c.args.disk.now).sectors = omega (arith, c.segment_sectors-least.ensures.exact, c.sectors-sectors.ensures, c.if-sectors-least.false) in
+    let room : least_sectors s ≤ (g.D.Disk.view c.args.disk.now).sectors = omega (arith, c.least_sectors-least.ensures.exact, c.sectors-sectors.ensures, c.if-sectors-least.false) in
     let segment = c.deref.ensures.value ∙ (rw (c.empty.ensures, c.policy.ensures) at c.in_ok-segment.ensures) in
     rw segment (segment_whole s c.requires (empty_table s) (empty_small s) (g.D.Disk.view c.args.disk.now).sectors room)
 
 pub write_first-requires-clause-before : goal.write_first-requires-clause-before
 write_first-requires-clause-before g c =
     let s = c.args.settings.now in
-    let room : least_sectors s ≤ c.sectors-sectors.result = omega (arith, c.segment_sectors-least.ensures.exact, c.if-sectors-least.false) in
+    let room : least_sectors s ≤ c.sectors-sectors.result = omega (arith, c.least_sectors-least.ensures.exact, c.if-sectors-least.false) in
     let segment = c.deref.ensures.value ∙ (rw (c.empty.ensures, c.policy.ensures) at c.in_ok-segment.ensures) in
     rw segment (segment_before s c.requires (empty_table s) (empty_small s) c.sectors-sectors.result room)
 
@@ -27,7 +27,7 @@ pub returns-clause-formatted : goal.returns-clause-formatted
 returns-clause-formatted g c honest =
     let s = c.args.settings.now in
     let sectors = c.sectors-sectors.result in
-    let room : least_sectors s ≤ sectors = omega (arith, c.segment_sectors-least.ensures.exact, c.if-sectors-least.false) in
+    let room : least_sectors s ≤ sectors = omega (arith, c.least_sectors-least.ensures.exact, c.if-sectors-least.false) in
     let segment = c.deref.ensures.value ∙ (rw (c.empty.ensures, c.policy.ensures) at c.in_ok-segment.ensures) in
     let new = g.D.Disk.view c.write_first.new.disk in
     let size : length new.content ≡ 512 * sectors =
@@ -40,7 +40,7 @@ pub returns-clause-generation : goal.returns-clause-generation
 returns-clause-generation g c honest =
     let s = c.args.settings.now in
     let sectors = c.sectors-sectors.result in
-    let room : least_sectors s ≤ sectors = omega (arith, c.segment_sectors-least.ensures.exact, c.if-sectors-least.false) in
+    let room : least_sectors s ≤ sectors = omega (arith, c.least_sectors-least.ensures.exact, c.if-sectors-least.false) in
     let segment = c.deref.ensures.value ∙ (rw (c.empty.ensures, c.policy.ensures) at c.in_ok-segment.ensures) in
     let new = g.D.Disk.view c.write_first.new.disk in
     let size : length new.content ≡ 512 * sectors =
@@ -59,7 +59,7 @@ pub returns-in_err-write_first-clause-any_moment : goal.returns-in_err-write_fir
 returns-in_err-write_first-clause-any_moment g c honest =
     let s = c.args.settings.now in
     let old = g.D.Disk.view c.args.disk.now in
-    let room : least_sectors s ≤ old.sectors = omega (arith, c.segment_sectors-least.ensures.exact, c.sectors-sectors.ensures, c.if-sectors-least.false) in
+    let room : least_sectors s ≤ old.sectors = omega (arith, c.least_sectors-least.ensures.exact, c.sectors-sectors.ensures, c.if-sectors-least.false) in
     let segment = c.deref.ensures.value ∙ (rw (c.empty.ensures, c.policy.ensures) at c.in_ok-segment.ensures) in
     let leaves = rw (segment, c.sectors-sectors.ensures) at c.write_first.ensures.any_moment honest in
     leaves_weaker _ (being_formatted old s c.requires room) leaves
@@ -68,7 +68,7 @@ pub returns-clause-any_moment : goal.returns-clause-any_moment
 returns-clause-any_moment g c honest =
     let s = c.args.settings.now in
     let old = g.D.Disk.view c.args.disk.now in
-    let room : least_sectors s ≤ old.sectors = omega (arith, c.segment_sectors-least.ensures.exact, c.sectors-sectors.ensures, c.if-sectors-least.false) in
+    let room : least_sectors s ≤ old.sectors = omega (arith, c.least_sectors-least.ensures.exact, c.sectors-sectors.ensures, c.if-sectors-least.false) in
     let segment = c.deref.ensures.value ∙ (rw (c.empty.ensures, c.policy.ensures) at c.in_ok-segment.ensures) in
     let leaves = rw (segment, c.sectors-sectors.ensures) at c.write_first.ensures.any_moment honest in
     leaves_weaker _ (being_formatted old s c.requires room) leaves

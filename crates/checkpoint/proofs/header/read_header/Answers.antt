@@ -8,7 +8,7 @@ pub returns-in-Ok-clause-exact : goal.returns-in-Ok-clause-exact
 returns-in-Ok-clause-exact c =
     let bytes = c.args.bytes.now in
     let behind = c.split_at.result.1.now in
-    let front = behind_front c.args.sectors bytes behind c.split_at.ensures.back (sym c.if-not-starts_with.ensures.value)
+    let front = behind_front c.args.sectors bytes behind c.split_at.ensures.back (sym c.if-not-starts_with.ensures.value) (sym c.is_version.ensures ∙ c.if-not-is_version.false)
     (rw c.u64_at-generation.ensures at c.if-generation-lt1.false) (rw c.u64_at-generation.ensures at c.if-generation-gt-MOST_GENERATIONS.false) in
     let size : length behind ≡ 484 = omega (arith, c.split_at.ensures.back_len, c.requires) in
     c.with_settings.ensures.exact
@@ -24,6 +24,6 @@ returns-in-Err-clause-exact c =
     (λ found none.
     none.0
     ∙ sym
-    (no_settings c.args.sectors bytes behind c.split_at.ensures.back (sym c.if-not-starts_with.ensures.value) (rw c.u64_at-generation.ensures at c.if-generation-lt1.false)
+    (no_settings c.args.sectors bytes behind c.split_at.ensures.back (sym c.if-not-starts_with.ensures.value) (sym c.is_version.ensures ∙ c.if-not-is_version.false) (rw c.u64_at-generation.ensures at c.if-generation-lt1.false)
     (rw c.u64_at-generation.ensures at c.if-generation-gt-MOST_GENERATIONS.false) c.in-Err.why c.in-Err.ensures.exact none.1))
     c.unread.ensures

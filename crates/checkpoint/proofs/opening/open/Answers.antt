@@ -1,35 +1,32 @@
-use Rattle.std.proofs.Common.{sym, ◌∙◌, ap}
-use Rattle.std.proofs.lemmas.Result.{IfOk-weaker}
-use Rattle.checkpoint.specs.Image.{read_image, recovered}
-use Rattle.checkpoint.specs.Live.{live_recovers}
-use Rattle.checkpoint.proofs.Lives.{is_live}
+use Rattle.std.proofs.Common.{sym, ◌∙◌}
+use Rattle.std.proofs.lemmas.Result.{err_from_is_err_and}
+use Rattle.checkpoint.proofs.Versions.{version_two, told_old, is_recovered, tells_not_formatted, tells_damage, tells_no_old, new_room}
 use Rattle.checkpoint.proofs.opening.open.Goals as goal
+
+pub returns-clause-room : goal.returns-clause-room
+returns-clause-room g c = new_room _ c.in_ok-opened.opened (version_two _ (sym c.is_old.ensures ∙ c.if-is_old.false)) c.in_ok-opened.ensures.room
 
 pub returns-clause-live : goal.returns-clause-live
 returns-clause-live g c honest =
-    let view = g.D.Disk.view in
-    let barrier = c.in_ok-barrier.ensures.honest honest in
-    let mid = view c.barrier.new.self in
-    let honest_mid = c.barrier.ensures.same.honest.1 honest in
-    let reads = c.read_live.ensures.reads in
-    let untouched = reads.untouched honest_mid in
-    let honest_new = reads.same.honest.1 honest_mid in
-    let new = view c.read_live.new.disk in
-    let same = untouched.content ∙ barrier.content in
-    IfOk-weaker c.read_live.result _ _
-    (λ r was.
-    let live = is_live mid.content new (λ image left. barrier.done image ((untouched.images image).0 left) ∙ sym untouched.content) untouched.content r.0 r.1 r.2.items was in (
-      was.image.live.table,
-      was.replays,
-      ap recovered (sym same) ∙ live_recovers new r.0 was.image.live.table live new.content (g.met.D.Disk.laws c.read_live.new.disk honest_new).reads_an_image,
-      live,
-    ))
-    (c.read_live.ensures.exact honest_mid)
+    is_recovered (g.D.Disk.view c.args.disk.now) (g.D.Disk.view c.open_either.new.disk) c.in_ok-opened.opened c.in_ok-opened.snapshot c.in_ok-opened.commands.items
+    (version_two _ (sym c.is_old.ensures ∙ c.if-is_old.false)) (c.in_ok-opened.ensures.live honest)
 
-pub returns-clause-parts : goal.returns-clause-parts
-returns-clause-parts g c honest =
-    let mid_honest = c.barrier.ensures.same.honest.1 honest in
-    let same = (c.in_ok-barrier.ensures.honest honest).content in
-    IfOk-weaker c.read_live.result _ _
-    (λ r was. record { image = was.image; reads = ap read_image (sym same) ∙ was.reads; parts = was.parts })
-    (c.read_live.ensures.exact mid_honest)
+pub returns-then-is_old-clause-old_version : goal.returns-then-is_old-clause-old_version
+returns-then-is_old-clause-old_version g c honest is =
+    told_old (g.D.Disk.view c.args.disk.now) (g.D.Disk.view c.open_either.new.disk) c.in_ok-opened.opened c.in_ok-opened.snapshot c.in_ok-opened.commands.items
+    (sym c.is_old.ensures ∙ c.if-is_old.true) (c.in_ok-opened.ensures.live honest)
+
+pub returns-in_err-opened-clause-not_formatted : goal.returns-in_err-opened-clause-not_formatted
+returns-in_err-opened-clause-not_formatted g c =
+    let p = err_from_is_err_and c.from_residual.result c.from_residual.ensures.1 in
+    rw (p.1, p.2) (tells_not_formatted (g.D.Disk.view c.args.disk.now) c.in_err-opened.field-0.0 c.in_err-opened.ensures.refused)
+
+pub returns-in_err-opened-clause-damaged : goal.returns-in_err-opened-clause-damaged
+returns-in_err-opened-clause-damaged g c =
+    let p = err_from_is_err_and c.from_residual.result c.from_residual.ensures.1 in
+    rw (p.1, p.2) (tells_damage (g.D.Disk.view c.args.disk.now) c.in_err-opened.field-0.0 c.in_err-opened.ensures.refused)
+
+pub returns-in_err-opened-clause-old_version : goal.returns-in_err-opened-clause-old_version
+returns-in_err-opened-clause-old_version g c =
+    let p = err_from_is_err_and c.from_residual.result c.from_residual.ensures.1 in
+    rw (p.1, p.2) (tells_no_old (g.D.Disk.view c.args.disk.now) c.in_err-opened.field-0.0 c.in_err-opened.ensures.old)

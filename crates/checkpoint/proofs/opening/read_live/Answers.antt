@@ -2,11 +2,10 @@ use Rattle.std.proofs.Common.{◌≡◌, ◌*◌, ◌/◌, length, Option, Resul
 use Rattle.std.proofs.lemmas.Result.{err_from_is_err_and, IfOk-weaker, IfErr-weaker}
 use Rattle.checkpoint.specs.declared.header.Header.{Header}
 use Rattle.checkpoint.specs.declared.error.OpenError.{OpenError}
-use Rattle.checkpoint.specs.declared.error.OpenError.TheVariants.{NotFormatted}
 use Rattle.checkpoint.specs.Image.{open_header, by_headers, segments_in, read_image}
 use Rattle.checkpoint.proofs.Refusals.{reads_more, refuses_along, err_refuses}
 use Rattle.checkpoint.proofs.Images.{too_few, by_both}
-use Rattle.checkpoint.proofs.Lives.{image_refused, opened_along}
+use Rattle.checkpoint.proofs.Lives.{opened_along}
 use Rattle.checkpoint.proofs.opening.read_live.Goals as goal
 
 pub returns-then-sectors-lt6-clause-refused : goal.returns-then-sectors-lt6-clause-refused
@@ -14,7 +13,7 @@ returns-then-sectors-lt6-clause-refused g c honest =
     let content = (g.D.Disk.view c.args.disk.now).content in
     let sectors = c.sectors-sectors.result in
     let size : length content ≡ 512 * sectors = rw c.sectors-sectors.ensures (g.met.D.Disk.laws c.args.disk.now honest).size in
-    image_refused content NotFormatted (too_few content sectors size c.if-sectors-lt6.true)
+    too_few content sectors size c.if-sectors-lt6.true
 
 pub returns-in_err-a-clause-refused : goal.returns-in_err-a-clause-refused
 returns-in_err-a-clause-refused g c honest =
@@ -24,10 +23,9 @@ returns-in_err-a-clause-refused g c honest =
     let size : length content ≡ 512 * sectors = rw c.sectors-sectors.ensures (g.met.D.Disk.laws c.args.disk.now honest).size in
     let p = err_from_is_err_and c.from_residual.result c.from_residual.ensures.1 in
     rw (p.1, p.2)
-    (image_refused content _
     (refuses_along _ (open_header 0 half content) (read_image content)
     (λ e is. by_both content sectors size c.if-sectors-lt6.false ∙ ap (λ (r : Result (Option Header) OpenError). by_headers half content r (open_header half half content)) is)
-    (c.in_err-a.ensures.refused honest)))
+    (c.in_err-a.ensures.refused honest))
 
 pub returns-in_err-b-clause-refused : goal.returns-in_err-b-clause-refused
 returns-in_err-b-clause-refused g c honest =
@@ -39,10 +37,9 @@ returns-in_err-b-clause-refused g c honest =
     let refused = rw (mid.untouched honest).content at c.in_err-b.ensures.refused (mid.same.honest.1 honest) in
     let p = err_from_is_err_and c.from_residual-in_err-b.result c.from_residual-in_err-b.ensures.1 in
     rw (p.1, p.2)
-    (image_refused content _
     (refuses_along _ (open_header half half content) (read_image content)
     (λ e is. by_both content sectors size c.if-sectors-lt6.false ∙ (λ i. by_headers half content (c.in_ok-a.ensures.exact honest i) (is i)))
-    refused))
+    refused)
 
 pub returns-in_err-live-clause-refused : goal.returns-in_err-live-clause-refused
 returns-in_err-live-clause-refused g c honest =
@@ -54,7 +51,7 @@ returns-in_err-live-clause-refused g c honest =
     let second = rw (mid.untouched honest).content at c.in_ok-b.ensures.exact (mid.same.honest.1 honest) in
     let read = by_both content sectors size c.if-sectors-lt6.false ∙ (λ i. by_headers half content (c.in_ok-a.ensures.exact honest i) (second i)) in
     let p = err_from_is_err_and c.from_residual-in_err-live.result c.from_residual-in_err-live.ensures.1 in
-    rw (p.1, p.2) (image_refused content _ (err_refuses _ (read_image content) (read ∙ ap (segments_in half content) (sym c.in_err-live.ensures.exact))))
+    rw (p.1, p.2) (err_refuses _ (read_image content) (read ∙ ap (segments_in half content) (sym c.in_err-live.ensures.exact)))
 
 pub returns-clause-reads : goal.returns-clause-reads
 returns-clause-reads g c = reads_more (reads_more c.open_header.ensures.reads c.open_header-2.ensures.reads) c.read_found.ensures.reads
@@ -86,4 +83,4 @@ returns-clause-refused g c honest =
     let read = by_both content sectors size c.if-sectors-lt6.false ∙ (λ i. by_headers half content (c.in_ok-a.ensures.exact honest i) (second i)) in
     let refused = rw (both.untouched honest).content at c.read_found.ensures.refused (both.same.honest.1 honest) in
     let same = read ∙ ap (segments_in half content) (sym c.in_ok-live.ensures.exact) in
-    IfErr-weaker c.read_found.result _ _ (λ why is. image_refused content why (refuses_along why _ (read_image content) (λ e err. same ∙ err) is)) refused
+    IfErr-weaker c.read_found.result _ _ (λ why is. refuses_along why _ (read_image content) (λ e err. same ∙ err) is) refused

@@ -1,10 +1,10 @@
-use Rattle.std.proofs.Common.{◌∙◌, length, ap, arith, is_some}
+use Rattle.std.proofs.Common.{◌≡◌, ◌∙◌, length, ap, arith, is_some}
 use Rattle.std.proofs.lemmas.List.{length-map}
 use Rattle.std.proofs.lemmas.Result.{IfOk-weaker, IfErr-weaker}
 use Rattle.invoke_records.specs.declared.snapshot.Snapshot.{Snapshot}
 use Rattle.gate_journal.specs.Journal as journal
 use Rattle.retry_rules.specs.Settings.{bad_field}
-use Rattle.checkpoint.specs.Image.{segment_sectors}
+use Rattle.checkpoint.specs.Image.{segment_sectors_in}
 use Rattle.checkpoint.proofs.Lives.{opened_replays, fold_refused, is_opened}
 use Rattle.checkpoint.proofs.opening.read_opened.Goals as goal
 
@@ -14,7 +14,12 @@ returns-clause-settings g c = IfOk-weaker c.judged.result _ _ (λ r opens. ap ba
 pub returns-clause-room : goal.returns-clause-room
 returns-clause-room g c = IfOk-weaker c.judged.result _ _
     (λ r opens. record {
-      least = omega (arith, ap segment_sectors (opens.settings ∙ c.in_ok-segment.ensures.settings), c.requires.sound.header.least, c.requires.inside);
+      least =
+          let version = opens.version ∙ c.in_ok-segment.ensures.version in
+          let settings = opens.settings ∙ c.in_ok-segment.ensures.settings in
+          let header = c.args.found.header in
+          let same : segment_sectors_in r.0.version r.0.settings ≡ segment_sectors_in header.version header.settings = λ i. segment_sectors_in (version i) (settings i) in
+          omega (arith, same, c.requires.sound.header.least, c.requires.inside);
       end = omega (arith, ap journal.end_of opens.journal, c.in_ok-segment.ensures.end, c.requires.sound.base, c.requires.inside);
     })
     c.judged.ensures.opens

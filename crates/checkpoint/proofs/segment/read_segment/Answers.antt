@@ -34,6 +34,7 @@ returns-clause-exact g c honest =
     let read = c.in_ok-journal.ensures.read (mid.same.honest.1 honest) in
     record {
       frames = read.0;
+      version = refl;
       base = refl;
       generation = refl;
       settings = refl;

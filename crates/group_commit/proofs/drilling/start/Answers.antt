@@ -41,3 +41,7 @@ returns-clause-not_formatted c =
 pub returns-clause-damaged : goal.returns-clause-damaged
 returns-clause-damaged c =
     err_from (λ failure. failure.cause) _ c.open.result c.without_disk.result c.without_disk.ensures.err c.without_disk.ensures.same (c.open.ensures.damaged tt)
+
+pub returns-clause-old_version : goal.returns-clause-old_version
+returns-clause-old_version c =
+    err_from (λ failure. failure.cause) _ c.open.result c.without_disk.result c.without_disk.ensures.err c.without_disk.ensures.same (c.open.ensures.old_version tt)

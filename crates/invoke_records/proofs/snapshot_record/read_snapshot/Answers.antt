@@ -7,21 +7,21 @@ use Rattle.invoke_records.proofs.snapshot_record.read_snapshot.Goals as goal
 pub returns-in_err-rest : goal.returns-in_err-rest
 returns-in_err-rest c =
     let p = err_from_is_err_and c.from_residual.result c.from_residual.ensures.1 in
-    let read = snapshot_read c.args.bytes.now c.new-reader.result c.limit64-number.new.self c.limit64-last_moment.new.self c.policy-policy.new.self c.sized-count.new.self c.limit64-number.result c.limit64-last_moment.result c.policy-policy.result c.sized-count.result c.new-reader.ensures c.limit64-number.ensures c.limit64-last_moment.ensures c.policy-policy.ensures c.sized-count.ensures in
+    let read = snapshot_read c.args.version c.args.bytes.now c.new-reader.result c.limit64-number.new.self c.limit64-last_moment.new.self c.policy_in-policy.new.self c.sized-count.new.self c.limit64-number.result c.limit64-last_moment.result c.policy_in-policy.result c.sized-count.result c.new-reader.ensures c.limit64-number.ensures c.limit64-last_moment.ensures c.policy_in-policy.ensures c.sized-count.ensures in
     rw (p.1, p.2) (subst (Fails c.in_err-rest.field-0.0) (sym read) (fails_then c.in_err-rest.field-0.0 c.sized-count.new.self _ c.in_err-rest.ensures))
 
 pub returns-in_err-rows : goal.returns-in_err-rows
 returns-in_err-rows c =
     let p = err_from_is_err_and c.from_residual-in_err-rows.result c.from_residual-in_err-rows.ensures.1 in
-    let read = snapshot_read c.args.bytes.now c.new-reader.result c.limit64-number.new.self c.limit64-last_moment.new.self c.policy-policy.new.self c.sized-count.new.self c.limit64-number.result c.limit64-last_moment.result c.policy-policy.result c.sized-count.result c.new-reader.ensures c.limit64-number.ensures c.limit64-last_moment.ensures c.policy-policy.ensures c.sized-count.ensures in
+    let read = snapshot_read c.args.version c.args.bytes.now c.new-reader.result c.limit64-number.new.self c.limit64-last_moment.new.self c.policy_in-policy.new.self c.sized-count.new.self c.limit64-number.result c.limit64-last_moment.result c.policy_in-policy.result c.sized-count.result c.new-reader.ensures c.limit64-number.ensures c.limit64-last_moment.ensures c.policy_in-policy.ensures c.sized-count.ensures in
     rw (p.1, p.2, read, c.in_ok-rest.ensures) (fails_then c.in_err-rows.field-0.0 _ _ c.in_err-rows.ensures)
 
 pub returns-then-not-are_in_order : goal.returns-then-not-are_in_order
 returns-then-not-are_in_order c =
-    let read = snapshot_read c.args.bytes.now c.new-reader.result c.limit64-number.new.self c.limit64-last_moment.new.self c.policy-policy.new.self c.sized-count.new.self c.limit64-number.result c.limit64-last_moment.result c.policy-policy.result c.sized-count.result c.new-reader.ensures c.limit64-number.ensures c.limit64-last_moment.ensures c.policy-policy.ensures c.sized-count.ensures in
+    let read = snapshot_read c.args.version c.args.bytes.now c.new-reader.result c.limit64-number.new.self c.limit64-last_moment.new.self c.policy_in-policy.new.self c.sized-count.new.self c.limit64-number.result c.limit64-last_moment.result c.policy_in-policy.result c.sized-count.result c.new-reader.ensures c.limit64-number.ensures c.limit64-last_moment.ensures c.policy_in-policy.ensures c.sized-count.ensures in
     rw (read, c.in_ok-rest.ensures, c.in_ok-rows.ensures, ← c.deref.ensures.value, ← c.are_in_order.ensures, c.if-not-are_in_order.true) refl
 
 pub returns : goal.returns
 returns c =
-    let read = snapshot_read c.args.bytes.now c.new-reader.result c.limit64-number.new.self c.limit64-last_moment.new.self c.policy-policy.new.self c.sized-count.new.self c.limit64-number.result c.limit64-last_moment.result c.policy-policy.result c.sized-count.result c.new-reader.ensures c.limit64-number.ensures c.limit64-last_moment.ensures c.policy-policy.ensures c.sized-count.ensures in
+    let read = snapshot_read c.args.version c.args.bytes.now c.new-reader.result c.limit64-number.new.self c.limit64-last_moment.new.self c.policy_in-policy.new.self c.sized-count.new.self c.limit64-number.result c.limit64-last_moment.result c.policy_in-policy.result c.sized-count.result c.new-reader.ensures c.limit64-number.ensures c.limit64-last_moment.ensures c.policy_in-policy.ensures c.sized-count.ensures in
     rw (read, c.in_ok-rest.ensures, c.in_ok-rows.ensures, c.from_vec-rows.ensures, ← c.deref.ensures.value, ← c.are_in_order.ensures, c.if-not-are_in_order.false) refl

@@ -1,6 +1,7 @@
 use Rattle.std.proofs.Common.{◌≡◌, ◌++◌, List, ℕ, Result, Ok, sym, ap, subst, ◌∙◌, refl, arith}
 use Rattle.std.proofs.lemmas.Result.{err_from_is_err_and}
 use Rattle.invoke_records.specs.declared.row.EventRow.{EventRow}
+use Rattle.invoke_records.specs.declared.version.Version.TheVariants.{Two}
 use Rattle.invoke_records.specs.declared.error.RecordError.{RecordError}
 use Rattle.invoke_records.specs.Spelling.{row_text}
 use Rattle.invoke_records.specs.Reading.{Fails, row_at}
@@ -17,7 +18,7 @@ good row rest = Ok (row, rest)
 pub returns-in_err-row-clause-only : goal.returns-in_err-row-clause-only
 returns-in_err-row-clause-only c = λ d rest is e.
     let p = err_from_is_err_and c.from_residual.result c.from_residual.ensures.1 in
-    let read : row_at c.args.bytes.now ≡ good d rest = ap row_at e ∙ row_again d rest is in
+    let read : row_at Two c.args.bytes.now ≡ good d rest = ap (row_at Two) e ∙ row_again d rest is in
     rw (p.1, p.2) (lacks_memory c.in_err-row.field-0.0 (pair d rest) (subst (Fails c.in_err-row.field-0.0) read c.in_err-row.ensures))
 
 pub overflow_sub-len : goal.overflow_sub-len
@@ -46,5 +47,5 @@ returns-clause-found c =
 pub returns-clause-only : goal.returns-clause-only
 returns-clause-only c = λ d rest is e.
     let t = row_takes c.args.bytes.now (pair c.in_ok-row.row c.in_ok-row.rest.now) (λ i. omega (arith, c.type_inv.bytes i)) c.in_ok-row.ensures in
-    let same = ok_is (pair c.in_ok-row.row c.in_ok-row.rest.now) (pair d rest) (sym c.in_ok-row.ensures ∙ ap row_at e ∙ row_again d rest is) in
+    let same = ok_is (pair c.in_ok-row.row c.in_ok-row.rest.now) (pair d rest) (sym c.in_ok-row.ensures ∙ ap (row_at Two) e ∙ row_again d rest is) in
     (ap (λ (x : EventRow × List ℕ). x.0) same, taken_rest c.args.bytes.now (row_text c.in_ok-row.row) c.in_ok-row.rest.now _ refl t.0 ∙ ap (λ (x : EventRow × List ℕ). x.1) same)

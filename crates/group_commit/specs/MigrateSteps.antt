@@ -1,0 +1,39 @@
+-- What the private steps of a migration give. No public contract cites it.
+use Rattle.std.specs.Prelude.{◌≡◌, false, Result, OnOk}
+use Rattle.sector_disk.specs.Disk.{DiskView}
+use Rattle.sector_disk.specs.Moments.{LeavesOnly}
+use Rattle.retry_rules.specs.declared.settings.Settings.{Settings}
+use Rattle.invoke_records.specs.declared.snapshot.Snapshot.{Snapshot}
+use Rattle.invoke_records.specs.declared.version.Version.{Version}
+use Rattle.checkpoint.specs.declared.opened.Opened.{Opened}
+use Rattle.checkpoint.specs.declared.error.OpenError.{OpenError}
+use Rattle.checkpoint.specs.declared.error.OpenError.TheVariants as open_error
+use Rattle.checkpoint.specs.Live.{settings_of, IsLiveIn, IsLive, may_stand}
+use Rattle.group_commit.specs.declared.error.MigrateError.{MigrateError}
+use Rattle.group_commit.specs.declared.error.MigrateError.TheVariants as migrate_error
+use Rattle.group_commit.specs.Migrating.{ReadsTo}
+
+-- why a disk is not migrated that was not opened in either version; that it is of version 1 is no such cause
+abbrev pub migrate_error_of : OpenError → MigrateError
+migrate_error_of open_error.NotFormatted = migrate_error.NotFormatted
+migrate_error_of (open_error.Damaged sector) = migrate_error.Damaged sector
+migrate_error_of open_error.OutOfMemory = migrate_error.OutOfMemory
+migrate_error_of open_error.Fault = migrate_error.Fault
+migrate_error_of open_error.OldVersion = migrate_error.NotFormatted
+
+-- why the other segment was not written: the table may not stand on the disk, or the device or the memory failed
+abbrev pub IsUnwritten : Settings → Snapshot → MigrateError → Type 0
+IsUnwritten s table migrate_error.BadKind = may_stand s table ≡ false
+IsUnwritten s table migrate_error.OutOfMemory = Unit {0}
+IsUnwritten s table migrate_error.Fault = Unit {0}
+IsUnwritten s table other = ⊥
+
+-- if an honest disk of either version was live with this table, it is now live with it in version 2
+abbrev pub WritesTable : DiskView → DiskView → Opened → Opened → Snapshot → Result (Unit {0}) MigrateError → Type 0
+WritesTable old new was is table result =
+    old.honest → (version : Version) → IsLiveIn version old was table → OnOk result (IsLive new is table)
+
+-- and at each moment in between every image reads to it
+abbrev pub LeavesTable : DiskView → DiskView → Opened → Snapshot → Type 0
+LeavesTable old new was table =
+    old.honest → (version : Version) → IsLiveIn version old was table → LeavesOnly old new (ReadsTo (settings_of was) table)
