@@ -19,6 +19,7 @@ mod marks;
 mod office;
 mod opening;
 mod unlocked;
+mod witness;
 
 pub use desk::{Desk, desks};
 pub use drill::{Ask, Step};
