@@ -1,6 +1,6 @@
 // Migrating a disk in a file.
-ghost use Rattle.std.specs.Prelude.{◌≡◌};
-ghost use Rattle.lambda_broker.specs.Migrating.{is_device_fault};
+ghost use Rattle.std.specs.Prelude.{◌≡◌, IfOk, IfErr};
+ghost use Rattle.lambda_broker.specs.Migrating.{is_device_fault, IsMigrated, IsMigratingReason};
 
 use audit_report::audit;
 use group_commit::{MigrateError, MigrateFailure, OpenError, migrate};
@@ -53,16 +53,21 @@ impl MigratingError {
 }
 
 // Migrates a disk, and reads back what it then holds.
-fn migrate_disk<D: Disk + Drop>(alloc: Global, disk: D) -> Result<Migrated, MigratingError> {
+fn migrate_disk<D: Disk + Drop>(alloc: Global, disk: D) -> Result<Migrated, MigratingError>
+    ensures told { (D.view disk).honest → IfOk result (IsMigrated (D.view disk)) }
+    ensures reason { (D.view disk).honest → IfErr result (IsMigratingReason (D.view disk)) }
+{
     let disk = match migrate(alloc, disk) {
         Ok(disk) => disk,
         Err(MigrateFailure { cause, .. }) => return Err(MigratingError::Migrate(cause)),
     };
-    let report = audit(alloc, disk)?;
-    Ok(Migrated {
-        generation: report.generation,
-        number: report.number,
-    })
+    match audit(alloc, disk) {
+        Ok(report) => Ok(Migrated {
+            generation: report.generation,
+            number: report.number,
+        }),
+        Err(why) => Err(MigratingError::Open(why)),
+    }
 }
 
 /// Migrates a disk of version 1 of the format. The file is judged first, and then what is on it. Nobody else has the disk
