@@ -1,3 +1,4 @@
+pub mod Arriving
 pub mod Learning
 pub mod Marking
 pub mod Refusals
