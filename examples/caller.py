@@ -13,14 +13,15 @@ except ImportError:
 
 
 def client(port):
-    """A client of a broker: it signs what it sends, which the broker does not look at. 429 and 503 are tried again."""
+    """A client of a broker: it signs what it sends, which the broker does not look at. 429 and 5xx are tried again."""
     return boto3.client(
         "lambda",
         endpoint_url=f"http://127.0.0.1:{port}",
         region_name="us-east-2",
         aws_access_key_id="unused",
         aws_secret_access_key="unused",
-        config=Config(retries={"mode": "standard", "total_max_attempts": 5}, read_timeout=60),
+        # The modes `standard` and `adaptive` try no 429 again whose error they do not know by name.
+        config=Config(retries={"mode": "legacy", "total_max_attempts": 5}, read_timeout=60),
     )
 
 
