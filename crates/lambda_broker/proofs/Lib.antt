@@ -1,3 +1,3 @@
 pub mod Configured
-pub mod Migrated
+pub mod ReadBack
 pub mod Resting

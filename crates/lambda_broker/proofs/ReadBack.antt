@@ -1,20 +1,18 @@
 -- What is told of a disk that was migrated and read back.
-use Rattle.std.proofs.Common.{◌≡◌, ℕ, ◌+◌, List, Result, Ok, Err, refl, sym, ap, subst, ◌∙◌}
+use Rattle.std.proofs.Common.{◌≡◌, ℕ, ◌+◌, List, Result, Ok, Err, sym, ap, subst, ◌∙◌}
 use Rattle.std.specs.Prelude.{IsOkAnd}
 use Rattle.sector_disk.specs.Disk.{DiskView}
 use Rattle.retry_rules.specs.declared.settings.Settings.{Settings}
 use Rattle.invoke_records.specs.declared.snapshot.Snapshot.{Snapshot}
 use Rattle.invoke_records.specs.declared.version.Version.{Version}
-use Rattle.invoke_records.specs.declared.version.Version.TheVariants.{Two}
 use Rattle.async_core.specs.State.{State}
 use Rattle.checkpoint.specs.declared.error.OpenError.{OpenError}
-use Rattle.checkpoint.specs.declared.error.OpenError.TheVariants as open_error
-use Rattle.checkpoint.specs.Image.{DiskImage, read_image, live_in, recovered, HasGeneration}
+use Rattle.checkpoint.specs.Image.{DiskImage, read_image, live_in, HasGeneration}
 use Rattle.checkpoint.specs.Live.{RecoversTo, is_new}
 use Rattle.group_commit.specs.Migrating.{Migrates}
 use Rattle.audit_report.specs.declared.report.Report.{Report}
 use Rattle.audit_report.specs.Report.{IsReportOn}
-use Rattle.lambda_broker.specs.Migrating.{IsMigrated, IsPassing}
+use Rattle.lambda_broker.specs.Migrating.{IsMigrated}
 
 table_read : Snapshot → Result (Version × State) OpenError → Snapshot
 table_read other (Ok (version, state)) = state.table
@@ -23,6 +21,7 @@ table_read other (Err why) = other
 -- bytes that recover to a table are read as an image of it
 table_there : (s : Settings) (table : Snapshot) (bytes : List ℕ) (image : DiskImage) → RecoversTo s table bytes → read_image bytes ≡ Ok image
     → image.live.table ≡ table
+unfolding table_read
 table_there s table bytes image recovers reads = ap (table_read table) (sym (ap live_in reads) ∙ is_new s table bytes recovers)
 
 generation_there : (generation : ℕ) (bytes : List ℕ) (image : DiskImage) → HasGeneration generation bytes → read_image bytes ≡ Ok image
@@ -44,21 +43,3 @@ migrated old new report left made on =
       number = on.tells.number ∙ ap (λ (t : Snapshot). t.number) table;
       next = on.tells.generation ∙ generation;
     }
-
--- it recovers, so it is refused for nothing that it holds
-recovers_not : (s : Settings) (table : Snapshot) (bytes : List ℕ) (why : OpenError) → RecoversTo s table bytes → recovered bytes ≡ Err why → ⊥
-recovers_not s table bytes why recovers refused = let no = sym recovers ∙ refused in absurd cc
-
-pub read_back : (old new : DiskView) (why : OpenError) → new.may_leave new.content → Migrates old new
-    → (why ≡ open_error.NotFormatted → recovered new.content ≡ Err open_error.NotFormatted)
-    → ((sector : ℕ) → why ≡ open_error.Damaged sector → recovered new.content ≡ Err (open_error.Damaged sector))
-    → (why ≡ open_error.OldVersion → recovered new.content ≡ Err open_error.OldVersion)
-    → IsPassing why
-read_back old new open_error.NotFormatted left made unformatted damaged aged =
-    recovers_not made.settings made.table new.content _ (made.recovers new.content left) (unformatted refl)
-read_back old new (open_error.Damaged sector) left made unformatted damaged aged =
-    recovers_not made.settings made.table new.content _ (made.recovers new.content left) (damaged sector refl)
-read_back old new open_error.OldVersion left made unformatted damaged aged =
-    recovers_not made.settings made.table new.content _ (made.recovers new.content left) (aged refl)
-read_back old new open_error.OutOfMemory left made unformatted damaged aged = tt
-read_back old new open_error.Fault left made unformatted damaged aged = tt
