@@ -330,7 +330,8 @@ impl<L: Ledger, T: Trace> Office<L, T> {
         ensures reason { IfErr result (IsNotCommitted
             desk.old.told desk.new.witness.before.value.hall.issuer desk.new.witness.after.value.hall.issuer) }
     {
-        match self.lend(rt, desk)? {
+        let loan = self.lend(rt, desk)?;
+        match loan {
             Loan::Nothing(durable) => Ok(durable),
             Loan::Out(batch) => {
                 let outcome = disk.write(batch);
