@@ -1,4 +1,3 @@
-pub mod Arriving
 pub mod Learning
 pub mod Marking
 pub mod Refusals

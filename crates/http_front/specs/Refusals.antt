@@ -14,5 +14,5 @@ is_last other = false
 
 -- the hall refused it as it refuses a request, or the system failed
 abbrev pub IsArrivalError : ArrivalError → Type 0
-IsArrivalError (arrival.Hall refused) = IsRequestRefusal refused.why
+IsArrivalError (arrival.Hall why) = IsRequestRefusal why
 IsArrivalError (arrival.System why) = Unit {0}

@@ -2,8 +2,6 @@
 ghost use Rattle.std.specs.Prelude.{◌≤◌, IfOk, IfErr};
 ghost use Rattle.invoke_records.specs.Spelling.{greatest_moment};
 ghost use Rattle.long_poll.specs.Port.{IsSlot};
-ghost use Rattle.receipts.specs.Kept.{hall_in};
-ghost use Rattle.http_front.specs.Arriving.{Arrives};
 ghost use Rattle.http_front.specs.Refusals.{IsArrivalError};
 
 use crate::error::ArrivalError;
@@ -58,11 +56,8 @@ pub(crate) fn arrive<R: Wait + Clock + RandomSource, L: Ledger, T: Trace>(
     rt: &R,
     port: &Port<L, T>,
     call: Call,
-) -> Result<Arrived<L, T>, ArrivalError>
+) -> Result<Arrived, ArrivalError>
     ensures slot { IfOk result (λ arrived. IsSlot arrived.slot) }
-    ensures done { IfOk result (λ arrived. Arrives
-        (hall_in arrived.desk.value.witness.before.value.hall) (hall_in arrived.desk.value.witness.after.value.hall)
-        call arrived.slot) }
     ensures refused { IfErr result IsArrivalError }
 {
     let moves = may_move(&call);

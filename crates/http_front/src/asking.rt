@@ -3,7 +3,6 @@ ghost use Rattle.std.specs.Prelude.{◌≡◌, IfOk, IfErr, OnErr};
 ghost use Rattle.group_commit.specs.Splitting.{broker_of};
 ghost use Rattle.receipts.specs.Answers.{IsToldMore, IsCommitRefusal};
 ghost use Rattle.receipts.specs.Serving.{HasServed};
-ghost use Rattle.receipts.specs.UnderLock.{IsCommitted, IsNotCommitted};
 
 use group_commit::{DiskHalf, Durable};
 use hall_core::HallError;
@@ -40,10 +39,6 @@ pub(crate) fn ask<D: Disk, L: Ledger, T: Trace, R: Wait>(
     ensures err { OnErr result (desk.new.told ≡ desk.old.told) }
     ensures refused { IfErr result (λ refused. IsCommitRefusal desk.old.told refused.why) }
     ensures served { HasServed D.view D.fault_count (broker_of half.old) (broker_of half.new) }
-    ensures committed { IfOk result (IsCommitted
-        desk.new.witness.before.value.hall.issuer desk.new.witness.after.value.hall.issuer) }
-    ensures reason { IfErr result (λ refused. IsNotCommitted
-        desk.old.told desk.new.witness.before.value.hall.issuer desk.new.witness.after.value.hall.issuer refused.why) }
 {
     match office.commit(rt, desk, half) {
         Ok(durable) => Ok(durable),

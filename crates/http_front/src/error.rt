@@ -4,7 +4,7 @@ ghost use Rattle.http_front.specs.declared.error.ArrivalError.TheVariants.{Hall,
 ghost use Rattle.http_front.specs.declared.error.ServeError.TheVariants as serve_error;
 
 use group_commit::SplitError;
-use long_poll::NotArrived;
+use hall_core::HallError;
 use std::alloc::AllocError;
 use std::io;
 use thiserror::Error;
@@ -46,16 +46,16 @@ impl From<io::Error> for ServeError {
 pub(crate) enum ArrivalError {
     /// The hall refused it.
     #[error("{0}")]
-    Hall(NotArrived),
+    Hall(HallError),
     /// The clock or the source of random words failed.
     #[error("{0}")]
     System(io::Error),
 }
 
-impl From<NotArrived> for ArrivalError {
+impl From<HallError> for ArrivalError {
     ghost from_gives = { λ why error. error ≡ Hall why };
 
-    fn from(why: NotArrived) -> ArrivalError {
+    fn from(why: HallError) -> ArrivalError {
         ArrivalError::Hall(why)
     }
 }

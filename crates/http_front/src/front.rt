@@ -1,8 +1,6 @@
 // What the threads of a front share.
 ghost use Rattle.std.specs.Prelude.{◌≡◌, ◌+◌, IfOk, IfErr, max};
 ghost use Rattle.long_poll.specs.Port.{IsSlot};
-ghost use Rattle.receipts.specs.Kept.{hall_in};
-ghost use Rattle.http_front.specs.Arriving.{Arrives};
 ghost use Rattle.http_front.specs.Refusals.{IsArrivalError};
 
 use crate::arriving::arrive;
@@ -74,11 +72,8 @@ impl<L: Ledger, T: Trace> Front<L, T> {
         rt: &R,
         port: &Port<L, T>,
         call: Call,
-    ) -> Result<Arrived<L, T>, ArrivalError>
+    ) -> Result<Arrived, ArrivalError>
         ensures slot { IfOk result (λ arrived. IsSlot arrived.slot) }
-        ensures done { IfOk result (λ arrived. Arrives
-            (hall_in arrived.desk.value.witness.before.value.hall) (hall_in arrived.desk.value.witness.after.value.hall)
-            call arrived.slot) }
         ensures refused { IfErr result IsArrivalError }
     {
         let stops = matches!(call, Call::StopBroker);

@@ -1,9 +1,8 @@
 // The ticker: what its loop works on.
-ghost use Rattle.std.specs.Prelude.{◌≡◌, ◌≤◌, ◌+◌, [], ◌∷◌, ◌++◌, length, map, sum_by, false};
+ghost use Rattle.std.specs.Prelude.{◌≡◌, ◌≤◌, ◌+◌, [], ◌∷◌, ◌++◌, length, map, sum_by};
 ghost use Rattle.invoke_records.specs.Spelling.{greatest_moment};
 ghost use Rattle.commit_loop.specs.Ticker.{Step, ticked, IsRun};
-ghost use Rattle.receipts.specs.Kept.{hall_in};
-ghost use Rattle.http_front.specs.Marking.{HasMarked, FindsNothing};
+ghost use Rattle.http_front.specs.Marking.{HasMarked};
 ghost use Rattle.http_front.specs.laws.Marked.{marked_nothing, marked_more};
 
 use crate::front::Front;
@@ -34,8 +33,7 @@ fn make_move<R: Wait, L: Ledger, T: Trace>(
     now: u64,
 ) -> bool
     requires { now ≤ greatest_moment }
-    ensures marked { HasMarked (length (map T.mark desk.old.own.items)) (ticked result ∷ []) (length (map T.mark desk.new.own.items)) }
-    ensures nothing { result ≡ false → FindsNothing (hall_in desk.new.witness.before.value.hall) desk.old.told now }
+    ensures { HasMarked (length (map T.mark desk.old.own.items)) (ticked result ∷ []) (length (map T.mark desk.new.own.items)) }
 {
     match front.office.tick(rt, desk, now) {
         Ok(Some(number)) => {

@@ -11,5 +11,5 @@ mod waiters;
 mod waiting;
 
 pub use bell::Bell;
-pub use port::{Arrived, NotArrived, Port};
+pub use port::{Arrived, Port};
 pub use waiting::Waiting;

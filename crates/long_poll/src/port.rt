@@ -1,8 +1,7 @@
 // What the futures of one port share.
 ghost use Rattle.std.specs.Prelude.{◌≡◌, ◌≤◌, IfOk, IfErr, IfSome};
 ghost use Rattle.invoke_records.specs.Spelling.{greatest_moment};
-ghost use Rattle.hall_core.specs.Hall.{slot_told, request, IsDone};
-ghost use Rattle.receipts.specs.Kept.{hall_in};
+ghost use Rattle.hall_core.specs.Hall.{slot_told};
 ghost use Rattle.long_poll.specs.Port.{IsSlot, IsRequestRefusal, IsMoveRefusal};
 
 use crate::bell::Bell;
@@ -11,29 +10,18 @@ use front_board::Seated;
 use group_commit::{Receipt, Ticket};
 use hall_core::{HallError, Released};
 use receipts::{Desk, Mark, Office, Trace};
-use std::snapshot::Snapshot as Seen;
 use std::sync::ledger::Ledger;
 use std::sync::{Arc, Mutex, Wait};
-use thiserror::Error;
 
 /// A request that came to the hall.
 #[derive(Drop)]
-pub struct Arrived<L: Ledger, T: Trace = Mark> {
+pub struct Arrived {
     /// Of all that its reply shows.
     pub ticket: Ticket,
     /// From which its reply is taken.
     pub slot: u64,
     /// Whether it issued a command, which has to be committed.
     pub has_command: bool,
-    // The port's desk just behind the request, as proofs see it. It has no bytes.
-    desk: Seen<Desk<L, T>>,
-}
-
-/// Why a request did not come to the hall. Only a port that asked its office makes it.
-#[derive(Debug, Drop, Error)]
-#[error("{why}")]
-pub struct NotArrived {
-    why: HallError,
 }
 
 /// One port of the front: a desk of the office and a seat of the board, each behind a lock, for all futures of the port.
@@ -85,21 +73,14 @@ impl<L: Ledger, T: Trace> Port<L, T> {
         call: Call,
         now: u64,
         words: [u64; 2],
-    ) -> Result<Arrived<L, T>, NotArrived>
+    ) -> Result<Arrived, HallError>
         ensures slot { IfOk result (λ arrived. IsSlot arrived.slot) }
-        ensures done { IfOk result (λ arrived. IsDone
-            (hall_in arrived.desk.value.witness.before.value.hall) (hall_in arrived.desk.value.witness.after.value.hall)
-            (request arrived.slot call now words)) }
-        ensures refused { IfErr result (λ refused. IsRequestRefusal refused.why) }
+        ensures refused { IfErr result IsRequestRefusal }
     {
         let mut desk = self.desk.lock(rt);
         let marked = desk.marks().len();
-        let (ticket, slot) = match self.office.arrive(rt, &mut desk, call, now, words) {
-            Ok(arrived) => arrived,
-            Err(why) => return Err(NotArrived { why }),
-        };
+        let (ticket, slot) = self.office.arrive(rt, &mut desk, call, now, words)?;
         let has_command = marked < desk.marks().len();
-        let seen = Seen::of(&*desk);
         let answered = desk.take_answered();
         drop(desk);
         self.bell.answer(rt, &answered, ticket.number());
@@ -107,7 +88,6 @@ impl<L: Ledger, T: Trace> Port<L, T> {
             ticket,
             slot,
             has_command,
-            desk: seen,
         })
     }
 

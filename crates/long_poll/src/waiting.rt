@@ -47,7 +47,7 @@ impl<R: Wait, L: Ledger, T: Trace> Waiting<R, L, T> {
     ghost use Rattle.long_poll.specs.Waiting.{number_at, number_for};
 
     /// Waits for the reply of a request that came to this port.
-    pub fn new(rt: R, port: Arc<Port<L, T>>, arrived: Arrived<L, T>) -> Waiting<R, L, T>
+    pub fn new(rt: R, port: Arc<Port<L, T>>, arrived: Arrived) -> Waiting<R, L, T>
         ensures slot { result.slot ≡ arrived.slot }
         ensures number { number_at result.progress ≡ Some arrived.ticket }
         ensures port { result.port ≡ port }

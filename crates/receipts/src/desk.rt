@@ -3,7 +3,6 @@ ghost use Rattle.std.specs.Prelude.{◌≡◌, ◌<◌, [], vec_len};
 ghost use Rattle.receipts.specs.Desks.{desk_count};
 
 use crate::mark::{Mark, Trace};
-use crate::witness::Witness;
 use retry_rules::Settings;
 use std::mem;
 use std::sync::ledger::{Ledger, Share};
@@ -18,8 +17,7 @@ pub fn desks(settings: &Settings) -> u64
 }
 
 /// A place from which one thread asks the office at a time. It keeps the marks of the commands that its calls issued, the
-/// greatest number that it was told, and which polls its last request or move answered. Proofs see in it what its last call
-/// met under the lock and what it left there, of which the office's clauses speak.
+/// greatest number that it was told, and which polls its last request or move answered.
 #[derive(Drop)]
 pub struct Desk<L: Ledger, T: Trace = Mark> {
     /// From 0 on.
@@ -32,8 +30,6 @@ pub struct Desk<L: Ledger, T: Trace = Mark> {
     pub(crate) share: Share<L>,
     /// The slots of the polls that its last request or move answered, until they are handed out.
     pub(crate) answered: Vec<u64>,
-    /// What its last call met under the lock, and what it left there.
-    pub(crate) witness: Witness<L, T>,
     ghost one: { share.parts ≡ 1 },
     ghost counted: { vec_len own ≡ share.amount },
     ghost few: { number < 32 },

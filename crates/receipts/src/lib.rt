@@ -19,7 +19,6 @@ mod marks;
 mod office;
 mod opening;
 mod unlocked;
-mod witness;
 
 pub use desk::{Desk, desks};
 pub use drill::{Ask, Step};

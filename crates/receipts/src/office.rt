@@ -1,5 +1,5 @@
 // The office: the hall under its lock.
-ghost use Rattle.std.specs.Prelude.{◌≡◌, ◌≤◌, [], map, All, Err, vec_len, vec_capacity, IfOk, IfErr, OnOk, OnErr, IfSome, OnSome, IfNone};
+ghost use Rattle.std.specs.Prelude.{◌≡◌, ◌≤◌, [], map, All, Err, vec_len, vec_capacity, IfOk, IfErr, OnOk, OnErr, IfSome};
 ghost use Rattle.std.specs.List.{range_with_len};
 ghost use Rattle.invoke_records.specs.Spelling.{greatest_moment};
 ghost use Rattle.group_commit.specs.Broker.{pending_of, settings_of, table_in};
@@ -7,20 +7,13 @@ ghost use Rattle.group_commit.specs.IssuerBroker.{issuer_of};
 ghost use Rattle.group_commit.specs.Refusals.{FaultsHaveRisen};
 ghost use Rattle.group_commit.specs.Splitting.{broker_of, IsSplitReason};
 ghost use Rattle.hall_core.specs.declared.error.HallError.TheVariants as HallError;
-ghost use Rattle.hall_core.specs.Hall.{view_of, slot_told, request, Gives, IsDone, IsSameHall, AnswersPolls, ForEachPast};
-ghost use Rattle.hall_core.specs.Past.{tick, take_slot, forget_slot};
-ghost use Rattle.hall_core.specs.Slots.{point_of};
+ghost use Rattle.hall_core.specs.Hall.{view_of, slot_told};
 ghost use Rattle.hall_core.specs.Fresh.{IsFresh};
-ghost use Rattle.hall_core.specs.Halves.{HasSameParts, IsNotDurable};
+ghost use Rattle.hall_core.specs.Halves.{HasSameParts};
 ghost use Rattle.receipts.specs.Desks.{desk_count};
 ghost use Rattle.receipts.specs.Answers.{AddsAtMostOne, AddsAnswered, IsToldMore, IsToldIfAny, IsSlotOf};
 ghost use Rattle.receipts.specs.Answers.{AddsAsked, IsArrivalRefusal, IsTickRefusal, IsCommitRefusal};
-ghost use Rattle.receipts.specs.Kept.{hall_in, issuer_in, IsToldByLoan, IsNotLentTo};
-ghost use Rattle.receipts.specs.Serving.{CommitsTo, IsToldOf};
-ghost use Rattle.receipts.specs.UnderLock.{DoesAt, AnswersItsNumber, LendsAs, Counts, IsNotMade, IsNotMoved, IsNoFault, IsCommitted, IsNotCommitted};
-ghost use Rattle.group_commit.specs.Issuer.{issued_in};
-ghost use Rattle.group_commit.specs.Batch.{last_in};
-ghost use Rattle.group_commit.specs.Lending.{SettlesBy};
+ghost use Rattle.receipts.specs.Serving.{CommitsTo};
 ghost use Rattle.hall_core.specs.Plans.{drawn_by};
 
 use crate::desk::{Desk, desks};
@@ -30,9 +23,8 @@ use crate::kept::{Kept, Loan};
 use crate::mark::{Mark, Trace};
 use crate::marks::Marks;
 use crate::opening::OpeningTrace;
-use crate::witness::Witness;
 use api_core::Call;
-use group_commit::{Broker, DiskHalf, Durable, Failed, SplitError, Ticket, Written};
+use group_commit::{Broker, DiskHalf, Durable, SplitError, Ticket};
 use hall_core::{Hall, HallError, Released};
 use sector_disk::Disk;
 use std::alloc::{AllocError, Global};
@@ -83,7 +75,6 @@ fn prepare<D: Disk, L: Ledger, T: Trace>(
 // So many desks, each with one part of the share and no mark. There is room for them.
 fn make_desks<L: Ledger, T: Trace>(
     alloc: Global,
-    kept: &Kept<L, T>,
     room: Vec<Desk<L, T>>,
     share: Share<L>,
     count: u64,
@@ -107,7 +98,6 @@ fn make_desks<L: Ledger, T: Trace>(
             own: Vec::new(alloc),
             share,
             answered: Vec::new(alloc),
-            witness: Witness::of(kept),
         });
     }
     desks
@@ -147,6 +137,7 @@ impl<L: Ledger, T: Trace> Office<L, T> {
         match hall.split() {
             Ok((hall, disk)) => {
                 let (book, share) = blank.open::<L>();
+                let made = make_desks(alloc, room, share, count);
                 let kept = Kept {
                     hall,
                     opening,
@@ -154,7 +145,6 @@ impl<L: Ledger, T: Trace> Office<L, T> {
                     slots: 0,
                     desk_count: DeskCount::new(count),
                 };
-                let made = make_desks(alloc, &kept, room, share, count);
                 let office = Office {
                     kept: Mutex::new(kept),
                 };
@@ -193,27 +183,8 @@ impl<L: Ledger, T: Trace> Office<L, T> {
         ensures asked { OnOk result (AddsAsked (drawn_by words) call (map T.mark desk.old.own.items) (map T.mark desk.new.own.items)) }
         ensures refused { IfErr result (IsArrivalRefusal desk.old.told) }
         ensures kept_answered { OnErr result (desk.new.answered.items ≡ desk.old.answered.items) }
-
-        // Just this request was done to what stood under the lock, with the slot that is answered. A refusal is the first check
-        // that failed there, and left all as it was.
-        ensures done { IfOk result (λ r. DoesAt
-            (hall_in desk.new.witness.before.value.hall) (hall_in desk.new.witness.after.value.hall)
-            (request r.1 call now words) desk.old.number (map T.mark desk.old.own.items) (map T.mark desk.new.own.items)) }
-        ensures counts { IfOk result (λ r.
-            Counts desk.new.witness.before.value.slots desk.new.witness.after.value.slots desk.old.number r.1) }
-        ensures ticket { IfOk result (λ r. r.0 ≡ issued_in (issuer_in desk.new.witness.after.value.hall)) }
-        ensures answered { IfOk result (λ r.
-            AnswersPolls (hall_in desk.new.witness.before.value.hall) (request r.1 call now words) desk.new.answered.items) }
-        ensures reason { IfErr result (IsNotMade (hall_in desk.new.witness.before.value.hall) desk.new.witness.before.value.slots
-            (record { told = desk.old.told; desk = desk.old.number; call = call; now = now; words = words })) }
-        ensures same { OnErr result (IsSameHall
-            (hall_in desk.new.witness.before.value.hall) (hall_in desk.new.witness.after.value.hall)) }
     {
-        let mut kept = self.kept.lock(rt);
-        let witness = Witness::of(&kept);
-        let answer = kept.arrive(desk, call, now, words);
-        desk.witness = witness.until(&kept);
-        answer
+        self.kept.lock(rt).arrive(desk, call, now, words)
     }
 
     /// Makes one move that is due now, as `Hall::tick` does, and answers the number of its command, of which the desk gets
@@ -235,69 +206,8 @@ impl<L: Ledger, T: Trace> Office<L, T> {
         ensures err { OnErr result ((desk.new.own.items ≡ desk.old.own.items) × (desk.new.told ≡ desk.old.told)) }
         ensures refused { IfErr result (IsTickRefusal desk.old.told) }
         ensures kept_answered { OnErr result (desk.new.answered.items ≡ desk.old.answered.items) }
-
-        // Just this move was made in what stood under the lock, and its number is answered. A refusal is the first check that
-        // failed there, and left all as it was.
-        ensures done { OnOk result (DoesAt
-            (hall_in desk.new.witness.before.value.hall) (hall_in desk.new.witness.after.value.hall)
-            (tick now) desk.old.number (map T.mark desk.old.own.items) (map T.mark desk.new.own.items)) }
-        ensures answer { IfOk result (AnswersItsNumber (hall_in desk.new.witness.before.value.hall) (tick now)) }
-        ensures answered { OnOk result
-            (AnswersPolls (hall_in desk.new.witness.before.value.hall) (tick now) desk.new.answered.items) }
-        ensures reason { IfErr result (IsNotMoved (hall_in desk.new.witness.before.value.hall) desk.old.told now) }
-        ensures same { OnErr result (IsSameHall
-            (hall_in desk.new.witness.before.value.hall) (hall_in desk.new.witness.after.value.hall)) }
     {
-        let mut kept = self.kept.lock(rt);
-        let witness = Witness::of(&kept);
-        let answer = kept.tick(desk, now);
-        desk.witness = witness.until(&kept);
-        answer
-    }
-
-    // Lends what is pending, under the lock, as `Kept::lend` says.
-    fn lend<R: Wait>(&self, rt: &R, desk: &mut Desk<L, T>) -> Result<Loan, HallError>
-        ensures told { IfOk result (IsToldByLoan desk.old.told desk.new.told) }
-        ensures number { desk.new.number ≡ desk.old.number }
-        ensures own { desk.new.own.items ≡ desk.old.own.items }
-        ensures answered { desk.new.answered ≡ desk.old.answered }
-        ensures err { OnErr result (desk.new.told ≡ desk.old.told) }
-        ensures refused { IfErr result (IsNotLentTo desk.old.told desk.new.witness.before.value.hall.issuer) }
-        ensures no_fault { IfErr result IsNoFault }
-        ensures lends { IfOk result (LendsAs
-            desk.new.witness.before.value.hall.issuer desk.new.witness.after.value.hall.issuer) }
-    {
-        let mut kept = self.kept.lock(rt);
-        let witness = Witness::of(&kept);
-        let loan = kept.lend(desk);
-        desk.witness = witness.until(&kept);
-        loan
-    }
-
-    // Settles what became of what was lent, under the lock, as `Kept::settle` says.
-    fn settle<R: Wait>(
-        &self,
-        rt: &R,
-        desk: &mut Desk<L, T>,
-        outcome: Result<Written, Failed>,
-    ) -> Result<Durable, HallError>
-        requires { desk.old.told ≤ last_in outcome }
-        ensures told { IfOk result (IsToldMore desk.old.told desk.new.told) }
-        ensures number { desk.new.number ≡ desk.old.number }
-        ensures own { desk.new.own.items ≡ desk.old.own.items }
-        ensures answered { desk.new.answered ≡ desk.old.answered }
-        ensures err { OnErr result (desk.new.told ≡ desk.old.told) }
-        ensures refused { IfErr result (IsNotDurable
-            desk.new.witness.before.value.hall.issuer desk.new.witness.after.value.hall.issuer outcome) }
-        ensures settles { IfOk result (SettlesBy
-            desk.new.witness.before.value.hall.issuer desk.new.witness.after.value.hall.issuer outcome) }
-        ensures tells { IsToldOf outcome result }
-    {
-        let mut kept = self.kept.lock(rt);
-        let witness = Witness::of(&kept);
-        let settled = kept.settle(desk, outcome);
-        desk.witness = witness.until(&kept);
-        settled
+        self.kept.lock(rt).tick(desk, now)
     }
 
     /// Makes all that is pending durable: how many commands that is. The commands are lent under the lock, written outside
@@ -323,19 +233,13 @@ impl<L: Ledger, T: Trace> Office<L, T> {
         ensures refused { IfErr result (IsCommitRefusal desk.old.told) }
         ensures disk { CommitsTo D.view D.fault_count (broker_of disk.old) (broker_of disk.new) result }
         ensures fault { result ≡ Err HallError.Fault → FaultsHaveRisen D.fault_count (broker_of disk.old) (broker_of disk.new) }
-
-        // What was lent or settled, or why nothing was, is told of what stood under the lock at the call's last step there.
-        ensures committed { IfOk result (IsCommitted
-            desk.new.witness.before.value.hall.issuer desk.new.witness.after.value.hall.issuer) }
-        ensures reason { IfErr result (IsNotCommitted
-            desk.old.told desk.new.witness.before.value.hall.issuer desk.new.witness.after.value.hall.issuer) }
     {
-        let loan = self.lend(rt, desk)?;
+        let loan = self.kept.lock(rt).lend(desk)?;
         match loan {
             Loan::Nothing(durable) => Ok(durable),
             Loan::Out(batch) => {
                 let outcome = disk.write(batch);
-                self.settle(rt, desk, outcome)
+                self.kept.lock(rt).settle(desk, outcome)
             }
         }
     }
@@ -343,50 +247,27 @@ impl<L: Ledger, T: Trace> Office<L, T> {
     /// The reply of a slot, where all that it shows is durable, as `Hall::take` gives it. It takes no memory.
     pub fn take<R: Wait>(&self, rt: &R, desk: &mut Desk<L, T>, slot: u64) -> Option<Released>
         ensures slot { IfSome result (λ released. slot_told released ≡ slot) }
-        ensures number { desk.new.number ≡ desk.old.number }
-        ensures told { desk.new.told ≡ desk.old.told }
-        ensures marks { desk.new.own ≡ desk.old.own }
-        ensures answered { desk.new.answered ≡ desk.old.answered }
-        ensures gives { Gives (hall_in desk.new.witness.before.value.hall) slot result }
-        ensures done { OnSome result (IsDone
-            (hall_in desk.new.witness.before.value.hall) (hall_in desk.new.witness.after.value.hall) (take_slot slot)) }
-        ensures none { IfNone result (IsSameHall
-            (hall_in desk.new.witness.before.value.hall) (hall_in desk.new.witness.after.value.hall)) }
+        ensures desk { desk.new ≡ desk.old }
     {
-        let mut kept = self.kept.lock(rt);
-        let witness = Witness::of(&kept);
-        let released = kept.take(slot);
-        desk.witness = witness.until(&kept);
-        released
+        let _ = desk;
+        self.kept.lock(rt).take(slot)
     }
 
     /// How many commands have to be durable before the reply of a slot is told, where it is computed and still wanted, as
     /// `Hall::point` says. It takes no memory.
     pub fn point<R: Wait>(&self, rt: &R, desk: &mut Desk<L, T>, slot: u64) -> Option<u64>
-        ensures number { desk.new.number ≡ desk.old.number }
-        ensures told { desk.new.told ≡ desk.old.told }
-        ensures marks { desk.new.own ≡ desk.old.own }
-        ensures answered { desk.new.answered ≡ desk.old.answered }
-        ensures point { ForEachPast (hall_in desk.new.witness.before.value.hall) (λ past. result ≡ point_of past slot) }
+        ensures desk { desk.new ≡ desk.old }
     {
-        let kept = self.kept.lock(rt);
-        desk.witness = Witness::of(&kept);
-        kept.point(slot)
+        let _ = desk;
+        self.kept.lock(rt).point(slot)
     }
 
     /// The reply of a slot is not wanted any more, as `Hall::forget` says. It takes no memory.
     pub fn forget<R: Wait>(&self, rt: &R, desk: &mut Desk<L, T>, slot: u64)
-        ensures number { desk.new.number ≡ desk.old.number }
-        ensures told { desk.new.told ≡ desk.old.told }
-        ensures marks { desk.new.own ≡ desk.old.own }
-        ensures answered { desk.new.answered ≡ desk.old.answered }
-        ensures done { IsDone
-            (hall_in desk.new.witness.before.value.hall) (hall_in desk.new.witness.after.value.hall) (forget_slot slot) }
+        ensures desk { desk.new ≡ desk.old }
     {
-        let mut kept = self.kept.lock(rt);
-        let witness = Witness::of(&kept);
-        kept.forget(slot);
-        desk.witness = witness.until(&kept);
+        let _ = desk;
+        self.kept.lock(rt).forget(slot)
     }
 
     /// How many commands are issued and not durable: at most 256.
