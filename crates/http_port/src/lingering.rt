@@ -1,5 +1,5 @@
 // A socket that is not closed under a client who still sends.
-ghost use Rattle.std.specs.Prelude.{⊤, ◌≡◌, ◌≤◌};
+ghost use Rattle.std.specs.Prelude.{⊤, ◌≡◌, ◌≤◌, ◌<◌, ◌-◌, ◌↔◌, IsTrue};
 ghost use Rattle.futures.specs.Task.{IsArmed, Keeps};
 ghost use Rattle.futures.specs.Poll.{OnPending};
 
@@ -57,7 +57,8 @@ impl Rest {
 
     // So many bytes were thrown away: whether more may be.
     fn throw(&mut self, count: usize) -> bool
-        ensures { self.new.left ≤ self.old.left }
+        ensures left { self.new.left ≡ self.old.left - count }
+        ensures more { IsTrue result ↔ 0 < self.new.left }
     {
         self.left = self.left.saturating_sub(count);
         self.left > 0
