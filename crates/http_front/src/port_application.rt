@@ -17,6 +17,9 @@ use std::sync::ledger::Ledger;
 use std::sync::{Arc, Wait};
 use std::time::Clock;
 
+/// The header in which a runtime tells what caused an error, to a service that is not here. Its value may be a whole stack.
+const CAUSE: &str = "lambda-runtime-function-xray-error-cause";
+
 /// The reply of a call, which is told once it is released.
 #[derive(Drop)]
 pub(crate) struct Replying<R: Wait, L: Ledger, T: Trace> {
@@ -84,6 +87,10 @@ impl<R: Wait + Clock + RandomSource + Drop + Copy, L: Ledger, T: Trace> Applicat
 
     fn most(&self) -> usize {
         self.front.most
+    }
+
+    fn unread_header(&self) -> Option<&'static str> {
+        if self.number == 0 { None } else { Some(CAUSE) }
     }
 
     fn answer(

@@ -3,6 +3,7 @@ ghost use Rattle.std.specs.Prelude.{◌≡◌, ◌≤◌, ℕ, IfSome};
 ghost use Rattle.http_port.specs.Answering.{status_of, IsStatusOf};
 
 use bytes::Bytes;
+use http::{HeaderValue, header};
 use http_body_util::Full;
 use hyper::{Response, StatusCode};
 use std::alloc::Global;
@@ -57,25 +58,12 @@ impl Refused {
         Refused { response }
     }
 
-    // The status of a request that is late, with the word that its connection ends. None where memory is wanting.
-    fn late_response(alloc: Global) -> Option<Answered>
-        ensures { IfSome result (λ response. status_of response ≡ 408) }
-    {
-        Response::builder(alloc)
-            .status(StatusCode::REQUEST_TIMEOUT)
-            .header("connection", "close")
-            .body(Full::new(Bytes::new()))
-            .ok()
-    }
-
-    /// What a client is told whose body has not come in time. Its connection ends then.
+    /// What a client is told whose body has not come in time. Its connection ends then, as each whose body was not read to its
+    /// end.
     pub(crate) fn late(alloc: Global) -> Refused
         ensures { result ≡ 408 }
     {
-        match Refused::late_response(alloc) {
-            Some(response) => Refused::new(response),
-            None => Refused::bare(alloc, StatusCode::REQUEST_TIMEOUT),
-        }
+        Refused::bare(alloc, StatusCode::REQUEST_TIMEOUT)
     }
 
     /// Its response.
@@ -86,6 +74,16 @@ impl Refused {
         let Refused { response } = self;
         response
     }
+}
+
+/// A response that says that it is the last of its connection. Where there is no memory to say so, it is that all the same.
+pub(crate) fn say_last(answered: Answered) -> Answered
+    ensures { status_of result ≡ status_of answered }
+{
+    let (mut head, body) = answered.into_parts();
+    let close = HeaderValue::from_static("close");
+    let _ = head.headers.insert(header::CONNECTION, close);
+    Response::from_parts(head, body)
 }
 
 /// The response of what is told, with its status. Where memory is wanting, 503 alone.

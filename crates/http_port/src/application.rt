@@ -15,8 +15,15 @@ pub trait Application: Drop {
     /// The reply of a request, which may be waited for.
     type Reply: Future<Output = Self::Given>;
 
-    /// How many bytes of a body are read. One that is larger is given as so many bytes.
+    /// How many bytes of a body are read. One that is larger is given as so many bytes, and where its head says so, nothing of
+    /// it is asked for.
     fn most(&self) -> usize;
+
+    /// The header, in small letters, whose value is not read, where there is one. Each other head has 64 KiB at most, and with
+    /// this value 1,100,000 bytes.
+    fn unread_header(&self) -> Option<&'static str> {
+        None
+    }
 
     /// The reply of a request with this head, whose body was read or was not; or its refusal, which is told at once.
     fn answer(&self, head: &Parts, body: Result<Vec<u8>, ReadError>) -> Result<Self::Reply, Refused>

@@ -5,13 +5,16 @@ use crate::answering::Body;
 use crate::application::Application;
 use crate::connections::Door;
 use crate::limits::Limits;
+use crate::lingering::{Alarm, Lingering};
 use crate::noted::Noted;
 use crate::permits::Permit;
 use crate::requests::Requests;
 use crate::served::Served;
+use crate::sieve::Sieve;
+use crate::sieved::Sieved;
 use crate::timer::Timer;
 use crate::watch::Watch;
-use hyper::rt::NoTimer;
+use hyper::rt::TokioTimer;
 use hyper::server::conn::http1::{Builder, Connection};
 use hyper::server::graceful::{Graceful, until};
 use std::alloc::Global;
@@ -22,9 +25,12 @@ use tokio::net::TcpStream;
 use tokio::time;
 use tokio_util::sync::{CancellationToken, WaitForCancellationFuture};
 
+// What a connection reads from and writes to.
+type Socket<R> = Noted<Sieved<Lingering<R, TcpStream>>>;
+
 // A connection that ends after its exchange once the port ends.
-type Ending<A> = Graceful<
-    Connection<Noted<TcpStream>, Requests<A>, Body, NoTimer>,
+type Ending<R, A> = Graceful<
+    Connection<Socket<R>, Requests<A>, Body, TokioTimer<R>>,
     WaitForCancellationFuture,
 >;
 
@@ -33,15 +39,36 @@ type Ending<A> = Graceful<
 pub(crate) struct HttpDoor<R, A> {
     pub(crate) rt: R,
     pub(crate) alloc: Global,
-    pub(crate) http: Builder,
+    /// It tells the date of each reply, and has no limit of its own.
+    pub(crate) http: Builder<TokioTimer<R>>,
     pub(crate) application: Arc<A>,
     pub(crate) timers: time::Handle,
+    pub(crate) alarm: Rc<Alarm<R>>,
     pub(crate) limits: Limits,
     pub(crate) ending: CancellationToken,
 }
 
+impl<R: Clock + Copy + Drop, A: Application> HttpDoor<R, A> {
+    // A socket, as its connection reads and writes it.
+    fn socket_of(&self, socket: TcpStream, watch: &Rc<Watch>) -> Option<Socket<R>> {
+        let alarm = Rc::clone(&self.alarm).ok()?;
+        let lingering = Lingering::new(socket, Rc::clone(watch).ok()?, alarm);
+        let sieve = match self.application.unread_header() {
+            Some(name) => Some(Sieve::new(name)),
+            None => None,
+        };
+        Some(Noted {
+            io: Sieved {
+                io: lingering,
+                sieve,
+            },
+            watch: Rc::clone(watch).ok()?,
+        })
+    }
+}
+
 impl<R: Clock + Copy + Drop, A: Application> Door for HttpDoor<R, A> {
-    type Served = Served<Ending<A>, R>;
+    type Served = Served<Ending<R, A>, R>;
 
     fn serve(&self, socket: TcpStream, permit: Permit) -> Option<Self::Served> {
         let watch = Rc::new(self.alloc, Watch::new()).ok()?;
@@ -50,13 +77,10 @@ impl<R: Clock + Copy + Drop, A: Application> Door for HttpDoor<R, A> {
             application: Arc::try_clone(&self.application).ok()?,
             watch: Rc::clone(&watch).ok()?,
         };
-        let noted = Noted {
-            io: socket,
-            watch: Rc::clone(&watch).ok()?,
-        };
+        let socket = self.socket_of(socket, &watch)?;
         let ending = self.ending.cancelled().ok()?;
         let timer = Timer::new(self.rt, &self.timers, self.limits, watch)?;
-        let conn = until(self.http.serve_connection(noted, requests), ending);
+        let conn = until(self.http.serve_connection(socket, requests), ending);
         Some(Served::new(conn, timer, permit))
     }
 }

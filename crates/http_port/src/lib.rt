@@ -1,8 +1,10 @@
 //! HTTP/1.1 on one port: the requests of its connections are read and handed to an application, which answers each.
 //!
 //! A thread serves a port by `serve`, on a runtime of its own. Each request is a hand-written future: its body is read,
-//! up to as many bytes as the application wants, and then its reply is waited for. `Limits` say how long a client may take,
-//! and how many connections are open at once.
+//! up to as many bytes as the application wants, and then its reply is waited for. Where the body was not read to its end,
+//! the reply says that the connection ends, and what is left is read behind it and thrown away, so that the client sees the
+//! reply and not a connection that fails. The value of one header may be left out, so that heads may be longer by it. `Limits`
+//! say how long a client may take, and how many connections are open at once.
 #![tactic(auto)]
 
 mod answering;
@@ -10,12 +12,15 @@ mod application;
 mod connections;
 mod door;
 mod limits;
+mod lingering;
 mod noted;
 mod permits;
 mod port;
 mod reading;
 mod requests;
 mod served;
+mod sieve;
+mod sieved;
 mod timer;
 mod watch;
 

@@ -3,13 +3,16 @@ use crate::application::Application;
 use crate::connections::Connections;
 use crate::door::HttpDoor;
 use crate::limits::Limits;
+use crate::lingering::Alarm;
 use crate::permits::Permits;
+use hyper::rt::TokioTimer;
 use hyper::server::conn::http1::Builder;
 use std::alloc::AllocGlobal;
 use std::hash::RandomState;
 use std::io;
 use std::net::Net;
 use std::random::RandomSource;
+use std::rc::Rc;
 use std::sync::{Arc, Wait};
 use std::time::{Clock, Duration};
 use tokio::net::TcpListener;
@@ -36,8 +39,12 @@ where
 /// request that it is in is still answered, where that takes no longer than five seconds.
 ///
 /// A connection is closed where a head does not come whole in the time of the limits, or no byte of one does. A body that does
-/// not come in its time is answered 408, and then its connection is closed. A reply is waited for without a limit. While as
-/// many connections are open as the limits allow, nothing is accepted.
+/// not come in its time is answered 408. A reply is waited for without a limit. While as many connections are open as the limits
+/// allow, nothing is accepted.
+///
+/// A reply to a request whose body was not read to its end says that its connection ends. Behind it, and behind the refusal of a
+/// head, what is left is read and thrown away, up to 8 MiB and for two seconds; then the connection is shut and closed. Each
+/// reply has a date, but for those to a head that is refused.
 pub fn serve<R, A>(
     rt: R,
     application: A,
@@ -60,12 +67,20 @@ where
     let listener = TcpListener::from_std(listener, runtime.handle().reactor())?;
     let timers = runtime.handle().time();
     let alloc = rt.alloc();
+    let clock = TokioTimer::new(rt, timers.clone()?);
+    let mut http = Builder::new(alloc, RandomState::new(&rt)?).timer(clock);
+    http.header_read_timeout(None);
+    let alarm = Alarm {
+        rt,
+        timers: timers.clone()?,
+    };
     let door = HttpDoor {
         rt,
         alloc,
-        http: Builder::new(alloc, RandomState::new(&rt)?),
+        http,
         application: Arc::new(alloc, application)?,
         timers: timers.clone()?,
+        alarm: Rc::new(alloc, alarm)?,
         limits,
         ending: ending.clone()?,
     };

@@ -1,5 +1,5 @@
 // The body of a request, as it comes.
-ghost use Rattle.std.specs.Prelude.{◌≡◌, vec_len, IfOk};
+ghost use Rattle.std.specs.Prelude.{◌≡◌, vec_len, IfOk, IsTrue};
 ghost use Rattle.futures.specs.Task.{IsArmed, Keeps};
 ghost use Rattle.futures.specs.Poll.{OnPending};
 
@@ -23,7 +23,18 @@ pub enum ReadError {
     OutOfMemory,
 }
 
-/// A body that is still read.
+/// What has become of a body.
+#[derive(Clone, Copy, Debug, PartialEq, Eq)]
+pub(crate) enum State {
+    /// Some of it is left, which is still read or is not.
+    Left,
+    /// It was read to its end.
+    Ended,
+    /// It failed. `hyper` knows, and ends the connection.
+    Failed,
+}
+
+/// A body that is read.
 #[derive(Drop)]
 pub(crate) struct Reading<I: Drop> {
     alloc: Global,
@@ -31,6 +42,9 @@ pub(crate) struct Reading<I: Drop> {
     bytes: Vec<u8>,
     frames: u32,
     most: usize,
+    // Whether the head says that more comes than is read.
+    is_too_long: bool,
+    state: State,
 }
 
 // What a frame is followed by.
@@ -42,14 +56,36 @@ enum Step {
 }
 
 impl<I: Drop> Reading<I> {
-    pub(crate) fn new(alloc: Global, body: Incoming<I>, most: usize) -> Reading<I> {
+    pub(crate) fn new(alloc: Global, body: Incoming<I>, most: usize) -> Reading<I>
+        ensures { result.state ≡ State.Left }
+    {
+        let is_too_long = body.size_hint().lower() > most as u64;
         Reading {
             alloc,
             body: Limited::new(body, most),
             bytes: Vec::new(alloc),
             frames: 0,
             most,
+            is_too_long,
+            state: State::Left,
         }
+    }
+
+    /// What has become of it so far.
+    pub(crate) fn state(&self) -> State
+        ensures { result ≡ self.now.state }
+    {
+        self.state
+    }
+
+    // What was read so far.
+    fn take_bytes(&mut self) -> Vec<u8>
+        ensures bytes { result ≡ self.old.bytes }
+        ensures most { self.new.most ≡ self.old.most }
+        ensures body { self.new.body ≡ self.old.body }
+    {
+        let none = Vec::new(self.alloc);
+        mem::replace(&mut self.bytes, none)
     }
 
     fn take_frame(&mut self, frame: &Frame<Bytes>) -> Step {
@@ -73,15 +109,18 @@ impl<I: Drop> Reading<I> {
             Poll::Ready(Some(Ok(frame))) => Poll::Ready(self.take_frame(&frame)),
             Poll::Ready(Some(Err(LimitedError::LengthLimit))) => Poll::Ready(Step::TooMuch),
             Poll::Ready(Some(Err(LimitedError::Body(_)))) => {
+                self.state = State::Failed;
                 Poll::Ready(Step::Failed(ReadError::CutOff))
             }
         }
     }
 
     // What stands for a body that is too large, so that the checks before that of its size come first.
-    fn too_large(&self) -> Result<Vec<u8>, ReadError>
-        ensures { IfOk result (λ bytes. vec_len bytes ≡ self.now.most) }
+    fn too_large(&mut self) -> Result<Vec<u8>, ReadError>
+        ensures bytes { IfOk result (λ bytes. vec_len bytes ≡ self.old.most) }
+        ensures body { self.new.body ≡ self.old.body }
     {
+        drop(self.take_bytes());
         let mut bytes = Vec::new(self.alloc);
         match bytes.resize(self.most, 0) {
             Ok(()) => Ok(bytes),
@@ -90,11 +129,16 @@ impl<I: Drop> Reading<I> {
     }
 
     /// Reads on. A body that is larger than what is read, or that has not ended after 65536 frames, is given as so many
-    /// bytes as are read at most.
+    /// bytes as are read at most. Where the head says that it is larger, nothing of it is asked for, so that a client who waits
+    /// to be asked is refused before it sends it.
     pub(crate) fn poll(&mut self, cx: &mut Context<'_>) -> Poll<Result<Vec<u8>, ReadError>>
+        ensures unasked { IsTrue self.old.is_too_long → self.new.body ≡ self.old.body }
         ensures armed { OnPending result (IsArmed cx.new) }
         ensures kept { Keeps cx.old cx.new }
     {
+        if self.is_too_long {
+            return Poll::Ready(self.too_large());
+        }
         for frame in self.frames..MOST_FRAMES {
             match self.step(cx) {
                 Poll::Pending => {
@@ -103,8 +147,8 @@ impl<I: Drop> Reading<I> {
                 }
                 Poll::Ready(Step::Goes) => {}
                 Poll::Ready(Step::Ended) => {
-                    let none = Vec::new(self.alloc);
-                    return Poll::Ready(Ok(mem::replace(&mut self.bytes, none)));
+                    self.state = State::Ended;
+                    return Poll::Ready(Ok(self.take_bytes()));
                 }
                 Poll::Ready(Step::TooMuch) => break,
                 Poll::Ready(Step::Failed(why)) => return Poll::Ready(Err(why)),

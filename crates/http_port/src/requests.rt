@@ -2,11 +2,11 @@
 ghost use Rattle.std.specs.Prelude.{◌≡◌, IfOk, IfSome, None};
 ghost use Rattle.futures.specs.Task.{IsArmed, Keeps};
 ghost use Rattle.futures.specs.Poll.{IfReady, OnPending};
-ghost use Rattle.http_port.specs.Answering.{SendsAnswer, SendsGiven};
+ghost use Rattle.http_port.specs.Answering.{status_of, SendsAnswer, SendsGiven};
 
-use crate::answering::{Answered, Refused, tell};
+use crate::answering::{Answered, Refused, say_last, tell};
 use crate::application::Application;
-use crate::reading::{ReadError, Reading};
+use crate::reading::{ReadError, Reading, State};
 use crate::watch::{Phase, Watch};
 use futures::Future;
 use futures::task::{Context, Poll};
@@ -26,7 +26,7 @@ pub(crate) struct Serving<A: Application, I: Drop> {
     application: Option<Arc<A>>,
     watch: Option<Rc<Watch>>,
     head: Parts,
-    reading: Option<Reading<I>>,
+    reading: Reading<I>,
     reply: Option<A::Reply>,
 }
 
@@ -57,6 +57,27 @@ impl<A: Application, I: Drop> Serving<A, I> {
         }
     }
 
+    // A response, as it is sent. Where the body of its request was not read to its end, it is the last of its connection. It
+    // says so, where `hyper` does not.
+    fn send(&self, answered: Answered) -> Answered
+        ensures { status_of result ≡ status_of answered }
+    {
+        match self.reading.state() {
+            State::Ended => {
+                self.enter(Phase::Idle);
+                answered
+            }
+            State::Left => {
+                self.enter(Phase::Rest);
+                say_last(answered)
+            }
+            State::Failed => {
+                self.enter(Phase::Rest);
+                answered
+            }
+        }
+    }
+
     // Reads on, up to the reply that waits.
     fn poll_body(&mut self, cx: &mut Context<'_>) -> Poll<Result<A::Reply, Refused>>
         requires { IfSome self.old.reply A.Reply.can_poll }
@@ -71,15 +92,8 @@ impl<A: Application, I: Drop> Serving<A, I> {
         if self.is_late() {
             return Poll::Ready(Err(Refused::late(self.alloc)));
         }
-        let Some(mut reading) = self.reading.take() else {
-            let refused = Refused::bare(self.alloc, StatusCode::SERVICE_UNAVAILABLE);
-            return Poll::Ready(Err(refused));
-        };
-        match reading.poll(cx) {
-            Poll::Pending => {
-                self.reading = Some(reading);
-                Poll::Pending
-            }
+        match self.reading.poll(cx) {
+            Poll::Pending => Poll::Pending,
             Poll::Ready(body) => Poll::Ready(self.answer(body)),
         }
     }
@@ -101,7 +115,7 @@ impl<A: Application, I: Drop> Serving<A, I> {
                 self.reply = Some(reply);
                 Poll::Pending
             }
-            Poll::Ready(told) => Poll::Ready(Ok(tell(self.alloc, told))),
+            Poll::Ready(told) => Poll::Ready(Ok(self.send(tell(self.alloc, told)))),
         }
     }
 }
@@ -114,15 +128,11 @@ impl<A: Application, I: Drop> Future for Serving<A, I> {
     ghost gives = { λ _ sent. SendsAnswer A.Given.status sent };
 
     fn poll(&mut self, cx: &mut Context<'_>) -> Poll<Result<Answered, Infallible>> {
-        let polled = match self.poll_body(cx) {
+        match self.poll_body(cx) {
             Poll::Pending => Poll::Pending,
             Poll::Ready(Ok(reply)) => self.poll_reply(reply, cx),
-            Poll::Ready(Err(refused)) => Poll::Ready(Ok(refused.into_response())),
-        };
-        if polled.is_ready() {
-            self.enter(Phase::Idle);
+            Poll::Ready(Err(refused)) => Poll::Ready(Ok(self.send(refused.into_response()))),
         }
-        polled
     }
 }
 
@@ -149,7 +159,7 @@ impl<A: Application, I: Drop> Service<Request<Incoming<I>>> for Requests<A> {
             application: Arc::try_clone(&self.application).ok(),
             watch: Rc::clone(&self.watch).ok(),
             head,
-            reading: Some(Reading::new(self.alloc, body, self.application.most())),
+            reading: Reading::new(self.alloc, body, self.application.most()),
             reply: None,
         }
     }

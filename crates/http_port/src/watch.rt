@@ -10,7 +10,9 @@ use std::time::Duration;
 pub(crate) enum Phase {
     /// The first byte of the next request.
     Idle,
-    /// A head: its rest, or of the first request the whole.
+    /// The first byte of all.
+    First,
+    /// The rest of a head.
     Head,
     /// The rest of a body.
     Body,
@@ -18,20 +20,24 @@ pub(crate) enum Phase {
     Late,
     /// A reply.
     Reply,
+    /// The end of the connection, behind a reply to a request that was not read to its end.
+    Rest,
 }
 
 impl Phase {
     /// How long it may take. None where there is no limit: that of a reply alone.
     pub(crate) fn limit(self, limits: &Limits) -> Option<Duration>
         ensures idle { self ≡ Phase.Idle → result ≡ Some limits.now.idle }
+        ensures first { self ≡ Phase.First → result ≡ Some limits.now.head }
         ensures head { self ≡ Phase.Head → result ≡ Some limits.now.head }
         ensures body { self ≡ Phase.Body → result ≡ Some limits.now.body }
         ensures late { self ≡ Phase.Late → result ≡ Some limits.now.body }
         ensures reply { self ≡ Phase.Reply → result ≡ None }
+        ensures rest { self ≡ Phase.Rest → result ≡ Some limits.now.idle }
     {
         match self {
-            Phase::Idle => Some(limits.idle),
-            Phase::Head => Some(limits.head),
+            Phase::Idle | Phase::Rest => Some(limits.idle),
+            Phase::First | Phase::Head => Some(limits.head),
             Phase::Body | Phase::Late => Some(limits.body),
             Phase::Reply => None,
         }
@@ -50,7 +56,7 @@ impl Watch {
     /// That of a connection to which nothing has come.
     pub(crate) fn new() -> Watch {
         Watch {
-            phase: Cell::new(Phase::Head),
+            phase: Cell::new(Phase::First),
             is_new: Cell::new(true),
         }
     }
@@ -61,11 +67,18 @@ impl Watch {
         self.is_new.set(true);
     }
 
-    /// Some bytes were read.
+    /// Some bytes were read. The first head goes on in the time that the connection has had from its beginning.
     pub(crate) fn note_bytes(&self) {
-        if self.phase.get() == Phase::Idle {
-            self.enter(Phase::Head);
+        match self.phase.get() {
+            Phase::Idle => self.enter(Phase::Head),
+            Phase::First => self.phase.set(Phase::Head),
+            _ => {}
         }
+    }
+
+    /// Whether the client may still send something of a request: of a head, or behind its reply.
+    pub(crate) fn has_rest(&self) -> bool {
+        matches!(self.phase.get(), Phase::Head | Phase::Rest)
     }
 
     /// The phase, where it was entered since this was asked last.

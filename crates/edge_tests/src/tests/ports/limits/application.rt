@@ -60,6 +60,10 @@ impl Application for Patient {
         64
     }
 
+    fn unread_header(&self) -> Option<&'static str> {
+        Some("x-cause")
+    }
+
     fn answer(&self, head: &Parts, body: Result<Vec<u8>, ReadError>) -> Result<Waits, Refused> {
         if body.is_err() {
             return Err(Refused::bare(self.alloc, StatusCode::BAD_REQUEST));
