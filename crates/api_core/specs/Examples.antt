@@ -4,6 +4,8 @@ use Prim.Native.String.{String}
 use Rattle.http_header.specs.FieldValue.{plain_value}
 use Rattle.retry_rules.specs.declared.settings.Settings.{Settings}
 use Rattle.destination_json.specs.Examples.{usual}
+use Rattle.api_core.specs.declared.dialect.Dialect.TheVariants.{Profile, Aws}
+use Rattle.api_core.specs.declared.dialect.Audience.TheVariants.{Caller, Environment}
 use Rattle.api_core.specs.declared.call.Call.{Call}
 use Rattle.api_core.specs.declared.refusal.Refusal.{Refusal}
 use Rattle.api_core.specs.declared.reply.Reply.{Reply}
@@ -40,7 +42,7 @@ small = record usual { payload = 8; response = 8 }
 
 -- a request on a port
 abbrev pub on : ℕ → String → String → RequestHeaders → List ℕ → Result Call Refusal
-on port method target headers body = call_of usual port (codes method) (codes target) headers body
+on port method target headers body = call_of Profile usual port (codes method) (codes target) headers body
 
 -- the same without headers and body
 abbrev pub asks : ℕ → String → String → Result Call Refusal
@@ -51,11 +53,22 @@ abbrev pub invocations : String → String → List ℕ
 invocations name query = codes "/2015-03-31/functions/" ++ (codes name ++ (codes "/invocations" ++ codes query))
 
 abbrev pub invoke_as : String → String → Result Call Refusal
-invoke_as name query = call_of usual 0 (codes "POST") (invocations name query) event []
+invoke_as name query = call_of Profile usual 0 (codes "POST") (invocations name query) event []
 
 -- of the function that is there, with these headers and this body
 abbrev pub invoke_with : Settings → RequestHeaders → List ℕ → Result Call Refusal
-invoke_with s headers body = call_of s 0 (codes "POST") (invocations "my-function" "") headers body
+invoke_with s headers body = call_of Profile s 0 (codes "POST") (invocations "my-function" "") headers body
+
+-- in the dialect of AWS
+abbrev pub invoke_aws : String → Result Call Refusal
+invoke_aws name = call_of Aws usual 0 (codes "POST") (invocations name "") event []
+
+abbrev pub asks_aws : String → String → RequestHeaders → Result Call Refusal
+asks_aws method target headers = call_of Aws usual 1 (codes method) (codes target) headers []
+
+-- an extension that accepts these features registers
+abbrev pub accepting : String → RequestHeaders
+accepting features = with_header "lambda-extension-accept-feature" features (named "my-extension")
 
 abbrev pub invoke : List ℕ → Result Call Refusal
 invoke body = invoke_with usual event body
@@ -65,7 +78,7 @@ abbrev pub told_of : String → String → List ℕ
 told_of id what = codes "/2018-06-01/runtime/invocation/" ++ (codes id ++ codes what)
 
 abbrev pub tells_in : Settings → String → List ℕ → Result Call Refusal
-tells_in s what body = call_of s 1 (codes "POST") (told_of "00000000-0000-4000-8000-000000000003" what) [] body
+tells_in s what body = call_of Profile s 1 (codes "POST") (told_of "00000000-0000-4000-8000-000000000003" what) [] body
 
 abbrev pub tells : String → List ℕ → Result Call Refusal
 tells what body = tells_in usual what body
@@ -105,6 +118,10 @@ next_headers =
     ∷ header "Lambda-Runtime-Trace-Id" "Root=1-00000000-000000000000000000000000;Sampled=0"
     ∷ []
 
+abbrev pub account_text : List ℕ
+account_text =
+    codes "{\"functionName\":\"my-function\",\"functionVersion\":\"$LATEST\",\"handler\":\"app.main\",\"accountId\":\"123456789012\"}"
+
 abbrev pub registered_text : List ℕ
 registered_text = codes "{\"functionName\":\"my-function\",\"functionVersion\":\"$LATEST\",\"handler\":\"app.main\"}"
 
@@ -126,12 +143,22 @@ failure_text = codes "{\"eventType\":\"SHUTDOWN\",\"shutdownReason\":\"FAILURE\"
 
 -- what is told where a request is refused, and how it is to be told
 abbrev pub refusal : Refusal → Reply
-refusal why = reply_of_told usual (refused why)
+refusal why = reply_of_told Profile usual (refused Environment why)
 
 abbrev pub error_reply : ℕ → String → String → Reply
 error_reply status error_type message =
     json_reply status []
     (codes "{\"errorMessage\":\"" ++ (codes message ++ (codes "\",\"errorType\":\"" ++ (codes error_type ++ codes "\"}"))))
+
+-- the same to a caller, in the dialect of AWS
+abbrev pub refusal_aws : Refusal → Reply
+refusal_aws why = reply_of_told Aws usual (refused Caller why)
+
+abbrev pub service_reply : ℕ → String → String → String → Reply
+service_reply status blamed name message =
+    json_reply status (header "X-Amzn-ErrorType" name ∷ [])
+    (codes "{\"Type\":\"" ++ (codes blamed ++ (codes "\",\"message\":\"" ++ (codes message ++ (codes "\",\"Message\":\""
+    ++ (codes message ++ codes "\"}"))))))
 
 abbrev pub not_found_text : List ℕ
 not_found_text = codes "{\"errorMessage\":\"no such path or function\",\"errorType\":\"NotFound\"}"

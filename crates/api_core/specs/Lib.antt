@@ -1,5 +1,6 @@
 pub mod Ids
 pub mod Says
+pub mod Dialect
 pub mod Paths
 pub mod Headers
 pub mod Bodies

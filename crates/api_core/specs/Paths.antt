@@ -6,8 +6,10 @@ use Rattle.std.specs.Cmp.Lexicographic.{pointwise}
 use Prim.Native.String.{String}
 use Rattle.percent_encoding.specs.Percent.{percent_decode}
 use Rattle.retry_rules.specs.declared.settings.Settings.{Settings}
+use Rattle.api_core.specs.declared.dialect.Dialect.{Dialect}
+use Rattle.api_core.specs.declared.dialect.Dialect.TheVariants.{Profile, Aws}
 use Rattle.api_core.specs.declared.route.Route.{Route}
-use Rattle.api_core.specs.declared.route.Route.TheVariants.{Invoke, OldestSuccess, OldestFailure, Delete, StopBroker, RuntimeNext, Response, RuntimeError, RuntimeInitError, Register, ExtensionNext, ExtensionInitError, ExtensionExitError}
+use Rattle.api_core.specs.declared.route.Route.TheVariants.{Invoke, OldestSuccess, OldestFailure, Delete, StopBroker, RuntimeNext, Response, RuntimeError, RuntimeInitError, Register, ExtensionNext, ExtensionInitError, ExtensionExitError, Telemetry, Logs}
 use Rattle.api_core.specs.declared.refusal.Refusal.{Refusal}
 use Rattle.api_core.specs.declared.refusal.Refusal.TheVariants.{NotFound, MethodNotAllowed}
 
@@ -60,23 +62,30 @@ line_of Register = line "POST" "/2020-01-01/extension/register"
 line_of ExtensionNext = line "GET" "/2020-01-01/extension/event/next"
 line_of ExtensionInitError = line "POST" "/2020-01-01/extension/init/error"
 line_of ExtensionExitError = line "POST" "/2020-01-01/extension/exit/error"
+line_of Telemetry = line "PUT" "/2022-07-01/telemetry"
+line_of Logs = line "PUT" "/2020-08-15/logs"
 
 -- what callers may ask
 abbrev pub callers_routes : List Route
 callers_routes = Invoke ∷ OldestSuccess ∷ OldestFailure ∷ Delete ∷ StopBroker ∷ []
 
--- what the runtime and the extensions of an environment may ask
-abbrev pub environment_routes : List Route
-environment_routes =
+-- what the runtime and the extensions of an environment may ask in each dialect
+abbrev pub common_routes : List Route
+common_routes =
     RuntimeNext ∷ Response ∷ RuntimeError ∷ RuntimeInitError
     ∷ Register ∷ ExtensionNext ∷ ExtensionInitError ∷ ExtensionExitError
     ∷ []
 
+-- and in this one
+abbrev pub environment_routes : Dialect → List Route
+environment_routes Profile = common_routes
+environment_routes Aws = Telemetry ∷ Logs ∷ common_routes
+
 -- port 0 is the callers', port n that of environment n. No other port has a route
-abbrev pub routes_at : Settings → ℕ → List Route
-routes_at s port =
+abbrev pub routes_at : Dialect → Settings → ℕ → List Route
+routes_at d s port =
     if port == 0 then callers_routes
-    else if nat_le port s.environments then environment_routes
+    else if nat_le port s.environments then environment_routes d
     else []
 
 -- ## The route of a request
@@ -123,5 +132,5 @@ route_after true method routes = or_not_allowed (find (has_method method) routes
 route_after false method routes = route_among method routes
 
 -- the route of a request, or why it has none
-abbrev pub route_of : Settings → ℕ → List ℕ → List ℕ → Result Route Refusal
-route_of s port method target = route_among method (filter (fits (segments_of target)) (routes_at s port))
+abbrev pub route_of : Dialect → Settings → ℕ → List ℕ → List ℕ → Result Route Refusal
+route_of d s port method target = route_among method (filter (fits (segments_of target)) (routes_at d s port))

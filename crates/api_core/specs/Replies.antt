@@ -1,18 +1,26 @@
 -- The reply of an answer: its status, its headers in their order, and the bytes of its body.
-use Rattle.std.specs.Prelude.{ℕ, ◌≤◌, List, [], ◌∷◌, ◌++◌, codes, decimal}
+use Rattle.std.specs.Prelude.{ℕ, ◌≤◌, Bool, true, List, [], ◌∷◌, ◌++◌, codes, decimal, bytes_eq, if◌then◌else◌}
+use Rattle.std.specs.List.{list_any}
 use Prim.Native.String.{String}
 use Rattle.retry_rules.specs.declared.settings.Settings.{Settings}
 use Rattle.invoke_records.specs.Spelling.{greatest_moment}
 use Rattle.async_core.specs.Readers.{Ending, told}
 use Rattle.destination_json.specs.Json.{in_quotes, member, object}
 use Rattle.destination_json.specs.Record.{id_text, latest, record_text}
+use Rattle.api_core.specs.declared.dialect.Dialect.{Dialect}
+use Rattle.api_core.specs.declared.dialect.Dialect.TheVariants.{Profile, Aws}
+use Rattle.api_core.specs.declared.dialect.Audience.{Audience}
+use Rattle.api_core.specs.declared.dialect.Audience.TheVariants.{Caller}
+use Rattle.api_core.specs.declared.dialect.Stream.{Stream}
+use Rattle.api_core.specs.declared.dialect.Stream.TheVariants.{Telemetry, Logs}
 use Rattle.api_core.specs.declared.refusal.Refusal.{Refusal}
 use Rattle.api_core.specs.declared.reply.Reply.{Reply}
 use Rattle.api_core.specs.declared.answer.Answer.{Answer}
 use Rattle.api_core.specs.declared.answer.Answer.TheVariants as answer
 use Rattle.api_core.specs.declared.answer.ShutdownReason.{ShutdownReason}
 use Rattle.api_core.specs.declared.answer.ShutdownReason.TheVariants.{Spindown, Timeout, Failure}
-use Rattle.api_core.specs.Refusals.{Fault, fault_of, error_text}
+use Rattle.api_core.specs.Dialect.{account_of}
+use Rattle.api_core.specs.Refusals.{fault_of, error_object, error_text, error_name, service_text}
 
 -- ## What is told, without references
 
@@ -22,11 +30,12 @@ pub data Told : Type 0 where
   no_record : Told
   deleted : Told
   taken : Told
-  registered : List ℕ → Told
+  registered : (identifier : List ℕ) (with_account : Bool) → Told
   runtime_event : List ℕ → ℕ → List ℕ → Told
   invoke_event : List ℕ → ℕ → Told
   shutdown_event : ShutdownReason → ℕ → Told
-  refused : Refusal → Told
+  not_supported : Stream → Told
+  refused : Audience → Refusal → Told
 
 abbrev pub told_by : Answer → Told
 told_by (answer.Accepted id) = accepted id
@@ -34,11 +43,12 @@ told_by (answer.Record e) = record_of (told e)
 told_by answer.NoRecord = no_record
 told_by answer.Deleted = deleted
 told_by answer.Taken = taken
-told_by (answer.Registered identifier) = registered identifier
+told_by (answer.Registered identifier account) = registered identifier account
 told_by (answer.RuntimeEvent id deadline payload) = runtime_event id deadline payload.now
 told_by (answer.Invoke id deadline) = invoke_event id deadline
 told_by (answer.Shutdown reason deadline) = shutdown_event reason deadline
-told_by (answer.Refusal why) = refused why
+told_by (answer.NotSupported stream) = not_supported stream
+told_by (answer.Refusal who why) = refused who why
 
 -- a record tells of a moment that has a text
 abbrev pub IsTellable : Answer → Type 0
@@ -50,6 +60,13 @@ IsTellable other = Unit {0}
 abbrev pub header : String → List ℕ → List ℕ × List ℕ
 header name value = (codes name, value)
 
+-- the id of a request: that of its event, where it has one
+abbrev pub request_id : List ℕ → List ℕ × List ℕ
+request_id id = header "X-Amzn-RequestId" (id_text id)
+
+abbrev pub has_header : String → List (List ℕ × List ℕ) → Bool
+has_header name headers = list_any (λ (h : List ℕ × List ℕ). bytes_eq h.0 (codes name)) headers
+
 -- a reply without a body
 abbrev pub bare : ℕ → List (List ℕ × List ℕ) → Reply
 bare status headers = record { status = status; headers = headers; body = [] }
@@ -59,8 +76,11 @@ abbrev pub with_json : ℕ → List (List ℕ × List ℕ) → List ℕ → Repl
 with_json status headers body =
     record { status = status; headers = headers ++ header "Content-Type" (codes "application/json") ∷ []; body = body }
 
-abbrev pub refusing : Fault → Reply
-refusing f = with_json f.status [] (error_text f)
+-- a refusal, as it is told to callers and to environments
+abbrev pub refusing : Dialect → Audience → Refusal → Reply
+refusing Aws Caller why =
+    with_json (fault_of why).status (header "X-Amzn-ErrorType" (error_name why) ∷ []) (service_text (fault_of why))
+refusing d who why = with_json (fault_of why).status [] (error_text (fault_of why))
 
 abbrev pub ok_body : List ℕ
 ok_body = object (member "status" (in_quotes (codes "OK")) ∷ [])
@@ -94,41 +114,70 @@ invoke_text s id deadline = object (
     ∷ []
     )
 
-abbrev pub reason_text : ShutdownReason → List ℕ
-reason_text Spindown = codes "SPINDOWN"
-reason_text Timeout = codes "TIMEOUT"
-reason_text Failure = codes "FAILURE"
+abbrev pub reason_text : Dialect → ShutdownReason → List ℕ
+reason_text Profile Spindown = codes "SPINDOWN"
+reason_text Profile Timeout = codes "TIMEOUT"
+reason_text Profile Failure = codes "FAILURE"
+reason_text Aws Spindown = codes "spindown"
+reason_text Aws Timeout = codes "timeout"
+reason_text Aws Failure = codes "failure"
 
-abbrev pub shutdown_text : ShutdownReason → ℕ → List ℕ
-shutdown_text reason deadline = object (
+abbrev pub shutdown_text : Dialect → ShutdownReason → ℕ → List ℕ
+shutdown_text d reason deadline = object (
     member "eventType" (in_quotes (codes "SHUTDOWN"))
-    ∷ member "shutdownReason" (in_quotes (reason_text reason))
+    ∷ member "shutdownReason" (in_quotes (reason_text d reason))
     ∷ member "deadlineMs" (decimal deadline)
     ∷ []
     )
 
--- what a registered extension is told of the function
-abbrev pub function_text : Settings → List ℕ
-function_text s = object (
+-- the account, where the extension accepts it and the ARN has one
+abbrev pub account_member : List ℕ → List (List ℕ)
+account_member [] = []
+account_member (b ∷ account) = member "accountId" (in_quotes (b ∷ account)) ∷ []
+
+abbrev pub account_members : Dialect → Settings → Bool → List (List ℕ)
+account_members Aws s true = account_member (account_of s.arn)
+account_members d s with_account = []
+
+abbrev pub function_members : Settings → List (List ℕ)
+function_members s =
     member "functionName" (in_quotes s.name)
     ∷ member "functionVersion" (in_quotes latest)
     ∷ member "handler" (in_quotes s.handler)
     ∷ []
-    )
+
+-- what a registered extension is told of the function
+abbrev pub function_text : Dialect → Settings → Bool → List ℕ
+function_text d s with_account = object (function_members s ++ account_members d s with_account)
+
+-- what is told of a stream that is not sent, as AWS's emulator has it
+abbrev pub not_supported_text : Stream → List ℕ
+not_supported_text Telemetry = error_object (codes "Telemetry API is not supported") (codes "Telemetry.NotSupported")
+not_supported_text Logs = error_object (codes "Logs API is not supported") (codes "Logs.NotSupported")
 
 -- ## The reply
 
-abbrev pub reply_of_told : Settings → Told → Reply
-reply_of_told s (accepted id) = bare 202 (header "X-Amzn-RequestId" (id_text id) ∷ [])
-reply_of_told s (record_of e) = with_json 200 [] (record_text s e)
-reply_of_told s no_record = bare 204 []
-reply_of_told s deleted = bare 204 []
-reply_of_told s taken = with_json 202 [] ok_body
-reply_of_told s (registered identifier) = with_json 200 (header "Lambda-Extension-Identifier" (id_text identifier) ∷ []) (function_text s)
-reply_of_told s (runtime_event id deadline payload) = with_json 200 (runtime_headers s id deadline) payload
-reply_of_told s (invoke_event id deadline) = with_json 200 [] (invoke_text s id deadline)
-reply_of_told s (shutdown_event reason deadline) = with_json 200 [] (shutdown_text reason deadline)
-reply_of_told s (refused why) = refusing (fault_of why)
+abbrev pub reply_of_told : Dialect → Settings → Told → Reply
+reply_of_told d s (accepted id) = bare 202 (request_id id ∷ [])
+reply_of_told d s (record_of e) = with_json 200 [] (record_text s e)
+reply_of_told d s no_record = bare 204 []
+reply_of_told d s deleted = bare 204 []
+reply_of_told d s taken = with_json 202 [] ok_body
+reply_of_told d s (registered identifier with_account) =
+    with_json 200 (header "Lambda-Extension-Identifier" (id_text identifier) ∷ []) (function_text d s with_account)
+reply_of_told d s (runtime_event id deadline payload) = with_json 200 (runtime_headers s id deadline) payload
+reply_of_told d s (invoke_event id deadline) = with_json 200 [] (invoke_text s id deadline)
+reply_of_told d s (shutdown_event reason deadline) = with_json 200 [] (shutdown_text d reason deadline)
+reply_of_told d s (not_supported stream) = with_json 202 [] (not_supported_text stream)
+reply_of_told d s (refused who why) = refusing d who why
 
-abbrev pub reply_text : Settings → Answer → Reply
-reply_text s a = reply_of_told s (told_by a)
+abbrev pub reply_text : Dialect → Settings → Answer → Reply
+reply_text d s a = reply_of_told d s (told_by a)
+
+-- ## The id of a request
+
+-- a reply that tells of no event tells this id
+abbrev pub with_request_id : List ℕ → Reply → Reply
+with_request_id id reply =
+    if has_header "X-Amzn-RequestId" reply.headers then reply
+    else record { status = reply.status; headers = reply.headers ++ request_id id ∷ []; body = reply.body }

@@ -2,7 +2,7 @@
 use Rattle.std.specs.Prelude.{ℕ, ◌≤◌, length}
 use Rattle.retry_rules.specs.declared.settings.Settings.{Settings}
 use Rattle.api_core.specs.declared.call.Call.{Call}
-use Rattle.api_core.specs.declared.call.Call.TheVariants.{Invoke, Oldest, Delete, StopBroker, RuntimeNext, Response, RuntimeError, RuntimeInitError, Register, ExtensionNext, ExtensionInitError, ExtensionExitError}
+use Rattle.api_core.specs.declared.call.Call.TheVariants.{Invoke, Oldest, Delete, StopBroker, RuntimeNext, Response, RuntimeError, RuntimeInitError, Register, ExtensionNext, ExtensionInitError, ExtensionExitError, Subscribe}
 
 -- environments are numbered from 1
 abbrev pub IsEnvironment : Settings → ℕ → Type 0
@@ -18,7 +18,8 @@ IsWithin s (RuntimeNext n) = IsEnvironment s n
 IsWithin s (Response n id body) = IsEnvironment s n × (length body ≤ s.response)
 IsWithin s (RuntimeError n id body) = IsEnvironment s n × (length body ≤ s.response)
 IsWithin s (RuntimeInitError n) = IsEnvironment s n
-IsWithin s (Register n name invoke shutdown) = IsEnvironment s n
+IsWithin s (Register n name invoke shutdown account) = IsEnvironment s n
 IsWithin s (ExtensionNext n identifier) = IsEnvironment s n
 IsWithin s (ExtensionInitError n identifier) = IsEnvironment s n
 IsWithin s (ExtensionExitError n identifier) = IsEnvironment s n
+IsWithin s (Subscribe n stream) = IsEnvironment s n

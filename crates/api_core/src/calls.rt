@@ -5,11 +5,12 @@ ghost use Rattle.api_core.specs.Ids.{id_of};
 ghost use Rattle.api_core.specs.Bodies.{or_empty_object};
 ghost use Rattle.api_core.specs.Requests.{call_by, name_or_none, events_or_none, identifier_or_zeros};
 
-use crate::Call;
 use crate::bodies::subscription_of;
-use crate::headers::{extension_identifier, extension_name};
+use crate::features::accepts_account;
+use crate::headers::{extension_identifier, extension_name, features};
 use crate::ids::read_id;
 use crate::route::Route;
+use crate::{Call, Dialect, Stream};
 use async_core::Side;
 use http::header::HeaderMap;
 use invoke_records::Bytes;
@@ -94,32 +95,36 @@ fn runtime_error(
 
 fn register(
     alloc: Global,
+    dialect: Dialect,
     environment: u16,
     headers: &HeaderMap,
     body: &[u8],
 ) -> Result<Call, AllocError>
-    ensures { IfOk result (λ call. call ≡ call_by environment headers.now body.now [] Route.Register) }
+    ensures { IfOk result (λ call. call ≡ call_by dialect environment headers.now body.now [] Route.Register) }
 {
     let (invoke, shutdown) = events_in(alloc, body)?;
+    let account = accepts_account(alloc, dialect, features(headers))?;
     let name = name_in(alloc, headers)?;
     Ok(Call::Register {
         environment,
         name,
         invoke,
         shutdown,
+        account,
     })
 }
 
 /// What a request calls that passes the checks. A payload or a body is moved.
 pub(crate) fn call_by(
     alloc: Global,
+    dialect: Dialect,
     environment: u16,
     headers: &HeaderMap,
     body: Vec<u8>,
     part: &str,
     route: Route,
 ) -> Result<Call, AllocError>
-    ensures { IfOk result (λ call. call ≡ call_by environment headers.now body.items (percent_decode part.now) route) }
+    ensures { IfOk result (λ call. call ≡ call_by dialect environment headers.now body.items (percent_decode part.now) route) }
 {
     let identifier = identifier_in(headers);
     match route {
@@ -132,7 +137,7 @@ pub(crate) fn call_by(
         Route::Response => response(alloc, environment, part, body),
         Route::RuntimeError => runtime_error(alloc, environment, part, body),
         Route::RuntimeInitError => Ok(Call::RuntimeInitError { environment }),
-        Route::Register => register(alloc, environment, headers, &body),
+        Route::Register => register(alloc, dialect, environment, headers, &body),
         Route::ExtensionNext => Ok(Call::ExtensionNext {
             environment,
             identifier,
@@ -144,6 +149,14 @@ pub(crate) fn call_by(
         Route::ExtensionExitError => Ok(Call::ExtensionExitError {
             environment,
             identifier,
+        }),
+        Route::Telemetry => Ok(Call::Subscribe {
+            environment,
+            stream: Stream::Telemetry,
+        }),
+        Route::Logs => Ok(Call::Subscribe {
+            environment,
+            stream: Stream::Logs,
         }),
     }
 }

@@ -4,11 +4,11 @@ ghost use Rattle.percent_encoding.specs.Percent.{percent_decode};
 ghost use Rattle.api_core.specs.Requests.{failed, refusal_of, most_bytes};
 ghost use Rattle.api_core.specs.Requests.{function_check, header_check, size_check, content_check};
 
-use crate::Refusal;
 use crate::bodies::{or_empty_object, subscription_of};
 use crate::functions::{has_good_qualifier, is_function};
 use crate::headers::{extension_identifier, has_extension_name, is_event};
 use crate::route::Route;
+use crate::{Dialect, Refusal};
 use destination_json::is_json;
 use http::header::HeaderMap;
 use retry_rules::Settings;
@@ -24,16 +24,17 @@ fn unless(holds: bool, why: Refusal) -> Option<Refusal>
 // What is wrong with the function that is named, or with its qualifier.
 fn bad_function(
     alloc: Global,
+    dialect: Dialect,
     settings: &Settings,
     target: &str,
     part: &str,
     route: Route,
 ) -> Result<Option<Refusal>, AllocError>
-    ensures { IfOk result (λ bad. bad ≡ failed (function_check settings.now target.now (percent_decode part.now) route)) }
+    ensures { IfOk result (λ bad. bad ≡ failed (function_check dialect settings.now target.now (percent_decode part.now) route)) }
 {
     match route {
         Route::Invoke => {
-            let is_named = is_function(alloc, settings, part)?;
+            let is_named = is_function(alloc, dialect, settings, part)?;
             let is_qualified = has_good_qualifier(alloc, target)?;
             Ok(unless(is_named && is_qualified, Refusal::NotFound))
         }
@@ -95,6 +96,7 @@ fn bad_content(alloc: Global, body: &[u8], route: Route) -> Result<Option<Refusa
 /// The first check that fails, of those behind the route.
 pub(crate) fn first_failed(
     alloc: Global,
+    dialect: Dialect,
     settings: &Settings,
     target: &str,
     headers: &HeaderMap,
@@ -102,9 +104,9 @@ pub(crate) fn first_failed(
     part: &str,
     route: Route,
 ) -> Result<Option<Refusal>, AllocError>
-    ensures { IfOk result (λ bad. bad ≡ refusal_of settings.now target.now headers.now body.now (percent_decode part.now) route) }
+    ensures { IfOk result (λ bad. bad ≡ refusal_of dialect settings.now target.now headers.now body.now (percent_decode part.now) route) }
 {
-    if let Some(why) = bad_function(alloc, settings, target, part, route)? {
+    if let Some(why) = bad_function(alloc, dialect, settings, target, part, route)? {
         return Ok(Some(why));
     }
     if let Some(why) = bad_headers(headers, route) {

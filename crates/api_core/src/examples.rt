@@ -4,12 +4,13 @@ ghost use Rattle.destination_json.specs.Examples.{usual, id, grown_old, grown_ol
 ghost use Rattle.api_core.specs.Examples.{with_header, of_type, event, identified, third, named, small};
 ghost use Rattle.api_core.specs.Examples.{on, asks, invoke_as, invoke_with, invoke, tells_in, tells, register, nested};
 ghost use Rattle.api_core.specs.Examples.{empty_reply, json_reply, accepted_headers, registered_headers, next_headers};
-ghost use Rattle.api_core.specs.Examples.{refusal, error_reply};
+ghost use Rattle.api_core.specs.Examples.{refusal, error_reply, invoke_aws, asks_aws, accepting, refusal_aws, service_reply, account_text};
+ghost use Rattle.api_core.specs.declared.dialect.Dialect.TheVariants.{Profile, Aws};
 ghost use Rattle.api_core.specs.Examples.{registered_text, invoked_text, spindown_text, timeout_text, failure_text, not_found_text};
 ghost use Rattle.api_core.specs.Replies.{reply_of_told, accepted, record_of, no_record, deleted, taken, registered};
-ghost use Rattle.api_core.specs.Replies.{runtime_event, invoke_event, shutdown_event};
+ghost use Rattle.api_core.specs.Replies.{runtime_event, invoke_event, shutdown_event, not_supported, refused, with_request_id};
 
-use crate::{Call, Refusal, ShutdownReason};
+use crate::{Audience, Call, Dialect, Refusal, ShutdownReason, Stream};
 use async_core::Side;
 
 /// One of each line of the table of requests.
@@ -23,7 +24,7 @@ pub fn requests()
     ensures response { tells "/response" (codes "ok") ≡ Ok (Call.Response 1 (Some (id 3)) (codes "ok")) }
     ensures runtime_error { tells "/error" (codes "{") ≡ Ok (Call.RuntimeError 1 (Some (id 3)) (codes "{")) }
     ensures runtime_init_error { on 1 "POST" "/2018-06-01/runtime/init/error" [] (codes "why") ≡ Ok (Call.RuntimeInitError 1) }
-    ensures register { register (codes "{\"events\":[\"INVOKE\",\"SHUTDOWN\"]}") ≡ Ok (Call.Register 1 (codes "my-extension") true true) }
+    ensures register { register (codes "{\"events\":[\"INVOKE\",\"SHUTDOWN\"]}") ≡ Ok (Call.Register 1 (codes "my-extension") true true false) }
     ensures extension_next { on 1 "GET" "/2020-01-01/extension/event/next" third [] ≡ Ok (Call.ExtensionNext 1 (id 3)) }
     ensures extension_init_error { on 1 "POST" "/2020-01-01/extension/init/error" third [] ≡ Ok (Call.ExtensionInitError 1 (id 3)) }
     ensures extension_exit_error { on 1 "POST" "/2020-01-01/extension/exit/error" third [] ≡ Ok (Call.ExtensionExitError 1 (id 3)) }
@@ -111,12 +112,12 @@ pub fn bodies()
 
 /// What an extension subscribes to.
 pub fn registrations()
-    ensures nothing { register [] ≡ Ok (Call.Register 1 (codes "my-extension") false false) }
-    ensures no_events { register (codes "{\"a\":1}") ≡ Ok (Call.Register 1 (codes "my-extension") false false) }
-    ensures none { register (codes "{\"events\":[]}") ≡ Ok (Call.Register 1 (codes "my-extension") false false) }
-    ensures shutdown { register (codes "{\"events\":[\"SHUTDOWN\"],\"x\":{}}") ≡ Ok (Call.Register 1 (codes "my-extension") false true) }
-    ensures twice { register (codes "{\"events\":[\"INVOKE\",\"INVOKE\"]}") ≡ Ok (Call.Register 1 (codes "my-extension") true false) }
-    ensures last { register (codes "{\"events\":[],\"events\":[\"INVOKE\"]}") ≡ Ok (Call.Register 1 (codes "my-extension") true false) }
+    ensures nothing { register [] ≡ Ok (Call.Register 1 (codes "my-extension") false false false) }
+    ensures no_events { register (codes "{\"a\":1}") ≡ Ok (Call.Register 1 (codes "my-extension") false false false) }
+    ensures none { register (codes "{\"events\":[]}") ≡ Ok (Call.Register 1 (codes "my-extension") false false false) }
+    ensures shutdown { register (codes "{\"events\":[\"SHUTDOWN\"],\"x\":{}}") ≡ Ok (Call.Register 1 (codes "my-extension") false true false) }
+    ensures twice { register (codes "{\"events\":[\"INVOKE\",\"INVOKE\"]}") ≡ Ok (Call.Register 1 (codes "my-extension") true false false) }
+    ensures last { register (codes "{\"events\":[],\"events\":[\"INVOKE\"]}") ≡ Ok (Call.Register 1 (codes "my-extension") true false false) }
     ensures unknown { register (codes "{\"events\":[\"INVOKE\",\"x\"]}") ≡ Err Refusal.BadSubscription }
     ensures lower_case { register (codes "{\"events\":[\"invoke\"]}") ≡ Err Refusal.BadSubscription }
     ensures no_list { register (codes "{\"events\":\"INVOKE\"}") ≡ Err Refusal.BadSubscription }
@@ -127,17 +128,17 @@ pub fn registrations()
 
 /// The replies of the table of requests.
 pub fn replies()
-    ensures accepted { reply_of_told usual (accepted (id 1)) ≡ empty_reply 202 accepted_headers }
-    ensures oldest { reply_of_told usual (record_of grown_old) ≡ json_reply 200 [] grown_old_text }
-    ensures no_record { reply_of_told usual no_record ≡ empty_reply 204 [] }
-    ensures deleted { reply_of_told usual deleted ≡ empty_reply 204 [] }
-    ensures taken { reply_of_told usual taken ≡ json_reply 202 [] (codes "{\"status\":\"OK\"}") }
-    ensures registered { reply_of_told usual (registered (id 3)) ≡ json_reply 200 registered_headers registered_text }
-    ensures next { reply_of_told usual (runtime_event (id 1) 1573755368568 (codes "{}")) ≡ json_reply 200 next_headers (codes "{}") }
-    ensures invoke { reply_of_told usual (invoke_event (id 1) 1573755368568) ≡ json_reply 200 [] invoked_text }
-    ensures spindown { reply_of_told usual (shutdown_event ShutdownReason.Spindown 2000) ≡ json_reply 200 [] spindown_text }
-    ensures timeout { reply_of_told usual (shutdown_event ShutdownReason.Timeout 2000) ≡ json_reply 200 [] timeout_text }
-    ensures failure { reply_of_told usual (shutdown_event ShutdownReason.Failure 2000) ≡ json_reply 200 [] failure_text }
+    ensures accepted { reply_of_told Profile usual (accepted (id 1)) ≡ empty_reply 202 accepted_headers }
+    ensures oldest { reply_of_told Profile usual (record_of grown_old) ≡ json_reply 200 [] grown_old_text }
+    ensures no_record { reply_of_told Profile usual no_record ≡ empty_reply 204 [] }
+    ensures deleted { reply_of_told Profile usual deleted ≡ empty_reply 204 [] }
+    ensures taken { reply_of_told Profile usual taken ≡ json_reply 202 [] (codes "{\"status\":\"OK\"}") }
+    ensures registered { reply_of_told Profile usual (registered (id 3) false) ≡ json_reply 200 registered_headers registered_text }
+    ensures next { reply_of_told Profile usual (runtime_event (id 1) 1573755368568 (codes "{}")) ≡ json_reply 200 next_headers (codes "{}") }
+    ensures invoke { reply_of_told Profile usual (invoke_event (id 1) 1573755368568) ≡ json_reply 200 [] invoked_text }
+    ensures spindown { reply_of_told Profile usual (shutdown_event ShutdownReason.Spindown 2000) ≡ json_reply 200 [] spindown_text }
+    ensures timeout { reply_of_told Profile usual (shutdown_event ShutdownReason.Timeout 2000) ≡ json_reply 200 [] timeout_text }
+    ensures failure { reply_of_told Profile usual (shutdown_event ShutdownReason.Failure 2000) ≡ json_reply 200 [] failure_text }
 {}
 
 /// The replies that refuse.
@@ -162,4 +163,54 @@ pub fn refusals()
     ensures environment_reset { refusal Refusal.EnvironmentReset ≡ error_reply 500 "EnvironmentReset" "environment was reset" }
     ensures id_in_use { refusal Refusal.IdInUse ≡ error_reply 500 "IdInUse" "drawn id is in use" }
     ensures unavailable { refusal Refusal.Unavailable ≡ error_reply 503 "Unavailable" "broker is not available" }
+{}
+
+/// What a request is in the dialect of AWS that is another in the other one.
+pub fn requests_aws()
+    ensures of_account { invoke_aws "123456789012:function:my-function" ≡ Ok (Call.Invoke (codes "{}")) }
+    ensures of_account_version { invoke_aws "123456789012:function:my-function:$LATEST" ≡ Ok (Call.Invoke (codes "{}")) }
+    ensures short { invoke_aws "function:my-function" ≡ Ok (Call.Invoke (codes "{}")) }
+    ensures short_version { invoke_aws "function:my-function:%24LATEST" ≡ Ok (Call.Invoke (codes "{}")) }
+    ensures whole { invoke_aws "arn:aws:lambda:us-east-2:123456789012:function:my-function" ≡ Ok (Call.Invoke (codes "{}")) }
+    ensures other_account { invoke_aws "123456789013:function:my-function" ≡ Err Refusal.NotFound }
+    ensures other_version { invoke_aws "123456789012:function:my-function:1" ≡ Err Refusal.NotFound }
+    ensures no_account { invoke_aws ":function:my-function" ≡ Err Refusal.NotFound }
+    ensures in_profile { invoke_as "function:my-function" "" ≡ Err Refusal.NotFound }
+    ensures telemetry { asks_aws "PUT" "/2022-07-01/telemetry" [] ≡ Ok (Call.Subscribe 1 Stream.Telemetry) }
+    ensures logs { asks_aws "PUT" "/2020-08-15/logs" [] ≡ Ok (Call.Subscribe 1 Stream.Logs) }
+    ensures telemetry_get { asks_aws "GET" "/2022-07-01/telemetry" [] ≡ Err Refusal.MethodNotAllowed }
+    ensures telemetry_in_profile { asks 1 "PUT" "/2022-07-01/telemetry" ≡ Err Refusal.NotFound }
+    ensures accepts { asks_aws "POST" "/2020-01-01/extension/register" (accepting "accountId") ≡ Ok (Call.Register 1 (codes "my-extension") false false true) }
+    ensures among { asks_aws "POST" "/2020-01-01/extension/register" (accepting "x, accountId ,y") ≡ Ok (Call.Register 1 (codes "my-extension") false false true) }
+    ensures other_feature { asks_aws "POST" "/2020-01-01/extension/register" (accepting "accountid") ≡ Ok (Call.Register 1 (codes "my-extension") false false false) }
+    ensures accepts_in_profile { on 1 "POST" "/2020-01-01/extension/register" (accepting "accountId") [] ≡ Ok (Call.Register 1 (codes "my-extension") false false false) }
+{}
+
+/// What a reply is in the dialect of AWS that is another in the other one.
+pub fn replies_aws()
+    ensures account { reply_of_told Aws usual (registered (id 3) true) ≡ json_reply 200 registered_headers account_text }
+    ensures no_account { reply_of_told Aws usual (registered (id 3) false) ≡ json_reply 200 registered_headers registered_text }
+    ensures account_in_profile { reply_of_told Profile usual (registered (id 3) true) ≡ json_reply 200 registered_headers registered_text }
+    ensures spindown { reply_of_told Aws usual (shutdown_event ShutdownReason.Spindown 2000) ≡ json_reply 200 [] (codes "{\"eventType\":\"SHUTDOWN\",\"shutdownReason\":\"spindown\",\"deadlineMs\":2000}") }
+    ensures timeout { reply_of_told Aws usual (shutdown_event ShutdownReason.Timeout 2000) ≡ json_reply 200 [] (codes "{\"eventType\":\"SHUTDOWN\",\"shutdownReason\":\"timeout\",\"deadlineMs\":2000}") }
+    ensures failure { reply_of_told Aws usual (shutdown_event ShutdownReason.Failure 2000) ≡ json_reply 200 [] (codes "{\"eventType\":\"SHUTDOWN\",\"shutdownReason\":\"failure\",\"deadlineMs\":2000}") }
+    ensures telemetry { reply_of_told Aws usual (not_supported Stream.Telemetry) ≡ error_reply 202 "Telemetry.NotSupported" "Telemetry API is not supported" }
+    ensures logs { reply_of_told Aws usual (not_supported Stream.Logs) ≡ error_reply 202 "Logs.NotSupported" "Logs API is not supported" }
+    ensures to_environment { reply_of_told Aws usual (refused Audience.Environment Refusal.NotFound) ≡ error_reply 404 "NotFound" "no such path or function" }
+    ensures identified { with_request_id (id 1) (empty_reply 204 []) ≡ empty_reply 204 accepted_headers }
+    ensures identified_before { with_request_id (id 2) (empty_reply 202 accepted_headers) ≡ empty_reply 202 accepted_headers }
+{}
+
+/// The replies that refuse a caller in the dialect of AWS.
+pub fn refusals_aws()
+    ensures mode { refusal_aws Refusal.UnsupportedInvocationType ≡ service_reply 400 "User" "InvalidParameterValueException" "only Event is supported" }
+    ensures no_json { refusal_aws Refusal.InvalidRequestContent ≡ service_reply 400 "User" "InvalidRequestContentException" "payload is not JSON" }
+    ensures not_found { refusal_aws Refusal.NotFound ≡ service_reply 404 "User" "ResourceNotFoundException" "no such path or function" }
+    ensures unknown_event { refusal_aws Refusal.UnknownEvent ≡ service_reply 404 "User" "ResourceNotFoundException" "no such event is held" }
+    ensures method_not_allowed { refusal_aws Refusal.MethodNotAllowed ≡ service_reply 405 "User" "InvalidParameterValueException" "method not allowed" }
+    ensures not_ended { refusal_aws Refusal.NotEnded ≡ service_reply 409 "User" "ResourceConflictException" "event has not ended" }
+    ensures too_large { refusal_aws Refusal.TooLarge ≡ service_reply 413 "User" "RequestTooLargeException" "body is too large" }
+    ensures too_many_events { refusal_aws Refusal.TooManyEvents ≡ service_reply 429 "User" "TooManyRequestsException" "table is full" }
+    ensures id_in_use { refusal_aws Refusal.IdInUse ≡ service_reply 500 "Service" "ServiceException" "drawn id is in use" }
+    ensures unavailable { refusal_aws Refusal.Unavailable ≡ service_reply 503 "Service" "ServiceException" "broker is not available" }
 {}

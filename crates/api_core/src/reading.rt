@@ -8,7 +8,7 @@ use crate::calls::call_by;
 use crate::checks::first_failed;
 use crate::paths::parts_of;
 use crate::routing::{in_hole, read_route};
-use crate::{Call, RequestError};
+use crate::{Call, Dialect, RequestError};
 use http::Method;
 use http::header::HeaderMap;
 use retry_rules::Settings;
@@ -16,6 +16,7 @@ use std::alloc::Global;
 
 fn read_call(
     alloc: Global,
+    dialect: Dialect,
     settings: &Settings,
     port: u16,
     method: &Method,
@@ -23,18 +24,20 @@ fn read_call(
     headers: &HeaderMap,
     body: Vec<u8>,
 ) -> Result<Call, RequestError>
-    ensures { Says (call_of settings.now port method.now target.now headers.now body.items) result }
+    ensures { Says (call_of dialect settings.now port method.now target.now headers.now body.items) result }
 {
     let parts = parts_of(alloc, target)?;
-    let route = match read_route(alloc, settings, port, method.as_str(), &parts) {
+    let route = match read_route(alloc, dialect, settings, port, method.as_str(), &parts) {
         Ok(route) => route,
         Err(error) => return Err(error),
     };
     let part = in_hole(alloc, route, &parts)?;
-    if let Some(why) = first_failed(alloc, settings, target, headers, &body, part, route)? {
+    if let Some(why) = first_failed(
+        alloc, dialect, settings, target, headers, &body, part, route,
+    )? {
         return Err(RequestError::Refused(why));
     }
-    let call = call_by(alloc, port, headers, body, part, route)?;
+    let call = call_by(alloc, dialect, port, headers, body, part, route)?;
     Ok(call)
 }
 
@@ -46,9 +49,12 @@ fn read_call(
 /// be done as it is.
 ///
 /// The requests are those of the public references: Invoke of the Lambda API for asynchronous invocation, the Lambda
-/// runtime API (2018-06-01), and the Lambda extensions API (2020-01-01); those under `/broker` are this broker's own.
+/// runtime API (2018-06-01), and the Lambda extensions API (2020-01-01); those under `/broker` are this broker's own. In the
+/// dialect `Aws` a partial ARN names the function too, an extension may accept the account's id, and the paths of the
+/// telemetry API (2022-07-01) and the logs API (2020-08-15) are there.
 pub fn read_request(
     alloc: Global,
+    dialect: Dialect,
     settings: &Settings,
     port: u16,
     method: &Method,
@@ -56,8 +62,10 @@ pub fn read_request(
     headers: &HeaderMap,
     body: Vec<u8>,
 ) -> Result<Call, RequestError>
-    ensures call { Says (call_of settings.now port method.now target.now headers.now body.items) result }
+    ensures call { Says (call_of dialect settings.now port method.now target.now headers.now body.items) result }
     ensures within { IfOk result (λ call. 2 ≤ settings.now.payload → IsWithin settings.now call) }
 {
-    read_call(alloc, settings, port, method, target, headers, body)
+    read_call(
+        alloc, dialect, settings, port, method, target, headers, body,
+    )
 }

@@ -1,6 +1,6 @@
 // Why a request is refused.
 ghost use Rattle.std.specs.Prelude.{◌≡◌};
-ghost use Rattle.api_core.specs.Refusals.{fault_of};
+ghost use Rattle.api_core.specs.Refusals.{fault_of, error_name, blamed};
 ghost use Rattle.api_core.specs.declared.refusal.RequestError.TheVariants.{OutOfMemory};
 
 use std::alloc::AllocError;
@@ -71,6 +71,42 @@ impl Refusal {
             Refusal::TooManyEvents => 429,
             Refusal::EnvironmentReset | Refusal::IdInUse => 500,
             Refusal::Unavailable => 503,
+        }
+    }
+
+    /// Whose fault it is, as AWS's services tell it.
+    pub(crate) fn blamed(self) -> &'static str
+        ensures { result.now ≡ blamed (fault_of self).status }
+    {
+        if self.status() >= 500 {
+            "Service"
+        } else {
+            "User"
+        }
+    }
+
+    /// The error that it is in the public models of the Lambda API.
+    pub(crate) fn error_name(self) -> &'static str
+        ensures { result.now ≡ error_name self }
+    {
+        match self {
+            Refusal::InvalidRequestContent => "InvalidRequestContentException",
+            Refusal::UnsupportedInvocationType
+            | Refusal::InvalidRequestId
+            | Refusal::InvalidExtensionHeader
+            | Refusal::BadSubscription
+            | Refusal::UnknownExtension
+            | Refusal::RegistrationClosed
+            | Refusal::TooManyExtensions
+            | Refusal::WrongPhase
+            | Refusal::MethodNotAllowed => "InvalidParameterValueException",
+            Refusal::NotFound | Refusal::UnknownEvent => "ResourceNotFoundException",
+            Refusal::Replaced | Refusal::NotEnded => "ResourceConflictException",
+            Refusal::TooLarge => "RequestTooLargeException",
+            Refusal::TooManyEvents => "TooManyRequestsException",
+            Refusal::EnvironmentReset | Refusal::IdInUse | Refusal::Unavailable => {
+                "ServiceException"
+            }
         }
     }
 

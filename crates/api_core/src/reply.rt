@@ -1,5 +1,10 @@
 // A reply before it is sent.
+ghost use Rattle.std.specs.Prelude.{◌≡◌, bytes_eq};
+ghost use Rattle.std.specs.List.{list_any};
+ghost use Rattle.api_core.specs.Reply.{pairs};
+
 use invoke_records::Bytes;
+use std::alloc::Global;
 use std::marker::Model;
 
 /// A name and a value. The value is bytes, since an ARN is.
@@ -24,14 +29,38 @@ impl Model for Headers {
     ghost view = { λ headers. pairs headers.list.items };
 }
 
+fn has_name(list: &[Header], name: &str) -> bool
+    ensures { result ≡ list_any (λ h. bytes_eq h.0 name.now) (pairs list.now) }
+{
+    match list {
+        [] => false,
+        [header, more @ ..] => header.name == name || has_name(more, name),
+    }
+}
+
 impl Headers {
-    ghost use Rattle.std.specs.Prelude.{◌≡◌, length, option_map, slice_get};
-    ghost use Rattle.api_core.specs.Reply.{pairs};
+    ghost use Rattle.std.specs.Prelude.{◌⊎◌, ◌++◌, ◌∷◌, [], length, option_map, slice_get};
 
     pub(crate) fn from_list(list: Vec<Header>) -> Headers
         ensures { result ≡ pairs list.items }
     {
         Headers { list }
+    }
+
+    /// Whether one has this name.
+    pub(crate) fn has(&self, name: &str) -> bool
+        ensures { result ≡ list_any (λ h. bytes_eq h.0 name.now) self.now }
+    {
+        has_name(&self.list, name)
+    }
+
+    /// One more, behind the others. Where memory is wanting there is none.
+    pub(crate) fn add(&mut self, alloc: Global, name: &'static str, value: &[u8])
+        ensures { (self.new ≡ self.old ++ (name.now, value.now) ∷ []) ⊎ (self.new ≡ self.old) }
+    {
+        if let Ok(value) = Bytes::from_slice(alloc, value) {
+            let _ = self.list.push(Header { name, value });
+        }
     }
 
     /// How many there are.

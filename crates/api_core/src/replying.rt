@@ -1,18 +1,22 @@
 // The reply of an answer.
-ghost use Rattle.std.specs.Prelude.{◌≡◌, [], ◌∷◌, IfOk};
-ghost use Rattle.api_core.specs.Refusals.{fault_of};
-ghost use Rattle.api_core.specs.Replies.{bare, with_json, header, refusing, IsTellable, reply_text};
-ghost use Rattle.api_core.specs.Replies.{reply_of_told, registered, runtime_event};
-ghost use Rattle.destination_json.specs.Record.{id_text};
+ghost use Rattle.std.specs.Prelude.{◌≡◌, ◌⊎◌, [], ◌∷◌, ◌++◌, IfOk};
+ghost use Rattle.api_core.specs.Replies.{bare, with_json, request_id, refusing, IsTellable, reply_text};
+ghost use Rattle.api_core.specs.declared.dialect.Dialect.TheVariants.{Aws};
+ghost use Rattle.api_core.specs.declared.dialect.Audience.TheVariants.{Caller};
+ghost use Rattle.api_core.specs.Replies.{reply_of_told, registered, runtime_headers, with_request_id};
 
 use crate::drafts::HeaderDraft;
 use crate::texts::{
-    OK_BODY, TRACE_ID, digits, error_text, function_text, invoke_text, shutdown_text,
+    OK_BODY, TRACE_ID, digits, error_text, function_text, invoke_text, not_supported_text,
+    service_text, shutdown_text,
 };
-use crate::{Answer, Refusal, Reply};
+use crate::{Answer, Audience, Dialect, Headers, Refusal, Reply};
 use destination_json::{id_text, record};
 use retry_rules::Settings;
 use std::alloc::{AllocError, Global};
+
+/// The header that tells the id of a request.
+const REQUEST_ID: &str = "X-Amzn-RequestId";
 
 // A reply without headers and body.
 fn empty(alloc: Global, status: u16) -> Result<Reply, AllocError>
@@ -29,23 +33,25 @@ fn json(alloc: Global, status: u16, text: Vec<u8>) -> Result<Reply, AllocError>
 }
 
 fn accepted(alloc: Global, id: &[u8; 16]) -> Result<Reply, AllocError>
-    ensures { IfOk result (λ reply. reply ≡ bare 202 (header "X-Amzn-RequestId" (id_text id.now) ∷ [])) }
+    ensures { IfOk result (λ reply. reply ≡ bare 202 (request_id id.now ∷ [])) }
 {
     let id = id_text(alloc, id)?;
     let mut headers = HeaderDraft::new(alloc);
-    headers.add("X-Amzn-RequestId", id.as_bytes());
+    headers.add(REQUEST_ID, id.as_bytes());
     headers.bare(202)
 }
 
 fn registered(
     alloc: Global,
+    dialect: Dialect,
     settings: &Settings,
     identifier: &[u8; 16],
+    account: bool,
 ) -> Result<Reply, AllocError>
-    ensures { IfOk result (λ reply. reply ≡ reply_of_told settings.now (registered identifier.now)) }
+    ensures { IfOk result (λ reply. reply ≡ reply_of_told dialect settings.now (registered identifier.now account)) }
 {
     let identifier = id_text(alloc, identifier)?;
-    let text = function_text(alloc, settings)?;
+    let text = function_text(alloc, dialect, settings, account)?;
     let mut headers = HeaderDraft::new(alloc);
     headers.add("Lambda-Extension-Identifier", identifier.as_bytes());
     headers.with_json(200, text)
@@ -59,7 +65,7 @@ fn runtime_event(
     deadline: u64,
     payload: &[u8],
 ) -> Result<Reply, AllocError>
-    ensures { IfOk result (λ reply. reply ≡ reply_of_told settings.now (runtime_event id.now deadline payload.now)) }
+    ensures { IfOk result (λ reply. reply ≡ with_json 200 (runtime_headers settings.now id.now deadline) payload.now) }
 {
     let id = id_text(alloc, id)?;
     let deadline = digits(alloc, deadline)?;
@@ -75,24 +81,43 @@ fn runtime_event(
     headers.with_json(200, payload)
 }
 
-fn refusing(alloc: Global, why: Refusal) -> Result<Reply, AllocError>
-    ensures { IfOk result (λ reply. reply ≡ refusing (fault_of why)) }
+// A refusal in the words of AWS's services, whose kits look for its name in a header.
+fn refusing_callers(alloc: Global, why: Refusal) -> Result<Reply, AllocError>
+    ensures { IfOk result (λ reply. reply ≡ refusing Aws Caller why) }
 {
-    let text = error_text(alloc, why)?;
-    json(alloc, why.status(), text)
+    let text = service_text(alloc, why)?;
+    let mut headers = HeaderDraft::new(alloc);
+    headers.add("X-Amzn-ErrorType", why.error_name().as_bytes());
+    headers.with_json(why.status(), text)
 }
 
-/// The reply of an answer: its status, its headers in their order, and the bytes of its body.
+fn refusing(
+    alloc: Global,
+    dialect: Dialect,
+    audience: Audience,
+    why: Refusal,
+) -> Result<Reply, AllocError>
+    ensures { IfOk result (λ reply. reply ≡ refusing dialect audience why) }
+{
+    match (dialect, audience) {
+        (Dialect::Aws, Audience::Caller) => refusing_callers(alloc, why),
+        _ => json(alloc, why.status(), error_text(alloc, why)?),
+    }
+}
+
+/// The reply of an answer, in the words of a dialect: its status, its headers in their order, and the bytes of its body.
 ///
-/// Errors are as AWS's services tell them in JSON; the polls of a runtime and of extensions are answered as the Lambda
-/// runtime API and the Lambda extensions API have it. Memory is the only refusal.
+/// In the dialect `Profile` errors have a type and a message of this broker's own; in `Aws` a caller is told them as the
+/// public models of the Lambda API have them. The polls of a runtime and of extensions are answered as the Lambda runtime
+/// API and the Lambda extensions API have it. Memory is the only refusal.
 pub fn reply_text(
     alloc: Global,
+    dialect: Dialect,
     answer: &Answer<'_>,
     settings: &Settings,
 ) -> Result<Reply, AllocError>
     requires { IsTellable answer.now }
-    ensures { IfOk result (λ reply. reply ≡ reply_text settings.now answer.now) }
+    ensures { IfOk result (λ reply. reply ≡ reply_text dialect settings.now answer.now) }
 {
     match answer {
         Answer::Accepted(id) => accepted(alloc, id),
@@ -100,7 +125,10 @@ pub fn reply_text(
         Answer::NoRecord => empty(alloc, 204),
         Answer::Deleted => empty(alloc, 204),
         Answer::Taken => json(alloc, 202, Vec::from_slice(alloc, OK_BODY)?),
-        Answer::Registered(identifier) => registered(alloc, settings, identifier),
+        Answer::Registered {
+            identifier,
+            account,
+        } => registered(alloc, dialect, settings, identifier, *account),
         Answer::RuntimeEvent {
             id,
             deadline,
@@ -110,8 +138,46 @@ pub fn reply_text(
             json(alloc, 200, invoke_text(alloc, settings, id, *deadline)?)
         }
         Answer::Shutdown { reason, deadline } => {
-            json(alloc, 200, shutdown_text(alloc, *reason, *deadline)?)
+            json(
+                alloc,
+                200,
+                shutdown_text(alloc, dialect, *reason, *deadline)?,
+            )
         }
-        Answer::Refusal(why) => refusing(alloc, *why),
+        Answer::NotSupported(stream) => json(alloc, 202, not_supported_text(alloc, *stream)?),
+        Answer::Refusal(audience, why) => refusing(alloc, dialect, *audience, *why),
+    }
+}
+
+// These headers with the id of a request. Where memory is wanting they stay as they are.
+fn with_id(alloc: Global, mut headers: Headers, id: &[u8; 16]) -> Headers
+    ensures { (result ≡ headers ++ request_id id.now ∷ []) ⊎ (result ≡ headers) }
+{
+    match id_text(alloc, id) {
+        Ok(text) => {
+            headers.add(alloc, REQUEST_ID, text.as_bytes());
+            headers
+        }
+        Err(_) => headers,
+    }
+}
+
+/// The reply with the id of its request, where it does not tell one: an accepted event's is its own, any other request's is
+/// this one. Where memory is wanting the reply stays as it is.
+pub fn with_request_id(alloc: Global, reply: Reply, id: &[u8; 16]) -> Reply
+    ensures { (result ≡ with_request_id id.now reply) ⊎ (result ≡ reply) }
+{
+    if reply.headers.has(REQUEST_ID) {
+        return reply;
+    }
+    let Reply {
+        status,
+        headers,
+        body,
+    } = reply;
+    Reply {
+        status,
+        headers: with_id(alloc, headers, id),
+        body,
     }
 }

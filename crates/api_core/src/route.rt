@@ -18,6 +18,8 @@ pub(crate) enum Route {
     ExtensionNext,
     ExtensionInitError,
     ExtensionExitError,
+    Telemetry,
+    Logs,
 }
 
 impl Route {
@@ -40,6 +42,8 @@ impl Route {
             Route::ExtensionNext => ("GET", "/2020-01-01/extension/event/next"),
             Route::ExtensionInitError => ("POST", "/2020-01-01/extension/init/error"),
             Route::ExtensionExitError => ("POST", "/2020-01-01/extension/exit/error"),
+            Route::Telemetry => ("PUT", "/2022-07-01/telemetry"),
+            Route::Logs => ("PUT", "/2020-08-15/logs"),
         }
     }
 }

@@ -2,13 +2,13 @@
 ghost use Rattle.std.specs.Prelude.{◌≡◌, filter, IfOk};
 ghost use Rattle.std.specs.Cmp.Lexicographic.{pointwise};
 ghost use Rattle.percent_encoding.specs.Percent.{percent_decode};
-ghost use Rattle.api_core.specs.Paths.{is_hole, takes, fits, at_hole, in_hole, has_method, routes_at, route_after, route_among};
+ghost use Rattle.api_core.specs.Paths.{is_hole, takes, fits, at_hole, in_hole, has_method, environment_routes, routes_at, route_after, route_among};
 ghost use Rattle.api_core.specs.Steps.{texts, decoded};
 ghost use Rattle.api_core.specs.Says.{Says};
 
 use crate::paths::{between_slashes, is_word};
 use crate::route::Route;
-use crate::{Refusal, RequestError};
+use crate::{Dialect, Refusal, RequestError};
 use retry_rules::Settings;
 use std::alloc::{AllocError, Global};
 
@@ -68,14 +68,37 @@ const ENVIRONMENTS: [Route; 8] = [
     Route::ExtensionExitError,
 ];
 
+const AWS_ENVIRONMENTS: [Route; 10] = [
+    Route::Telemetry,
+    Route::Logs,
+    Route::RuntimeNext,
+    Route::Response,
+    Route::RuntimeError,
+    Route::RuntimeInitError,
+    Route::Register,
+    Route::ExtensionNext,
+    Route::ExtensionInitError,
+    Route::ExtensionExitError,
+];
+
+// The routes of an environment's port.
+fn environment_routes(dialect: Dialect) -> &'static [Route]
+    ensures { result.now ≡ environment_routes dialect }
+{
+    match dialect {
+        Dialect::Profile => &ENVIRONMENTS,
+        Dialect::Aws => &AWS_ENVIRONMENTS,
+    }
+}
+
 // The routes of a port.
-fn routes_at(settings: &Settings, port: u16) -> &'static [Route]
-    ensures { result.now ≡ routes_at settings.now port }
+fn routes_at(dialect: Dialect, settings: &Settings, port: u16) -> &'static [Route]
+    ensures { result.now ≡ routes_at dialect settings.now port }
 {
     if port == 0 {
         &CALLERS
     } else if port <= settings.environments as u16 {
-        &ENVIRONMENTS
+        environment_routes(dialect)
     } else {
         &[]
     }
@@ -130,14 +153,21 @@ fn route_after(
 /// The route of a request, or why it has none.
 pub(crate) fn read_route(
     alloc: Global,
+    dialect: Dialect,
     settings: &Settings,
     port: u16,
     method: &str,
     parts: &[&str],
 ) -> Result<Route, RequestError>
-    ensures { Says (route_among method.now (filter (fits (decoded parts.now)) (routes_at settings.now port))) result }
+    ensures { Says (route_among method.now (filter (fits (decoded parts.now)) (routes_at dialect settings.now port))) result }
 {
-    route_after(alloc, false, method, routes_at(settings, port), parts)
+    route_after(
+        alloc,
+        false,
+        method,
+        routes_at(dialect, settings, port),
+        parts,
+    )
 }
 
 #[tactic(auto, unfolding(percent_encoding::specs::Percent::percent_decode))]

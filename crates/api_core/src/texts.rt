@@ -1,10 +1,12 @@
 // The bodies of replies.
-ghost use Rattle.std.specs.Prelude.{◌≡◌, IfOk, decimal, string_bytes};
-ghost use Rattle.api_core.specs.Refusals.{error_text, fault_of};
-ghost use Rattle.api_core.specs.Replies.{ok_body, trace_id, tracing, invoke_text, reason_text, shutdown_text, function_text};
+ghost use Rattle.std.specs.Prelude.{◌≡◌, ℕ, List, ◌∷◌, ◌++◌, IfOk, decimal, string_bytes};
+ghost use Rattle.api_core.specs.Refusals.{error_object, error_text, service_text, fault_of};
+ghost use Rattle.api_core.specs.Replies.{ok_body, trace_id, tracing, invoke_text, reason_text, shutdown_text, function_members, account_member, account_members, function_text, not_supported_text};
+ghost use Rattle.api_core.specs.Steps.{Begun};
 
+use crate::functions::account_of;
 use crate::object::Object;
-use crate::{Refusal, ShutdownReason};
+use crate::{Dialect, Refusal, ShutdownReason, Stream};
 use destination_json::id_text;
 use retry_rules::Settings;
 use std::alloc::{AllocError, Global};
@@ -25,23 +27,93 @@ pub(crate) fn digits(alloc: Global, n: u64) -> Result<String, AllocError>
     format!(in alloc; "{n}")
 }
 
-/// What is told of a refusal.
-pub(crate) fn error_text(alloc: Global, why: Refusal) -> Result<Vec<u8>, AllocError>
-    ensures { IfOk result (λ text. text.items ≡ error_text (fault_of why)) }
+// An error, as the Lambda runtime API tells it.
+fn error_object(alloc: Global, message: &str, error_type: &str) -> Result<Vec<u8>, AllocError>
+    ensures { IfOk result (λ text. text.items ≡ error_object message.now error_type.now) }
 {
-    let (error_type, message) = why.words();
     let mut object = Object::of_text(alloc, "errorMessage", message.as_bytes());
     object.add_text("errorType", error_type.as_bytes());
     object.end()
 }
 
-/// What a registered extension is told of the function.
-pub(crate) fn function_text(alloc: Global, settings: &Settings) -> Result<Vec<u8>, AllocError>
-    ensures { IfOk result (λ text. text.items ≡ function_text settings.now) }
+/// What is told of a refusal, in this broker's own words.
+pub(crate) fn error_text(alloc: Global, why: Refusal) -> Result<Vec<u8>, AllocError>
+    ensures { IfOk result (λ text. text.items ≡ error_text (fault_of why)) }
+{
+    let (error_type, message) = why.words();
+    error_object(alloc, message, error_type)
+}
+
+/// What is told of a refusal, in the words of AWS's services.
+pub(crate) fn service_text(alloc: Global, why: Refusal) -> Result<Vec<u8>, AllocError>
+    ensures { IfOk result (λ text. text.items ≡ service_text (fault_of why)) }
+{
+    let (_, message) = why.words();
+    let mut object = Object::of_text(alloc, "Type", why.blamed().as_bytes());
+    object.add_text("message", message.as_bytes());
+    object.add_text("Message", message.as_bytes());
+    object.end()
+}
+
+/// What is told of a stream that is not sent.
+pub(crate) fn not_supported_text(alloc: Global, stream: Stream) -> Result<Vec<u8>, AllocError>
+    ensures { IfOk result (λ text. text.items ≡ not_supported_text stream) }
+{
+    match stream {
+        Stream::Telemetry => error_object(
+            alloc,
+            "Telemetry API is not supported",
+            "Telemetry.NotSupported",
+        ),
+        Stream::Logs => error_object(alloc, "Logs API is not supported", "Logs.NotSupported"),
+    }
+}
+
+// The account that an extension is told, which is empty where it is told none.
+fn account_told(dialect: Dialect, settings: &Settings, account: bool) -> &[u8]
+    ensures { account_member result.now ≡ account_members dialect settings.now account }
+{
+    match dialect {
+        Dialect::Aws if account => account_of(settings.arn.as_bytes()),
+        _ => b"",
+    }
+}
+
+// What an extension is told of the function, to which a member may be added.
+fn function_object(alloc: Global, settings: &Settings) -> Object
+    ensures { Begun (function_members settings.now) result }
 {
     let mut object = Object::of_text(alloc, "functionName", settings.name.as_bytes());
     object.add_text("functionVersion", b"$LATEST");
     object.add_text("handler", settings.handler.as_bytes());
+    object
+}
+
+// An object to which an account is added, where there is one.
+fn with_account(mut object: Object, account: &[u8]) -> Object
+    ensures { (first : List ℕ) (members : List (List ℕ)) → Begun (first ∷ members) object
+        → Begun (first ∷ (members ++ account_member account.now)) result }
+{
+    match account {
+        [] => object,
+        [_, ..] => {
+            object.add_text("accountId", account);
+            object
+        }
+    }
+}
+
+/// What a registered extension is told of the function, and of the account where it accepts that.
+pub(crate) fn function_text(
+    alloc: Global,
+    dialect: Dialect,
+    settings: &Settings,
+    account: bool,
+) -> Result<Vec<u8>, AllocError>
+    ensures { IfOk result (λ text. text.items ≡ function_text dialect settings.now account) }
+{
+    let account = account_told(dialect, settings, account);
+    let object = with_account(function_object(alloc, settings), account);
     object.end()
 }
 
@@ -64,27 +136,31 @@ pub(crate) fn invoke_text(
     object.end()
 }
 
-fn reason_text(reason: ShutdownReason) -> &'static str
-    ensures { result.now ≡ reason_text reason }
+fn reason_text(dialect: Dialect, reason: ShutdownReason) -> &'static str
+    ensures { result.now ≡ reason_text dialect reason }
 {
-    match reason {
-        ShutdownReason::Spindown => "SPINDOWN",
-        ShutdownReason::Timeout => "TIMEOUT",
-        ShutdownReason::Failure => "FAILURE",
+    match (dialect, reason) {
+        (Dialect::Profile, ShutdownReason::Spindown) => "SPINDOWN",
+        (Dialect::Profile, ShutdownReason::Timeout) => "TIMEOUT",
+        (Dialect::Profile, ShutdownReason::Failure) => "FAILURE",
+        (Dialect::Aws, ShutdownReason::Spindown) => "spindown",
+        (Dialect::Aws, ShutdownReason::Timeout) => "timeout",
+        (Dialect::Aws, ShutdownReason::Failure) => "failure",
     }
 }
 
 /// What an extension is told of its environment's end.
 pub(crate) fn shutdown_text(
     alloc: Global,
+    dialect: Dialect,
     reason: ShutdownReason,
     deadline: u64,
 ) -> Result<Vec<u8>, AllocError>
-    ensures { IfOk result (λ text. text.items ≡ shutdown_text reason deadline) }
+    ensures { IfOk result (λ text. text.items ≡ shutdown_text dialect reason deadline) }
 {
     let deadline = digits(alloc, deadline)?;
     let mut object = Object::of_text(alloc, "eventType", b"SHUTDOWN");
-    object.add_text("shutdownReason", reason_text(reason).as_bytes());
+    object.add_text("shutdownReason", reason_text(dialect, reason).as_bytes());
     object.add_member("deadlineMs", deadline.as_bytes());
     object.end()
 }

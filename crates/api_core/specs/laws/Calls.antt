@@ -3,11 +3,13 @@ use Rattle.std.proofs.Common.{◌≡◌, ℕ, ◌≤◌, nat_le, nat_lt, ◌==�
 use Rattle.std.specs.Prelude.{filter, find}
 use Rattle.std.proofs.lemmas.Bool.{eqb-false, leb-true, ltb-false}
 use Rattle.retry_rules.specs.declared.settings.Settings.{Settings}
+use Rattle.api_core.specs.declared.dialect.Dialect.{Dialect}
+use Rattle.api_core.specs.declared.dialect.Dialect.TheVariants.{Profile, Aws}
 use Rattle.api_core.specs.declared.call.Call.{Call}
 use Rattle.api_core.specs.declared.route.Route.{Route}
-use Rattle.api_core.specs.declared.route.Route.TheVariants.{Invoke, OldestSuccess, OldestFailure, Delete, StopBroker, RuntimeNext, Response, RuntimeError, RuntimeInitError, Register, ExtensionNext, ExtensionInitError, ExtensionExitError}
+use Rattle.api_core.specs.declared.route.Route.TheVariants.{Invoke, OldestSuccess, OldestFailure, Delete, StopBroker, RuntimeNext, Response, RuntimeError, RuntimeInitError, Register, ExtensionNext, ExtensionInitError, ExtensionExitError, Telemetry, Logs}
 use Rattle.api_core.specs.declared.refusal.Refusal.{Refusal}
-use Rattle.api_core.specs.Paths.{callers_routes, environment_routes, routes_at, fits, has_method, or_not_allowed, route_among, segments_of, in_hole, route_of}
+use Rattle.api_core.specs.Paths.{callers_routes, common_routes, environment_routes, routes_at, fits, has_method, or_not_allowed, route_among, segments_of, in_hole, route_of}
 use Rattle.api_core.specs.Headers.{RequestHeaders}
 use Rattle.api_core.specs.Bodies.{or_empty_object}
 use Rattle.api_core.specs.Requests.{failed, or_later, first_failed, function_check, header_check, size_check, content_check, most_bytes, refusal_of, unless_refused, call_by, call_on, call_of}
@@ -30,21 +32,27 @@ IsAt s port Register = IsEnvironment s port
 IsAt s port ExtensionNext = IsEnvironment s port
 IsAt s port ExtensionInitError = IsEnvironment s port
 IsAt s port ExtensionExitError = IsEnvironment s port
+IsAt s port Telemetry = IsEnvironment s port
+IsAt s port Logs = IsEnvironment s port
 
 abbrev Each : Settings → ℕ → List Route → Type 0
 Each s port [] = Unit {0}
 Each s port (r ∷ routes) = IsAt s port r × (Each s port routes)
 
-of_environment : (s : Settings) (port : ℕ) → IsEnvironment s port → Each s port environment_routes
-of_environment s port h = (h, (h, (h, (h, (h, (h, (h, (h, tt))))))))
+common : (s : Settings) (port : ℕ) → IsEnvironment s port → Each s port common_routes
+common s port h = (h, (h, (h, (h, (h, (h, (h, (h, tt))))))))
 
-each_at : (s : Settings) (port : ℕ) (b c : Bool) → (port == 0) ≡ b → nat_le port s.environments ≡ c
-    → Each s port (if b then callers_routes else if c then environment_routes else [])
-each_at s port true c e f = (tt, (tt, (tt, (tt, (tt, tt)))))
-each_at s port false true e f =
+of_environment : (d : Dialect) (s : Settings) (port : ℕ) → IsEnvironment s port → Each s port (environment_routes d)
+of_environment Profile s port h = common s port h
+of_environment Aws s port h = (h, (h, common s port h))
+
+each_at : (d : Dialect) (s : Settings) (port : ℕ) (b c : Bool) → (port == 0) ≡ b → nat_le port s.environments ≡ c
+    → Each s port (if b then callers_routes else if c then environment_routes d else [])
+each_at d s port true c e f = (tt, (tt, (tt, (tt, (tt, tt)))))
+each_at d s port false true e f =
     let low : 1 ≤ port = omega (arith, eqb-false port 0 e) in
-    of_environment s port (low, leb-true port s.environments f)
-each_at s port false false e f = tt
+    of_environment d s port (low, leb-true port s.environments f)
+each_at d s port false false e f = tt
 
 keep : (s : Settings) (port : ℕ) (b : Bool) (r : Route) (routes : List Route) → IsAt s port r → Each s port routes
     → Each s port (if b then r ∷ routes else routes)
@@ -75,10 +83,11 @@ among s port method [] h r e = cc
 among s port method (x ∷ routes) h r e =
     first s port (has_method method) (x ∷ routes) h r (allowed (find (has_method method) (x ∷ routes)) r e)
 
-routed : (s : Settings) (port : ℕ) (method target : List ℕ) (r : Route) → route_of s port method target ≡ Ok r → IsAt s port r
-routed s port method target r e =
-    among s port method (filter (fits (segments_of target)) (routes_at s port))
-    (kept s port (fits (segments_of target)) (routes_at s port) (each_at s port (port == 0) (nat_le port s.environments) refl refl))
+routed : (d : Dialect) (s : Settings) (port : ℕ) (method target : List ℕ) (r : Route)
+    → route_of d s port method target ≡ Ok r → IsAt s port r
+routed d s port method target r e =
+    among s port method (filter (fits (segments_of target)) (routes_at d s port))
+    (kept s port (fits (segments_of target)) (routes_at d s port) (each_at d s port (port == 0) (nat_le port s.environments) refl refl))
     r e
 
 -- ## What passes the checks
@@ -95,11 +104,11 @@ unrefused : (o : Option Refusal) (d c : Call) → unless_refused o d ≡ Ok c �
 unrefused None d c e = (refl, cc)
 unrefused (Some why) d c e = cc
 
-fits_size : (s : Settings) (target : List ℕ) (headers : RequestHeaders) (body hole : List ℕ) (route : Route)
-    → refusal_of s target headers body hole route ≡ None → length body ≤ most_bytes s route
-fits_size s target headers body hole route e =
+fits_size : (d : Dialect) (s : Settings) (target : List ℕ) (headers : RequestHeaders) (body hole : List ℕ) (route : Route)
+    → refusal_of d s target headers body hole route ≡ None → length body ≤ most_bytes s route
+fits_size d s target headers body hole route e =
     let later = first_failed (size_check s body route ∷ content_check body route ∷ []) in
-    let one = none_of (failed (function_check s target hole route)) (or_later (failed (header_check headers route)) later) e in
+    let one = none_of (failed (function_check d s target hole route)) (or_later (failed (header_check headers route)) later) e in
     let two = none_of (failed (header_check headers route)) later one.1 in
     let three = none_of (failed (size_check s body route)) (first_failed (content_check body route ∷ [])) two.1 in
     ltb-false (most_bytes s route) (length body)
@@ -110,33 +119,35 @@ not_empty : (s : Settings) (body : List ℕ) → 2 ≤ s.payload → length body
 not_empty s [] two small = (omega arith, two)
 not_empty s (b ∷ bytes) two small = (omega arith, small)
 
-keeps : (s : Settings) (port : ℕ) (headers : RequestHeaders) (body hole : List ℕ) (route : Route) → 2 ≤ s.payload
-    → IsAt s port route → length body ≤ most_bytes s route → IsWithin s (call_by port headers body hole route)
-keeps s port headers body hole Invoke two at small = not_empty s body two small
-keeps s port headers body hole OldestSuccess two at small = tt
-keeps s port headers body hole OldestFailure two at small = tt
-keeps s port headers body hole Delete two at small = tt
-keeps s port headers body hole StopBroker two at small = tt
-keeps s port headers body hole RuntimeNext two at small = at
-keeps s port headers body hole Response two at small = (at, small)
-keeps s port headers body hole RuntimeError two at small = (at, small)
-keeps s port headers body hole RuntimeInitError two at small = at
-keeps s port headers body hole Register two at small = at
-keeps s port headers body hole ExtensionNext two at small = at
-keeps s port headers body hole ExtensionInitError two at small = at
-keeps s port headers body hole ExtensionExitError two at small = at
+keeps : (d : Dialect) (s : Settings) (port : ℕ) (headers : RequestHeaders) (body hole : List ℕ) (route : Route) → 2 ≤ s.payload
+    → IsAt s port route → length body ≤ most_bytes s route → IsWithin s (call_by d port headers body hole route)
+keeps d s port headers body hole Invoke two at small = not_empty s body two small
+keeps d s port headers body hole OldestSuccess two at small = tt
+keeps d s port headers body hole OldestFailure two at small = tt
+keeps d s port headers body hole Delete two at small = tt
+keeps d s port headers body hole StopBroker two at small = tt
+keeps d s port headers body hole RuntimeNext two at small = at
+keeps d s port headers body hole Response two at small = (at, small)
+keeps d s port headers body hole RuntimeError two at small = (at, small)
+keeps d s port headers body hole RuntimeInitError two at small = at
+keeps d s port headers body hole Register two at small = at
+keeps d s port headers body hole ExtensionNext two at small = at
+keeps d s port headers body hole ExtensionInitError two at small = at
+keeps d s port headers body hole ExtensionExitError two at small = at
+keeps d s port headers body hole Telemetry two at small = at
+keeps d s port headers body hole Logs two at small = at
 
 -- ## The law
 
-pub calls_keep_to_settings : (s : Settings) (port : ℕ) (method target : List ℕ) (headers : RequestHeaders) (body : List ℕ) (c : Call)
-    → call_of s port method target headers body ≡ Ok c → 2 ≤ s.payload → IsWithin s c
-calls_keep_to_settings s port method target headers body c e two = by (route_of s port method target) refl e where
-  by : (found : Result Route Refusal) → route_of s port method target ≡ found → call_on s port target headers body found ≡ Ok c
-      → IsWithin s c
+pub calls_keep_to_settings : (d : Dialect) (s : Settings) (port : ℕ) (method target : List ℕ) (headers : RequestHeaders)
+    (body : List ℕ) (c : Call) → call_of d s port method target headers body ≡ Ok c → 2 ≤ s.payload → IsWithin s c
+calls_keep_to_settings d s port method target headers body c e two = by (route_of d s port method target) refl e where
+  by : (found : Result Route Refusal) → route_of d s port method target ≡ found
+      → call_on d s port target headers body found ≡ Ok c → IsWithin s c
   by (Err why) is e = cc
   by (Ok route) is e =
       let hole = in_hole route (segments_of target) in
-      let h = unrefused (refusal_of s target headers body hole route) (call_by port headers body hole route) c e in
+      let h = unrefused (refusal_of d s target headers body hole route) (call_by d port headers body hole route) c e in
       subst (IsWithin s) h.1
-      (keeps s port headers body hole route two (routed s port method target route is)
-      (fits_size s target headers body hole route h.0))
+      (keeps d s port headers body hole route two (routed d s port method target route is)
+      (fits_size d s target headers body hole route h.0))

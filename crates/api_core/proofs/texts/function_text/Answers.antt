@@ -1,17 +1,15 @@
-use Rattle.std.proofs.Common.{[], ◌∷◌}
+use Rattle.std.proofs.Common.{[], ◌∷◌, ◌++◌}
 use Rattle.destination_json.specs.Json.{in_quotes, member}
 use Rattle.destination_json.specs.Record.{latest}
-use Rattle.api_core.proofs.Objects.{three, ended}
+use Rattle.api_core.specs.Replies.{function_members, account_members}
+use Rattle.api_core.proofs.Objects.{ended}
 use Rattle.api_core.proofs.texts.function_text.Goals as goal
 
 pub returns : goal.returns
 returns c =
     let s = c.args.settings.now in
     let name = member "functionName" (in_quotes s.name) in
-    let version = member "functionVersion" (in_quotes latest) in
-    let handler = member "handler" (in_quotes s.handler) in
-    ended (name ∷ version ∷ handler ∷ []) c.add_text-2.new.self c.end.result
-    (three name version c.of_text-object.result c.add_text.new.self
-    (rw c.as_bytes.ensures at c.of_text-object.ensures) c.add_text.ensures
-    handler c.add_text-2.new.self (rw c.as_bytes-2.ensures at c.add_text-2.ensures))
+    let others = member "functionVersion" (in_quotes latest) ∷ member "handler" (in_quotes s.handler) ∷ [] in
+    ended (function_members s ++ account_members c.args.dialect s c.args.account) c.with_account-object.result c.end.result
+    (rw c.account_told-account.ensures at c.with_account-object.ensures name others c.function_object.ensures)
     c.end.ensures

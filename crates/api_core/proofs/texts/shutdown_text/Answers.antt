@@ -7,7 +7,7 @@ use Rattle.api_core.proofs.texts.shutdown_text.Goals as goal
 pub returns : goal.returns
 returns c =
     let kind = member "eventType" (in_quotes (codes "SHUTDOWN")) in
-    let reason = member "shutdownReason" (in_quotes (reason_text c.args.reason)) in
+    let reason = member "shutdownReason" (in_quotes (reason_text c.args.dialect c.args.reason)) in
     let deadline = member "deadlineMs" (decimal c.args.deadline) in
     ended (kind ∷ reason ∷ deadline ∷ []) c.add_member.new.self c.end.result
     (three kind reason c.of_text-object.result c.add_text.new.self c.of_text-object.ensures

@@ -1,0 +1,17 @@
+-- Each one computes.
+use Rattle.std.proofs.Common.{refl}
+use Rattle.api_core.proofs.examples.refusals_aws.Goals as goal
+
+pub returns : goal.returns
+returns c = record {
+  mode = refl;
+  no_json = refl;
+  not_found = refl;
+  unknown_event = refl;
+  method_not_allowed = refl;
+  not_ended = refl;
+  too_large = refl;
+  too_many_events = refl;
+  id_in_use = refl;
+  unavailable = refl;
+}

@@ -1,0 +1,23 @@
+-- Each one computes.
+use Rattle.std.proofs.Common.{refl}
+use Rattle.destination_json.specs.Record.{id_text}
+use Rattle.api_core.specs.Dialect.{account_of}
+use Rattle.std.specs.Fmt.{digits}
+use Rattle.uuid.proofs.OnLiterals.{uuid_on_literals}
+use Rattle.api_core.proofs.examples.replies_aws.Goals as goal
+
+pub returns : goal.returns
+unfolding account_of id_text digits uuid_on_literals
+returns c = record {
+  account = refl;
+  no_account = refl;
+  account_in_profile = refl;
+  spindown = refl;
+  timeout = refl;
+  failure = refl;
+  telemetry = refl;
+  logs = refl;
+  to_environment = refl;
+  identified = refl;
+  identified_before = refl;
+}
