@@ -171,6 +171,14 @@ reply_of_told d s (shutdown_event reason deadline) = with_json 200 [] (shutdown_
 reply_of_told d s (not_supported stream) = with_json 202 [] (not_supported_text stream)
 reply_of_told d s (refused who why) = refusing d who why
 
+-- in which words, and of which function, replies tell
+pub record Words : Type 0 where
+  pub dialect : Dialect
+  pub settings : Settings
+
+abbrev pub reply_in : Words → Told → Reply
+reply_in w told = reply_of_told w.dialect w.settings told
+
 abbrev pub reply_text : Dialect → Settings → Answer → Reply
 reply_text d s a = reply_of_told d s (told_by a)
 

@@ -11,7 +11,7 @@ use Rattle.invoke_records.specs.declared.command.Command.{Command}
 use Rattle.env_phase.specs.declared.call.EnvCall.{EnvCall}
 use Rattle.env_phase.specs.declared.answer.PollAnswer.{PollAnswer}
 use Rattle.api_core.specs.declared.call.Call.{Call}
-use Rattle.api_core.specs.Replies.{Told, reply_of_told}
+use Rattle.api_core.specs.Replies.{Told, Words, reply_in}
 use Rattle.group_commit.specs.Issuer.{IsIssuer, issued_in, state_in, Fails}
 use Rattle.hall_core.specs.declared.error.HallError.TheVariants as error
 use Rattle.hall_core.specs.Past.{HallCall, arrive, Past, asked, replied, calls_in, calls_of, call_stops, asks_stop, is_stopping}
@@ -34,7 +34,7 @@ use Rattle.hall_core.specs.Answering.{polls_told}
 use Rattle.hall_core.specs.Changes.{Leads, answered_to, IsUncalled}
 use Rattle.hall_core.specs.Settling.{replies_told, replied_at, own_at}
 use Rattle.hall_core.specs.Issuing.{HasPlaceFor, Continues, IsAnswered, IsWanting, told_of}
-use Rattle.hall_core.specs.Hall.{HallView, StandsFor, settings_in, pending_in, is_slot_open, open_slot_count, refusal_of_arrival, Passes, request}
+use Rattle.hall_core.specs.Hall.{HallView, StandsFor, settings_in, words_in, pending_in, is_slot_open, open_slot_count, refusal_of_arrival, Passes, request}
 use Rattle.hall_core.proofs.OpenCount.{all_are_open}
 use Rattle.std.specs.Prelude.{slice_index}
 use Rattle.api_core.specs.declared.reply.Reply.{Reply}
@@ -117,9 +117,9 @@ made_told past point (m ∷ made) =
     ∙ ap (λ l. replied_at point (told_to_polls past (answered_by (calls_in m.0 past.made) m.1)) ++ l) (made_told past point made)
     ∙ sym (told_both past point (answered_by (calls_in m.0 past.made) m.1) (answered_to past.made made))
 
-pub polls_are_told : (s : Settings) (past : Past) (polls : List (ℕ × PollAnswer)) → polls_told s past.history polls ≡ replies_told s (told_to_polls past polls)
-polls_are_told s past [] = refl
-polls_are_told s past (poll ∷ polls) = ap (λ l. (poll.0, reply_of_told s (reply_to_poll past.history poll.1)) ∷ l) (polls_are_told s past polls)
+pub polls_are_told : (w : Words) (past : Past) (polls : List (ℕ × PollAnswer)) → polls_told w past.history polls ≡ replies_told w (told_to_polls past polls)
+polls_are_told w past [] = refl
+polls_are_told w past (poll ∷ polls) = ap (λ l. (poll.0, reply_in w (reply_to_poll past.history poll.1)) ∷ l) (polls_are_told w past polls)
 
 own_told : (slot point : ℕ) (call : Call) (now : ℕ) (words : ℕ × ℕ) (own : Option Told) → own_reply point (arrive slot call now words) own ≡ own_at slot point own
 own_told slot point call now words None = refl
@@ -169,15 +169,15 @@ request_stops past slot call now words effect point =
 
 pub stands_after : (old new : HallView) (past : Past) (call : HallCall) (effect : Effect)
     → StandsFor old past → effect ≡ effect_of (settings_in old) past call → IsUnrefused (settings_in old) past call → IsIssuer new.issuer
-    → new.issuer.settings ≡ old.issuer.settings
+    → new.issuer.settings ≡ old.issuer.settings → new.dialect ≡ old.dialect
     → new.issuer.stands (past.history ++ option_list effect.command)
     → length new.environments ≡ length old.environments
     → HoldFor new.environments (past.made ++ effect.made)
-    → KeepFor (settings_in old) new.slots (past.slots ++ slot_events past call effect (length (past.history ++ option_list effect.command)))
+    → KeepFor (words_in old) new.slots (past.slots ++ slot_events past call effect (length (past.history ++ option_list effect.command)))
     → new.stops ≡ list_any asks_stop (past.slots ++ slot_events past call effect (length (past.history ++ option_list effect.command)))
     → StandsFor new (past_after (settings_in old) past call)
 unfolding past_after
-stands_after old new past call effect stands is unrefused laws same history count hold keep stops =
+stands_after old new past call effect stands is unrefused laws same talks history count hold keep stops =
     subst (λ e. StandsFor new (past_by past call e)) is (record {
       history = history;
       environments = record {
@@ -187,7 +187,7 @@ stands_after old new past call effect stands is unrefused laws same history coun
         hold = hold;
         kept = rw same (subst (λ e. IsKept (settings_in old) (past_by past call e)) (sym is) (step (settings_in old) past call stands.environments.kept unrefused));
       };
-      slots = rw same keep;
+      slots = rw (same, talks) keep;
       stopping = stops;
     })
 
@@ -302,14 +302,15 @@ pub arrived : (old new : HallView) (past : Past) (slot : ℕ) (call : Call) (now
     → IsIssuer old.issuer → IsIssuer new.issuer → StandsFor old past → IsFit (settings_in old) (request slot call now words)
     → refusal_of_arrival old (is_some effect.command) ≡ None
     → PlansRequest (state_in old.issuer) old.environments slot call now words effect
-    → IsPreparedFor (state_in old.issuer) old.environments effect p
+    → IsPreparedFor old.dialect (state_in old.issuer) old.environments effect p → new.dialect ≡ old.dialect
     → Continues old.issuer new.issuer p.command → IsAnswered old.issuer p.command issued
     → length new.environments ≡ length old.environments → Leads old.environments p.changes new.environments
-    → KeepRequest old.slots new.slots slot unavailable p (issued_in new.issuer) → unavailable ≡ unavailable_in (settings_in old)
+    → KeepRequest old.slots new.slots slot unavailable p (issued_in new.issuer) → unavailable ≡ unavailable_in (words_in old)
     → new.stops ≡ (old.stops || stops) → stops ≡ call_stops call
     → (issued ≡ issued_by (settings_in old) past (request slot call now words)) × StandsFor new (past_after (settings_in old) past (request slot call now words))
-arrived old new past slot call now words effect p stops unavailable issued before after stands fit passes plans prepared continues answered count leads keeps told_503 stopping asks =
+arrived old new past slot call now words effect p stops unavailable issued before after stands fit passes plans prepared talks continues answered count leads keeps told_503 stopping asks =
     let s = settings_in old in
+    let w = words_in old in
     let req = request slot call now words in
     let is : effect ≡ effect_of s past req = plans past stands.environments ∙ effect_is s past slot call now words in
     let same_command : effect.command ≡ command_of s past req = ap (λ e. e.command) is in
@@ -318,13 +319,13 @@ arrived old new past slot call now words effect p stops unavailable issued befor
     subst (λ c. new.issuer.stands (past.history ++ option_list c)) prepared.command (continues.stands past.history stands.history) in
     let point : issued_in new.issuer ≡ length (past.history ++ option_list effect.command) = (after.each (past.history ++ option_list effect.command) history).issued_is in
     let told = told_to_polls past (answered_to past.made effect.made) in
-    let tells : Tells s p told effect.reply = (prepared.replies past stands.environments ∙ polls_are_told s past (answered_to past.made effect.made), prepared.own) in
-    let kept = keeps s past.slots stands.slots told_503 told effect.reply tells call in
-    let keep : KeepFor s new.slots (past.slots ++ slot_events past req effect (length (past.history ++ option_list effect.command))) =
+    let tells : Tells w p told effect.reply = (prepared.replies past stands.environments ∙ polls_are_told w past (answered_to past.made effect.made), prepared.own) in
+    let kept = keeps w past.slots stands.slots told_503 told effect.reply tells call in
+    let keep : KeepFor w new.slots (past.slots ++ slot_events past req effect (length (past.history ++ option_list effect.command))) =
     rw (request_events past slot call now (slice_index words 0, slice_index words 1) effect (length (past.history ++ option_list effect.command)), ← point) kept in
     let stops_so : new.stops ≡ list_any asks_stop (past.slots ++ slot_events past req effect (length (past.history ++ option_list effect.command))) =
     stopping ∙ ap (λ b. b || stops) stands.stopping ∙ ap (λ b. is_stopping past || b) asks
     ∙ sym (request_stops past slot call now (slice_index words 0, slice_index words 1) effect (length (past.history ++ option_list effect.command))) in (
       answered ∙ told_with (issued_in old.issuer) (length past.history) p.command (command_of s past req) ((before.each past.history stands.history).issued_is) (prepared.command ∙ same_command),
-      stands_after old new past req effect stands is unrefused after continues.settings history count (leads effect.made prepared.leads past.made stands.environments.hold) keep stops_so,
+      stands_after old new past req effect stands is unrefused after continues.settings talks history count (leads effect.made prepared.leads past.made stands.environments.hold) keep stops_so,
     )

@@ -3,9 +3,8 @@ use Rattle.std.proofs.Common.{◌≡◌, ℕ, List, [], ◌∷◌, ◌++◌, len
 use Rattle.std.specs.Prelude.{Result, Ok, Err, OnOk, OnSome}
 use Rattle.std.specs.Option.{option_len}
 use Rattle.std.proofs.lemmas.Bool.{true≢false, cases_Bool, eqb-true, eqb-false, ne_eqb, eq-eqb}
-use Rattle.retry_rules.specs.declared.settings.Settings.{Settings}
 use Rattle.api_core.specs.declared.call.Call.{Call}
-use Rattle.api_core.specs.Replies.{Told, reply_of_told}
+use Rattle.api_core.specs.Replies.{Words, Told, reply_in}
 use Rattle.api_core.specs.declared.reply.Reply.{Reply as Text}
 use Rattle.hall_core.specs.declared.open_slot.OpenSlot.{OpenSlot}
 use Rattle.hall_core.specs.declared.open_slot.SlotStanding.{SlotStanding}
@@ -28,16 +27,16 @@ pub nothing_there : {A : Type 0} (o : Option A) → is_some o ≡ false → o �
 nothing_there None none = refl
 nothing_there (Some x) none = absurd (true≢false none)
 
-open_where_kept : (b : Bool) (s : Settings) (status : Option Status) → is_open_at b (option_map (kept s) status) ≡ is_open_by b status
+open_where_kept : (b : Bool) (s : Words) (status : Option Status) → is_open_at b (option_map (kept s) status) ≡ is_open_by b status
 open_where_kept b s None = refl
 open_where_kept b s (Some status) = refl
 
-pub open_kept : (b : Bool) (s : Settings) (slots : Entries) (events : List SlotEvent) (slot : ℕ) → KeepFor s slots events
+pub open_kept : (b : Bool) (s : Words) (slots : Entries) (events : List SlotEvent) (slot : ℕ) → KeepFor s slots events
     → has_open b slots slot ≡ is_open_in b events slot
 open_kept b s slots events slot keeps =
     ap (is_open_at b) (keeps.each slot) ∙ open_where_kept b s (status_of events slot) ∙ sym (open_by_standing b events slot)
 
-pub keeps_nothing : (s : Settings) (slots : Entries) → slots ≡ [] → KeepFor s slots []
+pub keeps_nothing : (s : Words) (slots : Entries) → slots ≡ [] → KeepFor s slots []
 keeps_nothing s slots none = record {
   apart = apart_nil;
   each = λ slot. ap (λ l. entry_at l slot) none ∙ sym (ap (option_map (kept s)) (status_nil slot));
@@ -53,7 +52,7 @@ other_status : (e : SlotEvent) (slot : ℕ) (status : Option Status) → (slot_o
 other_status e slot status apart =
     ap (λ b. cond b (changed_by e status) status) (ne_eqb slot (slot_of e) (λ same. eqb-false (slot_of e) slot apart (sym same)))
 
-module _ (s : Settings) (old new : Entries) (events : List SlotEvent) (e : SlotEvent) where
+module _ (s : Words) (old new : Entries) (events : List SlotEvent) (e : SlotEvent) where
   -- the entry of its own slot is as the event leaves it
   pub keeps_after : (entry : Option OpenSlot) → KeepFor s old events → ComesApart events e → PutsEntry old new (slot_of e) entry
       → entry ≡ option_map (kept s) (changed_by e (status_of events (slot_of e))) → KeepMore s new events e
@@ -87,14 +86,14 @@ same_entry slots slot = record {
 }
 
 -- an event that changes nothing for its slot
-pub keeps_still : (s : Settings) (slots : Entries) (events : List SlotEvent) (e : SlotEvent) → KeepFor s slots events → ComesApart events e
+pub keeps_still : (s : Words) (slots : Entries) (events : List SlotEvent) (e : SlotEvent) → KeepFor s slots events → ComesApart events e
     → changed_by e (status_of events (slot_of e)) ≡ status_of events (slot_of e) → KeepMore s slots events e
 keeps_still s slots events e keeps apart same =
     keeps_after s slots slots events e (entry_at slots (slot_of e)) keeps apart (same_entry slots (slot_of e)) (keeps.each (slot_of e) ∙ ap (option_map (kept s)) (sym same))
 
 -- ## Opening a slot
 
-pub keeps_opened : (s : Settings) (old new : Entries) (events : List SlotEvent) (slot : ℕ) (unavailable : Text) (call : Call)
+pub keeps_opened : (s : Words) (old new : Entries) (events : List SlotEvent) (slot : ℕ) (unavailable : Text) (call : Call)
     → KeepFor s old events → has_open false old slot ≡ false → unavailable ≡ unavailable_in s → PutsEntry old new slot (Some (fresh_entry unavailable))
     → KeepMore s new events (asked slot call)
 keeps_opened s old new events slot unavailable call keeps none is puts =
@@ -102,7 +101,7 @@ keeps_opened s old new events slot unavailable call keeps none is puts =
     (ap (λ u. Some (fresh_entry u)) is)
 
 -- and taking that back
-pub keeps_before : (s : Settings) (old new : Entries) (events : List SlotEvent) (slot : ℕ) (call : Call)
+pub keeps_before : (s : Words) (old new : Entries) (events : List SlotEvent) (slot : ℕ) (call : Call)
     → KeepMore s old events (asked slot call) → PutsEntry old new slot None → KeepFor s new events
 keeps_before s old new events slot call keeps puts =
     let e : SlotEvent = asked slot call in
@@ -130,7 +129,7 @@ keeps_before s old new events slot call keeps puts =
 
 -- ## Where a slot stands
 
-module _ (s : Settings) where
+module _ (s : Words) where
   waiting_part : (is_forgotten : Bool) (reply : Option Reply)
       → Some (standing_of (kept s (record { is_forgotten = is_forgotten; reply = reply }))) ≡ Some Waiting
       → ◌≡◌ {A = Option Status} (Some (record { is_forgotten = is_forgotten; reply = reply })) (Some fresh)
@@ -185,7 +184,7 @@ some_after (Some x) P Q p step = step p
 
 -- ## Steps
 
-module _ (s : Settings) (old : Entries) (events : List SlotEvent) (slot : ℕ) where
+module _ (s : Words) (old : Entries) (events : List SlotEvent) (slot : ℕ) where
   abbrev Stands : Option SlotStanding → Type 0
   Stands standing = option_map standing_of (entry_at old slot) ≡ standing
 
@@ -196,7 +195,7 @@ module _ (s : Settings) (old : Entries) (events : List SlotEvent) (slot : ℕ) w
   entry_is status keeps is = keeps.each slot ∙ ap (option_map (kept s)) is
 
   pub waiting_is_replied : (new : Entries) (reply : Text) (point : ℕ) (answer : Told) → KeepFor s old events → Stands (Some Waiting)
-      → PutsEntry old new slot (option_map (with_reply (reply, point)) (entry_at old slot)) → reply ≡ reply_of_told s answer
+      → PutsEntry old new slot (option_map (with_reply (reply, point)) (entry_at old slot)) → reply ≡ reply_in s answer
       → KeepMore s new events (replied slot answer point)
   waiting_is_replied new reply point answer keeps stands puts told =
       let is : status_of events slot ≡ Some fresh = waiting_is s (status_of events slot) (at_status (Some Waiting) keeps stands) in
@@ -283,7 +282,7 @@ none_is_closed slots slot is = none_at (entry_at slots slot) is
 
 -- ## What a take gives
 
-module _ (s : Settings) (broken : Bool) (durable : ℕ) where
+module _ (s : Words) (broken : Bool) (durable : ℕ) where
   tell_kept : (reply : Option Reply) → tell_entry broken durable (unavailable_in s) (option_map (told_in s) reply) ≡ option_map (told_in s) (tell broken durable reply)
   tell_kept None = otherwise broken
     where

@@ -14,7 +14,7 @@ use Rattle.std.proofs.lemmas.Map.Entries.{lookup_head, lookup_tail, length-value
 use Rattle.std.proofs.lemmas.Map.Keys.{sorted_head, sorted_tail}
 use Rattle.std.proofs.lemmas.Map.Lookups.{exact_unsigned}
 use Rattle.async_core.specs.laws.Lives.{count_by-cons}
-use Rattle.retry_rules.specs.declared.settings.Settings.{Settings}
+use Rattle.api_core.specs.Replies.{Words}
 use Rattle.hall_core.specs.declared.open_slot.OpenSlot.{OpenSlot}
 use Rattle.hall_core.specs.Past.{SlotEvent}
 use Rattle.hall_core.specs.Slots.{open_among}
@@ -144,7 +144,7 @@ times_keys b n (e ∷ es) sorted =
 -- ## How many they are
 
 -- the open ones of the slots that are kept are those that are open by the events
-pub open_counted : (b : Bool) (s : Settings) (slots : Entries) (events : List SlotEvent) → IsStrictlySortedBy nat_cmp (keys_of slots) → KeepFor s slots events
+pub open_counted : (b : Bool) (s : Words) (slots : Entries) (events : List SlotEvent) → IsStrictlySortedBy nat_cmp (keys_of slots) → KeepFor s slots events
     → open_count b slots ≡ length (open_among b events)
 open_counted b s slots events sorted keeps =
     count_keys b slots

@@ -1,16 +1,16 @@
 -- Lemmas: what a hall stands for in which nothing has come yet.
 use Rattle.std.proofs.Common.{◌≡◌, List, [], length, false}
-use Rattle.retry_rules.specs.declared.settings.Settings.{Settings}
 use Rattle.invoke_records.specs.declared.command.Command.{Command}
 use Rattle.group_commit.specs.Issuer.{IsIssuer}
+use Rattle.api_core.specs.Replies.{Words}
 use Rattle.hall_core.specs.Past.{opening}
 use Rattle.hall_core.specs.laws.Sound.{kept_at_opening}
 use Rattle.hall_core.specs.Environments.{HoldFor}
 use Rattle.hall_core.specs.OpenSlots.{KeepFor}
-use Rattle.hall_core.specs.Hall.{HallView, StandsFor, settings_in}
+use Rattle.hall_core.specs.Hall.{HallView, StandsFor, settings_in, words_in}
 
 pub opened : (hall : HallView) (history : List Command) → IsIssuer hall.issuer → hall.issuer.stands history
-    → length hall.environments ≡ hall.issuer.settings.environments → HoldFor hall.environments [] → ((s : Settings) → KeepFor s hall.slots [])
+    → length hall.environments ≡ hall.issuer.settings.environments → HoldFor hall.environments [] → ((w : Words) → KeepFor w hall.slots [])
     → hall.stops ≡ false → StandsFor hall (opening history)
 opened hall history laws stands count hold keep stops = record {
   history = stands;
@@ -21,6 +21,6 @@ opened hall history laws stands count hold keep stops = record {
     hold = hold;
     kept = kept_at_opening (settings_in hall) history (laws.each history stands).legal;
   };
-  slots = keep (settings_in hall);
+  slots = keep (words_in hall);
   stopping = stops;
 }

@@ -22,6 +22,7 @@ use Rattle.hall_core.specs.Refusals.{first_failed, why_refused}
 use Rattle.hall_core.specs.Agreement.{IsFit, IsUnrefused}
 use Rattle.hall_core.specs.Plans.{PlansTick}
 use Rattle.hall_core.specs.Prepared.{IsPreparedFor}
+use Rattle.api_core.specs.Replies.{Words}
 use Rattle.api_core.specs.declared.reply.Reply.{Reply as Text}
 use Rattle.hall_core.specs.declared.released.Released.{Released}
 use Rattle.hall_core.specs.Slots.{Reply, released, released_in}
@@ -30,7 +31,7 @@ use Rattle.hall_core.specs.Changes.{Leads, answered_to}
 use Rattle.hall_core.specs.Settling.{replied_at}
 use Rattle.hall_core.specs.Issuing.{HasPlaceFor, Continues, IsAnswered}
 use Rattle.hall_core.specs.Doing.{KeepTick}
-use Rattle.hall_core.specs.Hall.{HallView, StandsFor, settings_in, pending_in, refusal_of_moving, Passes, IssuesAtMostOne, released_to}
+use Rattle.hall_core.specs.Hall.{HallView, StandsFor, settings_in, words_in, pending_in, refusal_of_moving, Passes, IssuesAtMostOne, released_to}
 use Rattle.hall_core.proofs.Arriving.{answered_is, told_to_polls, made_told, polls_are_told, told_some, told_with, none_asks, or_false, below, stands_after}
 
 -- ## Refusals
@@ -100,13 +101,14 @@ pub ticked : (old new : HallView) (past : Past) (now : ℕ) (effect : Effect) (p
     → IsIssuer old.issuer → IsIssuer new.issuer → StandsFor old past → IsFit (settings_in old) (tick now)
     → refusal_of_moving old (is_some effect.command) ≡ None
     → PlansTick (state_in old.issuer) old.environments old.stops now effect
-    → IsPreparedFor (state_in old.issuer) old.environments effect p
+    → IsPreparedFor old.dialect (state_in old.issuer) old.environments effect p → new.dialect ≡ old.dialect
     → Continues old.issuer new.issuer p.command → IsAnswered old.issuer p.command issued
     → length new.environments ≡ length old.environments → Leads old.environments p.changes new.environments
     → KeepTick old.slots new.slots p (issued_in new.issuer) → new.stops ≡ old.stops
     → (issued ≡ issued_by (settings_in old) past (tick now)) × StandsFor new (past_after (settings_in old) past (tick now))
-ticked old new past now effect p issued before after stands fit passes plans prepared continues answered count leads keeps stopping =
+ticked old new past now effect p issued before after stands fit passes plans prepared talks continues answered count leads keeps stopping =
     let s = settings_in old in
+    let w = words_in old in
     let is : effect ≡ effect_of s past (tick now) = plans past stands.environments stands.stopping ∙ tick_effect_is s past now in
     let same_command : effect.command ≡ command_of s past (tick now) = ap (λ e. e.command) is in
     let unrefused = tick_unrefused old past now effect before stands fit passes is in
@@ -114,8 +116,8 @@ ticked old new past now effect p issued before after stands fit passes plans pre
     subst (λ c. new.issuer.stands (past.history ++ option_list c)) prepared.command (continues.stands past.history stands.history) in
     let point : issued_in new.issuer ≡ length (past.history ++ option_list effect.command) = (after.each (past.history ++ option_list effect.command) history).issued_is in
     let told = told_to_polls past (answered_to past.made effect.made) in
-    let kept = keeps s past.slots stands.slots told (prepared.replies past stands.environments ∙ polls_are_told s past (answered_to past.made effect.made)) in
-    let keep : KeepFor s new.slots (past.slots ++ slot_events past (tick now) effect (length (past.history ++ option_list effect.command))) =
+    let kept = keeps w past.slots stands.slots told (prepared.replies past stands.environments ∙ polls_are_told w past (answered_to past.made effect.made)) in
+    let keep : KeepFor w new.slots (past.slots ++ slot_events past (tick now) effect (length (past.history ++ option_list effect.command))) =
     rw (tick_events past now effect (length (past.history ++ option_list effect.command)), ← point) kept in
     let stops_so : new.stops ≡ list_any asks_stop (past.slots ++ slot_events past (tick now) effect (length (past.history ++ option_list effect.command))) =
     stopping ∙ stands.stopping
@@ -123,7 +125,7 @@ ticked old new past now effect p issued before after stands fit passes plans pre
     ∙ list_any-append asks_stop past.slots (replied_at (length (past.history ++ option_list effect.command)) told)
     ∙ ap (λ b. is_stopping past || b) (none_asks (length (past.history ++ option_list effect.command)) told) ∙ or_false (is_stopping past)) in (
       answered ∙ told_with (issued_in old.issuer) (length past.history) p.command (command_of s past (tick now)) ((before.each past.history stands.history).issued_is) (prepared.command ∙ same_command),
-      stands_after old new past (tick now) effect stands is unrefused after continues.settings history count (leads effect.made prepared.leads past.made stands.environments.hold) keep stops_so,
+      stands_after old new past (tick now) effect stands is unrefused after continues.settings talks history count (leads effect.made prepared.leads past.made stands.environments.hold) keep stops_so,
     )
 
 -- ## A tick that has no command
@@ -182,7 +184,7 @@ idle old past now effect laws stands fit passes plans quiet =
     let does_nothing : nothing ≡ effect_of s past (tick now) = idle_is s past now effect planned quiet in
     let unrefused = tick_unrefused old past now effect laws stands fit passes is in (
       told_with (length past.history) (length past.history) None (command_of s past (tick now)) refl none,
-      stands_after old old past (tick now) nothing stands does_nothing unrefused laws refl
+      stands_after old old past (tick now) nothing stands does_nothing unrefused laws refl refl
           (rw (append-nil past.history) stands.history)
           refl
           (rw (append-nil past.made) stands.environments.hold)
@@ -227,11 +229,11 @@ forget_does_nothing s past slot = refl
 
 one_event_more : (old new : HallView) (past : Past) (call : HallCall) (event : SlotEvent)
     → StandsFor old past → nothing ≡ effect_of (settings_in old) past call → IsUnrefused (settings_in old) past call → IsIssuer new.issuer
-    → new.issuer ≡ old.issuer → new.environments ≡ old.environments → new.stops ≡ old.stops
+    → new.issuer ≡ old.issuer → new.environments ≡ old.environments → new.stops ≡ old.stops → new.dialect ≡ old.dialect
     → slot_events past call nothing (length (past.history ++ [])) ≡ event ∷ [] → asks_stop event ≡ false
-    → KeepFor (settings_in old) new.slots (past.slots ++ event ∷ []) → StandsFor new (past_after (settings_in old) past call)
-one_event_more old new past call event stands is unrefused laws issuer environments stops events asks keep =
-    stands_after old new past call nothing stands is unrefused laws (ap (λ i. i.settings) issuer)
+    → KeepFor (words_in old) new.slots (past.slots ++ event ∷ []) → StandsFor new (past_after (settings_in old) past call)
+one_event_more old new past call event stands is unrefused laws issuer environments stops talks events asks keep =
+    stands_after old new past call nothing stands is unrefused laws (ap (λ i. i.settings) issuer) talks
     (rw (issuer, append-nil past.history) stands.history)
     (ap length environments)
     (rw (environments, append-nil past.made) stands.environments.hold)
@@ -239,23 +241,23 @@ one_event_more old new past call event stands is unrefused laws issuer environme
     (stops ∙ stands.stopping ∙ sym (ap (λ l. list_any asks_stop (past.slots ++ l)) events ∙ list_any-append asks_stop past.slots (event ∷ []) ∙ ap (λ b. is_stopping past || (b || false)) asks ∙ or_false (is_stopping past)))
 
 pub taken_from : (old new : HallView) (past : Past) (slot : ℕ) → StandsFor old past → IsIssuer new.issuer
-    → new.issuer ≡ old.issuer → new.environments ≡ old.environments → new.stops ≡ old.stops
-    → KeepFor (settings_in old) new.slots (past.slots ++ taken slot ∷ []) → StandsFor new (past_after (settings_in old) past (take_slot slot))
-taken_from old new past slot stands laws issuer environments stops keep =
-    one_event_more old new past (take_slot slot) (taken slot) stands (take_does_nothing (settings_in old) past slot) (take_is_unrefused (settings_in old) past slot) laws issuer environments stops refl refl keep
+    → new.issuer ≡ old.issuer → new.environments ≡ old.environments → new.stops ≡ old.stops → new.dialect ≡ old.dialect
+    → KeepFor (words_in old) new.slots (past.slots ++ taken slot ∷ []) → StandsFor new (past_after (settings_in old) past (take_slot slot))
+taken_from old new past slot stands laws issuer environments stops talks keep =
+    one_event_more old new past (take_slot slot) (taken slot) stands (take_does_nothing (settings_in old) past slot) (take_is_unrefused (settings_in old) past slot) laws issuer environments stops talks refl refl keep
 
 pub forgotten_in : (old new : HallView) (past : Past) (slot : ℕ) → StandsFor old past → IsIssuer new.issuer
-    → new.issuer ≡ old.issuer → new.environments ≡ old.environments → new.stops ≡ old.stops
-    → KeepFor (settings_in old) new.slots (past.slots ++ forgotten slot ∷ []) → StandsFor new (past_after (settings_in old) past (forget_slot slot))
-forgotten_in old new past slot stands laws issuer environments stops keep =
-    one_event_more old new past (forget_slot slot) (forgotten slot) stands (forget_does_nothing (settings_in old) past slot) (forget_is_unrefused (settings_in old) past slot) laws issuer environments stops refl refl keep
+    → new.issuer ≡ old.issuer → new.environments ≡ old.environments → new.stops ≡ old.stops → new.dialect ≡ old.dialect
+    → KeepFor (words_in old) new.slots (past.slots ++ forgotten slot ∷ []) → StandsFor new (past_after (settings_in old) past (forget_slot slot))
+forgotten_in old new past slot stands laws issuer environments stops talks keep =
+    one_event_more old new past (forget_slot slot) (forgotten slot) stands (forget_does_nothing (settings_in old) past slot) (forget_is_unrefused (settings_in old) past slot) laws issuer environments stops talks refl refl keep
 
 -- ## What a take gives
 
 abbrev pub as_released : ℕ → Text × ℕ → Released
 as_released slot told = record { reply = told.0; receipt = told.1; slot = slot }
 
-same_release : (s : Settings) (slot : ℕ) (o : Option Reply) → option_map (as_released slot) (option_map (told_in s) o) ≡ option_map (released_to s slot) o
+same_release : (s : Words) (slot : ℕ) (o : Option Reply) → option_map (as_released slot) (option_map (told_in s) o) ≡ option_map (released_to s slot) o
 same_release s slot None = refl
 same_release s slot (Some reply) = refl
 
@@ -263,14 +265,14 @@ released_is : (broken : Bool) (durable : ℕ) (past : Past) (slot : ℕ) → rel
 unfolding released
 released_is broken durable past slot = refl
 
-pub gives_for : (s : Settings) (events : List SlotEvent) (slot : ℕ) (b c : Bool) (r d : ℕ) (result : Option (Text × ℕ))
+pub gives_for : (s : Words) (events : List SlotEvent) (slot : ℕ) (b c : Bool) (r d : ℕ) (result : Option (Text × ℕ))
     → result ≡ option_map (told_in s) (released_in b r events slot) → b ≡ c → r ≡ d
     → option_map (as_released slot) result ≡ option_map (released_to s slot) (released_in c d events slot)
 gives_for s events slot b c r d result is broken durable =
     ap (option_map (as_released slot)) is ∙ same_release s slot (released_in b r events slot)
     ∙ ap (option_map (released_to s slot)) (ap (λ x. released_in x r events slot) broken ∙ ap (λ n. released_in c n events slot) durable)
 
-pub gives : (s : Settings) (past : Past) (slot : ℕ) (b c : Bool) (r d : ℕ) (result : Option (Text × ℕ))
+pub gives : (s : Words) (past : Past) (slot : ℕ) (b c : Bool) (r d : ℕ) (result : Option (Text × ℕ))
     → result ≡ option_map (told_in s) (released_in b r past.slots slot) → b ≡ c → r ≡ d
     → option_map (as_released slot) result ≡ option_map (released_to s slot) (released c d past slot)
 gives s past slot b c r d result is broken durable =

@@ -22,6 +22,7 @@ use Rattle.env_phase.specs.declared.call.EnvCall.TheVariants as env
 use Rattle.env_phase.specs.Polls.{refusal_of as env_refusal_of}
 use Rattle.api_core.specs.declared.call.Call.{Call}
 use Rattle.api_core.specs.declared.call.Call.TheVariants as calls
+use Rattle.api_core.specs.declared.dialect.Audience.TheVariants.{Caller, Environment}
 use Rattle.api_core.specs.declared.refusal.Refusal.{Refusal}
 use Rattle.api_core.specs.declared.refusal.Refusal.TheVariants as refusal
 use Rattle.api_core.specs.Replies.{Told}
@@ -47,8 +48,13 @@ nothing = record { command = None; made = []; reply = None }
 abbrev pub says : Told → Effect
 says answered = record { command = None; made = []; reply = Some answered }
 
+-- a runtime or an extension is refused
 abbrev pub refuses : Refusal → Effect
-refuses why = says (reply.refused why)
+refuses why = says (reply.refused Environment why)
+
+-- a caller is
+abbrev pub refuses_caller : Refusal → Effect
+refuses_caller why = says (reply.refused Caller why)
 
 -- a command that names this event, without an environment
 abbrev pub command_for : Kind → List ℕ → ℕ → List ℕ → Command
@@ -63,8 +69,8 @@ id_of words =
 
 abbrev pub accept_by : Option Illegal → Command → Effect
 accept_by None c = record { command = Some c; made = []; reply = Some (reply.accepted c.id) }
-accept_by (Some illegal.Full) c = refuses refusal.TooManyEvents
-accept_by (Some why) c = refuses refusal.IdInUse
+accept_by (Some illegal.Full) c = refuses_caller refusal.TooManyEvents
+accept_by (Some why) c = refuses_caller refusal.IdInUse
 
 -- an invocation is accepted where that is legal
 abbrev pub accepts : Scene → Command → Effect
@@ -72,12 +78,12 @@ accepts x c = accept_by (refusal_of x.settings x.past.history c) c
 
 abbrev pub collect_by : Option Illegal → Command → Effect
 collect_by None c = record { command = Some c; made = []; reply = Some reply.deleted }
-collect_by (Some illegal.NotEnded) c = refuses refusal.NotEnded
-collect_by (Some why) c = refuses refusal.UnknownEvent
+collect_by (Some illegal.NotEnded) c = refuses_caller refusal.NotEnded
+collect_by (Some why) c = refuses_caller refusal.UnknownEvent
 
 -- an event is collected where that is legal
 abbrev pub collects : Scene → Option (List ℕ) → Effect
-collects x None = refuses refusal.UnknownEvent
+collects x None = refuses_caller refusal.UnknownEvent
 collects x (Some id) =
     collect_by (refusal_of x.settings x.past.history (command_for Collect id x.now [])) (command_for Collect id x.now [])
 
@@ -130,7 +136,7 @@ answers_event x environment kind id bytes =
     if is_late x id then record {
       command = Some (command_for (Fail Timeout) id x.now []);
       made = (environment, env.Timeout x.now) ∷ [];
-      reply = Some (reply.refused refusal.InvalidRequestId);
+      reply = Some (reply.refused Environment refusal.InvalidRequestId);
     }
     else record {
       command = Some (command_for kind id x.now bytes);
@@ -168,13 +174,14 @@ effect_of_request x slot drawn (calls.Response environment id body) = responds x
 effect_of_request x slot drawn (calls.RuntimeError environment id body) = responds x environment (Fail Reported) id body
 effect_of_request x slot drawn (calls.RuntimeInitError environment) =
     requests x environment (env.InitError x.now) None (Some reply.taken)
-effect_of_request x slot drawn (calls.Register environment name events end) =
-    requests x environment (env.Register drawn events end) None (Some (reply.registered drawn))
+effect_of_request x slot drawn (calls.Register environment name events end account) =
+    requests x environment (env.Register drawn events end) None (Some (reply.registered drawn account))
 effect_of_request x slot drawn (calls.ExtensionNext environment identifier) =
     requests x environment (env.ExtensionNext identifier slot) None None
 effect_of_request x slot drawn (calls.ExtensionInitError environment identifier) =
     requests x environment (env.ExtensionError identifier true x.now) None (Some reply.taken)
 effect_of_request x slot drawn (calls.ExtensionExitError environment identifier) = exits x environment identifier
+effect_of_request x slot drawn (calls.Subscribe environment stream) = says (reply.not_supported stream)
 
 -- ## Ticks
 

@@ -9,6 +9,7 @@ use Rattle.invoke_records.specs.declared.row.Outcome.TheVariants.{RetriesExhaust
 use Rattle.invoke_records.specs.declared.row.Answer.TheVariants as records
 use Rattle.async_core.specs.declared.choice.Side.TheVariants as side
 use Rattle.async_core.specs.Examples.{usual, no_retries, for_two_events, id, accept, start, does}
+use Rattle.api_core.specs.declared.dialect.Audience.TheVariants.{Caller, Environment}
 use Rattle.api_core.specs.declared.call.Call.{Call}
 use Rattle.api_core.specs.declared.call.Call.TheVariants as calls
 use Rattle.api_core.specs.declared.refusal.Refusal.{Refusal}
@@ -69,11 +70,11 @@ success_asked slot = asks slot t 0 (calls.Oldest side.Success)
 
 -- an extension registers on the slot that is its id's last byte
 abbrev pub registers : ℕ → HallCall
-registers n = asks n t n (calls.Register 1 [] true true)
+registers n = asks n t n (calls.Register 1 [] true true false)
 
 -- an extension registers, and the 21st id is drawn
 abbrev pub draws_21 : ℕ → HallCall
-draws_21 slot = asks slot t 21 (calls.Register 1 [] true true)
+draws_21 slot = asks slot t 21 (calls.Register 1 [] true true false)
 
 abbrev pub extension_asks : ℕ → ℕ → HallCall
 extension_asks slot n = asks slot t 0 (calls.ExtensionNext 1 (id n))
@@ -99,7 +100,10 @@ reply_in run slot = reply_of (done run) slot
 -- ## Replies with their points
 
 abbrev pub refused_at : Refusal → ℕ → Option Reply
-refused_at why point = Some (reply.refused why, point)
+refused_at why point = Some (reply.refused Environment why, point)
+
+abbrev pub caller_refused_at : Refusal → ℕ → Option Reply
+caller_refused_at why point = Some (reply.refused Caller why, point)
 
 abbrev pub taken_at : ℕ → Option Reply
 taken_at point = Some (reply.taken, point)
@@ -108,7 +112,7 @@ abbrev pub accepted_at : ℕ → ℕ → Option Reply
 accepted_at n point = Some (reply.accepted (id n), point)
 
 abbrev pub registered_at : ℕ → ℕ → Option Reply
-registered_at n point = Some (reply.registered (id n), point)
+registered_at n point = Some (reply.registered (id n) false, point)
 
 abbrev pub ends_at : ShutdownReason → ℕ → ℕ → Option Reply
 ends_at why deadline point = Some (reply.shutdown_event why deadline, point)
@@ -228,8 +232,8 @@ second_then_first = invokes 1 t 1 ∷ asks 2 t 0 (calls.RuntimeNext 2) ∷ runti
 -- an extension that is given events, one that is only told of the end, and the runtime ask; then event 1 comes and runs
 abbrev pub extensions_run : List HallCall
 extensions_run =
-    asks 1 t 21 (calls.Register 1 [] true false)
-    ∷ asks 2 t 22 (calls.Register 1 [] false true)
+    asks 1 t 21 (calls.Register 1 [] true false false)
+    ∷ asks 2 t 22 (calls.Register 1 [] false true false)
     ∷ extension_asks 3 21
     ∷ extension_asks 4 22
     ∷ runtime_asks 5 t

@@ -1,6 +1,7 @@
 -- A hall to which nothing has come yet.
 use Rattle.std.specs.Prelude.{◌≡◌, false, [], length}
 use Rattle.retry_rules.specs.declared.settings.Settings.{Settings}
+use Rattle.api_core.specs.Replies.{Words}
 use Rattle.group_commit.specs.declared.issuer.Issuer.{Ghosts}
 use Rattle.hall_core.specs.declared.hall.Hall.{Hall}
 use Rattle.hall_core.specs.Environments.{HoldFor}
@@ -10,5 +11,5 @@ use Rattle.hall_core.specs.OpenSlots.{KeepFor}
 pub record IsFresh {I : Type 0} {g : Ghosts I} (s : Settings) (hall : Hall I g) : Type 0 where
   pub count : length hall.environments ≡ s.environments
   pub hold : HoldFor hall.environments []
-  pub slots : KeepFor s hall.slots []
+  pub slots : (w : Words) → KeepFor w hall.slots []
   pub stops : hall.stops ≡ false

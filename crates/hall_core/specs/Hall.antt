@@ -18,10 +18,12 @@ use Rattle.hall_core.specs.Effects.{id_of, command_of}
 use Rattle.hall_core.specs.Asked.{AsksFor}
 use Rattle.hall_core.specs.Run.{past_after, issued_by, polls_answered}
 use Rattle.hall_core.specs.declared.released.Released.{Released}
-use Rattle.api_core.specs.Replies.{reply_of_told}
+use Rattle.api_core.specs.declared.dialect.Dialect.{Dialect}
+use Rattle.api_core.specs.Replies.{Words, reply_in}
 use Rattle.hall_core.specs.Slots.{Reply, released, released_in}
 use Rattle.hall_core.specs.Refusals.{first_failed, why_refused}
 use Rattle.hall_core.specs.Agreement.{IsFit}
+use Rattle.hall_core.specs.Answering.{words_of}
 use Rattle.hall_core.specs.Plans.{Meets, IsToOneOf}
 use Rattle.hall_core.specs.OpenSlots.{Entries, KeepFor, has_open, open_count}
 
@@ -31,11 +33,19 @@ pub record HallView : Type 1 where
   pub environments : List EnvState
   -- what is kept of slots
   pub slots : Entries
+  -- in which words replies are told
+  pub dialect : Dialect
   -- a request asked it to stop
   pub stops : Bool
 
 abbrev pub view_of : {I : Type 0} {g : Ghosts I} → (I → IssuerView) → Hall I g → HallView
-view_of view hall = record { issuer = view hall.issuer; environments = hall.environments; slots = hall.slots; stops = hall.stops }
+view_of view hall = record {
+  issuer = view hall.issuer;
+  environments = hall.environments;
+  slots = hall.slots;
+  dialect = hall.dialect;
+  stops = hall.stops;
+}
 
 -- the slots of the polls that the last request or move answered, until they are handed out
 abbrev pub answered_slots : {I : Type 0} {g : Ghosts I} → Hall I g → List ℕ
@@ -43,6 +53,10 @@ answered_slots hall = hall.answered.items
 
 abbrev pub settings_in : HallView → Settings
 settings_in hall = hall.issuer.settings
+
+-- the words in which it tells its replies
+abbrev pub words_in : HallView → Words
+words_in hall = words_of hall.dialect (settings_in hall)
 
 -- the slot is open
 abbrev pub is_slot_open : HallView → ℕ → Bool
@@ -58,7 +72,7 @@ open_slot_count hall = open_count hall.issuer.broken hall.slots
 pub record StandsFor (hall : HallView) (past : Past) : Type 0 where
   pub history : hall.issuer.stands past.history
   pub environments : Meets (state_in hall.issuer) hall.environments past
-  pub slots : KeepFor (settings_in hall) hall.slots past.slots
+  pub slots : KeepFor (words_in hall) hall.slots past.slots
   pub stopping : hall.stops ≡ is_stopping past
 
 -- this holds of all that the hall can have done
@@ -109,7 +123,8 @@ Refuses hall call why =
 pub record IsSameHall (old new : HallView) : Type 0 where
   pub issuer : IsSameIssuer old.issuer new.issuer
   pub environments : new.environments ≡ old.environments
-  pub slots : (events : List SlotEvent) → KeepFor (settings_in old) old.slots events → KeepFor (settings_in old) new.slots events
+  pub slots : (events : List SlotEvent) → KeepFor (words_in old) old.slots events → KeepFor (words_in old) new.slots events
+  pub dialect : new.dialect ≡ old.dialect
   pub stops : new.stops ≡ old.stops
 
 -- ## Its own refusals
@@ -185,23 +200,23 @@ KeepsReason hall call other = ⊥
 -- ## Replies
 
 -- a reply that is told to this slot, with its receipt
-abbrev pub released_to : Settings → ℕ → Reply → Released
-released_to s slot told = record { reply = reply_of_told s told.0; receipt = told.1; slot = slot }
+abbrev pub released_to : Words → ℕ → Reply → Released
+released_to w slot told = record { reply = reply_in w told.0; receipt = told.1; slot = slot }
 
 -- the slot that it is told to
 abbrev pub slot_told : Released → ℕ
 slot_told released = released.slot
 
--- the slot is told what these events release, where the hall has these settings
-abbrev pub GivesFor : HallView → ℕ → Option Released → Settings → List SlotEvent → Type 0
-GivesFor hall slot given s events =
-    given ≡ option_map (released_to s slot) (released_in hall.issuer.broken hall.issuer.durable events slot)
+-- the slot is told what these events release, where the hall has these words
+abbrev pub GivesFor : HallView → ℕ → Option Released → Words → List SlotEvent → Type 0
+GivesFor hall slot given w events =
+    given ≡ option_map (released_to w slot) (released_in hall.issuer.broken hall.issuer.durable events slot)
 
 -- whatever was done, the slot is told this
 abbrev pub Gives : HallView → ℕ → Option Released → Type 0
 Gives hall slot given =
     ForEachPast hall (λ past.
-    given ≡ option_map (released_to (settings_in hall) slot) (released hall.issuer.broken hall.issuer.durable past slot))
+    given ≡ option_map (released_to (words_in hall) slot) (released hall.issuer.broken hall.issuer.durable past slot))
 
 -- whatever was done before, the call is done
 abbrev pub IsDone : HallView → HallView → HallCall → Type 0

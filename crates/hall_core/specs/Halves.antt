@@ -14,17 +14,18 @@ use Rattle.group_commit.specs.Lending.{IsLendReason, IsNotSettled}
 use Rattle.hall_core.specs.declared.error.HallError.{HallError}
 use Rattle.hall_core.specs.declared.error.HallError.TheVariants as error
 use Rattle.hall_core.specs.OpenSlots.{KeepFor}
-use Rattle.hall_core.specs.Hall.{HallView, ForEachPast, settings_in}
+use Rattle.hall_core.specs.Hall.{HallView, ForEachPast, words_in}
 
--- two halls with the same environments and slots, of which both or none was asked to stop
+-- two halls with the same environments, slots and dialect, of which both or none was asked to stop
 pub record HasSameParts (old new : HallView) : Type 0 where
   pub environments : new.environments ≡ old.environments
   pub slots : new.slots ≡ old.slots
+  pub dialect : new.dialect ≡ old.dialect
   pub stops : new.stops ≡ old.stops
 
 -- whatever was done before, its slots are kept as they stand by it
 abbrev pub KeepsSlotsOf : HallView → HallView → Type 0
-KeepsSlotsOf old new = ForEachPast old (λ past. KeepFor (settings_in old) new.slots past.slots)
+KeepsSlotsOf old new = ForEachPast old (λ past. KeepFor (words_in old) new.slots past.slots)
 
 -- ## Refusals
 

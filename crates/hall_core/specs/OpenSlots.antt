@@ -3,11 +3,11 @@ use Rattle.std.specs.Prelude.{◌≡◌, ℕ, Bool, false, not, ◌&&◌, List, 
 use Rattle.std.specs.Ordering.{nat_cmp}
 use Rattle.std.specs.BTreeMap.{is_at}
 use Rattle.std.specs.Map.{lookup, values_of}
-use Rattle.retry_rules.specs.declared.settings.Settings.{Settings}
 use Rattle.api_core.specs.declared.call.Call.{Call}
 use Rattle.api_core.specs.declared.reply.Reply.{Reply as Text}
+use Rattle.api_core.specs.declared.dialect.Audience.TheVariants.{Caller}
 use Rattle.api_core.specs.declared.refusal.Refusal.TheVariants.{Unavailable}
-use Rattle.api_core.specs.Replies.{refused, reply_of_told}
+use Rattle.api_core.specs.Replies.{refused, Words, reply_in}
 use Rattle.hall_core.specs.declared.open_slot.OpenSlot.{OpenSlot}
 use Rattle.hall_core.specs.Past.{SlotEvent, asked}
 use Rattle.hall_core.specs.Slots.{Reply, open_among}
@@ -42,37 +42,37 @@ open_count broken slots = count_by (is_open_entry broken) (values_of slots)
 -- ## The events that they keep
 
 -- an answer as it is told, and the number of its receipt
-abbrev pub told_in : Settings → Reply → Text × ℕ
-told_in s reply = (reply_of_told s reply.0, reply.1)
+abbrev pub told_in : Words → Reply → Text × ℕ
+told_in w reply = (reply_in w reply.0, reply.1)
 
 -- what a slot is told whose reply is not available
-abbrev pub unavailable_in : Settings → Text
-unavailable_in s = reply_of_told s (refused Unavailable)
+abbrev pub unavailable_in : Words → Text
+unavailable_in w = reply_in w (refused Caller Unavailable)
 
 -- what is kept of an open slot
-abbrev pub kept : Settings → Status → OpenSlot
-kept s status = record {
+abbrev pub kept : Words → Status → OpenSlot
+kept w status = record {
   is_forgotten = status.is_forgotten;
-  reply = option_map (told_in s) status.reply;
-  unavailable = unavailable_in s;
+  reply = option_map (told_in w) status.reply;
+  unavailable = unavailable_in w;
 }
 
 -- each request came with a slot that was not open, and of each slot is kept how it stands by these events
-pub record KeepFor (s : Settings) (slots : Entries) (events : List SlotEvent) : Type 0 where
+pub record KeepFor (w : Words) (slots : Entries) (events : List SlotEvent) : Type 0 where
   pub apart : AreApart events
-  pub each : (slot : ℕ) → entry_at slots slot ≡ option_map (kept s) (status_of events slot)
+  pub each : (slot : ℕ) → entry_at slots slot ≡ option_map (kept w) (status_of events slot)
   pub count : length slots ≡ length (open_among false events)
 
--- this holds of all settings and events that they keep
-abbrev pub ForEachKept : Entries → (Settings → List SlotEvent → Type 0) → Type 0
-ForEachKept slots holds = (s : Settings) (events : List SlotEvent) → KeepFor s slots events → holds s events
+-- this holds of all words and events that they keep
+abbrev pub ForEachKept : Entries → (Words → List SlotEvent → Type 0) → Type 0
+ForEachKept slots holds = (w : Words) (events : List SlotEvent) → KeepFor w slots events → holds w events
 
 -- they keep these events and one more
-abbrev pub KeepMore : Settings → Entries → List SlotEvent → SlotEvent → Type 0
-KeepMore s slots events event = KeepFor s slots (events ++ event ∷ [])
+abbrev pub KeepMore : Words → Entries → List SlotEvent → SlotEvent → Type 0
+KeepMore w slots events event = KeepFor w slots (events ++ event ∷ [])
 
 -- whichever events they kept before a request came with this slot, they keep them again
 abbrev pub IsUndone : Entries → Entries → ℕ → Type 0
 IsUndone old new slot =
-    (s : Settings) (events : List SlotEvent) (call : Call) → KeepMore s old events (asked slot call)
-    → KeepFor s new events
+    (w : Words) (events : List SlotEvent) (call : Call) → KeepMore w old events (asked slot call)
+    → KeepFor w new events

@@ -11,6 +11,7 @@ use Rattle.env_phase.specs.declared.call.EnvCall.{EnvCall}
 use Rattle.env_phase.specs.Polls.{answered_by}
 use Rattle.api_core.specs.declared.answer.ShutdownReason.{ShutdownReason}
 use Rattle.api_core.specs.declared.answer.ShutdownReason.TheVariants as shutdown
+use Rattle.api_core.specs.declared.dialect.Audience.TheVariants.{Environment}
 use Rattle.api_core.specs.declared.refusal.Refusal.TheVariants as refusal
 use Rattle.api_core.specs.Replies.{Told}
 use Rattle.api_core.specs.Replies as reply
@@ -35,8 +36,8 @@ abbrev pub reply_to_poll : List Command → PollAnswer → Told
 reply_to_poll history (told.RuntimeEvent id deadline) = reply.runtime_event id deadline (payload_of (life id history))
 reply_to_poll history (told.Invoke id deadline) = reply.invoke_event id deadline
 reply_to_poll history (told.Shutdown why deadline) = reply.shutdown_event (reason_told why) deadline
-reply_to_poll history told.Replaced = reply.refused refusal.Replaced
-reply_to_poll history told.Reset = reply.refused refusal.EnvironmentReset
+reply_to_poll history told.Replaced = reply.refused Environment refusal.Replaced
+reply_to_poll history told.Reset = reply.refused Environment refusal.EnvironmentReset
 
 -- the replies to the polls that a call of an environment answers
 abbrev pub replies_to_polls : Past → ℕ → ℕ × EnvCall → List SlotEvent

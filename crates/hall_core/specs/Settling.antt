@@ -1,13 +1,12 @@
 -- Replies that are given to their slots.
 use Rattle.std.specs.Prelude.{ℕ, List, [], ◌∷◌, map, Option, Some, None}
-use Rattle.retry_rules.specs.declared.settings.Settings.{Settings}
 use Rattle.api_core.specs.declared.reply.Reply.{Reply}
-use Rattle.api_core.specs.Replies.{Told, reply_of_told}
+use Rattle.api_core.specs.Replies.{Told, Words, reply_in}
 use Rattle.hall_core.specs.Past.{SlotEvent, replied}
 
 -- answers as they are told, each with its slot
-abbrev pub replies_told : Settings → List (ℕ × Told) → List (ℕ × Reply)
-replies_told s told = map (λ (t : ℕ × Told). (t.0, reply_of_told s t.1)) told
+abbrev pub replies_told : Words → List (ℕ × Told) → List (ℕ × Reply)
+replies_told w told = map (λ (t : ℕ × Told). (t.0, reply_in w t.1)) told
 
 -- they are computed at this point
 abbrev pub replied_at : ℕ → List (ℕ × Told) → List SlotEvent

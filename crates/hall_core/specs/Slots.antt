@@ -1,6 +1,7 @@
 -- Which slots are open, what is replied to them, and which replies may be told.
 use Rattle.std.specs.Prelude.{ℕ, Bool, false, not, ◌&&◌, ◌||◌, ◌==◌, List, [], ◌∷◌, Option, Some, None, is_some, filter_map, option_map, slice_get, if◌then◌else◌, nat_le}
 use Rattle.std.specs.List.{list_any, after_last}
+use Rattle.api_core.specs.declared.dialect.Audience.TheVariants.{Caller}
 use Rattle.api_core.specs.declared.refusal.Refusal.TheVariants as refusal
 use Rattle.api_core.specs.Replies.{Told}
 use Rattle.api_core.specs.Replies as reply
@@ -66,8 +67,9 @@ is_open broken past slot = list_any (λ other. slot == other) (open_slots broken
 
 -- ## What may be told
 
+-- what a broken hall tells, in the words for callers on each port
 abbrev pub unavailable : ℕ → Reply
-unavailable durable = (reply.refused refusal.Unavailable, durable)
+unavailable durable = (reply.refused Caller refusal.Unavailable, durable)
 
 -- a reply is told once its point is durable. A broken hall tells every other slot that it is not available
 abbrev pub tell : Bool → ℕ → Option Reply → Option Reply

@@ -6,6 +6,7 @@ use Rattle.async_core.specs.declared.illegal.Illegal.{Illegal}
 use Rattle.async_core.specs.declared.illegal.Illegal.TheVariants as illegal
 use Rattle.env_phase.specs.declared.call.EnvCall.{EnvCall}
 use Rattle.env_phase.specs.declared.call.EnvCall.TheVariants.{Register, Timeout}
+use Rattle.api_core.specs.declared.dialect.Audience.TheVariants.{Environment}
 use Rattle.api_core.specs.declared.refusal.Refusal.{Refusal}
 use Rattle.api_core.specs.declared.refusal.Refusal.TheVariants as refusal
 use Rattle.hall_core.specs.Past.{ready_in, calls_of}
@@ -28,16 +29,16 @@ abbrev pub reports : Scene → ℕ → EnvCall → Effect
 reports x environment call = requests x environment call None (Some reply.taken)
 
 -- an extension registers under this identifier, for events, for the end of the environment, for both or neither
-abbrev pub registers : Scene → ℕ → List ℕ → Bool → Bool → Effect
-registers x environment identifier events end =
-    requests x environment (Register identifier events end) None (Some (reply.registered identifier))
+abbrev pub registers : Scene → ℕ → List ℕ → Bool → Bool → Bool → Effect
+registers x environment identifier events end account =
+    requests x environment (Register identifier events end) None (Some (reply.registered identifier account))
 
 -- an answer came too late: the attempt ends as a timeout, and the environment is reset
 abbrev pub times_out : Scene → ℕ → List ℕ → Effect
 times_out x environment id = record {
   command = Some (command_for (Fail cause.Timeout) id x.now []);
   made = (environment, Timeout x.now) ∷ [];
-  reply = Some (reply.refused refusal.InvalidRequestId);
+  reply = Some (reply.refused Environment refusal.InvalidRequestId);
 }
 
 -- what the event that moves next does, where this environment is ready

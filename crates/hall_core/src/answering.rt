@@ -4,9 +4,9 @@ ghost use Rattle.async_core.specs.Lives.{life, payload_of};
 ghost use Rattle.async_core.specs.Histories.{ForEachLegalHistory};
 ghost use Rattle.api_core.specs.Replies.{IsTellable, told_by, reply_of_told};
 ghost use Rattle.hall_core.specs.Run.{reason_told, reply_to_poll, slots_of};
-ghost use Rattle.hall_core.specs.Answering.{polls_told, poll_told};
+ghost use Rattle.hall_core.specs.Answering.{words_of, polls_told, poll_told};
 
-use api_core::{Answer, Refusal, Reply, ShutdownReason, reply_text};
+use api_core::{Answer, Audience, Dialect, Refusal, Reply, ShutdownReason, reply_text};
 use async_core::Table;
 use env_phase::{PollAnswer, Reason};
 use std::alloc::{AllocError, Global};
@@ -50,29 +50,40 @@ fn answer_to_poll<'a>(table: &'a Table, told: &PollAnswer) -> Answer<'a>
             reason: reason_of(*reason),
             deadline: *deadline,
         },
-        PollAnswer::Replaced => Answer::Refusal(Refusal::Replaced),
-        PollAnswer::Reset => Answer::Refusal(Refusal::EnvironmentReset),
+        PollAnswer::Replaced => Answer::Refusal(Audience::Environment, Refusal::Replaced),
+        PollAnswer::Reset => Answer::Refusal(Audience::Environment, Refusal::EnvironmentReset),
     }
 }
 
 // The reply to one poll.
-fn reply_to(alloc: Global, table: &Table, told: &PollAnswer) -> Result<Reply, AllocError>
-    ensures { ForEachLegalHistory table.now (λ s history. IfOk result (λ reply. reply ≡ reply_of_told s (reply_to_poll history told.now))) }
+fn reply_to(
+    alloc: Global,
+    dialect: Dialect,
+    table: &Table,
+    told: &PollAnswer,
+) -> Result<Reply, AllocError>
+    ensures { ForEachLegalHistory table.now (λ s history. IfOk result (λ reply. reply ≡ reply_of_told dialect s (reply_to_poll history told.now))) }
 {
-    reply_text(alloc, &answer_to_poll(table, told), table.settings())
+    reply_text(
+        alloc,
+        dialect,
+        &answer_to_poll(table, told),
+        table.settings(),
+    )
 }
 
 /// The replies to the polls that are answered, each with its slot. The payload of an event is copied once.
 pub(crate) fn replies_to_polls(
     alloc: Global,
+    dialect: Dialect,
     table: &Table,
     answered: &[(u64, PollAnswer)],
 ) -> Result<Vec<(u64, Reply)>, AllocError>
-    ensures { ForEachLegalHistory table.now (λ s history. IfOk result (λ replies. replies.items ≡ polls_told s history answered.now)) }
+    ensures { ForEachLegalHistory table.now (λ s history. IfOk result (λ replies. replies.items ≡ polls_told (words_of dialect s) history answered.now)) }
 {
     let mut replies = Vec::with_capacity(alloc, answered.len())?;
     for (slot, told) in answered {
-        let reply = reply_to(alloc, table, told)?;
+        let reply = reply_to(alloc, dialect, table, told)?;
         replies.push((*slot, reply))?;
     }
     Ok(replies)

@@ -18,7 +18,7 @@ ghost use Rattle.hall_core.specs.Agreement.{IsRun, is_sound};
 ghost use Rattle.hall_core.specs.Examples.{t, braces, longer, asks, invokes, runtime_asks, extension_asks, responds};
 ghost use Rattle.hall_core.specs.Examples.{responds_unreadably, reports, deletes, failure_asked, success_asked};
 ghost use Rattle.hall_core.specs.Examples.{registers, draws_21, init_fails, exits, stops};
-ghost use Rattle.hall_core.specs.Examples.{makes, done, reply_in, refused_at, taken_at, accepted_at, registered_at};
+ghost use Rattle.hall_core.specs.Examples.{makes, done, reply_in, refused_at, caller_refused_at, taken_at, accepted_at, registered_at};
 ghost use Rattle.hall_core.specs.Examples.{ends_at, for_two, once_failed};
 ghost use Rattle.hall_core.specs.Examples.{tells, starts_at, timed_out, throttled_history, first_anew_history};
 ghost use Rattle.hall_core.specs.Examples.{second_is_start, first_failure};
@@ -41,7 +41,7 @@ pub fn commands()
     ensures started { makes (one_runs t) ≡ starts_at t }
     ensures nobody_ready { makes (invokes 1 t 1 ∷ tick t ∷ []) ≡ accept 1 t ∷ [] }
     ensures not_earlier { makes (invokes 1 t 1 ∷ invokes 2 (t - 5) 2 ∷ []) ≡ accept 1 t ∷ accept 2 t ∷ [] }
-    ensures drawn_again { reply_in (invokes 1 t 1 ∷ invokes 2 t 1 ∷ []) 2 ≡ refused_at Refusal.IdInUse 1 }
+    ensures drawn_again { reply_in (invokes 1 t 1 ∷ invokes 2 t 1 ∷ []) 2 ≡ caller_refused_at Refusal.IdInUse 1 }
     ensures cut_off { history_of usual started asked_and_ticked ≡ cut_off_once }
     ensures only_once { history_of usual started (asked_and_ticked ++ tick 5999 ∷ []) ≡ cut_off_once }
     ensures started_again { history_of usual started (asked_and_ticked ++ tick 6000 ∷ []) ≡ cut_off_once ++ start 1 6000 ∷ [] }
@@ -82,7 +82,7 @@ pub fn attempts()
 
 /// A full table, and an event that is accepted anew once it was collected.
 pub fn anew()
-    ensures full { reply_of (for_two three_come) 3 ≡ refused_at Refusal.TooManyEvents 2 }
+    ensures full { reply_of (for_two three_come) 3 ≡ caller_refused_at Refusal.TooManyEvents 2 }
     ensures history { history_of for_two_events [] first_comes_again ≡ first_anew_history }
     ensures accepted { reply_of (for_two first_comes_again) 7 ≡ accepted_at 1 6 }
     ensures waits { standing_in for_two_events (history_of for_two_events [] first_comes_again) (id 1) ≡ Standing.Waiting t }
@@ -98,8 +98,8 @@ pub fn faults()
     ensures parks { reply_in (invokes 1 t 1 ∷ take_slot 1 ∷ runtime_asks 2 t ∷ []) 2 ≡ None }
     ensures pending { released false 1 (done poll_and_second) 3 ≡ None }
     ensures open { open_slots true (done poll_and_second) ≡ 2 ∷ 3 ∷ [] }
-    ensures poll { released true 1 (done poll_and_second) 2 ≡ refused_at Refusal.Unavailable 1 }
-    ensures second { released true 1 (done poll_and_second) 3 ≡ refused_at Refusal.Unavailable 1 }
+    ensures poll { released true 1 (done poll_and_second) 2 ≡ caller_refused_at Refusal.Unavailable 1 }
+    ensures second { released true 1 (done poll_and_second) 3 ≡ caller_refused_at Refusal.Unavailable 1 }
     ensures kept { released true 1 (done (invokes 1 t 1 ∷ runtime_asks 2 t ∷ invokes 3 t 2 ∷ [])) 1 ≡ accepted_at 1 1 }
     ensures unknown_slot { released true 1 (done (invokes 1 t 1 ∷ [])) 9 ≡ None }
     ensures broken { why_refused true 1 usual (done (invokes 1 t 1 ∷ [])) (invokes 4 t 3) ≡ Some HallError.Broken }
@@ -116,7 +116,7 @@ pub fn outbox()
     ensures deleted { reply_of (once_failed (deletes 6 t 1 ∷ [])) 6 ≡ Some (reply.deleted, 4) }
     ensures deleted_later { released false 3 (once_failed (deletes 6 t 1 ∷ [])) 6 ≡ None }
     ensures deleted_durably { released false 4 (once_failed (deletes 6 t 1 ∷ [])) 6 ≡ Some (reply.deleted, 4) }
-    ensures deleted_again { reply_of (once_failed (deletes 6 t 1 ∷ deletes 7 t 1 ∷ [])) 7 ≡ refused_at Refusal.UnknownEvent 4 }
+    ensures deleted_again { reply_of (once_failed (deletes 6 t 1 ∷ deletes 7 t 1 ∷ [])) 7 ≡ caller_refused_at Refusal.UnknownEvent 4 }
     ensures empty { reply_of (once_failed (deletes 6 t 1 ∷ deletes 7 t 1 ∷ failure_asked 8 ∷ [])) 8 ≡ Some (reply.no_record, 4) }
 {}
 
@@ -133,8 +133,8 @@ pub fn polls()
     ensures no_command { makes (one_runs t ++ responds 3 t 2 braces ∷ []) ≡ starts_at t }
     ensures unreadable { reply_in (one_runs t ++ responds_unreadably 3 ∷ []) 3 ≡ refused_at Refusal.InvalidRequestId 2 }
     ensures answered_twice { reply_in (one_answered ++ responds 4 t 1 braces ∷ []) 4 ≡ refused_at Refusal.InvalidRequestId 3 }
-    ensures delete_unreadable { reply_in (one_runs t ++ asks 3 t 0 (calls.Delete None) ∷ []) 3 ≡ refused_at Refusal.UnknownEvent 2 }
-    ensures delete_running { reply_in (one_runs t ++ deletes 3 t 1 ∷ []) 3 ≡ refused_at Refusal.NotEnded 2 }
+    ensures delete_unreadable { reply_in (one_runs t ++ asks 3 t 0 (calls.Delete None) ∷ []) 3 ≡ caller_refused_at Refusal.UnknownEvent 2 }
+    ensures delete_running { reply_in (one_runs t ++ deletes 3 t 1 ∷ []) 3 ≡ caller_refused_at Refusal.NotEnded 2 }
 {}
 
 /// Extensions, one of which exits while an event runs.

@@ -35,7 +35,8 @@ impl Environments {
             | Call::Register { environment, .. }
             | Call::ExtensionNext { environment, .. }
             | Call::ExtensionInitError { environment, .. }
-            | Call::ExtensionExitError { environment, .. } => self.has(*environment),
+            | Call::ExtensionExitError { environment, .. }
+            | Call::Subscribe { environment, .. } => self.has(*environment),
             _ => true,
         }
     }

@@ -10,7 +10,7 @@ use crate::planning_ticks::plan_tick;
 use crate::preparing::{Prepared, prepare};
 use crate::released::Released;
 use crate::slots::Slots;
-use api_core::{Answer, Call, Refusal, Reply, reply_text};
+use api_core::{Answer, Audience, Call, Dialect, Refusal, Reply, reply_text};
 use async_core::Table;
 use group_commit::{Durable, Issuer, MOST_COMMANDS, MOST_PENDING, Receipt, Ticket};
 use std::alloc::{AllocError, Global};
@@ -29,6 +29,8 @@ fn is_stop(call: &Call) -> bool
 #[derive(Drop)]
 pub struct Hall<I: Issuer> {
     pub(crate) alloc: Global,
+    /// In which words replies are told.
+    pub(crate) dialect: Dialect,
     pub(crate) issuer: I,
     pub(crate) environments: Environments,
     pub(crate) slots: Slots,
@@ -56,7 +58,7 @@ impl<I: Issuer> Hall<I> {
     ghost use Rattle.hall_core.specs.Asked.{IsAsked};
     ghost use Rattle.group_commit.specs.Issuer.{issued_in, state_in};
     ghost use Rattle.hall_core.specs.Past.{tick, take_slot, forget_slot};
-    ghost use Rattle.hall_core.specs.Hall.{view_of, settings_in, pending_in, refusal_of_arrival, refusal_of_moving, IsSameHall, request, Does, Passes, Refuses, KeepsReason};
+    ghost use Rattle.hall_core.specs.Hall.{view_of, settings_in, words_in, pending_in, refusal_of_arrival, refusal_of_moving, IsSameHall, request, Does, Passes, Refuses, KeepsReason};
     ghost use Rattle.hall_core.specs.Hall.{is_slot_open, Gives, GivesFor, slot_told, IsDone, IsAsDurable, IssuesAtMostOne, AnswersPolls, answered_slots};
 
     // Whether no number is left for a command.
@@ -104,13 +106,14 @@ impl<I: Issuer> Hall<I> {
     ) -> Result<Option<Issued>, HallError>
         requires free { has_open false self.old.slots slot ≡ false }
         requires within { IsWithin self.old.environments prepared.changes }
-        requires told { unavailable ≡ unavailable_in (settings_in (view_of I.view self.old)) }
+        requires told { unavailable ≡ unavailable_in (words_in (view_of I.view self.old)) }
         ensures issuer { OnOk result (Continues (I.view self.old.issuer) (I.view self.new.issuer) prepared.command) }
         ensures issued { IfOk result (IsAnswered (I.view self.old.issuer) prepared.command) }
         ensures count { OnOk result (length self.new.environments ≡ length self.old.environments) }
         ensures environments { OnOk result (Leads self.old.environments prepared.changes self.new.environments) }
         ensures slots { OnOk result (KeepRequest self.old.slots self.new.slots slot unavailable prepared
             (issued_in (I.view self.new.issuer))) }
+        ensures dialect { OnOk result (self.new.dialect ≡ self.old.dialect) }
         ensures stops { OnOk result (self.new.stops ≡ (self.old.stops || stops)) }
         ensures answered { OnOk result (self.new.answered ≡ prepared.answered) }
         ensures kept_answered { OnErr result (self.new.answered ≡ self.old.answered) }
@@ -144,10 +147,11 @@ impl<I: Issuer> Hall<I> {
 
     // What a slot is told whose reply is not available.
     fn unavailable(&self) -> Result<Reply, AllocError>
-        ensures { IfOk result (λ reply. reply ≡ unavailable_in (settings_in (view_of I.view self.now))) }
+        ensures { IfOk result (λ reply. reply ≡ unavailable_in (words_in (view_of I.view self.now))) }
     {
         let settings = self.issuer.table().settings();
-        reply_text(self.alloc, &Answer::Refusal(Refusal::Unavailable), settings)
+        let answer = Answer::Refusal(Audience::Caller, Refusal::Unavailable);
+        reply_text(self.alloc, self.dialect, &answer, settings)
     }
 
     /// A request comes with a slot that is not open, now, with two random words: its command is issued, if it has one,
@@ -195,7 +199,13 @@ impl<I: Issuer> Hall<I> {
         let Ok(unavailable) = self.unavailable() else {
             return Err(HallError::OutOfMemory);
         };
-        let prepared = match prepare(self.alloc, self.issuer.table(), &self.environments, plan) {
+        let prepared = match prepare(
+            self.alloc,
+            self.dialect,
+            self.issuer.table(),
+            &self.environments,
+            plan,
+        ) {
             Ok(prepared) => prepared,
             Err(why) => return Err(why),
         };
@@ -228,6 +238,7 @@ impl<I: Issuer> Hall<I> {
         ensures count { OnOk result (length self.new.environments ≡ length self.old.environments) }
         ensures environments { OnOk result (Leads self.old.environments prepared.changes self.new.environments) }
         ensures slots { OnOk result (KeepTick self.old.slots self.new.slots prepared (issued_in (I.view self.new.issuer))) }
+        ensures dialect { OnOk result (self.new.dialect ≡ self.old.dialect) }
         ensures stops { OnOk result (self.new.stops ≡ self.old.stops) }
         ensures answered { OnOk result (self.new.answered ≡ prepared.answered) }
         ensures kept_answered { OnErr result (self.new.answered ≡ self.old.answered) }
@@ -279,7 +290,13 @@ impl<I: Issuer> Hall<I> {
             self.answered = Vec::new(self.alloc);
             return Ok(None);
         }
-        let prepared = match prepare(self.alloc, self.issuer.table(), &self.environments, plan) {
+        let prepared = match prepare(
+            self.alloc,
+            self.dialect,
+            self.issuer.table(),
+            &self.environments,
+            plan,
+        ) {
             Ok(prepared) => prepared,
             Err(why) => return Err(why),
         };

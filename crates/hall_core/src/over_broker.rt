@@ -16,6 +16,7 @@ use crate::environments::Environments;
 use crate::error::HallError;
 use crate::hall::Hall;
 use crate::slots::Slots;
+use api_core::Dialect;
 use group_commit::{Broker, CommitError, Durable};
 use sector_disk::Disk;
 use std::alloc::Global;
@@ -40,12 +41,30 @@ fn error_of(why: CommitError) -> HallError
 }
 
 impl<D: Disk> Hall<Broker<D>> {
-    /// A hall over a broker, in which nothing has come yet; over a broken one it is broken. Want of memory hands the broker
-    /// back.
+    /// A hall over a broker, which tells its replies in this broker's own words. Else as `in_dialect`.
     pub fn new(alloc: Global, broker: Broker<D>) -> Result<Hall<Broker<D>>, HallFailure<D>>
         ensures stands { (history : List Command) → Stands D.view broker history
             → IfOk result (λ hall. StandsFor (view_of (issuer_of D.view) hall) (opening history)) }
         ensures fresh { IfOk result (λ hall. IsFresh (settings_of broker) hall) }
+        ensures dialect { IfOk result (λ hall. hall.dialect ≡ Dialect.Profile) }
+        ensures same { IfOk result (λ hall. hall.issuer ≡ broker) }
+        ensures answered { IfOk result (λ hall. answered_slots hall ≡ []) }
+        ensures err { IfErr result (λ failure. failure.broker ≡ broker) }
+    {
+        Hall::in_dialect(alloc, Dialect::Profile, broker)
+    }
+
+    /// A hall over a broker, in which nothing has come yet, and which tells its replies in this dialect; over a broken broker
+    /// it is broken. Want of memory hands the broker back.
+    pub fn in_dialect(
+        alloc: Global,
+        dialect: Dialect,
+        broker: Broker<D>,
+    ) -> Result<Hall<Broker<D>>, HallFailure<D>>
+        ensures stands { (history : List Command) → Stands D.view broker history
+            → IfOk result (λ hall. StandsFor (view_of (issuer_of D.view) hall) (opening history)) }
+        ensures fresh { IfOk result (λ hall. IsFresh (settings_of broker) hall) }
+        ensures dialect { IfOk result (λ hall. hall.dialect ≡ dialect) }
         ensures same { IfOk result (λ hall. hall.issuer ≡ broker) }
         ensures answered { IfOk result (λ hall. answered_slots hall ≡ []) }
         ensures err { IfErr result (λ failure. failure.broker ≡ broker) }
@@ -58,6 +77,7 @@ impl<D: Disk> Hall<Broker<D>> {
         let receipt = broker.durable().receipt();
         Ok(Hall {
             alloc,
+            dialect,
             issuer: broker,
             environments,
             slots: Slots::new(alloc),

@@ -94,6 +94,7 @@ impl<D: Disk> Hall<Broker<D>> {
     {
         let Hall {
             alloc,
+            dialect,
             issuer,
             environments,
             slots,
@@ -106,6 +107,7 @@ impl<D: Disk> Hall<Broker<D>> {
             Ok((issuer, disk)) => {
                 let hall = Hall {
                     alloc,
+                    dialect,
                     issuer,
                     environments,
                     slots,
@@ -120,6 +122,7 @@ impl<D: Disk> Hall<Broker<D>> {
                 let cause = failure.cause;
                 let hall = Hall {
                     alloc,
+                    dialect,
                     issuer: failure.broker,
                     environments,
                     slots,
@@ -201,6 +204,7 @@ impl Hall<IssueHalf> {
     {
         let Hall {
             alloc,
+            dialect,
             issuer,
             environments,
             slots,
@@ -215,6 +219,7 @@ impl Hall<IssueHalf> {
                 let receipt = issuer.durable().receipt();
                 Ok(Hall {
                     alloc,
+                    dialect,
                     issuer,
                     environments,
                     slots,
@@ -228,6 +233,7 @@ impl Hall<IssueHalf> {
                 let cause = failure.cause;
                 let hall = Hall {
                     alloc,
+                    dialect,
                     issuer: failure.issue,
                     environments,
                     slots,

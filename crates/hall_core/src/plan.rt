@@ -7,7 +7,7 @@ ghost use Rattle.env_phase.specs.State.{EnvState};
 ghost use Rattle.hall_core.specs.declared.plan.Made.TheVariants.{Nothing};
 ghost use Rattle.hall_core.specs.Plans.{AnyIn, AreCallable, calls_made, moment_told};
 
-use api_core::{Answer, Refusal};
+use api_core::{Answer, Audience, Refusal};
 use env_phase::EnvCall;
 use invoke_records::Command;
 use std::marker::Model;
@@ -86,11 +86,18 @@ impl<'a> Plan<'a> {
         }
     }
 
-    /// A refusal alone.
+    /// A refusal alone, of a runtime or an extension.
     pub(crate) fn refuses(why: Refusal) -> Plan<'a>
         ensures { result ≡ record { effect = effect.refuses why; called = Nothing } }
     {
-        Plan::says(Answer::Refusal(why))
+        Plan::says(Answer::Refusal(Audience::Environment, why))
+    }
+
+    /// A refusal alone, of a caller.
+    pub(crate) fn refuses_caller(why: Refusal) -> Plan<'a>
+        ensures { result ≡ record { effect = effect.refuses_caller why; called = Nothing } }
+    {
+        Plan::says(Answer::Refusal(Audience::Caller, why))
     }
 
     /// A command and an answer.

@@ -8,7 +8,7 @@ ghost use Rattle.hall_core.specs.Plans.{AreCallable, PlansRequest, IsToOneOf, dr
 use crate::drawing::drawn_id;
 use crate::environments::Environments;
 use crate::plan::Plan;
-use api_core::Call;
+use api_core::{Answer, Call};
 use async_core::Table;
 use invoke_records::{Bytes, Cause, Command, GREATEST_MOMENT, Kind, Standing};
 
@@ -100,8 +100,9 @@ impl<'a> Planner<'a> {
                 environment,
                 invoke,
                 shutdown,
+                account,
                 ..
-            } => self.register(environment, drawn, invoke, shutdown),
+            } => self.register(environment, drawn, invoke, shutdown, account),
             Call::ExtensionNext {
                 environment,
                 identifier,
@@ -114,6 +115,7 @@ impl<'a> Planner<'a> {
                 environment,
                 identifier,
             } => self.exit(environment, identifier),
+            Call::Subscribe { stream, .. } => Plan::says(Answer::NotSupported(stream)),
         }
     }
 }

@@ -43,7 +43,7 @@ impl<'a> Planner<'a> {
         let command = self.command(Kind::Accept, drawn, payload);
         match self.table.judge(&command) {
             Ok(()) => Plan::issues(command, Answer::Accepted(drawn)),
-            Err(why) => Plan::refuses(why_not_accepted(why)),
+            Err(why) => Plan::refuses_caller(why_not_accepted(why)),
         }
     }
 
@@ -55,7 +55,7 @@ impl<'a> Planner<'a> {
         let command = self.bare(Kind::Collect, id);
         match self.table.judge(&command) {
             Ok(()) => Plan::issues(command, Answer::Deleted),
-            Err(why) => Plan::refuses(why_not_collected(why)),
+            Err(why) => Plan::refuses_caller(why_not_collected(why)),
         }
     }
 
@@ -67,7 +67,7 @@ impl<'a> Planner<'a> {
     {
         match id {
             Some(id) => self.collect_event(id),
-            None => Plan::refuses(Refusal::UnknownEvent),
+            None => Plan::refuses_caller(Refusal::UnknownEvent),
         }
     }
 

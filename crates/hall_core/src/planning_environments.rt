@@ -17,7 +17,7 @@ ghost use Rattle.hall_core.specs.Steps.{parks, reports, registers, times_out};
 
 use crate::plan::{Made, Plan};
 use crate::planner::Planner;
-use api_core::{Answer, Refusal};
+use api_core::{Answer, Audience, Refusal};
 use env_phase::EnvCall;
 use invoke_records::{Bytes, Cause, Command, Kind};
 
@@ -98,7 +98,7 @@ impl<'a> Planner<'a> {
                 environment,
                 call: EnvCall::Timeout { now: self.moment },
             },
-            reply: Some(Answer::Refusal(Refusal::InvalidRequestId)),
+            reply: Some(Answer::Refusal(Audience::Environment, Refusal::InvalidRequestId)),
         }
     }
 
@@ -210,9 +210,10 @@ impl<'a> Planner<'a> {
         drawn: [u8; 16],
         invoke: bool,
         shutdown: bool,
+        account: bool,
     ) -> Plan<'a>
         requires { IsNumberIn self.now.environments.now environment }
-        ensures effect { ForEachScene self.now (λ x. result.effect ≡ registers x environment drawn invoke shutdown) }
+        ensures effect { ForEachScene self.now (λ x. result.effect ≡ registers x environment drawn invoke shutdown account) }
         ensures within { AreCallable self.now.environments.now result.called }
         ensures none { result.effect.command ≡ None }
     {
@@ -221,7 +222,11 @@ impl<'a> Planner<'a> {
             invoke,
             shutdown,
         };
-        self.request(environment, call, None, Some(Answer::Registered(drawn)))
+        let answer = Answer::Registered {
+            identifier: drawn,
+            account,
+        };
+        self.request(environment, call, None, Some(answer))
     }
 
     /// An extension could not start.

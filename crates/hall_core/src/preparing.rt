@@ -11,7 +11,7 @@ use crate::changes::Changes;
 use crate::environments::Environments;
 use crate::error::HallError;
 use crate::plan::Plan;
-use api_core::{Answer, Reply, reply_text};
+use api_core::{Answer, Dialect, Reply, reply_text};
 use async_core::Table;
 use invoke_records::Command;
 use retry_rules::Settings;
@@ -33,30 +33,32 @@ pub(crate) struct Prepared {
 #[tactic(auto, using(crate::specs::Plans::is_tellable))]
 fn own_reply(
     alloc: Global,
+    dialect: Dialect,
     settings: &Settings,
     reply: Option<Answer<'_>>,
 ) -> Result<Option<Reply>, AllocError>
     requires { IsMoment (moment_replied reply) }
-    ensures { IfOk result (λ own. own ≡ option_map (reply_of_told settings.now) (option_map told_by reply.entry)) }
+    ensures { IfOk result (λ own. own ≡ option_map (reply_of_told dialect settings.now) (option_map told_by reply.entry)) }
 {
     match reply {
-        Some(answer) => Ok(Some(reply_text(alloc, &answer, settings)?)),
+        Some(answer) => Ok(Some(reply_text(alloc, dialect, &answer, settings)?)),
         None => Ok(None),
     }
 }
 
-/// Makes all that a call will change, and asks for its memory. Nothing changes.
+/// Makes all that a call will change, with its replies in a dialect, and asks for its memory. Nothing changes.
 ///
 /// It is refused by `OutOfMemory`, or by `NoHistory` where an environment refuses the call that is planned, which it does
 /// not where a history leaves the table.
 pub(crate) fn prepare(
     alloc: Global,
+    dialect: Dialect,
     table: &Table,
     environments: &Environments,
     plan: Plan<'_>,
 ) -> Result<Prepared, HallError>
     requires { AreCallable environments.now plan.called }
-    ensures ok { IfOk result (IsPreparedFor table.now environments.now plan.entry.effect) }
+    ensures ok { IfOk result (IsPreparedFor dialect table.now environments.now plan.entry.effect) }
     ensures refused { IfErr result (IsUncalled environments.now plan.entry.effect.made) }
 {
     let Plan {
@@ -64,9 +66,9 @@ pub(crate) fn prepare(
         made,
         reply,
     } = plan;
-    let own = own_reply(alloc, table.settings(), reply)?;
+    let own = own_reply(alloc, dialect, table.settings(), reply)?;
     let (changes, answered) = environments.call(alloc, made)?;
-    let replies = replies_to_polls(alloc, table, &answered)?;
+    let replies = replies_to_polls(alloc, dialect, table, &answered)?;
     let answered = slots_of_polls(alloc, &answered)?;
     Ok(Prepared {
         command,

@@ -27,9 +27,8 @@ impl Model for Slots {
 
 impl Slots {
     ghost use Rattle.std.specs.Prelude.{[]};
-    ghost use Rattle.retry_rules.specs.declared.settings.Settings.{Settings};
     ghost use Rattle.api_core.specs.declared.call.Call.{Call};
-    ghost use Rattle.api_core.specs.Replies.{Told, reply_of_told};
+    ghost use Rattle.api_core.specs.Replies.{Told, Words, reply_in};
     ghost use Rattle.hall_core.specs.Past.{asked, replied, taken, forgotten};
     ghost use Rattle.hall_core.specs.Slots.{open_among, is_open_in, released_in, point_in};
     ghost use Rattle.hall_core.specs.OpenSlots.{entry_at, has_open, open_count, told_in, unavailable_in, KeepFor, ForEachKept, KeepMore, IsUndone};
@@ -37,7 +36,7 @@ impl Slots {
 
     /// No request came yet. It takes no memory.
     pub(crate) fn new(alloc: Global) -> Slots
-        ensures { (s : Settings) → KeepFor s result [] }
+        ensures { (w : Words) → KeepFor w result [] }
     {
         Slots {
             slots: BTreeMap::new(alloc),
@@ -81,8 +80,8 @@ impl Slots {
     /// Opens a slot for a request that came with it. A refusal changes nothing.
     pub(crate) fn open(&mut self, slot: u64, unavailable: Reply) -> Result<(), AllocError>
         requires { has_open false self.old slot ≡ false }
-        ensures ok { ForEachKept self.old (λ s events. unavailable ≡ unavailable_in s
-            → OnOk result ((call : Call) → KeepMore s self.new events (asked slot call))) }
+        ensures ok { ForEachKept self.old (λ w events. unavailable ≡ unavailable_in w
+            → OnOk result ((call : Call) → KeepMore w self.new events (asked slot call))) }
         ensures err { OnErr result (self.new ≡ self.old) }
     {
         self.put(slot, OpenSlot::new(unavailable))
@@ -98,8 +97,8 @@ impl Slots {
     /// Replies to a slot: all up to the ticket has to be durable before it is told. The first reply stays, and
     /// a slot whose reply is not wanted is closed. It takes no memory.
     pub(crate) fn reply(&mut self, slot: u64, reply: Reply, ticket: Ticket)
-        ensures { ForEachKept self.old (λ s events. (answer : Told) → reply ≡ reply_of_told s answer
-            → KeepMore s self.new events (replied slot answer ticket)) }
+        ensures { ForEachKept self.old (λ w events. (answer : Told) → reply ≡ reply_in w answer
+            → KeepMore w self.new events (replied slot answer ticket)) }
     {
         match self.standing(slot) {
             Some(SlotStanding::Waiting) => self.set_reply(slot, reply, ticket),
@@ -119,8 +118,8 @@ impl Slots {
         is_broken: bool,
         receipt: Receipt,
     ) -> Option<(Reply, Receipt)>
-        ensures gives { ForEachKept self.old (λ s events. result ≡ option_map (told_in s) (released_in is_broken receipt events slot)) }
-        ensures some { ForEachKept self.old (λ s events. OnSome result (KeepMore s self.new events (taken slot))) }
+        ensures gives { ForEachKept self.old (λ w events. result ≡ option_map (told_in w) (released_in is_broken receipt events slot)) }
+        ensures some { ForEachKept self.old (λ w events. OnSome result (KeepMore w self.new events (taken slot))) }
         ensures none { IfNone result (self.new ≡ self.old) }
     {
         self.release(slot, is_broken, receipt)
@@ -141,7 +140,7 @@ impl Slots {
     /// Notes that the reply of a slot is not wanted: it is closed now, or once it is replied to or the hall breaks. It takes
     /// no memory.
     pub(crate) fn forget(&mut self, slot: u64)
-        ensures by_events { ForEachKept self.old (λ s events. KeepMore s self.new events (forgotten slot)) }
+        ensures by_events { ForEachKept self.old (λ w events. KeepMore w self.new events (forgotten slot)) }
         ensures closed { has_open true self.new slot ≡ false }
     {
         match self.standing(slot) {

@@ -25,11 +25,12 @@ use Rattle.env_phase.specs.Polls.{refusal_of as env_refusal_of}
 use Rattle.env_phase.specs.laws.Running.{answer_is_accepted, timeout_is_accepted, init_error_ends_nothing, extension_init_error_ends_nothing}
 use Rattle.api_core.specs.declared.call.Call.{Call}
 use Rattle.api_core.specs.declared.call.Call.TheVariants as calls
+use Rattle.api_core.specs.declared.dialect.Audience.TheVariants.{Environment}
 use Rattle.api_core.specs.declared.refusal.Refusal.TheVariants as refusal
 use Rattle.api_core.specs.Replies.{Told}
 use Rattle.api_core.specs.Replies as reply
 use Rattle.hall_core.specs.Past.{call_stops, Past, calls_of, calls_in}
-use Rattle.hall_core.specs.Effects.{Effect, Scene, refuses, command_for, accept_by, collect_by, collects, says_record, where_accepted, requests, is_late, answers_event, responds, exit_of, exits, effect_of_request}
+use Rattle.hall_core.specs.Effects.{Effect, Scene, says, refuses, command_for, accept_by, collect_by, collects, says_record, where_accepted, requests, is_late, answers_event, responds, exit_of, exits, effect_of_request}
 use Rattle.hall_core.specs.Run.{option_list}
 use Rattle.hall_core.specs.Agreement.{text_of, AllAgree}
 use Rattle.hall_core.specs.laws.Keeping.{keeps_nothing, keeps_command, keeps_call, keeps_end}
@@ -206,14 +207,14 @@ module _ (x : Scene) (all : AllAgree x.settings x.past.history (calls_of x.past)
           → Fine x.settings x.past (if late then record {
             command = Some (command_for (Fail Timeout) id x.now []);
             made = (environment, env.Timeout x.now) ∷ [];
-            reply = Some (reply.refused refusal.InvalidRequestId);
+            reply = Some (reply.refused Environment refusal.InvalidRequestId);
           }
           else record {
             command = Some (command_for kind id x.now bytes);
             made = (environment, env.Answer id) ∷ [];
             reply = Some reply.taken;
           })
-      answered_at environment kind id bytes event no_start no_interrupt runs_it legal true late = times_out environment id (Some (reply.refused refusal.InvalidRequestId)) runs_it late
+      answered_at environment kind id bytes event no_start no_interrupt runs_it legal true late = times_out environment id (Some (reply.refused Environment refusal.InvalidRequestId)) runs_it late
       answered_at environment kind id bytes event no_start no_interrupt runs_it legal false late =
           ending (command_for kind id x.now bytes) environment (env.Answer id) (Some reply.taken) event no_start no_interrupt runs_it (legal late)
           (answer_is_accepted (calls_of x.past environment) id (all.each environment).accepted (open_ones environment) runs_it) refl refl
@@ -247,9 +248,10 @@ module _ (x : Scene) (all : AllAgree x.settings x.past.history (calls_of x.past)
           responding environment (Fail Reported) id body refl refl refl (λ id running_it late. legal_error x.settings x.past.history x.now id clock bound body fits running_it late)
       request_is_fine slot drawn (calls.RuntimeInitError environment) fits runs_on =
           asking environment (env.InitError x.now) (Some reply.taken) refl refl (λ passes ends. init_error_ends_nothing (calls_of x.past environment) x.now (all.each environment).accepted passes)
-      request_is_fine slot drawn (calls.Register environment name events end) fits runs_on =
-          asking environment (env.Register drawn events end) (Some (reply.registered drawn)) refl refl (no_end environment (env.Register drawn events end) refl)
+      request_is_fine slot drawn (calls.Register environment name events end account) fits runs_on =
+          asking environment (env.Register drawn events end) (Some (reply.registered drawn account)) refl refl (no_end environment (env.Register drawn events end) refl)
       request_is_fine slot drawn (calls.ExtensionNext environment identifier) fits runs_on = asking environment (env.ExtensionNext identifier slot) None refl refl (no_end environment (env.ExtensionNext identifier slot) refl)
       request_is_fine slot drawn (calls.ExtensionInitError environment identifier) fits runs_on =
           asking environment (env.ExtensionError identifier true x.now) (Some reply.taken) refl refl (λ passes ends. extension_init_error_ends_nothing (calls_of x.past environment) identifier x.now (all.each environment).accepted passes)
       request_is_fine slot drawn (calls.ExtensionExitError environment identifier) fits runs_on = exiting environment identifier
+      request_is_fine slot drawn (calls.Subscribe environment stream) fits runs_on = quiet (says (reply.not_supported stream)) refl refl

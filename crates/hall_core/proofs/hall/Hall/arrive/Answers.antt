@@ -33,10 +33,10 @@ returns-in-Ok-do_for-clause-ok g c = λ past stands.
     let new = view_of g.I.Issuer.view c.do_for.new.self in
     let effect = c.plan_request-plan.result.effect in
     let plans = subst (λ t. PlansRequest t c.args.self.now.environments c.args.slot c.args.call c.args.now c.args.words effect) c.table.ensures c.plan_request-plan.ensures.effect in
-    let prepared = subst (λ t. IsPreparedFor t c.args.self.now.environments effect c.in-Ok-prepare.prepared) c.table-2.ensures c.in-Ok-prepare.ensures.ok in
+    let prepared = subst (λ t. IsPreparedFor c.args.self.now.dialect t c.args.self.now.environments effect c.in-Ok-prepare.prepared) c.table-2.ensures c.in-Ok-prepare.ensures.ok in
     let none : refusal_of_arrival old (is_some effect.command) ≡ None = search rules in
     arrived old new past c.args.slot c.args.call c.args.now c.args.words effect c.in-Ok-prepare.prepared c.is_stop-stops.result c.in-Ok.unavailable c.in-Ok-do_for.issued
-    (g.met.I.Issuer.laws c.args.self.now.issuer) (g.met.I.Issuer.laws c.do_for.new.self.issuer) stands c.requires.fit none plans prepared
+    (g.met.I.Issuer.laws c.args.self.now.issuer) (g.met.I.Issuer.laws c.do_for.new.self.issuer) stands c.requires.fit none plans prepared c.in-Ok-do_for.ensures.dialect
     c.in-Ok-do_for.ensures.issuer c.in-Ok-do_for.ensures.issued c.in-Ok-do_for.ensures.count c.in-Ok-do_for.ensures.environments
     c.in-Ok-do_for.ensures.slots c.in-Ok.ensures c.in-Ok-do_for.ensures.stops c.is_stop-stops.ensures
 
@@ -61,7 +61,7 @@ returns-in-Err-do_for-clause-refused g c = λ past stands.
     let laws = g.met.I.Issuer.laws c.args.self.now.issuer in
     let effect = c.plan_request-plan.result.effect in
     let plans = subst (λ t. PlansRequest t c.args.self.now.environments c.args.slot c.args.call c.args.now c.args.words effect) c.table.ensures c.plan_request-plan.ensures.effect in
-    let prepared = subst (λ t. IsPreparedFor t c.args.self.now.environments effect c.in-Ok-prepare.prepared) c.table-2.ensures c.in-Ok-prepare.ensures.ok in
+    let prepared = subst (λ t. IsPreparedFor c.args.self.now.dialect t c.args.self.now.environments effect c.in-Ok-prepare.prepared) c.table-2.ensures c.in-Ok-prepare.ensures.ok in
     let none : refusal_of_arrival old (is_some effect.command) ≡ None = search rules in
     let place : HasPlaceFor (g.I.Issuer.view c.args.self.now.issuer) c.in-Ok-prepare.prepared.command = rw prepared.command (finds_place old effect.command laws none) in
     let is = plans past stands.environments ∙ effect_is (settings_in old) past c.args.slot c.args.call c.args.now c.args.words in
@@ -103,7 +103,7 @@ returns-in-Err-do_for-clause-reason g c =
     let effect = c.plan_request-plan.result.effect in
     let req = request c.args.slot c.args.call c.args.now c.args.words in
     let plans = subst (λ t. PlansRequest t c.args.self.now.environments c.args.slot c.args.call c.args.now c.args.words effect) c.table.ensures c.plan_request-plan.ensures.effect in
-    let prepared = subst (λ t. IsPreparedFor t c.args.self.now.environments effect c.in-Ok-prepare.prepared) c.table-2.ensures c.in-Ok-prepare.ensures.ok in
+    let prepared = subst (λ t. IsPreparedFor c.args.self.now.dialect t c.args.self.now.environments effect c.in-Ok-prepare.prepared) c.table-2.ensures c.in-Ok-prepare.ensures.ok in
     let none : refusal_of_arrival old (is_some effect.command) ≡ None = search rules in
     let place : HasPlaceFor (g.I.Issuer.view c.args.self.now.issuer) c.in-Ok-prepare.prepared.command = rw prepared.command (finds_place old effect.command laws none) in
     wanting_reason old req tt (g.I.Issuer.view c.args.self.now.issuer) c.in-Ok-prepare.prepared.command c.in-Err-do_for.why
@@ -139,6 +139,6 @@ returns-in-Ok-do_for-clause-answered g c = λ past stands.
     let req = request c.args.slot c.args.call c.args.now c.args.words in
     let effect = c.plan_request-plan.result.effect in
     let plans = subst (λ t. PlansRequest t c.args.self.now.environments c.args.slot c.args.call c.args.now c.args.words effect) c.table.ensures c.plan_request-plan.ensures.effect in
-    let prepared = subst (λ t. IsPreparedFor t c.args.self.now.environments effect c.in-Ok-prepare.prepared) c.table-2.ensures c.in-Ok-prepare.ensures.ok in
+    let prepared = subst (λ t. IsPreparedFor c.args.self.now.dialect t c.args.self.now.environments effect c.in-Ok-prepare.prepared) c.table-2.ensures c.in-Ok-prepare.ensures.ok in
     let is = plans past stands.environments ∙ effect_is s past c.args.slot c.args.call c.args.now c.args.words in
     ap (λ v. v.items) c.in-Ok-do_for.ensures.answered ∙ prepared.answered past stands.environments ∙ answered_is s past req effect is

@@ -27,10 +27,10 @@ returns-in-Ok-do_moving-clause-ok g c = λ past stands.
     let new = view_of g.I.Issuer.view c.do_moving.new.self in
     let effect = c.plan_tick-plan.result.effect in
     let plans = subst (λ t. PlansTick t c.args.self.now.environments c.args.self.now.stops c.args.now effect) c.table.ensures c.plan_tick-plan.ensures.effect in
-    let prepared = subst (λ t. IsPreparedFor t c.args.self.now.environments effect c.in-Ok.prepared) c.table-2.ensures c.in-Ok.ensures.ok in
+    let prepared = subst (λ t. IsPreparedFor c.args.self.now.dialect t c.args.self.now.environments effect c.in-Ok.prepared) c.table-2.ensures c.in-Ok.ensures.ok in
     let none : refusal_of_moving old (is_some effect.command) ≡ None = search rules in
     ticked old new past c.args.now effect c.in-Ok.prepared c.in-Ok-do_moving.issued
-    (g.met.I.Issuer.laws c.args.self.now.issuer) (g.met.I.Issuer.laws c.do_moving.new.self.issuer) stands c.requires none plans prepared
+    (g.met.I.Issuer.laws c.args.self.now.issuer) (g.met.I.Issuer.laws c.do_moving.new.self.issuer) stands c.requires none plans prepared c.in-Ok-do_moving.ensures.dialect
     c.in-Ok-do_moving.ensures.issuer c.in-Ok-do_moving.ensures.issued c.in-Ok-do_moving.ensures.count c.in-Ok-do_moving.ensures.environments
     c.in-Ok-do_moving.ensures.slots c.in-Ok-do_moving.ensures.stops
 
@@ -55,7 +55,7 @@ returns-in-Err-do_moving-clause-refused g c = λ past stands.
     let laws = g.met.I.Issuer.laws c.args.self.now.issuer in
     let effect = c.plan_tick-plan.result.effect in
     let plans = subst (λ t. PlansTick t c.args.self.now.environments c.args.self.now.stops c.args.now effect) c.table.ensures c.plan_tick-plan.ensures.effect in
-    let prepared = subst (λ t. IsPreparedFor t c.args.self.now.environments effect c.in-Ok.prepared) c.table-2.ensures c.in-Ok.ensures.ok in
+    let prepared = subst (λ t. IsPreparedFor c.args.self.now.dialect t c.args.self.now.environments effect c.in-Ok.prepared) c.table-2.ensures c.in-Ok.ensures.ok in
     let none : refusal_of_moving old (is_some effect.command) ≡ None = search rules in
     let place : HasPlaceFor (g.I.Issuer.view c.args.self.now.issuer) c.in-Ok.prepared.command = rw prepared.command (moving_finds_place old effect.command laws none) in
     let is = plans past stands.environments stands.stopping ∙ tick_effect_is (settings_in old) past c.args.now in
@@ -96,7 +96,7 @@ returns-in-Err-do_moving-clause-reason g c =
     let laws = g.met.I.Issuer.laws c.args.self.now.issuer in
     let effect = c.plan_tick-plan.result.effect in
     let plans = subst (λ t. PlansTick t c.args.self.now.environments c.args.self.now.stops c.args.now effect) c.table.ensures c.plan_tick-plan.ensures.effect in
-    let prepared = subst (λ t. IsPreparedFor t c.args.self.now.environments effect c.in-Ok.prepared) c.table-2.ensures c.in-Ok.ensures.ok in
+    let prepared = subst (λ t. IsPreparedFor c.args.self.now.dialect t c.args.self.now.environments effect c.in-Ok.prepared) c.table-2.ensures c.in-Ok.ensures.ok in
     let none : refusal_of_moving old (is_some effect.command) ≡ None = search rules in
     let some : is_some effect.command ≡ true = search rules in
     let place : HasPlaceFor (g.I.Issuer.view c.args.self.now.issuer) c.in-Ok.prepared.command = rw prepared.command (moving_finds_place old effect.command laws none) in
@@ -143,7 +143,7 @@ returns-in-Ok-do_moving-clause-answered g c = λ past stands.
     let s = settings_in (view_of g.I.Issuer.view c.args.self.now) in
     let effect = c.plan_tick-plan.result.effect in
     let plans = subst (λ t. PlansTick t c.args.self.now.environments c.args.self.now.stops c.args.now effect) c.table.ensures c.plan_tick-plan.ensures.effect in
-    let prepared = subst (λ t. IsPreparedFor t c.args.self.now.environments effect c.in-Ok.prepared) c.table-2.ensures c.in-Ok.ensures.ok in
+    let prepared = subst (λ t. IsPreparedFor c.args.self.now.dialect t c.args.self.now.environments effect c.in-Ok.prepared) c.table-2.ensures c.in-Ok.ensures.ok in
     let is = plans past stands.environments stands.stopping ∙ tick_effect_is s past c.args.now in
     ap (λ v. v.items) c.in-Ok-do_moving.ensures.answered ∙ prepared.answered past stands.environments ∙ answered_is s past (tick c.args.now) effect is
 

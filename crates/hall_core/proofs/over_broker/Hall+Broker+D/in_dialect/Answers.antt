@@ -2,7 +2,7 @@ use Rattle.std.proofs.Common.{rules, ◌≡◌, length, refl}
 use Rattle.group_commit.specs.Broker.{settings_of}
 use Rattle.group_commit.specs.IssuerBroker.{issuer_laws}
 use Rattle.hall_core.proofs.Opened.{opened}
-use Rattle.hall_core.proofs.over_broker.Hall+Broker+D.new.Goals as goal
+use Rattle.hall_core.proofs.over_broker.Hall+Broker+D.in_dialect.Goals as goal
 
 pub returns-clause-stands : goal.returns-clause-stands
 returns-clause-stands g c = λ history stands.
@@ -12,4 +12,4 @@ returns-clause-stands g c = λ history stands.
 pub returns-clause-fresh : goal.returns-clause-fresh
 returns-clause-fresh g c =
     let count : length c.in-Ok.environments ≡ (settings_of c.args.broker).environments = search rules in
-    record { count = count; hold = c.in-Ok.ensures.hold; slots = c.new-2.ensures (settings_of c.args.broker); stops = refl }
+    record { count = count; hold = c.in-Ok.ensures.hold; slots = c.new-2.ensures; stops = refl }
