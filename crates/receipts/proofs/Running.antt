@@ -22,7 +22,7 @@ use Rattle.hall_core.specs.Refusals.{why_refused}
 use Rattle.hall_core.specs.Agreement.{IsFit, IsUnrefused, IsRun}
 use Rattle.hall_core.specs.laws.Adding.{runs_join}
 use Rattle.hall_core.specs.laws.Sound.{kept_at_opening}
-use Rattle.hall_core.specs.Hall.{HallView, StandsFor, ForEachPast, IsSameHall, IsDone, view_of, settings_in}
+use Rattle.hall_core.specs.Hall.{HallView, StandsFor, ForEachPast, IsSameHall, IsDone, view_of, settings_in, words_in}
 use Rattle.hall_core.specs.Fresh.{IsFresh}
 use Rattle.hall_core.specs.Halves.{HasSameParts}
 use Rattle.receipts.specs.Running.{LeavesTable, HasRun, HasRuns}
@@ -62,7 +62,7 @@ runs_at_first view s old hall opened fresh parts settings table none history lea
           hold = subst (λ (l : List EnvState). HoldFor l []) (sym parts.environments) fresh.hold;
           kept = kept_at_opening (issuer_in hall).settings history leaves.legal;
         };
-        slots = subst (λ (x : Settings). KeepFor x hall.slots []) (sym settings) (subst (λ (l : Entries). KeepFor s l []) (sym parts.slots) fresh.slots);
+        slots = subst (λ (l : Entries). KeepFor (words_in (hall_in hall)) l []) (sym parts.slots) (fresh.slots (words_in (hall_in hall)));
         stopping = parts.stops ∙ fresh.stops;
       };
     }
@@ -113,7 +113,7 @@ stands_moved : (old new : HallView) (past : Past) → StandsFor old past → new
 stands_moved old new past stands settings table history parts = record {
   history = history;
   environments = rw (settings, table, parts.environments) stands.environments;
-  slots = rw (settings, parts.slots) stands.slots;
+  slots = rw (settings, parts.slots, parts.dialect) stands.slots;
   stopping = parts.stops ∙ stands.stopping;
 }
 
@@ -130,7 +130,7 @@ pub same_stands : (old new : HallView) → IsSameHall old new → (past : Past) 
 same_stands old new same past stands = record {
   history = (same.issuer.stands past.history).1 stands.history;
   environments = rw (same.issuer.settings, same.issuer.table, same.environments) stands.environments;
-  slots = rw same.issuer.settings (same.slots past.slots stands.slots);
+  slots = rw (same.issuer.settings, same.dialect) (same.slots past.slots stands.slots);
   stopping = same.stops ∙ stands.stopping;
 }
 
