@@ -5,7 +5,7 @@ ghost use Rattle.hall_core.specs.Plans.{drawn_by};
 use uuid::Uuid;
 
 /// The version 4 id of two random words, the high one first.
-pub(crate) fn drawn_id(words: [u64; 2]) -> [u8; 16]
+pub fn drawn_id(words: [u64; 2]) -> [u8; 16]
     ensures { result ≡ drawn_by words }
 {
     let high = words[0] / 0x1_0000 * 0x1_0000 + 0x4000 + words[0] % 0x1000;

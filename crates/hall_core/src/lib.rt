@@ -34,6 +34,7 @@ mod settling;
 mod slots;
 mod waking;
 
+pub use drawing::drawn_id;
 pub use error::HallError;
 pub use hall::Hall;
 pub use issuing::Issued;

@@ -5,6 +5,7 @@ ghost use Rattle.hall_core.specs.Slots.{open_slots, is_open};
 ghost use Rattle.hall_core.specs.Hall.{view_of, pending_in, is_slot_open, open_slot_count, ForEachPast};
 
 use crate::hall::Hall;
+use api_core::Dialect;
 use group_commit::{Broker, Issuer};
 use sector_disk::Disk;
 
@@ -24,6 +25,13 @@ impl<I: Issuer> Hall<I> {
         ensures by_past { ForEachPast (view_of I.view self.now) (λ past. result ≡ is_open (I.view self.now.issuer).broken past slot) }
     {
         self.slots.is_open(slot, self.broken)
+    }
+
+    /// In which words it tells its replies.
+    pub fn dialect(&self) -> Dialect
+        ensures { result ≡ self.now.dialect }
+    {
+        self.dialect
     }
 
     /// Whether a request asked it to stop.

@@ -1,5 +1,10 @@
--- Each refusal has a status of 400 or above.
-use Rattle.std.proofs.Common.{◌≤◌, lit≤}
+-- Each refusal has a status of 400 or above, which is the same in each dialect.
+use Rattle.std.proofs.Common.{◌≡◌, ◌≤◌, lit≤, refl}
+use Rattle.api_core.specs.declared.dialect.Dialect.{Dialect}
+use Rattle.api_core.specs.declared.dialect.Dialect.TheVariants.{Profile, Aws}
+use Rattle.api_core.specs.declared.dialect.Audience.{Audience}
+use Rattle.api_core.specs.declared.dialect.Audience.TheVariants.{Caller, Environment}
+use Rattle.api_core.specs.Replies.{refusing}
 use Rattle.api_core.specs.declared.refusal.Refusal.{Refusal}
 use Rattle.api_core.specs.declared.refusal.Refusal.TheVariants.{UnsupportedInvocationType, InvalidRequestContent, InvalidRequestId, InvalidExtensionHeader, BadSubscription, UnknownExtension, RegistrationClosed, TooManyExtensions, WrongPhase, NotFound, UnknownEvent, MethodNotAllowed, Replaced, NotEnded, TooLarge, TooManyEvents, EnvironmentReset, IdInUse, Unavailable}
 use Rattle.api_core.specs.Refusals.{fault_of}
@@ -24,3 +29,9 @@ refuses TooManyEvents = lit≤ tt
 refuses EnvironmentReset = lit≤ tt
 refuses IdInUse = lit≤ tt
 refuses Unavailable = lit≤ tt
+
+pub status_of : (d : Dialect) (who : Audience) (why : Refusal) → (refusing d who why).status ≡ (fault_of why).status
+status_of Profile Caller why = refl
+status_of Profile Environment why = refl
+status_of Aws Caller why = refl
+status_of Aws Environment why = refl

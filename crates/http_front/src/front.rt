@@ -6,7 +6,7 @@ ghost use Rattle.http_front.specs.Refusals.{IsArrivalError};
 use crate::arriving::arrive;
 use crate::error::ArrivalError;
 use crate::wake::Wake;
-use api_core::Call;
+use api_core::{Call, Dialect};
 use group_commit::Durable;
 use long_poll::{Arrived, Bell, Port};
 use receipts::{Office, Trace};
@@ -37,20 +37,25 @@ pub struct Front<L: Ledger, T: Trace> {
     pub(crate) wake: Wake,
     pub(crate) ending: CancellationToken,
     pub(crate) settings: Settings,
+    /// In which words requests are read and refused.
+    pub(crate) dialect: Dialect,
     /// How many bytes of a body are read.
     pub(crate) most: usize,
 }
 
 impl<L: Ledger, T: Trace> Front<L, T> {
-    /// A front over an office with these settings, of which so much is durable, which no thread serves yet.
+    /// A front over an office with these settings, of which so much is durable, which no thread serves yet. It reads requests
+    /// in this dialect.
     pub fn new(
         alloc: Global,
         office: Arc<Office<L, T>>,
         settings: Settings,
+        dialect: Dialect,
         durable: Durable,
     ) -> Result<Front<L, T>, AllocError>
         ensures office { IfOk result (λ front. front.office ≡ office) }
         ensures settings { IfOk result (λ front. front.settings ≡ settings) }
+        ensures dialect { IfOk result (λ front. front.dialect ≡ dialect) }
     {
         let most = most_read(&settings);
         Ok(Front {
@@ -60,6 +65,7 @@ impl<L: Ledger, T: Trace> Front<L, T> {
             wake: Wake::new(),
             ending: CancellationToken::new(alloc)?,
             settings,
+            dialect,
             most,
         })
     }

@@ -1,6 +1,7 @@
 // The clock and the source of random words.
 ghost use Rattle.std.specs.Prelude.{◌≤◌, IfOk};
 
+use hall_core::drawn_id;
 use invoke_records::GREATEST_MOMENT;
 use rand::TryRng;
 use rand::rngs::SysRng;
@@ -25,4 +26,9 @@ pub(crate) fn words<R: RandomSource>(rt: &R) -> io::Result<[u64; 2]> {
     let first = source.try_next_u64()?;
     let second = source.try_next_u64()?;
     Ok([first, second])
+}
+
+/// A new id of version 4.
+pub(crate) fn new_id<R: RandomSource>(rt: &R) -> io::Result<[u8; 16]> {
+    Ok(drawn_id(words(rt)?))
 }

@@ -8,6 +8,7 @@ ghost use Rattle.receipts.specs.Desks.{desk_count};
 use crate::committing::Committer;
 use crate::error::ServeError;
 use crate::front::Front;
+use api_core::Dialect;
 use front_board::Seated;
 use group_commit::{Broker, DiskHalf, Durable};
 use hall_core::Hall;
@@ -62,10 +63,11 @@ fn shared<L: Ledger, T: Trace>(
     alloc: Global,
     office: Office<L, T>,
     settings: Settings,
+    dialect: Dialect,
     durable: Durable,
 ) -> Result<Arc<Front<L, T>>, AllocError> {
     let office = Arc::new(alloc, office)?;
-    let front = Front::new(alloc, office, settings, durable)?;
+    let front = Front::new(alloc, office, settings, dialect, durable)?;
     Ok(Arc::new(alloc, front)?)
 }
 
@@ -111,11 +113,12 @@ pub(crate) fn open<L: Ledger, T: Trace, D: Disk + Drop>(
     ensures half { IfOk result (λ opened. broker_of opened.committer.half ≡ hall.issuer) }
 {
     let settings = hall.table().settings().copy()?;
+    let dialect = hall.dialect();
     let durable = hall.durable();
     match Office::<L, T>::new(alloc, hall, blank) {
         Ok((office, desks, half)) => {
             let seats = Seated::open(alloc, durable, desks.len())?;
-            let front = shared(alloc, office, settings, durable)?;
+            let front = shared(alloc, office, settings, dialect, durable)?;
             furnish(alloc, front, desks, seats, half)
         }
         Err(failure) => Err(ServeError::Office(failure.cause)),

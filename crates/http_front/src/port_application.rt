@@ -3,8 +3,9 @@ ghost use Rattle.std.specs.Prelude.{◌≡◌};
 ghost use Rattle.hall_core.specs.Hall.{slot_told};
 
 use crate::front::Front;
-use crate::replying::{Telling, refuse};
-use api_core::{Refusal, RequestError, read_request};
+use crate::moment::new_id;
+use crate::replying::{Manner, Telling, refuse};
+use api_core::{Audience, Dialect, Refusal, RequestError, read_request};
 use futures::Future;
 use futures::task::{Context, Poll};
 use http::request::Parts;
@@ -24,6 +25,8 @@ const CAUSE: &str = "lambda-runtime-function-xray-error-cause";
 #[derive(Drop)]
 pub(crate) struct Replying<R: Wait, L: Ledger, T: Trace> {
     waiting: Waiting<R, L, T>,
+    /// The id of its request, where the reply is to tell one.
+    id: Option<[u8; 16]>,
 }
 
 impl<R: Wait + Drop, L: Ledger, T: Trace> Future for Replying<R, L, T> {
@@ -34,7 +37,7 @@ impl<R: Wait + Drop, L: Ledger, T: Trace> Future for Replying<R, L, T> {
     fn poll(&mut self, cx: &mut Context<'_>) -> Poll<Telling> {
         match self.waiting.poll(cx) {
             Poll::Pending => Poll::Pending,
-            Poll::Ready(released) => Poll::Ready(Telling::new(released)),
+            Poll::Ready(released) => Poll::Ready(Telling::new(released, self.id)),
         }
     }
 }
@@ -49,6 +52,32 @@ pub(crate) struct PortApplication<R, L: Ledger, T: Trace> {
 }
 
 impl<R: Wait + Clock + RandomSource + Copy, L: Ledger, T: Trace> PortApplication<R, L, T> {
+    // Whom this port answers.
+    fn audience(&self) -> Audience {
+        if self.number == 0 {
+            Audience::Caller
+        } else {
+            Audience::Environment
+        }
+    }
+
+    // The id of a request, as callers are told it in the dialect of AWS. Where none can be drawn, none is told.
+    fn request_id(&self) -> Option<[u8; 16]> {
+        match (self.front.dialect, self.audience()) {
+            (Dialect::Aws, Audience::Caller) => new_id(&self.rt).ok(),
+            _ => None,
+        }
+    }
+
+    // How a request with this id is refused here.
+    fn manner(&self, id: Option<[u8; 16]>) -> Manner {
+        Manner {
+            dialect: self.front.dialect,
+            audience: self.audience(),
+            id,
+        }
+    }
+
     // The call of a request comes; its reply then waits. What is refused is answered at once.
     fn arrive(&self, head: &Parts, body: Vec<u8>) -> Result<Waiting<R, L, T>, Refusal> {
         let front = &self.front;
@@ -58,6 +87,7 @@ impl<R: Wait + Clock + RandomSource + Copy, L: Ledger, T: Trace> PortApplication
         };
         let call = match read_request(
             front.alloc,
+            front.dialect,
             &front.settings,
             self.number,
             &head.method,
@@ -104,9 +134,10 @@ impl<R: Wait + Clock + RandomSource + Drop + Copy, L: Ledger, T: Trace> Applicat
             Err(ReadError::OutOfMemory) => Err(Refusal::Unavailable),
             Err(ReadError::CutOff) => return Err(Refused::bare(alloc, StatusCode::BAD_REQUEST)),
         };
+        let id = self.request_id();
         match arrived {
-            Ok(waiting) => Ok(Replying { waiting }),
-            Err(why) => Err(refuse(alloc, &self.front.settings, why)),
+            Ok(waiting) => Ok(Replying { waiting, id }),
+            Err(why) => Err(refuse(alloc, &self.front.settings, self.manner(id), why)),
         }
     }
 }

@@ -3,7 +3,7 @@ ghost use Rattle.std.specs.Prelude.{◌≡◌, ◌==◌, ◌⊎◌, length, None
 ghost use Rattle.http.specs.Response.{head_of, body_of};
 ghost use Rattle.api_core.specs.Refusals.{fault_of};
 
-use api_core::{Answer, Refusal, Reply, reply_text};
+use api_core::{Answer, Audience, Dialect, Refusal, Reply, reply_text, with_request_id};
 use bytes::Bytes;
 use hall_core::Released;
 use http::response::Builder;
@@ -36,17 +36,30 @@ fn response_of(alloc: Global, reply: Reply) -> Option<Answered>
         .ok()
 }
 
+// A reply with the id of its request, where it is to tell one.
+fn with_id(alloc: Global, reply: Reply, id: Option<[u8; 16]>) -> Reply
+    ensures status { result.status ≡ reply.status }
+    ensures body { result.body ≡ reply.body }
+{
+    match id {
+        Some(id) => with_request_id(alloc, reply, &id),
+        None => reply,
+    }
+}
+
 /// A reply that was released, to be told to a client.
 #[derive(Drop)]
 pub(crate) struct Telling {
     released: Released,
+    /// The id of a request that is none of an event, where the reply is to tell it.
+    id: Option<[u8; 16]>,
 }
 
 impl Telling {
-    pub(crate) fn new(released: Released) -> Telling
+    pub(crate) fn new(released: Released, id: Option<[u8; 16]>) -> Telling
         ensures { result.released ≡ released }
     {
-        Telling { released }
+        Telling { released, id }
     }
 }
 
@@ -54,25 +67,40 @@ impl Told for Telling {
     ghost status = { λ telling. telling.released.reply.status };
 
     fn into_response(self, alloc: Global) -> Option<Answered> {
-        let Telling { released } = self;
-        response_of(alloc, released.into_reply())
+        let Telling { released, id } = self;
+        response_of(alloc, with_id(alloc, released.into_reply(), id))
     }
 }
 
+/// How a request is refused: in which words, to whom, and with which id, where one is told.
+#[derive(Clone, Copy)]
+pub(crate) struct Manner {
+    pub(crate) dialect: Dialect,
+    pub(crate) audience: Audience,
+    pub(crate) id: Option<[u8; 16]>,
+}
+
 // The reply that tells of a refusal, as a response. None where memory is wanting.
-fn refusal_of(alloc: Global, settings: &Settings, why: Refusal) -> Option<Answered>
+#[tactic(auto, using(crate::proofs::Refusing::status_of))]
+fn refusal_of(
+    alloc: Global,
+    settings: &Settings,
+    manner: Manner,
+    why: Refusal,
+) -> Option<Answered>
     ensures { IfSome result (λ r. (head_of r).status ≡ (fault_of why).status) }
 {
-    let reply = reply_text(alloc, &Answer::Refusal(why), settings).ok()?;
-    response_of(alloc, reply)
+    let answer = Answer::Refusal(manner.audience, why);
+    let reply = reply_text(alloc, manner.dialect, &answer, settings).ok()?;
+    response_of(alloc, with_id(alloc, reply, manner.id))
 }
 
 /// A refusal. Where memory is wanting, 503 alone.
 #[tactic(auto, using(crate::proofs::Refusing::refuses))]
-pub(crate) fn refuse(alloc: Global, settings: &Settings, why: Refusal) -> Refused
+pub(crate) fn refuse(alloc: Global, settings: &Settings, manner: Manner, why: Refusal) -> Refused
     ensures { (result ≡ (fault_of why).status) ⊎ (result ≡ 503) }
 {
-    match refusal_of(alloc, settings, why) {
+    match refusal_of(alloc, settings, manner, why) {
         Some(response) => Refused::new(response),
         None => Refused::bare(alloc, StatusCode::SERVICE_UNAVAILABLE),
     }

@@ -5,6 +5,7 @@ ghost use Rattle.group_commit.specs.Promises.{ForEachHistory};
 ghost use Rattle.lambda_broker.specs.Serving.{ComesToRest};
 ghost use Rattle.hall_core.specs.Fresh.{IsFresh};
 
+use api_core::Dialect;
 use group_commit::{Broker, CommitError, IssueError, OpenError, without_disk};
 use hall_core::{Hall, HallFailure};
 use http_front::{Ending, ServeError, WhenPending, now, serve};
@@ -24,12 +25,13 @@ use std::thread::Threads;
 use std::time::Clock;
 use thiserror::Error;
 
-/// A disk that is to be served, and the port of its callers.
+/// A disk that is to be served, the port of its callers, and in which words they are answered.
 #[derive(Clone, Copy, Debug)]
 pub struct Address<'a> {
     /// A file or a block device.
     pub path: &'a str,
     pub port: u16,
+    pub dialect: Dialect,
 }
 
 /// Why a disk was not served, or not to its end.
@@ -133,9 +135,10 @@ where
     }
 }
 
-// A hall over a broker.
+// A hall over a broker, which tells its replies in a dialect.
 fn hall_over<D: Disk + Drop>(
     alloc: Global,
+    dialect: Dialect,
     broker: Broker<D>,
 ) -> Result<Hall<Broker<D>>, ServingError>
     requires { pending_of broker ≡ [] }
@@ -145,7 +148,7 @@ fn hall_over<D: Disk + Drop>(
     if broker.is_broken() {
         return Err(ServingError::Broken);
     }
-    match Hall::new(alloc, broker) {
+    match Hall::in_dialect(alloc, dialect, broker) {
         Ok(hall) => Ok(hall),
         Err(_) => Err(ServingError::OutOfMemory(AllocError)),
     }
@@ -189,7 +192,12 @@ where
 }
 
 // Serves what is on a disk: the ports first, then the attempts that the last stop cut off.
-fn serve_on<R, T, D, W>(rt: R, disk: D, port: u16, out: &mut W) -> Result<(), ServingError>
+fn serve_on<R, T, D, W>(
+    rt: R,
+    disk: D,
+    at: &Address<'_>,
+    out: &mut W,
+) -> Result<(), ServingError>
 where
     R: Threads
         + Wait
@@ -208,10 +216,10 @@ where
 {
     let mut broker = open(rt.alloc(), disk)?;
     let environments = broker.table().settings().environments;
-    let listeners = listen(&rt, port, environments)?;
+    let listeners = listen(&rt, at.port, environments)?;
     resume(&rt, &mut broker)?;
-    let hall = hall_over(rt.alloc(), broker)?;
-    announce(port, out)?;
+    let hall = hall_over(rt.alloc(), at.dialect, broker)?;
+    announce(at.port, out)?;
     serve_hall::<R, T, D>(rt, hall, listeners)
 }
 
@@ -233,5 +241,5 @@ where
     W: Write,
 {
     let disk = FileDisk::open(&rt, at.path)?;
-    serve_on::<R, Gone, FileDisk, W>(rt, disk, at.port, out)
+    serve_on::<R, Gone, FileDisk, W>(rt, disk, at, out)
 }

@@ -4,6 +4,7 @@ use crate::configuring::NewPolicy;
 use crate::formatting::{Function, NewDisk, Numbers};
 use crate::migrating::OldVersion;
 use crate::serving::Address;
+use api_core::Dialect;
 use clap::builder::ValueParser;
 use clap::error::ErrorKind;
 use clap::{Arg, ArgAction, ArgMatches, Command, Error, value_parser};
@@ -137,12 +138,18 @@ fn migrate_command<'a>(alloc: Global) -> Result<Command<'a>, AllocError> {
 fn serve_command<'a>(alloc: Global) -> Result<Command<'a>, AllocError> {
     let help = "Port of the callers, 1024 to 65519; environment n has the port n behind it";
     let port = option(alloc, "port", help);
+    let dialect = option(alloc, "dialect", "Whose words errors and names are in");
     Command::new(alloc, "serve")
         .about("Serve a disk until POST /broker/stop")
         .arg(disk(alloc))?
         .arg(
             port.value_parser(value_parser!(u16).range(1024..65520))
                 .required(true),
+        )?
+        .arg(
+            dialect
+                .default_value("profile")
+                .value_parser(["profile", "aws"].as_slice()),
         )
 }
 
@@ -227,10 +234,20 @@ fn old_version<'a>(matches: &ArgMatches<'a>) -> Option<OldVersion<'a>> {
     })
 }
 
+// The dialect of this name.
+fn dialect(name: &str) -> Dialect {
+    if name == "aws" {
+        Dialect::Aws
+    } else {
+        Dialect::Profile
+    }
+}
+
 fn address<'a>(matches: &ArgMatches<'a>) -> Option<Address<'a>> {
     Some(Address {
         path: matches.get_str("disk")?,
         port: matches.get_one("port")?,
+        dialect: dialect(matches.get_str("dialect")?),
     })
 }
 

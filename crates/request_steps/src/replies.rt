@@ -1,6 +1,6 @@
 // Steps on replies alone: the status, the headers and the body that tell an answer.
-use crate::requests::type_of;
-use api_core::{Answer, Refusal, ShutdownReason, reply_text};
+use crate::requests::{dialect, type_of};
+use api_core::{Answer, Audience, Dialect, Refusal, ShutdownReason, Stream, reply_text};
 use case_runner::{Reply, Text, Words, body, id_of};
 use retry_rules::Settings;
 use std::alloc::{AllocError, Global};
@@ -78,7 +78,13 @@ fn deadline(words: &mut Words) -> u64 {
 }
 
 // `ID until MOMENT BYTES`
-fn tell_event(alloc: Global, settings: &Settings, words: &mut Words, answer: &mut Text) -> Reply {
+fn tell_event(
+    alloc: Global,
+    dialect: Dialect,
+    settings: &Settings,
+    words: &mut Words,
+    answer: &mut Text,
+) -> Reply {
     let id = id_of(words.number());
     let deadline = deadline(words);
     let payload = match body(alloc, words.rest()) {
@@ -93,7 +99,16 @@ fn tell_event(alloc: Global, settings: &Settings, words: &mut Words, answer: &mu
         deadline,
         payload: &payload,
     };
-    tell_reply(reply_text(alloc, &event, settings), answer)
+    tell_reply(reply_text(alloc, dialect, &event, settings), answer)
+}
+
+// `to an environment`, or to a caller.
+fn audience(words: &mut Words) -> Audience {
+    if words.takes("environment") {
+        Audience::Environment
+    } else {
+        Audience::Caller
+    }
 }
 
 // The answer that these words name, but for records and events.
@@ -103,7 +118,10 @@ fn plain_answer(words: &mut Words) -> Answer<'static> {
         "no-record" => Answer::NoRecord,
         "deleted" => Answer::Deleted,
         "taken" => Answer::Taken,
-        "registered" => Answer::Registered(id_of(words.number())),
+        "registered" => Answer::Registered {
+            identifier: id_of(words.number()),
+            account: words.takes("account"),
+        },
         "invoke" => Answer::Invoke {
             id: id_of(words.number()),
             deadline: deadline(words),
@@ -112,7 +130,9 @@ fn plain_answer(words: &mut Words) -> Answer<'static> {
             reason: reason(words),
             deadline: deadline(words),
         },
-        "refusal" => Answer::Refusal(refusal(words)),
+        "refusal" => Answer::Refusal(audience(words), refusal(words)),
+        "telemetry" => Answer::NotSupported(Stream::Telemetry),
+        "logs" => Answer::NotSupported(Stream::Logs),
         _ => {
             words.refuse();
             Answer::NoRecord
@@ -121,27 +141,34 @@ fn plain_answer(words: &mut Words) -> Answer<'static> {
 }
 
 // The reply of an answer that is no record.
-fn tell_plain(alloc: Global, settings: &Settings, plain: &Answer, answer: &mut Text) -> Reply {
+fn tell_plain(
+    alloc: Global,
+    dialect: Dialect,
+    settings: &Settings,
+    plain: &Answer,
+    answer: &mut Text,
+) -> Reply {
     match plain {
         Answer::Record(_) => Reply::Unreadable,
-        _ => tell_reply(reply_text(alloc, plain, settings), answer),
+        _ => tell_reply(reply_text(alloc, dialect, plain, settings), answer),
     }
 }
 
-/// `accepted ID`, `no-record`, `deleted`, `taken`, `registered N`, `event ID until MOMENT BYTES`, `invoke ID until MOMENT`,
-/// `shutdown REASON until MOMENT` or `refusal TYPE`: the reply.
+/// `[aws]`, then `accepted ID`, `no-record`, `deleted`, `taken`, `registered N [account]`, `event ID until MOMENT BYTES`, `invoke ID until MOMENT`,
+/// `shutdown REASON until MOMENT`, `telemetry`, `logs` or `refusal [environment] TYPE`: the reply.
 pub fn reply_step(
     alloc: Global,
     settings: &Settings,
     words: &mut Words,
     answer: &mut Text,
 ) -> Reply {
+    let dialect = dialect(words);
     if words.takes("event") {
-        return tell_event(alloc, settings, words, answer);
+        return tell_event(alloc, dialect, settings, words, answer);
     }
     let plain = plain_answer(words);
     if words.are_bad() {
         return Reply::Unreadable;
     }
-    tell_plain(alloc, settings, &plain, answer)
+    tell_plain(alloc, dialect, settings, &plain, answer)
 }

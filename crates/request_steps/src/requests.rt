@@ -1,5 +1,5 @@
 // Steps on requests alone: which call one is, or which check refuses it.
-use api_core::{Call, Refusal, RequestError, read_request};
+use api_core::{Call, Dialect, Refusal, RequestError, Stream, read_request};
 use async_core::Side;
 use case_runner::{Reply, Text, Words, body, number_of_id};
 use http::Method;
@@ -65,6 +65,7 @@ fn tell_registration(
     name: &[u8],
     invoke: bool,
     shutdown: bool,
+    account: bool,
     answer: &mut Text,
 ) {
     answer.add_with("register ", environment as u64);
@@ -72,6 +73,7 @@ fn tell_registration(
     answer.add_body(name);
     answer.add(if invoke { " invoke" } else { "" });
     answer.add(if shutdown { " shutdown" } else { "" });
+    answer.add(if account { " account" } else { "" });
 }
 
 // A call of a runtime or of an extension.
@@ -96,7 +98,15 @@ fn tell_environment_call(call: &Call, answer: &mut Text) {
             name,
             invoke,
             shutdown,
-        } => tell_registration(*environment, name.as_slice(), *invoke, *shutdown, answer),
+            account,
+        } => tell_registration(
+            *environment,
+            name.as_slice(),
+            *invoke,
+            *shutdown,
+            *account,
+            answer,
+        ),
         Call::ExtensionNext {
             environment,
             identifier,
@@ -109,6 +119,16 @@ fn tell_environment_call(call: &Call, answer: &mut Text) {
             environment,
             identifier,
         } => tell_extension("exit error ", *environment, identifier, answer),
+        Call::Subscribe {
+            environment,
+            stream,
+        } => {
+            answer.add(match stream {
+                Stream::Telemetry => "telemetry ",
+                Stream::Logs => "logs ",
+            });
+            answer.add_number(*environment as u64);
+        }
         _ => {}
     }
 }
@@ -161,8 +181,18 @@ fn add_header(alloc: Global, headers: &mut HeaderMap, pair: &str) -> Reply {
     }
 }
 
-/// The call of the request `PORT METHOD TARGET [NAME=VALUE ..] [body BYTES]`, or what is answered at once.
+/// `aws` before other words: in which words a request is read and an answer told.
+pub fn dialect(words: &mut Words) -> Dialect {
+    if words.takes("aws") {
+        Dialect::Aws
+    } else {
+        Dialect::Profile
+    }
+}
+
+/// The call of the request `[aws] PORT METHOD TARGET [NAME=VALUE ..] [body BYTES]`, or what is answered at once.
 pub fn read_call(alloc: Global, settings: &Settings, words: &mut Words) -> Result<Call, Reply> {
+    let dialect = dialect(words);
     let port = u16::try_from(words.number_to(65535)).unwrap_or(0);
     let Ok(method) = Method::from_bytes(alloc, words.word().as_bytes()) else {
         return Err(Reply::Unreadable);
@@ -180,7 +210,9 @@ pub fn read_call(alloc: Global, settings: &Settings, words: &mut Words) -> Resul
     if words.are_bad() {
         return Err(Reply::Unreadable);
     }
-    match read_request(alloc, settings, port, &method, target, &headers, body) {
+    match read_request(
+        alloc, dialect, settings, port, &method, target, &headers, body,
+    ) {
         Ok(call) => Ok(call),
         Err(RequestError::Refused(why)) => Err(Reply::Refused(type_of(why))),
         Err(RequestError::OutOfMemory) => Err(Reply::Refused("out of memory")),
@@ -195,7 +227,7 @@ fn parts_of_rest(rest: &str) -> (&str, &str) {
     }
 }
 
-/// `PORT METHOD TARGET [NAME=VALUE ..] [body BYTES]`: the call, or why it is refused.
+/// `[aws] PORT METHOD TARGET [NAME=VALUE ..] [body BYTES]`: the call, or why it is refused.
 pub fn request_step(
     alloc: Global,
     settings: &Settings,
