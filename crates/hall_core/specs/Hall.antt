@@ -29,13 +29,21 @@ use Rattle.hall_core.specs.OpenSlots.{Entries, KeepFor, has_open, open_count}
 pub record HallView : Type 1 where
   pub issuer : IssuerView
   pub environments : List EnvState
+  -- for how many extensions each of them waits
+  pub wanted : ℕ
   -- what is kept of slots
   pub slots : Entries
   -- a request asked it to stop
   pub stops : Bool
 
 abbrev pub view_of : {I : Type 0} {g : Ghosts I} → (I → IssuerView) → Hall I g → HallView
-view_of view hall = record { issuer = view hall.issuer; environments = hall.environments; slots = hall.slots; stops = hall.stops }
+view_of view hall = record {
+  issuer = view hall.issuer;
+  environments = hall.environments;
+  wanted = hall.wanted;
+  slots = hall.slots;
+  stops = hall.stops;
+}
 
 -- the slots of the polls that the last request or move answered, until they are handed out
 abbrev pub answered_slots : {I : Type 0} {g : Ghosts I} → Hall I g → List ℕ
@@ -58,6 +66,7 @@ open_slot_count hall = open_count hall.issuer.broken hall.slots
 pub record StandsFor (hall : HallView) (past : Past) : Type 0 where
   pub history : hall.issuer.stands past.history
   pub environments : Meets (state_in hall.issuer) hall.environments past
+  pub waits : hall.wanted ≡ past.wanted
   pub slots : KeepFor (settings_in hall) hall.slots past.slots
   pub stopping : hall.stops ≡ is_stopping past
 
@@ -109,6 +118,7 @@ Refuses hall call why =
 pub record IsSameHall (old new : HallView) : Type 0 where
   pub issuer : IsSameIssuer old.issuer new.issuer
   pub environments : new.environments ≡ old.environments
+  pub wanted : new.wanted ≡ old.wanted
   pub slots : (events : List SlotEvent) → KeepFor (settings_in old) old.slots events → KeepFor (settings_in old) new.slots events
   pub stops : new.stops ≡ old.stops
 

@@ -31,6 +31,8 @@ pub struct Hall<I: Issuer> {
     pub(crate) alloc: Global,
     pub(crate) issuer: I,
     pub(crate) environments: Environments,
+    /// For how many extensions each of them waits.
+    pub(crate) wanted: u8,
     pub(crate) slots: Slots,
     /// A request asked it to stop.
     pub(crate) stops: bool,
@@ -111,6 +113,7 @@ impl<I: Issuer> Hall<I> {
         ensures environments { OnOk result (Leads self.old.environments prepared.changes self.new.environments) }
         ensures slots { OnOk result (KeepRequest self.old.slots self.new.slots slot unavailable prepared
             (issued_in (I.view self.new.issuer))) }
+        ensures wanted { OnOk result (self.new.wanted ≡ self.old.wanted) }
         ensures stops { OnOk result (self.new.stops ≡ (self.old.stops || stops)) }
         ensures answered { OnOk result (self.new.answered ≡ prepared.answered) }
         ensures kept_answered { OnErr result (self.new.answered ≡ self.old.answered) }
@@ -228,6 +231,7 @@ impl<I: Issuer> Hall<I> {
         ensures count { OnOk result (length self.new.environments ≡ length self.old.environments) }
         ensures environments { OnOk result (Leads self.old.environments prepared.changes self.new.environments) }
         ensures slots { OnOk result (KeepTick self.old.slots self.new.slots prepared (issued_in (I.view self.new.issuer))) }
+        ensures wanted { OnOk result (self.new.wanted ≡ self.old.wanted) }
         ensures stops { OnOk result (self.new.stops ≡ self.old.stops) }
         ensures answered { OnOk result (self.new.answered ≡ prepared.answered) }
         ensures kept_answered { OnErr result (self.new.answered ≡ self.old.answered) }

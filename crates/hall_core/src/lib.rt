@@ -34,6 +34,7 @@ mod settling;
 mod slots;
 mod waking;
 
+pub use env_phase::MOST_EXTENSIONS;
 pub use error::HallError;
 pub use hall::Hall;
 pub use issuing::Issued;

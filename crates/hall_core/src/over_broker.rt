@@ -40,18 +40,38 @@ fn error_of(why: CommitError) -> HallError
 }
 
 impl<D: Disk> Hall<Broker<D>> {
-    /// A hall over a broker, in which nothing has come yet; over a broken one it is broken. Want of memory hands the broker
-    /// back.
+    /// A hall over a broker, in which nothing has come yet, and whose environments wait for no extension; over a broken broker
+    /// it is broken. Want of memory hands the broker back.
     pub fn new(alloc: Global, broker: Broker<D>) -> Result<Hall<Broker<D>>, HallFailure<D>>
         ensures stands { (history : List Command) → Stands D.view broker history
-            → IfOk result (λ hall. StandsFor (view_of (issuer_of D.view) hall) (opening history)) }
+            → IfOk result (λ hall. StandsFor (view_of (issuer_of D.view) hall) (opening 0 history)) }
+        ensures wanted { IfOk result (λ hall. (view_of (issuer_of D.view) hall).wanted ≡ 0) }
+        ensures fresh { IfOk result (λ hall. IsFresh (settings_of broker) hall) }
+        ensures same { IfOk result (λ hall. hall.issuer ≡ broker) }
+        ensures answered { IfOk result (λ hall. answered_slots hall ≡ []) }
+        ensures err { IfErr result (λ failure. failure.broker ≡ broker) }
+    {
+        Hall::waiting_for(alloc, broker, 0)
+    }
+
+    /// As `new`, for a broker that is served anew, to which runtimes and extensions come back in any order: in each era each
+    /// environment stays in Init, where extensions may register, until so many have registered and have asked for Next beside
+    /// the runtime. With 0 it is `new`; where more are wanted than may register, no environment is ever ready.
+    pub fn waiting_for(
+        alloc: Global,
+        broker: Broker<D>,
+        extensions: u8,
+    ) -> Result<Hall<Broker<D>>, HallFailure<D>>
+        ensures stands { (history : List Command) → Stands D.view broker history
+            → IfOk result (λ hall. StandsFor (view_of (issuer_of D.view) hall) (opening extensions history)) }
+        ensures wanted { IfOk result (λ hall. (view_of (issuer_of D.view) hall).wanted ≡ extensions) }
         ensures fresh { IfOk result (λ hall. IsFresh (settings_of broker) hall) }
         ensures same { IfOk result (λ hall. hall.issuer ≡ broker) }
         ensures answered { IfOk result (λ hall. answered_slots hall ≡ []) }
         ensures err { IfErr result (λ failure. failure.broker ≡ broker) }
     {
         let count = broker.table().settings().environments;
-        let Ok(environments) = Environments::new(alloc, count) else {
+        let Ok(environments) = Environments::new(alloc, count, extensions) else {
             return Err(HallFailure { broker });
         };
         let broken = broker.is_broken();
@@ -60,6 +80,7 @@ impl<D: Disk> Hall<Broker<D>> {
             alloc,
             issuer: broker,
             environments,
+            wanted: extensions,
             slots: Slots::new(alloc),
             stops: false,
             broken,

@@ -2,7 +2,7 @@ use Rattle.std.proofs.Common.{rules, ◌≡◌, length, refl}
 use Rattle.group_commit.specs.Broker.{settings_of}
 use Rattle.group_commit.specs.IssuerBroker.{issuer_laws}
 use Rattle.hall_core.proofs.Opened.{opened}
-use Rattle.hall_core.proofs.over_broker.Hall+Broker+D.new.Goals as goal
+use Rattle.hall_core.proofs.over_broker.Hall+Broker+D.waiting_for.Goals as goal
 
 pub returns-clause-stands : goal.returns-clause-stands
 returns-clause-stands g c = λ history stands.
