@@ -1,5 +1,6 @@
--- What the calls of one environment say of it. The list is of all the calls that it accepted, the oldest first.
-use Rattle.std.specs.Prelude.{ℕ, Bool, true, false, ◌&&◌, List, [], ◌∷◌, map, filter_map, Option, None, is_some, is_none, if◌then◌else◌, IsTrue}
+-- What the calls of one environment say of it. The list is of all the calls that it accepted, the oldest first. In each era
+-- it waits for so many extensions, `wanted`, before it can be given an event.
+use Rattle.std.specs.Prelude.{ℕ, Bool, true, false, ◌&&◌, List, [], ◌∷◌, map, filter_map, length, nat_le, Option, None, is_some, is_none, if◌then◌else◌, IsTrue}
 use Rattle.std.specs.List.{after_last, last_or, list_any, list_all}
 use Rattle.env_phase.specs.declared.call.Party.{Party}
 use Rattle.env_phase.specs.declared.call.EnvCall.{EnvCall}
@@ -50,9 +51,13 @@ runs calls id = has_identifier id (running calls)
 
 -- ## Phases
 
--- the calls are met: no event is unanswered, and the runtime and all that are registered are parked
-unfoldable pub is_met : List EnvCall → Bool
-is_met calls = is_none (unanswered calls) && list_all (is_parked calls) (parties calls)
+-- as many extensions are registered as are waited for, or more
+abbrev pub has_enough : ℕ → List EnvCall → Bool
+has_enough wanted calls = nat_le wanted (length (registered calls))
+
+-- the calls are met: no event is unanswered, enough are registered, and the runtime and all that are registered are parked
+unfoldable pub is_met : ℕ → List EnvCall → Bool
+is_met wanted calls = is_none (unanswered calls) && has_enough wanted calls && list_all (is_parked calls) (parties calls)
 
 -- every prefix of a list, the empty one first
 abbrev pub prefixes : {A : Type 0} → List A → List (List A)
@@ -60,8 +65,8 @@ prefixes [] = [] ∷ []
 prefixes (x ∷ xs) = [] ∷ map (λ rest. x ∷ rest) (prefixes xs)
 
 -- the era was met: a prefix of it was
-abbrev pub was_met : List EnvCall → Bool
-was_met calls = list_any is_met (prefixes (era calls))
+abbrev pub was_met : ℕ → List EnvCall → Bool
+was_met wanted calls = list_any (is_met wanted) (prefixes (era calls))
 
 pub data Phase : Type 0 where
   init : Phase
@@ -74,8 +79,8 @@ abbrev pub phase_by : (was_shut_down is_met_now was_met_before : Bool) → Phase
 phase_by shut met before = if shut then closing else if met then ready else if before then busy else init
 
 -- closing from the first shutdown on; a reset begins a new era
-unfoldable pub phase_of : List EnvCall → Phase
-phase_of calls = phase_by (list_any is_shutdown calls) (is_met (era calls)) (was_met calls)
+unfoldable pub phase_of : ℕ → List EnvCall → Phase
+phase_of wanted calls = phase_by (list_any is_shutdown calls) (is_met wanted (era calls)) (was_met wanted calls)
 
 abbrev pub phase_is_init : Phase → Bool
 phase_is_init init = true
@@ -93,9 +98,9 @@ abbrev pub phase_is_closing : Phase → Bool
 phase_is_closing closing = true
 phase_is_closing phase = false
 
-abbrev pub is_ready : List EnvCall → Bool
-is_ready calls = phase_is_ready (phase_of calls)
+abbrev pub is_ready : ℕ → List EnvCall → Bool
+is_ready wanted calls = phase_is_ready (phase_of wanted calls)
 
 -- an event can be given
-abbrev pub IsReady : List EnvCall → Type 0
-IsReady calls = IsTrue (is_ready calls)
+abbrev pub IsReady : ℕ → List EnvCall → Type 0
+IsReady wanted calls = IsTrue (is_ready wanted calls)

@@ -51,6 +51,14 @@ ten_register =
 abbrev pub asked_again : List EnvCall
 asked_again = answered ++ RuntimeNext 4 ∷ ExtensionNext (id 21) 5 ∷ []
 
+-- the runtime asks, and then an extension registers and asks
+abbrev pub one_came_late : List EnvCall
+one_came_late = RuntimeNext 1 ∷ joins 21 ∷ ExtensionNext (id 21) 2 ∷ []
+
+-- an event runs
+abbrev pub late_given : List EnvCall
+late_given = one_came_late ++ Give (id 1) 4000 ∷ []
+
 -- ## What a slot is answered
 
 abbrev pub event_on : ℕ → List ℕ → ℕ → ℕ × PollAnswer

@@ -1,5 +1,5 @@
 -- Why an environment refuses a call, and which polls a call that it accepts answers.
-use Rattle.std.specs.Prelude.{◌≡◌, ℕ, ◌+◌, Bool, true, false, not, ◌&&◌, ◌||◌, List, [], ◌∷◌, length, map, take, filter_map, slice_get, Option, Some, None, is_some, is_none, if◌then◌else◌, nat_le}
+use Rattle.std.specs.Prelude.{◌≡◌, ℕ, ◌+◌, ◌<◌, Bool, true, false, not, ◌&&◌, ◌||◌, List, [], ◌∷◌, length, map, take, filter_map, slice_get, Option, Some, None, is_some, is_none, if◌then◌else◌, nat_le}
 use Rattle.std.specs.List.{list_any}
 use Rattle.std.specs.Option.{option_zip}
 use Rattle.env_phase.specs.declared.answer.Reason.{Reason}
@@ -43,17 +43,21 @@ checks phase event extensions (ExtensionError identifier false now) =
 checks phase event extensions (Timeout now) = (phase_is_closing phase || is_none event, refusal.WrongPhase) ∷ []
 checks phase event extensions (Shutdown now) = []
 
--- why a call is refused after these calls, if it is
-unfoldable pub refusal_of : List EnvCall → EnvCall → Option Refusal
-refusal_of calls call = first_failed (checks (phase_of calls) (unanswered calls) (registered calls) call)
+-- why a call is refused after these calls, if it is, where so many extensions are waited for
+unfoldable pub refusal_of : ℕ → List EnvCall → EnvCall → Option Refusal
+refusal_of wanted calls call = first_failed (checks (phase_of wanted calls) (unanswered calls) (registered calls) call)
 
 -- each call was accepted after those before it
-pub record IsLegal (calls : List EnvCall) : Type 0 where
-  pub each : (n : ℕ) (call : EnvCall) → slice_get calls n ≡ Some call → refusal_of (take n calls) call ≡ None
+pub record IsLegal (wanted : ℕ) (calls : List EnvCall) : Type 0 where
+  pub each : (n : ℕ) (call : EnvCall) → slice_get calls n ≡ Some call → refusal_of wanted (take n calls) call ≡ None
 
 -- the calls were accepted, none of them is a shutdown, and this event runs
-abbrev pub RunsOpen : List EnvCall → List ℕ → Type 0
-RunsOpen calls id = IsLegal calls × (list_any is_shutdown calls ≡ false) × (unanswered calls ≡ Some id)
+abbrev pub RunsOpen : ℕ → List EnvCall → List ℕ → Type 0
+RunsOpen wanted calls id = IsLegal wanted calls × (list_any is_shutdown calls ≡ false) × (unanswered calls ≡ Some id)
+
+-- the calls were accepted, none of them is a shutdown, and fewer extensions are registered than are waited for
+abbrev pub IsWaiting : ℕ → List EnvCall → Type 0
+IsWaiting wanted calls = IsLegal wanted calls × (list_any is_shutdown calls ≡ false) × (length (registered calls) < wanted)
 
 -- ## Answers to polls
 

@@ -16,8 +16,11 @@ use Rattle.env_phase.specs.State.{EnvState}
 abbrev pub is_parked_at : Waiter → Bool
 is_parked_at waiter = is_some waiter.slot
 
+abbrev pub has_enough_in : EnvState → Bool
+has_enough_in e = nat_le e.wanted (length e.extensions)
+
 abbrev pub is_met_in : EnvState → Bool
-is_met_in e = is_none e.event && (is_some e.runtime_slot && list_all is_parked_at e.extensions)
+is_met_in e = is_none e.event && has_enough_in e && (is_some e.runtime_slot && list_all is_parked_at e.extensions)
 
 abbrev pub phase_in : EnvState → Phase
 phase_in e = phase_by e.is_shut (is_met_in e) e.has_met

@@ -4,4 +4,5 @@ pub mod Eras
 pub mod Accepted
 pub mod Running
 pub mod States
+pub mod Waiting
 pub mod Slots

@@ -11,6 +11,8 @@ use std::marker::Model;
 pub struct Env {
     pub(crate) alloc: Global,
     number: u16,
+    /// For how many extensions it waits in each era.
+    wanted: u8,
     /// It was shut down.
     pub(crate) is_shut: bool,
     /// Since the last reset there was a moment when it could be given an event.
@@ -30,6 +32,7 @@ impl Model for Env {
 
     ghost view = { λ e. record {
       number = e.number;
+      wanted = e.wanted;
       is_shut = e.is_shut;
       has_met = e.has_met;
       event = e.event;
@@ -44,15 +47,29 @@ impl Env {
     ghost use Rattle.env_phase.specs.Steps as step;
     ghost use Rattle.env_phase.specs.Steps.{is_ready_in};
 
-    /// The environment of this number, in which nobody has asked for anything. It takes no memory.
-    #[tactic(auto, using(crate::specs::laws::States::first_state))]
+    /// The environment of this number, in which nobody has asked for anything. It waits for no extension: it is ready once
+    /// the runtime and each extension that registered before wait. It takes no memory.
     pub fn new(alloc: Global, number: u16) -> Env
         ensures number { result.number ≡ number }
+        ensures wanted { result.wanted ≡ 0 }
+        ensures stands { StandsFor result [] }
+    {
+        Env::waiting_for(alloc, number, 0)
+    }
+
+    /// As `new`, for an environment whose extensions may come after its runtime, as when the broker was served anew: in each
+    /// era it stays in Init, where extensions may register, until so many have registered and have asked for Next beside the
+    /// runtime. With 0 it is `new`; where more are wanted than may register, it is never ready.
+    #[tactic(auto, using(crate::specs::laws::States::first_state))]
+    pub fn waiting_for(alloc: Global, number: u16, extensions: u8) -> Env
+        ensures number { result.number ≡ number }
+        ensures wanted { result.wanted ≡ extensions }
         ensures stands { StandsFor result [] }
     {
         Env {
             alloc,
             number,
+            wanted: extensions,
             is_shut: false,
             has_met: false,
             event: None,
@@ -68,11 +85,21 @@ impl Env {
         self.number
     }
 
-    // Whether no event is unanswered, and the runtime and each registered extension wait.
+    // Whether as many extensions are registered as it waits for.
+    fn has_enough(&self) -> bool
+        ensures { result ≡ step.has_enough_in self.now }
+    {
+        self.extensions.len() >= usize::from(self.wanted)
+    }
+
+    // Whether no event is unanswered, enough extensions are registered, and the runtime and each of them wait.
     pub(crate) fn is_met(&self) -> bool
         ensures { result ≡ step.is_met_in self.now }
     {
-        self.event.is_none() && self.runtime_slot.is_some() && all_wait(&self.extensions)
+        self.event.is_none()
+            && self.has_enough()
+            && self.runtime_slot.is_some()
+            && all_wait(&self.extensions)
     }
 
     pub(crate) fn is_init(&self) -> bool
@@ -94,11 +121,12 @@ impl Env {
         !self.is_shut && !self.is_met() && self.has_met
     }
 
-    /// Whether an event can be given: it was not shut down, no event is unanswered, and the runtime and each registered extension wait.
+    /// Whether an event can be given: it was not shut down, no event is unanswered, as many extensions are registered as it
+    /// waits for, and the runtime and each of them wait.
     #[tactic(auto, using(crate::specs::laws::States::is_ready_kept))]
     pub fn ready(&self) -> bool
         ensures by_state { result ≡ is_ready_in self.now }
-        ensures by_calls { ForEachList self.now (λ calls. result ≡ is_ready calls) }
+        ensures by_calls { ForEachList self.now (λ calls. result ≡ is_ready self.now.wanted calls) }
     {
         !self.is_shut && self.is_met()
     }
@@ -119,6 +147,7 @@ impl Env {
         Ok(Env {
             alloc: self.alloc,
             number: self.number,
+            wanted: self.wanted,
             is_shut: self.is_shut,
             has_met: self.has_met,
             event: self.event,

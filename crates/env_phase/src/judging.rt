@@ -12,8 +12,8 @@ use crate::env::Env;
 use crate::refusal::Refusal;
 use crate::steps::has_identifier;
 
-/// How many extensions an environment registers at most.
-const MOST_EXTENSIONS: usize = 10;
+/// How many extensions an environment registers at most. One that waits for more is never ready.
+pub const MOST_EXTENSIONS: usize = 10;
 
 fn wrong_phase(is_wrong: bool) -> Option<Refusal>
     ensures { result ≡ step.wrong_phase is_wrong }
@@ -98,7 +98,7 @@ impl Env {
     /// no memory.
     #[tactic(auto, using(crate::specs::laws::States::is_refused))]
     pub fn judge(&self, call: EnvCall) -> Option<Refusal>
-        ensures { ForEachList self.now (λ calls. result ≡ refusal_of calls call) }
+        ensures { ForEachList self.now (λ calls. result ≡ refusal_of self.now.wanted calls call) }
     {
         self.refusal(call)
     }

@@ -19,4 +19,5 @@ pub use answer::{PollAnswer, Reason};
 pub use call::{EnvCall, Party, Waiter};
 pub use calls::Answered;
 pub use env::Env;
+pub use judging::MOST_EXTENSIONS;
 pub use refusal::{EnvError, Refusal};

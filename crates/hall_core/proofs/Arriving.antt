@@ -172,12 +172,13 @@ pub stands_after : (old new : HallView) (past : Past) (call : HallCall) (effect 
     → new.issuer.settings ≡ old.issuer.settings → new.dialect ≡ old.dialect
     → new.issuer.stands (past.history ++ option_list effect.command)
     → length new.environments ≡ length old.environments
-    → HoldFor new.environments (past.made ++ effect.made)
+    → HoldFor past.wanted new.environments (past.made ++ effect.made)
+    → new.wanted ≡ old.wanted
     → KeepFor (words_in old) new.slots (past.slots ++ slot_events past call effect (length (past.history ++ option_list effect.command)))
     → new.stops ≡ list_any asks_stop (past.slots ++ slot_events past call effect (length (past.history ++ option_list effect.command)))
     → StandsFor new (past_after (settings_in old) past call)
 unfolding past_after
-stands_after old new past call effect stands is unrefused laws same talks history count hold keep stops =
+stands_after old new past call effect stands is unrefused laws same talks history count hold wanted keep stops =
     subst (λ e. StandsFor new (past_by past call e)) is (record {
       history = history;
       environments = record {
@@ -187,6 +188,7 @@ stands_after old new past call effect stands is unrefused laws same talks histor
         hold = hold;
         kept = rw same (subst (λ e. IsKept (settings_in old) (past_by past call e)) (sym is) (step (settings_in old) past call stands.environments.kept unrefused));
       };
+      waits = wanted ∙ stands.waits;
       slots = rw (same, talks) keep;
       stopping = stops;
     })
@@ -257,7 +259,7 @@ pub called_but_for_memory : (old : HallView) (past : Past) (call : HallCall) (ef
 unfolding calls_of
 called_but_for_memory old past call effect error.OutOfMemory stands is made uncalled = refl
 called_but_for_memory old past call effect error.NoHistory stands is made uncalled =
-    let one = uncalled past.made stands.environments.hold in
+    let one = uncalled past.wanted past.made stands.environments.hold in
     let accepted = call_is_accepted (settings_in old) past call one.environment one.call stands.environments.kept made (sym (ap (λ (e : Effect). e.made) is) ∙ one.only) in
     absurd (none-some one.why (sym accepted ∙ one.refused))
 called_but_for_memory old past call effect error.Broken stands is made uncalled = absurd uncalled
@@ -304,11 +306,11 @@ pub arrived : (old new : HallView) (past : Past) (slot : ℕ) (call : Call) (now
     → PlansRequest (state_in old.issuer) old.environments slot call now words effect
     → IsPreparedFor old.dialect (state_in old.issuer) old.environments effect p → new.dialect ≡ old.dialect
     → Continues old.issuer new.issuer p.command → IsAnswered old.issuer p.command issued
-    → length new.environments ≡ length old.environments → Leads old.environments p.changes new.environments
+    → length new.environments ≡ length old.environments → Leads old.environments p.changes new.environments → new.wanted ≡ old.wanted
     → KeepRequest old.slots new.slots slot unavailable p (issued_in new.issuer) → unavailable ≡ unavailable_in (words_in old)
     → new.stops ≡ (old.stops || stops) → stops ≡ call_stops call
     → (issued ≡ issued_by (settings_in old) past (request slot call now words)) × StandsFor new (past_after (settings_in old) past (request slot call now words))
-arrived old new past slot call now words effect p stops unavailable issued before after stands fit passes plans prepared talks continues answered count leads keeps told_503 stopping asks =
+arrived old new past slot call now words effect p stops unavailable issued before after stands fit passes plans prepared talks continues answered count leads wanted keeps told_503 stopping asks =
     let s = settings_in old in
     let w = words_in old in
     let req = request slot call now words in
@@ -327,5 +329,5 @@ arrived old new past slot call now words effect p stops unavailable issued befor
     stopping ∙ ap (λ b. b || stops) stands.stopping ∙ ap (λ b. is_stopping past || b) asks
     ∙ sym (request_stops past slot call now (slice_index words 0, slice_index words 1) effect (length (past.history ++ option_list effect.command))) in (
       answered ∙ told_with (issued_in old.issuer) (length past.history) p.command (command_of s past req) ((before.each past.history stands.history).issued_is) (prepared.command ∙ same_command),
-      stands_after old new past req effect stands is unrefused after continues.settings talks history count (leads effect.made prepared.leads past.made stands.environments.hold) keep stops_so,
+      stands_after old new past req effect stands is unrefused after continues.settings talks history count (leads effect.made prepared.leads past.wanted past.made stands.environments.hold) wanted keep stops_so,
     )

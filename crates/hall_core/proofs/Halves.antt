@@ -24,6 +24,7 @@ pub moved : (old new : HallView) (past : Past) → StandsFor old past → new.is
 moved old new past stands settings table history parts = record {
   history = history;
   environments = rw (settings, table, parts.environments) stands.environments;
+  waits = parts.wanted ∙ stands.waits;
   slots = rw (settings, parts.slots, parts.dialect) stands.slots;
   stopping = parts.stops ∙ stands.stopping;
 }

@@ -11,7 +11,7 @@ use Rattle.hall_core.specs.Steps.{environment_of}
 use Rattle.hall_core.specs.laws.Choosing.{find_none, runs_is, is_runs, one_in, holder_runs}
 use Rattle.hall_core.specs.laws.Keeping.{runs_in_one}
 
-module _ (s : Settings) (past : Past) (all : AllAgree s past.history (calls_of past)) (id : List ℕ) where
+module _ (s : Settings) (past : Past) (all : AllAgree s past.wanted past.history (calls_of past)) (id : List ℕ) where
   abbrev Runs : ℕ → Type 0
   Runs environment = running (calls_of past environment) ≡ Some id
 

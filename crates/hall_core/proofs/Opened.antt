@@ -1,5 +1,5 @@
 -- Lemmas: what a hall stands for in which nothing has come yet.
-use Rattle.std.proofs.Common.{◌≡◌, List, [], length, false}
+use Rattle.std.proofs.Common.{◌≡◌, List, [], length, false, refl}
 use Rattle.invoke_records.specs.declared.command.Command.{Command}
 use Rattle.group_commit.specs.Issuer.{IsIssuer}
 use Rattle.api_core.specs.Replies.{Words}
@@ -10,8 +10,8 @@ use Rattle.hall_core.specs.OpenSlots.{KeepFor}
 use Rattle.hall_core.specs.Hall.{HallView, StandsFor, settings_in, words_in}
 
 pub opened : (hall : HallView) (history : List Command) → IsIssuer hall.issuer → hall.issuer.stands history
-    → length hall.environments ≡ hall.issuer.settings.environments → HoldFor hall.environments [] → ((w : Words) → KeepFor w hall.slots [])
-    → hall.stops ≡ false → StandsFor hall (opening history)
+    → length hall.environments ≡ hall.issuer.settings.environments → HoldFor hall.wanted hall.environments [] → ((w : Words) → KeepFor w hall.slots [])
+    → hall.stops ≡ false → StandsFor hall (opening hall.wanted history)
 opened hall history laws stands count hold keep stops = record {
   history = stands;
   environments = record {
@@ -19,8 +19,9 @@ opened hall history laws stands count hold keep stops = record {
     table_is = (laws.each history stands).table_is;
     count = count;
     hold = hold;
-    kept = kept_at_opening (settings_in hall) history (laws.each history stands).legal;
+    kept = kept_at_opening (settings_in hall) hall.wanted history (laws.each history stands).legal;
   };
+  waits = refl;
   slots = keep (words_in hall);
   stopping = stops;
 }

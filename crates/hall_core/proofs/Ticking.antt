@@ -103,10 +103,10 @@ pub ticked : (old new : HallView) (past : Past) (now : ℕ) (effect : Effect) (p
     → PlansTick (state_in old.issuer) old.environments old.stops now effect
     → IsPreparedFor old.dialect (state_in old.issuer) old.environments effect p → new.dialect ≡ old.dialect
     → Continues old.issuer new.issuer p.command → IsAnswered old.issuer p.command issued
-    → length new.environments ≡ length old.environments → Leads old.environments p.changes new.environments
+    → length new.environments ≡ length old.environments → Leads old.environments p.changes new.environments → new.wanted ≡ old.wanted
     → KeepTick old.slots new.slots p (issued_in new.issuer) → new.stops ≡ old.stops
     → (issued ≡ issued_by (settings_in old) past (tick now)) × StandsFor new (past_after (settings_in old) past (tick now))
-ticked old new past now effect p issued before after stands fit passes plans prepared talks continues answered count leads keeps stopping =
+ticked old new past now effect p issued before after stands fit passes plans prepared talks continues answered count leads wanted keeps stopping =
     let s = settings_in old in
     let w = words_in old in
     let is : effect ≡ effect_of s past (tick now) = plans past stands.environments stands.stopping ∙ tick_effect_is s past now in
@@ -125,7 +125,7 @@ ticked old new past now effect p issued before after stands fit passes plans pre
     ∙ list_any-append asks_stop past.slots (replied_at (length (past.history ++ option_list effect.command)) told)
     ∙ ap (λ b. is_stopping past || b) (none_asks (length (past.history ++ option_list effect.command)) told) ∙ or_false (is_stopping past)) in (
       answered ∙ told_with (issued_in old.issuer) (length past.history) p.command (command_of s past (tick now)) ((before.each past.history stands.history).issued_is) (prepared.command ∙ same_command),
-      stands_after old new past (tick now) effect stands is unrefused after continues.settings talks history count (leads effect.made prepared.leads past.made stands.environments.hold) keep stops_so,
+      stands_after old new past (tick now) effect stands is unrefused after continues.settings talks history count (leads effect.made prepared.leads past.wanted past.made stands.environments.hold) wanted keep stops_so,
     )
 
 -- ## A tick that has no command
@@ -188,6 +188,7 @@ idle old past now effect laws stands fit passes plans quiet =
           (rw (append-nil past.history) stands.history)
           refl
           (rw (append-nil past.made) stands.environments.hold)
+          refl
           (rw (append-nil past.slots) stands.slots)
           (stands.stopping ∙ sym (ap (list_any asks_stop) (append-nil past.slots))),
     )
@@ -229,28 +230,29 @@ forget_does_nothing s past slot = refl
 
 one_event_more : (old new : HallView) (past : Past) (call : HallCall) (event : SlotEvent)
     → StandsFor old past → nothing ≡ effect_of (settings_in old) past call → IsUnrefused (settings_in old) past call → IsIssuer new.issuer
-    → new.issuer ≡ old.issuer → new.environments ≡ old.environments → new.stops ≡ old.stops → new.dialect ≡ old.dialect
+    → new.issuer ≡ old.issuer → new.environments ≡ old.environments → new.wanted ≡ old.wanted → new.stops ≡ old.stops → new.dialect ≡ old.dialect
     → slot_events past call nothing (length (past.history ++ [])) ≡ event ∷ [] → asks_stop event ≡ false
     → KeepFor (words_in old) new.slots (past.slots ++ event ∷ []) → StandsFor new (past_after (settings_in old) past call)
-one_event_more old new past call event stands is unrefused laws issuer environments stops talks events asks keep =
+one_event_more old new past call event stands is unrefused laws issuer environments wanted stops talks events asks keep =
     stands_after old new past call nothing stands is unrefused laws (ap (λ i. i.settings) issuer) talks
     (rw (issuer, append-nil past.history) stands.history)
     (ap length environments)
     (rw (environments, append-nil past.made) stands.environments.hold)
+    wanted
     (rw events keep)
     (stops ∙ stands.stopping ∙ sym (ap (λ l. list_any asks_stop (past.slots ++ l)) events ∙ list_any-append asks_stop past.slots (event ∷ []) ∙ ap (λ b. is_stopping past || (b || false)) asks ∙ or_false (is_stopping past)))
 
 pub taken_from : (old new : HallView) (past : Past) (slot : ℕ) → StandsFor old past → IsIssuer new.issuer
-    → new.issuer ≡ old.issuer → new.environments ≡ old.environments → new.stops ≡ old.stops → new.dialect ≡ old.dialect
+    → new.issuer ≡ old.issuer → new.environments ≡ old.environments → new.wanted ≡ old.wanted → new.stops ≡ old.stops → new.dialect ≡ old.dialect
     → KeepFor (words_in old) new.slots (past.slots ++ taken slot ∷ []) → StandsFor new (past_after (settings_in old) past (take_slot slot))
-taken_from old new past slot stands laws issuer environments stops talks keep =
-    one_event_more old new past (take_slot slot) (taken slot) stands (take_does_nothing (settings_in old) past slot) (take_is_unrefused (settings_in old) past slot) laws issuer environments stops talks refl refl keep
+taken_from old new past slot stands laws issuer environments wanted stops talks keep =
+    one_event_more old new past (take_slot slot) (taken slot) stands (take_does_nothing (settings_in old) past slot) (take_is_unrefused (settings_in old) past slot) laws issuer environments wanted stops talks refl refl keep
 
 pub forgotten_in : (old new : HallView) (past : Past) (slot : ℕ) → StandsFor old past → IsIssuer new.issuer
-    → new.issuer ≡ old.issuer → new.environments ≡ old.environments → new.stops ≡ old.stops → new.dialect ≡ old.dialect
+    → new.issuer ≡ old.issuer → new.environments ≡ old.environments → new.wanted ≡ old.wanted → new.stops ≡ old.stops → new.dialect ≡ old.dialect
     → KeepFor (words_in old) new.slots (past.slots ++ forgotten slot ∷ []) → StandsFor new (past_after (settings_in old) past (forget_slot slot))
-forgotten_in old new past slot stands laws issuer environments stops talks keep =
-    one_event_more old new past (forget_slot slot) (forgotten slot) stands (forget_does_nothing (settings_in old) past slot) (forget_is_unrefused (settings_in old) past slot) laws issuer environments stops talks refl refl keep
+forgotten_in old new past slot stands laws issuer environments wanted stops talks keep =
+    one_event_more old new past (forget_slot slot) (forgotten slot) stands (forget_does_nothing (settings_in old) past slot) (forget_is_unrefused (settings_in old) past slot) laws issuer environments wanted stops talks refl refl keep
 
 -- ## What a take gives
 

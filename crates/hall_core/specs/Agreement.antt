@@ -49,7 +49,7 @@ IsRun s past (call ∷ run) = IsUnrefused s past call × IsRun s (past_after s p
 -- the history is legal, and in each environment the calls were accepted and what runs there runs by the history too
 pub record IsSound (s : Settings) (past : Past) : Type 0 where
   pub legal : IsLegal s past.history
-  pub accepted : (environment : ℕ) → IsAccepted (calls_of past environment)
+  pub accepted : (environment : ℕ) → IsAccepted past.wanted (calls_of past environment)
   pub runs : (environment : ℕ) (id : List ℕ) → running (calls_of past environment) ≡ Some id
       → IsTrue (runs_in environment (standing_in s past.history id))
 
@@ -66,19 +66,19 @@ pub record RunsThere (s : Settings) (h : List Command) (environment : ℕ) (call
   pub stands : standing_in s h id ≡ standing.Running environment deadline
   pub one : IsOne s environment
 
--- an environment accepted these calls, and what it runs runs there by the history
-pub record Agrees (s : Settings) (h : List Command) (environment : ℕ) (calls : List EnvCall) : Type 0 where
-  pub accepted : IsAccepted calls
+-- an environment that waits for so many extensions accepted these calls, and what it runs runs there by the history
+pub record Agrees (s : Settings) (wanted : ℕ) (h : List Command) (environment : ℕ) (calls : List EnvCall) : Type 0 where
+  pub accepted : IsAccepted wanted calls
   pub runs : (id : List ℕ) → running calls ≡ Some id → RunsThere s h environment calls id
 
 -- the history is legal, and each environment agrees with it
-pub record AllAgree (s : Settings) (h : List Command) (calls : ℕ → List EnvCall) : Type 0 where
+pub record AllAgree (s : Settings) (wanted : ℕ) (h : List Command) (calls : ℕ → List EnvCall) : Type 0 where
   pub legal : IsLegal s h
-  pub each : (environment : ℕ) → Agrees s h environment (calls environment)
+  pub each : (environment : ℕ) → Agrees s wanted h environment (calls environment)
 
 -- what every call keeps: all environments agree with the history, and until the stop none of them is shut down
 pub record IsKept (s : Settings) (past : Past) : Type 0 where
-  pub all : AllAgree s past.history (calls_of past)
+  pub all : AllAgree s past.wanted past.history (calls_of past)
   pub unshut : is_stopping past ≡ false → (environment : ℕ) → list_any is_shutdown (calls_of past environment) ≡ false
 
 -- ## What interrupts are for
@@ -94,9 +94,10 @@ abbrev pub legal_after : Settings → List Command → List Command → Bool
 legal_after s before [] = true
 legal_after s before (c ∷ later) = is_none (refusal_of s before c) && legal_after s (before ++ c ∷ []) later
 
-abbrev pub accepted_after : List EnvCall → List EnvCall → Bool
-accepted_after before [] = true
-accepted_after before (call ∷ later) = is_none (env_refusal_of before call) && accepted_after (before ++ call ∷ []) later
+abbrev pub accepted_after : ℕ → List EnvCall → List EnvCall → Bool
+accepted_after wanted before [] = true
+accepted_after wanted before (call ∷ later) =
+    is_none (env_refusal_of wanted before call) && accepted_after wanted (before ++ call ∷ []) later
 
 abbrev pub runs_if_any : Settings → List Command → ℕ → Option (List ℕ) → Bool
 runs_if_any s history environment None = true
@@ -104,7 +105,8 @@ runs_if_any s history environment (Some id) = runs_in environment (standing_in s
 
 abbrev pub agrees : Settings → Past → ℕ → Bool
 agrees s past environment =
-    accepted_after [] (calls_of past environment) && runs_if_any s past.history environment (running (calls_of past environment))
+    accepted_after past.wanted [] (calls_of past environment)
+    && runs_if_any s past.history environment (running (calls_of past environment))
 
 abbrev pub is_sound : Settings → Past → Bool
 is_sound s past = legal_after s [] past.history && list_all (agrees s past) (environments s)

@@ -19,16 +19,16 @@ IsWithin envs (changes.One env) = IsNumberIn envs env.number
 IsWithin envs (changes.All ended) = length ended ≡ length envs
 
 -- this environment stands for one call more, and that is the only one
-pub record IsOneMore (env : EnvState) (before more : List (ℕ × EnvCall)) : Type 0 where
+pub record IsOneMore (wanted : ℕ) (env : EnvState) (before more : List (ℕ × EnvCall)) : Type 0 where
   pub call : EnvCall
   pub only : more ≡ (env.number, call) ∷ []
-  pub stands : StandsForMore env before call
+  pub stands : StandsForMore wanted env before call
 
 -- whatever calls the environments hold for, by the change they hold for these too
 abbrev pub LeadsTo : List EnvState → Changes → List (ℕ × EnvCall) → Type 0
 LeadsTo envs changes.Nothing more = more ≡ []
-LeadsTo envs (changes.One env) more = ForEachMade envs (λ before. IsOneMore env before more)
-LeadsTo envs (changes.All ended) more = ForEachMade envs (λ before. HoldFor ended (before ++ more))
+LeadsTo envs (changes.One env) more = ForEachMade envs (λ wanted before. IsOneMore wanted env before more)
+LeadsTo envs (changes.All ended) more = ForEachMade envs (λ wanted before. HoldFor wanted ended (before ++ more))
 
 -- the polls that these calls answer, each after those that were made before
 abbrev pub answered_to : List (ℕ × EnvCall) → List (ℕ × EnvCall) → List (ℕ × PollAnswer)
@@ -36,20 +36,21 @@ answered_to before more = flat_map (λ (m : ℕ × EnvCall). answered_by (calls_
 
 -- by the change the environments hold for whichever calls it leads to
 abbrev pub Leads : List EnvState → Changes → List EnvState → Type 0
-Leads old change new = (more : List (ℕ × EnvCall)) → LeadsTo old change more → ForEachMade old (λ before. HoldFor new (before ++ more))
+Leads old change new =
+    (more : List (ℕ × EnvCall)) → LeadsTo old change more → ForEachMade old (λ wanted before. HoldFor wanted new (before ++ more))
 
 -- ## What is not called
 
 -- this environment refuses the call after these, and that is the only one
-pub record IsOneRefused (before more : List (ℕ × EnvCall)) : Type 0 where
+pub record IsOneRefused (wanted : ℕ) (before more : List (ℕ × EnvCall)) : Type 0 where
   pub environment : ℕ
   pub call : EnvCall
   pub why : Refusal
   pub only : more ≡ (environment, call) ∷ []
-  pub refused : refusal_of (calls_in environment before) call ≡ Some why
+  pub refused : refusal_of wanted (calls_in environment before) call ≡ Some why
 
 -- why these calls are not made: for want of memory, or where the environment refuses the one that it is
 abbrev pub IsUncalled : List EnvState → List (ℕ × EnvCall) → HallError → Type 0
 IsUncalled envs more error.OutOfMemory = Unit {0}
-IsUncalled envs more error.NoHistory = ForEachMade envs (λ before. IsOneRefused before more)
+IsUncalled envs more error.NoHistory = ForEachMade envs (λ wanted before. IsOneRefused wanted before more)
 IsUncalled envs more other = ⊥

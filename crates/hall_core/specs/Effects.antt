@@ -123,7 +123,7 @@ where_accepted (Some why) effect = refuses (refusal_by why)
 -- this call of the environment, with this command and reply, where the environment accepts it
 abbrev pub requests : Scene → ℕ → EnvCall → Option Command → Option Told → Effect
 requests x environment call command answered =
-    where_accepted (env_refusal_of (calls_of x.past environment) call)
+    where_accepted (env_refusal_of x.past.wanted (calls_of x.past environment) call)
     (record { command = command; made = (environment, call) ∷ []; reply = answered })
 
 -- the attempt's time is over

@@ -89,10 +89,10 @@ stops slot now = asks slot now 0 calls.StopBroker
 -- ## What a run of a new hall makes
 
 abbrev pub done : List HallCall → Past
-done run = past_of usual [] run
+done run = past_of usual 0 [] run
 
 abbrev pub makes : List HallCall → List Command
-makes run = history_of usual [] run
+makes run = history_of usual 0 [] run
 
 abbrev pub reply_in : List HallCall → ℕ → Option Reply
 reply_in run slot = reply_of (done run) slot
@@ -151,7 +151,7 @@ abbrev pub one_fails : List HallCall
 one_fails = one_runs t ++ reports 3 t 1 braces ∷ []
 
 abbrev pub once_failed : List HallCall → Past
-once_failed later = past_of no_retries [] (one_fails ++ later)
+once_failed later = past_of no_retries 0 [] (one_fails ++ later)
 
 -- answers of at most 2 bytes
 abbrev pub short_answers : Settings
@@ -160,6 +160,18 @@ short_answers = record usual { response = 2 }
 -- event 1 comes, and the runtime asks
 abbrev pub comes_and_waits : List HallCall
 comes_and_waits = invokes 1 1000 1 ∷ runtime_asks 2 1000 ∷ []
+
+-- and then an extension registers
+abbrev pub one_registers : List HallCall
+one_registers = comes_and_waits ++ asks 3 1000 21 (calls.Register 1 [] true false) ∷ []
+
+-- and asks
+abbrev pub one_has_asked : List HallCall
+one_has_asked = one_registers ++ asks 4 1000 0 (calls.ExtensionNext 1 (id 21)) ∷ []
+
+-- what a hall has done whose environments wait for an extension
+abbrev pub awaits : List HallCall → Past
+awaits run = past_of usual 1 [] run
 
 -- the runtime asks, after a stop that cut an attempt off
 abbrev pub asked_and_ticked : List HallCall
@@ -183,7 +195,7 @@ abbrev pub anew_and_asked : List HallCall
 anew_and_asked = first_comes_again ++ runtime_asks 8 t ∷ []
 
 abbrev pub for_two : List HallCall → Past
-for_two run = past_of for_two_events [] run
+for_two run = past_of for_two_events 0 [] run
 
 -- one attempt at a time, which may take a quarter of an hour, and events that expire after a minute
 abbrev pub one_at_a_time : Settings
@@ -194,7 +206,7 @@ start_of_two = accept 2 t ∷ start 2 t ∷ accept 1 t ∷ []
 
 -- event 2 ran when the broker stopped
 abbrev pub after_a_stop : Past
-after_a_stop = past_of one_at_a_time start_of_two (runtime_asks 1 t ∷ tick t ∷ tick (t + 1) ∷ [])
+after_a_stop = past_of one_at_a_time 0 start_of_two (runtime_asks 1 t ∷ tick t ∷ tick (t + 1) ∷ [])
 
 -- event 2 runs, and event 1 is pushed back until it expires. A tick between these moments does nothing
 abbrev pub throttled_run : List HallCall
@@ -261,4 +273,4 @@ poll_and_second = invokes 1 t 1 ∷ take_slot 1 ∷ runtime_asks 2 t ∷ invokes
 
 -- 256 commands, of which no event is held
 abbrev pub many : Past
-many = opening (replicate 256 (does Interrupt 9 t))
+many = opening 0 (replicate 256 (does Interrupt 9 t))

@@ -10,6 +10,6 @@ use Rattle.hall_core.specs.OpenSlots.{KeepFor}
 -- nothing has come to a hall with these settings: by its parts, whatever history its table is of
 pub record IsFresh {I : Type 0} {g : Ghosts I} (s : Settings) (hall : Hall I g) : Type 0 where
   pub count : length hall.environments ≡ s.environments
-  pub hold : HoldFor hall.environments []
+  pub hold : HoldFor hall.wanted hall.environments []
   pub slots : (w : Words) → KeepFor w hall.slots []
   pub stops : hall.stops ≡ false

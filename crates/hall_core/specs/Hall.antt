@@ -31,6 +31,8 @@ use Rattle.hall_core.specs.OpenSlots.{Entries, KeepFor, has_open, open_count}
 pub record HallView : Type 1 where
   pub issuer : IssuerView
   pub environments : List EnvState
+  -- for how many extensions each of them waits
+  pub wanted : ℕ
   -- what is kept of slots
   pub slots : Entries
   -- in which words replies are told
@@ -42,6 +44,7 @@ abbrev pub view_of : {I : Type 0} {g : Ghosts I} → (I → IssuerView) → Hall
 view_of view hall = record {
   issuer = view hall.issuer;
   environments = hall.environments;
+  wanted = hall.wanted;
   slots = hall.slots;
   dialect = hall.dialect;
   stops = hall.stops;
@@ -72,6 +75,7 @@ open_slot_count hall = open_count hall.issuer.broken hall.slots
 pub record StandsFor (hall : HallView) (past : Past) : Type 0 where
   pub history : hall.issuer.stands past.history
   pub environments : Meets (state_in hall.issuer) hall.environments past
+  pub waits : hall.wanted ≡ past.wanted
   pub slots : KeepFor (words_in hall) hall.slots past.slots
   pub stopping : hall.stops ≡ is_stopping past
 
@@ -123,6 +127,7 @@ Refuses hall call why =
 pub record IsSameHall (old new : HallView) : Type 0 where
   pub issuer : IsSameIssuer old.issuer new.issuer
   pub environments : new.environments ≡ old.environments
+  pub wanted : new.wanted ≡ old.wanted
   pub slots : (events : List SlotEvent) → KeepFor (words_in old) old.slots events → KeepFor (words_in old) new.slots events
   pub dialect : new.dialect ≡ old.dialect
   pub stops : new.stops ≡ old.stops

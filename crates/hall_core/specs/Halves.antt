@@ -16,9 +16,11 @@ use Rattle.hall_core.specs.declared.error.HallError.TheVariants as error
 use Rattle.hall_core.specs.OpenSlots.{KeepFor}
 use Rattle.hall_core.specs.Hall.{HallView, ForEachPast, words_in}
 
--- two halls with the same environments, slots and dialect, of which both or none was asked to stop
+-- two halls with the same environments, slots and dialect, which wait for as many extensions, and of which both or none was
+-- asked to stop
 pub record HasSameParts (old new : HallView) : Type 0 where
   pub environments : new.environments ≡ old.environments
+  pub wanted : new.wanted ≡ old.wanted
   pub slots : new.slots ≡ old.slots
   pub dialect : new.dialect ≡ old.dialect
   pub stops : new.stops ≡ old.stops

@@ -28,16 +28,17 @@ pub data SlotEvent : Type 0 where
   taken : (slot : ℕ) → SlotEvent
   forgotten : (slot : ℕ) → SlotEvent
 
--- three lists, the oldest first, to which each call appends: all commands, the calls of environments by their numbers,
--- and what became of slots
+-- for how many extensions each environment waits, which every call keeps, and three lists, the oldest first, to which each
+-- call appends: all commands, the calls of environments by their numbers, and what became of slots
 pub record Past : Type 0 where
+  pub wanted : ℕ
   pub history : List Command
   pub made : List (ℕ × EnvCall)
   pub slots : List SlotEvent
 
--- a hall that was opened on a history, before its first call
-abbrev pub opening : List Command → Past
-opening history = record { history = history; made = []; slots = [] }
+-- a hall that was opened on a history, before its first call, whose environments wait for so many extensions
+abbrev pub opening : ℕ → List Command → Past
+opening wanted history = record { wanted = wanted; history = history; made = []; slots = [] }
 
 -- ## Environments
 
@@ -59,7 +60,7 @@ holder s past id = find (λ environment. runs (calls_of past environment) id) (e
 
 -- the least-numbered environment that is ready
 abbrev pub ready_in : Settings → Past → Option ℕ
-ready_in s past = find (λ environment. is_ready (calls_of past environment)) (environments s)
+ready_in s past = find (λ environment. is_ready past.wanted (calls_of past environment)) (environments s)
 
 -- ## Stopping and time
 

@@ -61,7 +61,7 @@ pub record Meets (table : State) (environments : List EnvState) (past : Past) : 
   pub good : bad_field table.settings ≡ None
   pub table_is : table.table ≡ table_of table.settings past.history
   pub count : length environments ≡ table.settings.environments
-  pub hold : HoldFor environments past.made
+  pub hold : HoldFor past.wanted environments past.made
   pub kept : IsKept table.settings past
 
 -- a call that comes so now, and after this past, meets this

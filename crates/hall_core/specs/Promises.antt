@@ -28,8 +28,8 @@ abbrev pub AreMade : Settings → Past → List HallCall → Type 0
 AreMade s past run = IsKept s past × IsRun s past run
 
 -- a run that begins on a legal history
-abbrev pub IsRunFrom : Settings → List Command → List HallCall → Type 0
-IsRunFrom s opened run = IsLegal s opened × IsRun s (opening opened) run
+abbrev pub IsRunFrom : Settings → ℕ → List Command → List HallCall → Type 0
+IsRunFrom s wanted opened run = IsLegal s opened × IsRun s (opening wanted opened) run
 
 -- ## Moves
 
@@ -90,13 +90,13 @@ CommandIsLegal s past call = (c : Command) → command_of s past call ≡ Some c
 abbrev pub CallIsAccepted : Settings → Past → HallCall → Type 0
 CallIsAccepted s past call =
     (environment : ℕ) (c : EnvCall) → (effect_of s past call).made ≡ (environment, c) ∷ []
-    → env_refusal_of (calls_of past environment) c ≡ None
+    → env_refusal_of past.wanted (calls_of past environment) c ≡ None
 
 -- ## Interrupts
 
 -- there is nothing to interrupt in environments that agree with the history
 abbrev pub NoneUnheld : Settings → Past → Type 0
-NoneUnheld s past = AllAgree s past.history (calls_of past) × (first_unheld s past ≡ None)
+NoneUnheld s past = AllAgree s past.wanted past.history (calls_of past) × (first_unheld s past ≡ None)
 
 -- a tick interrupts the first event that no environment holds, if there is one
 abbrev pub InterruptsFirst : Settings → Past → ℕ → Type 0

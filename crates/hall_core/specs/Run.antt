@@ -68,6 +68,7 @@ slot_events past call effect point =
 -- what was done after a call with this effect: the point of its replies is the length of the history after it
 abbrev pub past_by : Past → HallCall → Effect → Past
 past_by past call effect = record {
+  wanted = past.wanted;
   history = past.history ++ option_list effect.command;
   made = past.made ++ effect.made;
   slots = past.slots ++ slot_events past call effect (length (past.history ++ option_list effect.command));
@@ -95,10 +96,10 @@ abbrev pub after : Settings → Past → List HallCall → Past
 after s past [] = past
 after s past (call ∷ run) = after s (past_after s past call) run
 
--- what a hall has done that was opened on this history and made this run
-abbrev pub past_of : Settings → List Command → List HallCall → Past
-past_of s opened run = after s (opening opened) run
+-- what a hall has done that was opened on this history and made this run, and whose environments wait for so many extensions
+abbrev pub past_of : Settings → ℕ → List Command → List HallCall → Past
+past_of s wanted opened run = after s (opening wanted opened) run
 
 -- the history after a run
-abbrev pub history_of : Settings → List Command → List HallCall → List Command
-history_of s opened run = (past_of s opened run).history
+abbrev pub history_of : Settings → ℕ → List Command → List HallCall → List Command
+history_of s wanted opened run = (past_of s wanted opened run).history

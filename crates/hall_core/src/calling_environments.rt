@@ -18,7 +18,7 @@ impl Environments {
         requires { AreCallable self.now (Made.One environment call) }
         ensures within { IfOk result (λ made. IsWithin self.now made.0) }
         ensures leads { IfOk result (λ made. LeadsTo self.now made.0 (calls_made (Made.One environment call))) }
-        ensures answers { IfOk result (λ made. ForEachMade self.now (λ before.
+        ensures answers { IfOk result (λ made. ForEachMade self.now (λ wanted before.
             made.1.items ≡ answered_to before (calls_made (Made.One environment call)))) }
         ensures refused { IfErr result (IsUncalled self.now (calls_made (Made.One environment call))) }
     {
@@ -34,7 +34,7 @@ impl Environments {
         requires { AreCallable self.now (Made.ShutdownAll count now) }
         ensures within { IfOk result (λ made. IsWithin self.now made.0) }
         ensures leads { IfOk result (λ made. LeadsTo self.now made.0 (calls_made (Made.ShutdownAll count now))) }
-        ensures answers { IfOk result (λ made. ForEachMade self.now (λ before.
+        ensures answers { IfOk result (λ made. ForEachMade self.now (λ wanted before.
             made.1.items ≡ answered_to before (calls_made (Made.ShutdownAll count now)))) }
     {
         let (ended, answers) = self.shut_down(now)?;
@@ -48,7 +48,7 @@ impl Environments {
         requires { AreCallable self.now made }
         ensures within { IfOk result (λ done. IsWithin self.now done.0) }
         ensures leads { IfOk result (λ done. LeadsTo self.now done.0 (calls_made made)) }
-        ensures answers { IfOk result (λ done. ForEachMade self.now (λ before. done.1.items ≡ answered_to before (calls_made made))) }
+        ensures answers { IfOk result (λ done. ForEachMade self.now (λ wanted before. done.1.items ≡ answered_to before (calls_made made))) }
         ensures refused { IfErr result (IsUncalled self.now (calls_made made)) }
     {
         match made {

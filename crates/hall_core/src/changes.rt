@@ -23,7 +23,7 @@ impl Environments {
         requires { IsWithin self.old changes }
         ensures length { length self.new ≡ length self.old }
         ensures hold { (more : List (ℕ × EnvCall)) → LeadsTo self.old changes more
-            → ForEachMade self.old (λ made. HoldFor self.new (made ++ more)) }
+            → ForEachMade self.old (λ wanted made. HoldFor wanted self.new (made ++ more)) }
     {
         match changes {
             Changes::Nothing => {}

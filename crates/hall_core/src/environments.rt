@@ -62,14 +62,14 @@ impl Environments {
     ghost use Rattle.hall_core.specs.Past.{calls_in};
     ghost use Rattle.hall_core.specs.Environments.{numbers, IsNumberIn, HoldFor, ForEachMade, ForCallsOf, IsPut, AreShutDown, AreAnsweredAtEnd};
 
-    /// So many environments, in which nobody has asked for anything.
-    pub fn new(alloc: Global, count: u8) -> Result<Environments, AllocError>
+    /// So many environments, in which nobody has asked for anything, and of which each waits for so many extensions.
+    pub fn new(alloc: Global, count: u8, extensions: u8) -> Result<Environments, AllocError>
         ensures length { IfOk result (λ made. length made ≡ count) }
-        ensures hold { IfOk result (λ made. HoldFor made []) }
+        ensures hold { IfOk result (λ made. HoldFor extensions made []) }
     {
         let mut list = Vec::with_capacity(alloc, usize::from(count))?;
         for place in 0..u16::from(count) {
-            list.push(Env::new(alloc, place + 1))?;
+            list.push(Env::waiting_for(alloc, place + 1, extensions))?;
         }
         Ok(Environments { alloc, list })
     }
@@ -84,7 +84,7 @@ impl Environments {
     /// The least-numbered environment that can be given an event.
     pub fn ready(&self) -> Option<u16>
         ensures in_range { IfSome result (λ number. IsNumberIn self.now number) }
-        ensures first { ForEachMade self.now (λ made. result ≡ find (λ n. is_ready (calls_in n made)) (numbers self.now)) }
+        ensures first { ForEachMade self.now (λ wanted made. result ≡ find (λ n. is_ready wanted (calls_in n made)) (numbers self.now)) }
     {
         for env in &self.list {
             if env.ready() {
@@ -97,7 +97,7 @@ impl Environments {
     /// The environment in which the event runs.
     pub fn holder(&self, id: &[u8; 16]) -> Option<u16>
         ensures in_range { IfSome result (λ number. IsNumberIn self.now number) }
-        ensures first { ForEachMade self.now (λ made. result ≡ find (λ n. runs (calls_in n made) id.now) (numbers self.now)) }
+        ensures first { ForEachMade self.now (λ wanted made. result ≡ find (λ n. runs (calls_in n made) id.now) (numbers self.now)) }
     {
         for env in &self.list {
             if runs_in(env, id) {
@@ -133,7 +133,7 @@ impl Environments {
     /// The event that runs in the environment of this number.
     pub fn running(&self, number: u16) -> Option<[u8; 16]>
         requires { IsNumberIn self.now number }
-        ensures { ForCallsOf self.now number (λ calls. result ≡ running calls) }
+        ensures { ForCallsOf self.now number (λ wanted calls. result ≡ running calls) }
     {
         self.env(number).running()
     }
@@ -141,7 +141,7 @@ impl Environments {
     /// Why the environment of this number refuses the call now, if it does. It takes no memory.
     pub fn judge(&self, number: u16, call: EnvCall) -> Option<Refusal>
         requires { IsNumberIn self.now number }
-        ensures { ForCallsOf self.now number (λ calls. result ≡ refusal_of calls call) }
+        ensures { ForCallsOf self.now number (λ wanted calls. result ≡ refusal_of wanted calls call) }
     {
         self.env(number).judge(call)
     }
@@ -153,8 +153,9 @@ impl Environments {
         requires in_range { IsNumberIn self.now number }
         requires moment { IsMoment (moment_by call) }
         ensures number { IfOk result (λ called. called.0.number ≡ number) }
-        ensures ok { IfOk result (λ called. ForCallsOf self.now number (λ calls. IsAccepted calls call called.0 called.1.items)) }
-        ensures refused { IfErr result (λ why. ForCallsOf self.now number (λ calls. IsRefused calls call why)) }
+        ensures wanted { IfOk result (λ called. ForCallsOf self.now number (λ wanted calls. called.0.wanted ≡ wanted)) }
+        ensures ok { IfOk result (λ called. ForCallsOf self.now number (λ wanted calls. IsAccepted calls call called.0 called.1.items)) }
+        ensures refused { IfErr result (λ why. ForCallsOf self.now number (λ wanted calls. IsRefused wanted calls call why)) }
     {
         let env = self.env(number);
         if let Some(why) = env.judge(call) {

@@ -29,6 +29,7 @@ ghost use Rattle.hall_core.specs.Examples.{many};
 ghost use Rattle.hall_core.specs.Examples.{one_at_a_time, start_of_two, after_a_stop, throttled_run, due_before_first};
 ghost use Rattle.hall_core.specs.Examples.{second_answered};
 ghost use Rattle.hall_core.specs.Examples.{two_environments, second_then_first, short_answers};
+ghost use Rattle.hall_core.specs.Examples.{one_registers, one_has_asked, awaits};
 
 use crate::HallError;
 use api_core::{Refusal, ShutdownReason};
@@ -42,15 +43,26 @@ pub fn commands()
     ensures nobody_ready { makes (invokes 1 t 1 ∷ tick t ∷ []) ≡ accept 1 t ∷ [] }
     ensures not_earlier { makes (invokes 1 t 1 ∷ invokes 2 (t - 5) 2 ∷ []) ≡ accept 1 t ∷ accept 2 t ∷ [] }
     ensures drawn_again { reply_in (invokes 1 t 1 ∷ invokes 2 t 1 ∷ []) 2 ≡ caller_refused_at Refusal.IdInUse 1 }
-    ensures cut_off { history_of usual started asked_and_ticked ≡ cut_off_once }
-    ensures only_once { history_of usual started (asked_and_ticked ++ tick 5999 ∷ []) ≡ cut_off_once }
-    ensures started_again { history_of usual started (asked_and_ticked ++ tick 6000 ∷ []) ≡ cut_off_once ++ start 1 6000 ∷ [] }
+    ensures cut_off { history_of usual 0 started asked_and_ticked ≡ cut_off_once }
+    ensures only_once { history_of usual 0 started (asked_and_ticked ++ tick 5999 ∷ []) ≡ cut_off_once }
+    ensures started_again { history_of usual 0 started (asked_and_ticked ++ tick 6000 ∷ []) ≡ cut_off_once ++ start 1 6000 ∷ [] }
     ensures cut_off_then_the_next { after_a_stop.history ≡ start_of_two ++ does Kind.Interrupt 2 t ∷ start 1 (t + 1) ∷ [] }
-    ensures throttled { history_of one_at_a_time [] throttled_run ≡ throttled_history }
+    ensures throttled { history_of one_at_a_time 0 [] throttled_run ≡ throttled_history }
     ensures earliest_due { command_of usual (done due_before_first) (tick (t + 60000)) ≡ Some (start 2 (t + 60000)) }
     ensures then_the_older { command_of usual (done second_answered) (tick (t + 60000)) ≡ Some (start 1 (t + 60000)) }
-    ensures least_environment { command_of two_environments (past_of two_environments [] second_then_first) (tick t) ≡ Some (start 1 t) }
-    ensures expired { history_of for_one_minute [] (comes_and_waits ++ tick 61000 ∷ []) ≡ accept 1 1000 ∷ does Kind.Expire 1 61000 ∷ [] }
+    ensures least_environment { command_of two_environments (past_of two_environments 0 [] second_then_first) (tick t) ≡ Some (start 1 t) }
+    ensures expired { history_of for_one_minute 0 [] (comes_and_waits ++ tick 61000 ∷ []) ≡ accept 1 1000 ∷ does Kind.Expire 1 61000 ∷ [] }
+{}
+
+/// An environment that waits for an extension is given no event before that has asked.
+pub fn extensions_that_are_waited_for()
+    ensures for_none { command_of usual (done comes_and_waits) (tick 1000) ≡ Some (start 1 1000) }
+    ensures closed { reply_in one_registers 3 ≡ refused_at Refusal.RegistrationClosed 1 }
+    ensures not_yet { command_of usual (awaits comes_and_waits) (tick 1000) ≡ None }
+    ensures open { reply_of (awaits one_registers) 3 ≡ registered_at 21 1 }
+    ensures has_not_asked { command_of usual (awaits one_registers) (tick 1000) ≡ None }
+    ensures has_asked { command_of usual (awaits one_has_asked) (tick 1000) ≡ Some (start 1 1000) }
+    ensures sound { is_sound usual (awaits (one_has_asked ++ tick 1000 ∷ [])) ≡ true }
 {}
 
 /// Requests of extensions that are refused, and polls that are replaced while the environment is in init.
@@ -71,11 +83,11 @@ pub fn attempts()
     ensures taken { reply_in (one_runs 1000 ++ responds 3 3999 1 braces ∷ []) 3 ≡ taken_at 3 }
     ensures late { makes (one_runs 1000 ++ responds 3 4000 1 braces ∷ []) ≡ timed_out 1000 4000 }
     ensures late_reply { reply_in (one_runs 1000 ++ responds 3 4000 1 braces ∷ []) 3 ≡ refused_at Refusal.InvalidRequestId 3 }
-    ensures reset { phase_of (calls_of (done (one_runs 1000 ++ responds 3 4000 1 braces ∷ [])) 1) ≡ init }
+    ensures reset { phase_of 0 (calls_of (done (one_runs 1000 ++ responds 3 4000 1 braces ∷ [])) 1) ≡ init }
     ensures late_error { makes (one_runs 1000 ++ reports 3 4000 1 braces ∷ []) ≡ timed_out 1000 4000 }
     ensures not_over { makes (one_runs 1000 ++ tick 3999 ∷ []) ≡ started }
     ensures timed_out { makes (one_runs 1000 ++ tick 4000 ∷ []) ≡ timed_out 1000 4000 }
-    ensures reset_by_tick { phase_of (calls_of (done (one_runs 1000 ++ tick 4000 ∷ [])) 1) ≡ init }
+    ensures reset_by_tick { phase_of 0 (calls_of (done (one_runs 1000 ++ tick 4000 ∷ [])) 1) ≡ init }
     ensures too_late { reply_in (one_runs 1000 ++ tick 4000 ∷ responds 3 4000 1 braces ∷ []) 3 ≡ refused_at Refusal.InvalidRequestId 3 }
     ensures no_command_then { makes (one_runs 1000 ++ tick 4000 ∷ responds 3 4000 1 braces ∷ []) ≡ timed_out 1000 4000 }
 {}
@@ -83,10 +95,10 @@ pub fn attempts()
 /// A full table, and an event that is accepted anew once it was collected.
 pub fn anew()
     ensures full { reply_of (for_two three_come) 3 ≡ caller_refused_at Refusal.TooManyEvents 2 }
-    ensures history { history_of for_two_events [] first_comes_again ≡ first_anew_history }
+    ensures history { history_of for_two_events 0 [] first_comes_again ≡ first_anew_history }
     ensures accepted { reply_of (for_two first_comes_again) 7 ≡ accepted_at 1 6 }
-    ensures waits { standing_in for_two_events (history_of for_two_events [] first_comes_again) (id 1) ≡ Standing.Waiting t }
-    ensures no_starts { starts (life (id 1) (history_of for_two_events [] first_comes_again)) ≡ 0 }
+    ensures waits { standing_in for_two_events (history_of for_two_events 0 [] first_comes_again) (id 1) ≡ Standing.Waiting t }
+    ensures no_starts { starts (life (id 1) (history_of for_two_events 0 [] first_comes_again)) ≡ 0 }
     ensures second_goes_first { command_of for_two_events (for_two anew_and_asked) (tick t) ≡ Some (start 2 t) }
 {}
 
@@ -108,7 +120,7 @@ pub fn faults()
 
 /// The outbox of failures.
 pub fn outbox()
-    ensures failed { history_of no_retries [] one_fails ≡ starts_at t ++ tells (Kind.Fail Cause.Reported) 1 t ∷ [] }
+    ensures failed { history_of no_retries 0 [] one_fails ≡ starts_at t ++ tells (Kind.Fail Cause.Reported) 1 t ∷ [] }
     ensures not_yet { released false 2 (once_failed (failure_asked 4 ∷ [])) 4 ≡ None }
     ensures told { released false 3 (once_failed (failure_asked 4 ∷ [])) 4 ≡ Some (first_failure, 3) }
     ensures told_again { released false 3 (once_failed (failure_asked 4 ∷ take_slot 4 ∷ failure_asked 5 ∷ [])) 5 ≡ Some (first_failure, 3) }
@@ -146,7 +158,7 @@ pub fn extensions()
     ensures exit_is_taken { reply_in (extensions_run ++ exits 7 t ∷ []) 7 ≡ taken_at 3 }
     ensures exit_fails { makes (extensions_run ++ exits 7 t ∷ []) ≡ starts_at t ++ does (Kind.Fail Cause.Exited) 1 t ∷ [] }
     ensures due_again { standing_in usual (makes (extensions_run ++ exits 7 t ∷ [])) (id 1) ≡ Standing.DueAgain (t + 60000) }
-    ensures in_init { phase_of (calls_of (done (extensions_run ++ exits 7 t ∷ [])) 1) ≡ init }
+    ensures in_init { phase_of 0 (calls_of (done (extensions_run ++ exits 7 t ∷ [])) 1) ≡ init }
     ensures told { reply_in (extensions_run ++ exits 7 t ∷ []) 4 ≡ ends_at ShutdownReason.Failure (t + 2000) 3 }
     ensures late_exit { makes (extensions_run ++ exits 7 (t + 3000) ∷ []) ≡ timed_out t (t + 3000) }
     ensures late_exit_is_a_failure { reply_in (extensions_run ++ exits 7 (t + 3000) ∷ []) 4 ≡ ends_at ShutdownReason.Failure (t + 5000) 3 }
@@ -192,9 +204,9 @@ pub fn soundness()
     ensures late_running { is_sound usual (done (one_runs 1000 ++ tick 4000 ∷ [])) ≡ true }
     ensures again { is_sound for_two_events (for_two (anew_and_asked ++ tick t ∷ [])) ≡ true }
     ensures failed { is_sound no_retries (once_failed (failure_asked 4 ∷ deletes 6 t 1 ∷ deletes 7 t 1 ∷ [])) ≡ true }
-    ensures throttled { is_sound one_at_a_time (past_of one_at_a_time [] throttled_run) ≡ true }
+    ensures throttled { is_sound one_at_a_time (past_of one_at_a_time 0 [] throttled_run) ≡ true }
     ensures cut_off { is_sound one_at_a_time after_a_stop ≡ true }
-    ensures two { is_sound two_environments (past_of two_environments [] (second_then_first ++ tick t ∷ [])) ≡ true }
+    ensures two { is_sound two_environments (past_of two_environments 0 [] (second_then_first ++ tick t ∷ [])) ≡ true }
     ensures exited { is_sound usual (done (extensions_run ++ exits 7 t ∷ [])) ≡ true }
     ensures exited_late { is_sound usual (done (extensions_run ++ exits 7 (t + 3000) ∷ [])) ≡ true }
     ensures stopped_while_running { is_sound usual (done (extensions_run ++ stops 7 t ∷ [])) ≡ true }
@@ -202,9 +214,9 @@ pub fn soundness()
 
 /// What the two conditions of a call are for: a text that is too long for a record, and a moment that none can hold.
 pub fn conditions()
-    ensures longest { is_sound short_answers (past_of short_answers [] (one_runs t ++ responds 3 t 1 braces ∷ [])) ≡ true }
-    ensures too_long { is_sound short_answers (past_of short_answers [] (one_runs t ++ responds 3 t 1 longer ∷ [])) ≡ false }
-    ensures too_long_an_error { is_sound short_answers (past_of short_answers [] (one_runs t ++ reports 3 t 1 longer ∷ [])) ≡ false }
+    ensures longest { is_sound short_answers (past_of short_answers 0 [] (one_runs t ++ responds 3 t 1 braces ∷ [])) ≡ true }
+    ensures too_long { is_sound short_answers (past_of short_answers 0 [] (one_runs t ++ responds 3 t 1 longer ∷ [])) ≡ false }
+    ensures too_long_an_error { is_sound short_answers (past_of short_answers 0 [] (one_runs t ++ reports 3 t 1 longer ∷ [])) ≡ false }
     ensures last { is_sound usual (done (invokes 1 t 1 ∷ tick 253402300799999 ∷ [])) ≡ true }
     ensures too_late { is_sound usual (done (invokes 1 t 1 ∷ tick 253402300800000 ∷ [])) ≡ false }
     ensures too_late_an_exit { is_sound usual (done (extensions_run ++ exits 7 253402300800000 ∷ [])) ≡ false }
@@ -212,5 +224,5 @@ pub fn conditions()
 
 /// There is such a run.
 pub fn a_run()
-    ensures { IsRun usual (opening []) (one_runs 1000 ++ responds 3 3999 1 braces ∷ take_slot 3 ∷ tick 4000 ∷ []) }
+    ensures { IsRun usual (opening 0 []) (one_runs 1000 ++ responds 3 3999 1 braces ∷ take_slot 3 ∷ tick 4000 ∷ []) }
 {}

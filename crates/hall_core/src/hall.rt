@@ -33,6 +33,8 @@ pub struct Hall<I: Issuer> {
     pub(crate) dialect: Dialect,
     pub(crate) issuer: I,
     pub(crate) environments: Environments,
+    /// For how many extensions each of them waits.
+    pub(crate) wanted: u8,
     pub(crate) slots: Slots,
     /// A request asked it to stop.
     pub(crate) stops: bool,
@@ -113,6 +115,7 @@ impl<I: Issuer> Hall<I> {
         ensures environments { OnOk result (Leads self.old.environments prepared.changes self.new.environments) }
         ensures slots { OnOk result (KeepRequest self.old.slots self.new.slots slot unavailable prepared
             (issued_in (I.view self.new.issuer))) }
+        ensures wanted { OnOk result (self.new.wanted ≡ self.old.wanted) }
         ensures dialect { OnOk result (self.new.dialect ≡ self.old.dialect) }
         ensures stops { OnOk result (self.new.stops ≡ (self.old.stops || stops)) }
         ensures answered { OnOk result (self.new.answered ≡ prepared.answered) }
@@ -238,6 +241,7 @@ impl<I: Issuer> Hall<I> {
         ensures count { OnOk result (length self.new.environments ≡ length self.old.environments) }
         ensures environments { OnOk result (Leads self.old.environments prepared.changes self.new.environments) }
         ensures slots { OnOk result (KeepTick self.old.slots self.new.slots prepared (issued_in (I.view self.new.issuer))) }
+        ensures wanted { OnOk result (self.new.wanted ≡ self.old.wanted) }
         ensures dialect { OnOk result (self.new.dialect ≡ self.old.dialect) }
         ensures stops { OnOk result (self.new.stops ≡ self.old.stops) }
         ensures answered { OnOk result (self.new.answered ≡ prepared.answered) }

@@ -22,13 +22,15 @@ pub fn the_table_answers_the_move()
         → next_command x ready ≡ move_command x move }
 {}
 
-/// A run goes on from where another left, and a call adds its command to the history, if it has one, and no other.
-#[tactic(auto, using(crate::specs::laws::Adding::runs_join, crate::specs::laws::Adding::history_grows))]
+/// A run goes on from where another left, and a call adds its command to the history, if it has one, and no other, and keeps
+/// for how many extensions the environments wait.
+#[tactic(auto, using(crate::specs::laws::Adding::runs_join, crate::specs::laws::Adding::history_grows, crate::specs::laws::Adding::wanted_stays))]
 pub fn runs()
     ensures join { (s : Settings) (past : Past) (run later : List HallCall)
         → after s past (run ++ later) ≡ after s (after s past run) later }
     ensures grow { (s : Settings) (past : Past) (call : HallCall)
         → (past_after s past call).history ≡ past.history ++ option_list (command_of s past call) }
+    ensures wait { (s : Settings) (past : Past) (call : HallCall) → (past_after s past call).wanted ≡ past.wanted }
 {}
 
 /// A reply that was computed stays, whatever is called then, until another request comes with its slot.
@@ -43,20 +45,19 @@ pub fn points()
 {}
 
 /// An event runs in one environment at most.
-#[tactic(auto, using(crate::specs::laws::Keeping::runs_in_one))]
 pub fn an_event_runs_in_one_environment()
-    ensures { (s : Settings) (h : List Command) (calls : ℕ → List EnvCall) → AllAgree s h calls → RunsInOne calls }
+    ensures { (s : Settings) (wanted : ℕ) (h : List Command) (calls : ℕ → List EnvCall) → AllAgree s wanted h calls → RunsInOne calls }
 {}
 
 /// Every run is sound that begins on a legal history: the history is legal after it, each environment accepted its
 /// calls, and what an environment runs runs there by the history. It holds with the facts that an induction needs, at
 /// the opening and after each call.
 pub fn every_run_is_sound()
-    ensures opened { (s : Settings) (history : List Command) → IsLegal s history → IsKept s (opening history) }
+    ensures opened { (s : Settings) (wanted : ℕ) (history : List Command) → IsLegal s history → IsKept s (opening wanted history) }
     ensures step { (s : Settings) (past : Past) (call : HallCall) → IsMade s past call → IsKept s (past_after s past call) }
     ensures kept { (s : Settings) (past : Past) (run : List HallCall) → AreMade s past run → IsKept s (after s past run) }
-    ensures sound { (s : Settings) (opened : List Command) (run : List HallCall) → IsRunFrom s opened run
-        → IsSound s (past_of s opened run) }
+    ensures sound { (s : Settings) (wanted : ℕ) (opened : List Command) (run : List HallCall) → IsRunFrom s wanted opened run
+        → IsSound s (past_of s wanted opened run) }
 {}
 
 /// What a call does is accepted: its command is legal, and the environment that it calls accepts that call.

@@ -35,6 +35,7 @@ mod slots;
 mod waking;
 
 pub use drawing::drawn_id;
+pub use env_phase::MOST_EXTENSIONS;
 pub use error::HallError;
 pub use hall::Hall;
 pub use issuing::Issued;

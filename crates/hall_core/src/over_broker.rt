@@ -41,36 +41,42 @@ fn error_of(why: CommitError) -> HallError
 }
 
 impl<D: Disk> Hall<Broker<D>> {
-    /// A hall over a broker, which tells its replies in this broker's own words. Else as `in_dialect`.
+    /// A hall over a broker, in which nothing has come yet, which tells its replies in this broker's own words, and whose
+    /// environments wait for no extension; over a broken broker it is broken. Want of memory hands the broker back.
     pub fn new(alloc: Global, broker: Broker<D>) -> Result<Hall<Broker<D>>, HallFailure<D>>
         ensures stands { (history : List Command) → Stands D.view broker history
-            → IfOk result (λ hall. StandsFor (view_of (issuer_of D.view) hall) (opening history)) }
+            → IfOk result (λ hall. StandsFor (view_of (issuer_of D.view) hall) (opening 0 history)) }
+        ensures wanted { IfOk result (λ hall. (view_of (issuer_of D.view) hall).wanted ≡ 0) }
+        ensures dialect { IfOk result (λ hall. (view_of (issuer_of D.view) hall).dialect ≡ Dialect.Profile) }
         ensures fresh { IfOk result (λ hall. IsFresh (settings_of broker) hall) }
-        ensures dialect { IfOk result (λ hall. hall.dialect ≡ Dialect.Profile) }
         ensures same { IfOk result (λ hall. hall.issuer ≡ broker) }
         ensures answered { IfOk result (λ hall. answered_slots hall ≡ []) }
         ensures err { IfErr result (λ failure. failure.broker ≡ broker) }
     {
-        Hall::in_dialect(alloc, Dialect::Profile, broker)
+        Hall::in_dialect(alloc, broker, Dialect::Profile, 0)
     }
 
-    /// A hall over a broker, in which nothing has come yet, and which tells its replies in this dialect; over a broken broker
-    /// it is broken. Want of memory hands the broker back.
+    /// As `new`, but it tells its replies in this dialect, and its environments wait for so many extensions. That is for a
+    /// broker that is served anew, to which runtimes and extensions come back in any order: in each era each environment stays
+    /// in Init, where extensions may register, until so many have registered and have asked for Next beside the runtime. Where
+    /// more are wanted than may register, no environment is ever ready.
     pub fn in_dialect(
         alloc: Global,
-        dialect: Dialect,
         broker: Broker<D>,
+        dialect: Dialect,
+        extensions: u8,
     ) -> Result<Hall<Broker<D>>, HallFailure<D>>
         ensures stands { (history : List Command) → Stands D.view broker history
-            → IfOk result (λ hall. StandsFor (view_of (issuer_of D.view) hall) (opening history)) }
+            → IfOk result (λ hall. StandsFor (view_of (issuer_of D.view) hall) (opening extensions history)) }
+        ensures wanted { IfOk result (λ hall. (view_of (issuer_of D.view) hall).wanted ≡ extensions) }
+        ensures dialect { IfOk result (λ hall. (view_of (issuer_of D.view) hall).dialect ≡ dialect) }
         ensures fresh { IfOk result (λ hall. IsFresh (settings_of broker) hall) }
-        ensures dialect { IfOk result (λ hall. hall.dialect ≡ dialect) }
         ensures same { IfOk result (λ hall. hall.issuer ≡ broker) }
         ensures answered { IfOk result (λ hall. answered_slots hall ≡ []) }
         ensures err { IfErr result (λ failure. failure.broker ≡ broker) }
     {
         let count = broker.table().settings().environments;
-        let Ok(environments) = Environments::new(alloc, count) else {
+        let Ok(environments) = Environments::new(alloc, count, extensions) else {
             return Err(HallFailure { broker });
         };
         let broken = broker.is_broken();
@@ -80,6 +86,7 @@ impl<D: Disk> Hall<Broker<D>> {
             dialect,
             issuer: broker,
             environments,
+            wanted: extensions,
             slots: Slots::new(alloc),
             stops: false,
             broken,

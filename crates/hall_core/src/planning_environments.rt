@@ -34,7 +34,6 @@ fn refusal_by(why: env_phase::Refusal) -> Refusal
 }
 
 impl<'a> Planner<'a> {
-    #[tactic(auto, unfolding(crate::specs::Past::calls_of))]
     fn running(&self, environment: u16) -> Option<[u8; 16]>
         requires { IsNumberIn self.now.environments.now environment }
         ensures { ForEachScene self.now (λ x. result ≡ running (calls_of x.past environment)) }
@@ -52,10 +51,9 @@ impl<'a> Planner<'a> {
         }
     }
 
-    #[tactic(auto, unfolding(crate::specs::Past::calls_of))]
     fn judge(&self, environment: u16, call: EnvCall) -> Option<env_phase::Refusal>
         requires { IsNumberIn self.now.environments.now environment }
-        ensures { ForEachScene self.now (λ x. result ≡ refusal_of (calls_of x.past environment) call) }
+        ensures { ForEachScene self.now (λ x. result ≡ refusal_of x.past.wanted (calls_of x.past environment) call) }
     {
         self.environments.judge(environment, call)
     }

@@ -1,10 +1,12 @@
 // The disk of a case, and the broker, the hall or the split hall that is open on it.
 use crate::halls::whole_hall_step;
 use crate::splits::{SplitHall, joined_hall, split_hall, split_step};
+use api_core::Dialect;
 use case_runner::{Reply, Text, Words};
 use disk_steps::{Base, broker_step, disk_step, open_broker};
 use group_commit::{Broker, Issuer, Ticket};
 use hall_core::Hall;
+use request_steps::{dialect, extensions_wanted};
 use retry_rules::Settings;
 use sector_disk::Disk;
 use std::alloc::Global;
@@ -20,14 +22,17 @@ pub enum OpenHall<I: Issuer, D: Disk> {
     Split(SplitHall<D>),
 }
 
-// Opens a disk and a hall over its broker: where it stands then, and what is answered.
+// Opens a disk and a hall over its broker, which tells its replies in a dialect, and whose environments wait for so many
+// extensions: where it stands then, and what is answered.
 fn opened_hall<D: Disk>(
     alloc: Global,
     disk: D,
+    dialect: Dialect,
+    extensions: u8,
     answer: &mut Text,
 ) -> (OpenHall<Broker<D>, D>, Reply) {
     match open_broker(alloc, disk, answer) {
-        Ok(broker) => match Hall::new(alloc, broker) {
+        Ok(broker) => match Hall::in_dialect(alloc, broker, dialect, extensions) {
             Ok(hall) => (OpenHall::Asked(hall), Reply::Done),
             Err(failure) => (
                 OpenHall::Closed(failure.broker.close()),
@@ -114,17 +119,24 @@ pub fn open<D: Disk + Drop>(
     }
 }
 
-/// Closes what is open, and opens the disk and a hall over its broker.
+/// `[waiting N]`: closes what is open, and opens the disk and a hall over its broker, whose environments wait for so many
+/// extensions.
 pub fn ask<D: Disk + Drop>(
     alloc: Global,
     place: &mut OpenHall<Broker<D>, D>,
     base: &mut Base,
+    words: &mut Words,
     answer: &mut Text,
 ) -> Reply {
+    let dialect = dialect(words);
+    let extensions = extensions_wanted(words);
+    if words.are_bad() {
+        return Reply::Unreadable;
+    }
     let Some(disk) = take(place, base) else {
         return Reply::Unreadable;
     };
-    let (now, reply) = opened_hall(alloc, disk, answer);
+    let (now, reply) = opened_hall(alloc, disk, dialect, extensions, answer);
     *place = now;
     reply
 }

@@ -59,7 +59,7 @@ impl Stage for HallStage {
         match word {
             "hall" => {
                 self.tickets.clear();
-                ask(alloc, &mut self.place, base, answer)
+                ask(alloc, &mut self.place, base, words, answer)
             }
             "split" => split_or_join(&mut self.place, true),
             "join" => split_or_join(&mut self.place, false),

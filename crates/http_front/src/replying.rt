@@ -82,12 +82,7 @@ pub(crate) struct Manner {
 
 // The reply that tells of a refusal, as a response. None where memory is wanting.
 #[tactic(auto, using(crate::proofs::Refusing::status_of))]
-fn refusal_of(
-    alloc: Global,
-    settings: &Settings,
-    manner: Manner,
-    why: Refusal,
-) -> Option<Answered>
+fn refusal_of(alloc: Global, settings: &Settings, manner: Manner, why: Refusal) -> Option<Answered>
     ensures { IfSome result (λ r. (head_of r).status ≡ (fault_of why).status) }
 {
     let answer = Answer::Refusal(manner.audience, why);

@@ -25,13 +25,15 @@ use std::thread::Threads;
 use std::time::Clock;
 use thiserror::Error;
 
-/// A disk that is to be served, the port of its callers, and in which words they are answered.
+/// A disk that is to be served, the port of its callers, in which words requests are answered, and for how many extensions an
+/// environment waits, 10 at most.
 #[derive(Clone, Copy, Debug)]
 pub struct Address<'a> {
     /// A file or a block device.
     pub path: &'a str,
     pub port: u16,
     pub dialect: Dialect,
+    pub extensions: u8,
 }
 
 /// Why a disk was not served, or not to its end.
@@ -135,11 +137,11 @@ where
     }
 }
 
-// A hall over a broker, which tells its replies in a dialect.
+// A hall over a broker, which tells its replies and waits for extensions as it is asked to.
 fn hall_over<D: Disk + Drop>(
     alloc: Global,
-    dialect: Dialect,
     broker: Broker<D>,
+    at: &Address<'_>,
 ) -> Result<Hall<Broker<D>>, ServingError>
     requires { pending_of broker ≡ [] }
     ensures nothing { IfOk result (λ hall. pending_of hall.issuer ≡ []) }
@@ -148,7 +150,7 @@ fn hall_over<D: Disk + Drop>(
     if broker.is_broken() {
         return Err(ServingError::Broken);
     }
-    match Hall::in_dialect(alloc, dialect, broker) {
+    match Hall::in_dialect(alloc, broker, at.dialect, at.extensions) {
         Ok(hall) => Ok(hall),
         Err(_) => Err(ServingError::OutOfMemory(AllocError)),
     }
@@ -192,12 +194,7 @@ where
 }
 
 // Serves what is on a disk: the ports first, then the attempts that the last stop cut off.
-fn serve_on<R, T, D, W>(
-    rt: R,
-    disk: D,
-    at: &Address<'_>,
-    out: &mut W,
-) -> Result<(), ServingError>
+fn serve_on<R, T, D, W>(rt: R, disk: D, at: &Address<'_>, out: &mut W) -> Result<(), ServingError>
 where
     R: Threads
         + Wait
@@ -218,7 +215,7 @@ where
     let environments = broker.table().settings().environments;
     let listeners = listen(&rt, at.port, environments)?;
     resume(&rt, &mut broker)?;
-    let hall = hall_over(rt.alloc(), at.dialect, broker)?;
+    let hall = hall_over(rt.alloc(), broker, at)?;
     announce(at.port, out)?;
     serve_hall::<R, T, D>(rt, hall, listeners)
 }

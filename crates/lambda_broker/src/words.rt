@@ -139,6 +139,7 @@ fn serve_command<'a>(alloc: Global) -> Result<Command<'a>, AllocError> {
     let help = "Port of the callers, 1024 to 65519; environment n has the port n behind it";
     let port = option(alloc, "port", help);
     let dialect = option(alloc, "dialect", "Whose words errors and names are in");
+    let extensions = "Extensions for which an environment waits before its first event, 0 to 10";
     Command::new(alloc, "serve")
         .about("Serve a disk until POST /broker/stop")
         .arg(disk(alloc))?
@@ -150,7 +151,14 @@ fn serve_command<'a>(alloc: Global) -> Result<Command<'a>, AllocError> {
             dialect
                 .default_value("profile")
                 .value_parser(["profile", "aws"].as_slice()),
-        )
+        )?
+        .arg(number(
+            alloc,
+            "extensions",
+            extensions,
+            "0",
+            value_parser!(u8).range(0..11),
+        ))
 }
 
 fn commands<'a>(alloc: Global) -> Result<Command<'a>, AllocError> {
@@ -248,6 +256,7 @@ fn address<'a>(matches: &ArgMatches<'a>) -> Option<Address<'a>> {
         path: matches.get_str("disk")?,
         port: matches.get_one("port")?,
         dialect: dialect(matches.get_str("dialect")?),
+        extensions: matches.get_one("extensions")?,
     })
 }
 

@@ -20,7 +20,7 @@ use Rattle.hall_core.specs.Past.{HallCall, take_slot, forget_slot, Past, opening
 use Rattle.hall_core.specs.Run.{past_after, after, past_of}
 use Rattle.hall_core.specs.Refusals.{why_refused}
 use Rattle.hall_core.specs.Agreement.{IsFit, IsUnrefused, IsRun}
-use Rattle.hall_core.specs.laws.Adding.{runs_join}
+use Rattle.hall_core.specs.laws.Adding.{runs_join, wanted_stays}
 use Rattle.hall_core.specs.laws.Sound.{kept_at_opening}
 use Rattle.hall_core.specs.Hall.{HallView, StandsFor, ForEachPast, IsSameHall, IsDone, view_of, settings_in, words_in}
 use Rattle.hall_core.specs.Fresh.{IsFresh}
@@ -59,9 +59,10 @@ runs_at_first view s old hall opened fresh parts settings table none history lea
           good = (half_laws hall.issuer).good.check;
           table_is = there.table_is;
           count = ap length parts.environments ∙ fresh.count ∙ ap (λ (x : Settings). x.environments) (sym settings);
-          hold = subst (λ (l : List EnvState). HoldFor l []) (sym parts.environments) fresh.hold;
-          kept = kept_at_opening (issuer_in hall).settings history leaves.legal;
+          hold = subst (λ w. HoldFor w hall.environments []) (sym parts.wanted) (subst (λ (l : List EnvState). HoldFor old.wanted l []) (sym parts.environments) fresh.hold);
+          kept = kept_at_opening (issuer_in hall).settings hall.wanted history leaves.legal;
         };
+        waits = refl;
         slots = subst (λ (l : Entries). KeepFor (words_in (hall_in hall)) l []) (sym parts.slots) (fresh.slots (words_in (hall_in hall)));
         stopping = parts.stops ∙ fresh.stops;
       };
@@ -77,6 +78,15 @@ run_longer s past (first ∷ calls) call run next = (run.0, run_longer s (past_a
 leaves_along : (s s' : Settings) (history : List Command) (opened : Snapshot) → s' ≡ s → LeavesTable s' history opened → LeavesTable s history opened
 leaves_along s s' history opened same leaves = subst (λ (x : Settings). LeavesTable x history opened) same leaves
 
+-- a run of a hall that waits for as many extensions as another
+as_it_waits : (s : Settings) (history : List Command) (old new : HallView) (calls : List HallCall) → new.wanted ≡ old.wanted → IsRun s (opening old.wanted history) calls
+    → StandsFor new (past_of s old.wanted history calls) → HasRun s history new
+as_it_waits s history old new calls same run stands = record {
+  calls = calls;
+  run = subst (λ w. IsRun s (opening w history) calls) (sym same) run;
+  stands = subst (λ w. StandsFor new (past_of s w history calls)) (sym same) stands;
+}
+
 -- a call that no check refuses is the next of the run
 pub runs_by : (old new : HallView) (opened : Snapshot) (call : HallCall) → settings_in new ≡ settings_in old → IsFit (settings_in old) call
     → ForEachPast old (λ past. why_refused old.issuer.broken old.issuer.durable (settings_in old) past call ≡ None) → IsDone old new call
@@ -84,18 +94,17 @@ pub runs_by : (old new : HallView) (opened : Snapshot) (call : HallCall) → set
 runs_by old new opened call same fit passes done runs history leaves =
     let s = settings_in old in
     let run = runs history (leaves_along s (settings_in new) history opened same leaves) in
-    let past = past_of s history run.calls in
+    let past = past_of s old.wanted history run.calls in
     let next : IsUnrefused s past call = record {
       fit = fit;
       broken = old.issuer.broken;
       durable = old.issuer.durable;
       unrefused = passes past run.stands;
     } in
-    let all : HasRun s history new = record {
-      calls = run.calls ++ call ∷ [];
-      run = run_longer s (opening history) run.calls call run.run next;
-      stands = subst (StandsFor new) (sym (runs_join s (opening history) run.calls (call ∷ []))) (done past run.stands);
-    } in
+    let same_wanted : new.wanted ≡ old.wanted = (done past run.stands).waits ∙ wanted_stays s past call ∙ sym run.stands.waits in
+    let all : HasRun s history new =
+    as_it_waits s history old new (run.calls ++ call ∷ []) same_wanted (run_longer s (opening old.wanted history) run.calls call run.run next)
+    (subst (StandsFor new) (sym (runs_join s (opening old.wanted history) run.calls (call ∷ []))) (done past run.stands)) in
     subst (λ (x : Settings). HasRun x history new) (sym same) all
 
 -- where each thing that was done is still what was done
@@ -104,7 +113,8 @@ pub runs_kept : (old new : HallView) (opened : Snapshot) → settings_in new ≡
 runs_kept old new opened same stands runs history leaves =
     let s = settings_in old in
     let run = runs history (leaves_along s (settings_in new) history opened same leaves) in
-    let all : HasRun s history new = record { calls = run.calls; run = run.run; stands = stands (past_of s history run.calls) run.stands } in
+    let still = stands (past_of s old.wanted history run.calls) run.stands in
+    let all : HasRun s history new = as_it_waits s history old new run.calls (still.waits ∙ sym run.stands.waits) run.run still in
     subst (λ (x : Settings). HasRun x history new) (sym same) all
 
 -- another hall with the same issuer, environments and slots
@@ -113,6 +123,7 @@ stands_moved : (old new : HallView) (past : Past) → StandsFor old past → new
 stands_moved old new past stands settings table history parts = record {
   history = history;
   environments = rw (settings, table, parts.environments) stands.environments;
+  waits = parts.wanted ∙ stands.waits;
   slots = rw (settings, parts.slots, parts.dialect) stands.slots;
   stopping = parts.stops ∙ stands.stopping;
 }
@@ -130,6 +141,7 @@ pub same_stands : (old new : HallView) → IsSameHall old new → (past : Past) 
 same_stands old new same past stands = record {
   history = (same.issuer.stands past.history).1 stands.history;
   environments = rw (same.issuer.settings, same.issuer.table, same.environments) stands.environments;
+  waits = same.wanted ∙ stands.waits;
   slots = rw (same.issuer.settings, same.dialect) (same.slots past.slots stands.slots);
   stopping = same.stops ∙ stands.stopping;
 }

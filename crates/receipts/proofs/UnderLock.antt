@@ -45,7 +45,7 @@ same_issuer issuer = record {
 
 -- where no call was made nothing was done
 pub same_hall : (hall : HallView) → IsSameHall hall hall
-same_hall hall = record { issuer = same_issuer hall.issuer; environments = refl; slots = λ events kept. kept; dialect = refl; stops = refl }
+same_hall hall = record { issuer = same_issuer hall.issuer; environments = refl; wanted = refl; slots = λ events kept. kept; dialect = refl; stops = refl }
 
 module _ (old new : HallView) (call : HallCall) (issued : Option Issued) (does : Does old new call issued) where
   pub does_at : (desk : ℕ) (own own' : List Mark) → own' ≡ own ++ marks_by desk issued → DoesAt old new call desk own own'

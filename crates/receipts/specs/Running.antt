@@ -17,8 +17,8 @@ pub record LeavesTable (s : Settings) (history : List Command) (table : Snapshot
 -- a run on this history, of which no call was refused, and that the hall stands for
 pub record HasRun (s : Settings) (history : List Command) (hall : HallView) : Type 0 where
   pub calls : List HallCall
-  pub run : IsRun s (opening history) calls
-  pub stands : StandsFor hall (past_of s history calls)
+  pub run : IsRun s (opening hall.wanted history) calls
+  pub stands : StandsFor hall (past_of s hall.wanted history calls)
 
 -- for each history that leaves the table of the opening there is such a run
 abbrev pub HasRuns : HallView → Snapshot → Type 0

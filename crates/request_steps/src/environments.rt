@@ -1,6 +1,6 @@
 // Steps on one environment alone: which calls it accepts, and which polls each of them answers.
 use case_runner::{Reply, Text, Words, id_of, number_of_id};
-use env_phase::{Answered, Env, EnvError, PollAnswer, Reason, Refusal};
+use env_phase::{Answered, Env, EnvError, MOST_EXTENSIONS, PollAnswer, Reason, Refusal};
 use invoke_records::GREATEST_MOMENT;
 use std::alloc::Global;
 
@@ -165,19 +165,28 @@ fn call(env: &mut Env, word: &str, words: &mut Words, answer: &mut Text) -> Repl
     }
 }
 
-// `NUMBER`: an environment in which nobody has asked for anything.
+/// `[waiting N]`: for how many extensions an environment waits.
+pub fn extensions_wanted(words: &mut Words) -> u8 {
+    if !words.takes("waiting") {
+        return 0;
+    }
+    u8::try_from(words.number_to(MOST_EXTENSIONS as u64)).unwrap_or(0)
+}
+
+// `NUMBER [waiting N]`: an environment in which nobody has asked for anything.
 fn begin(alloc: Global, env: &mut Option<Env>, words: &mut Words) -> Reply {
     let number = words.number_to(65535);
+    let wanted = extensions_wanted(words);
     match u16::try_from(number) {
         Ok(number) if !words.are_bad() => {
-            *env = Some(Env::new(alloc, number));
+            *env = Some(Env::waiting_for(alloc, number, wanted));
             Reply::Done
         }
         _ => Reply::Unreadable,
     }
 }
 
-/// `new NUMBER`, `copy` (a copy takes its place), or a call and what is said to it.
+/// `new NUMBER [waiting N]`, `copy` (a copy takes its place), or a call and what is said to it.
 pub fn environment_step(
     alloc: Global,
     env: &mut Option<Env>,

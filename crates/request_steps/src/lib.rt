@@ -5,6 +5,6 @@ mod environments;
 mod replies;
 mod requests;
 
-pub use environments::environment_step;
+pub use environments::{environment_step, extensions_wanted};
 pub use replies::{reply_step, tell_reply};
-pub use requests::{read_call, request_step};
+pub use requests::{dialect, read_call, request_step};

@@ -1,6 +1,6 @@
 -- Laws: the era alone decides what is met, and what one call more changes in that.
-use Rattle.std.proofs.Common.{◌≡◌, List, [], ◌∷◌, ◌++◌, map, reverse, Bool, true, false, ◌&&◌, ◌||◌, cond, refl, sym, subst, ap, ◌∙◌, None}
-use Rattle.std.specs.Prelude.{is_some, is_none}
+use Rattle.std.proofs.Common.{◌≡◌, ℕ, List, [], ◌∷◌, ◌++◌, map, reverse, Bool, true, false, ◌&&◌, ◌||◌, cond, refl, sym, subst, ap, ◌∙◌, None}
+use Rattle.std.specs.Prelude.{is_some, is_none, nat_le}
 use Rattle.std.specs.List.{list_any, list_all, after_last, last_or, filter_map}
 use Rattle.std.proofs.lemmas.List.{reverse-append, reverse-reverse, map-append}
 use Rattle.std.proofs.lemmas.Bool.{true≢false}
@@ -9,7 +9,7 @@ use Rattle.env_phase.specs.declared.call.Party.{Party}
 use Rattle.env_phase.specs.declared.call.EnvCall.{EnvCall}
 use Rattle.env_phase.specs.declared.call.EnvCall.TheVariants.{Give, Answer, Shutdown}
 use Rattle.env_phase.specs.Calls.{is_reset, clears, registration, releases, slot_by, given_by, ends_event}
-use Rattle.env_phase.specs.Environment.{era, registered, slot_of, unanswered, is_parked, parties, is_met, was_met, prefixes}
+use Rattle.env_phase.specs.Environment.{era, registered, slot_of, unanswered, is_parked, parties, has_enough, is_met, was_met, prefixes}
 use Rattle.env_phase.specs.laws.Calls.{after_last-snoc, era-snoc}
 
 -- ## What the era alone says
@@ -62,11 +62,11 @@ list_all-same p q h [] = refl
 list_all-same p q h (x ∷ xs) = rw (h x, list_all-same p q h xs) refl
 
 -- the era is met where the calls are
-pub is_met_era : (calls : List EnvCall) → is_met (era calls) ≡ is_met calls
+pub is_met_era : (wanted : ℕ) (calls : List EnvCall) → is_met wanted (era calls) ≡ is_met wanted calls
 unfolding is_met
-is_met_era calls =
+is_met_era wanted calls =
     rw (unanswered-era calls, registered-era calls)
-    (ap (λ b. is_none (unanswered calls) && b) (list_all-same (is_parked (era calls)) (is_parked calls) (λ party. ap is_some (slot_of-era calls party)) (parties calls)))
+    (ap (λ b. is_none (unanswered calls) && has_enough wanted calls && b) (list_all-same (is_parked (era calls)) (is_parked calls) (λ party. ap is_some (slot_of-era calls party)) (parties calls)))
 
 -- ## Whether the era was met
 
@@ -79,15 +79,29 @@ or-false : (b : Bool) → (b || false) ≡ b
 or-false true = refl
 or-false false = refl
 
-was_met_if : (b : Bool) (calls : List EnvCall) (c : EnvCall)
-    → list_any is_met (prefixes (cond b [] (calls ++ c ∷ []))) ≡ cond b false (list_any is_met (prefixes calls) || is_met (calls ++ c ∷ []))
+and-false : (b : Bool) → (b && false) ≡ false
+and-false true = refl
+and-false false = refl
+
+-- nobody has asked for anything
+nothing_met : (wanted : ℕ) → is_met wanted [] ≡ false
 unfolding is_met unanswered registered slot_of
-was_met_if true calls c = refl
-was_met_if false calls c =
-    ap (list_any is_met) (prefixes-snoc calls c)
-    ∙ list_any-append is_met (prefixes calls) ((calls ++ c ∷ []) ∷ [])
-    ∙ ap (λ b. list_any is_met (prefixes calls) || b) (or-false (is_met (calls ++ c ∷ [])))
+nothing_met wanted = and-false (nat_le wanted 0)
+
+was_met_if : (wanted : ℕ) (b : Bool) (calls : List EnvCall) (c : EnvCall)
+    → list_any (is_met wanted) (prefixes (cond b [] (calls ++ c ∷ [])))
+    ≡ cond b false (list_any (is_met wanted) (prefixes calls) || is_met wanted (calls ++ c ∷ []))
+was_met_if wanted true calls c = rw (nothing_met wanted) refl
+was_met_if wanted false calls c =
+    ap (list_any (is_met wanted)) (prefixes-snoc calls c)
+    ∙ list_any-append (is_met wanted) (prefixes calls) ((calls ++ c ∷ []) ∷ [])
+    ∙ ap (λ b. list_any (is_met wanted) (prefixes calls) || b) (or-false (is_met wanted (calls ++ c ∷ [])))
+
+pub none_was_met : (wanted : ℕ) → was_met wanted [] ≡ false
+unfolding era
+none_was_met wanted = rw (nothing_met wanted) refl
 
 -- a reset begins an era that was not met, and any other call that leaves the era met is one by which it was
-pub was_met_snoc : (calls : List EnvCall) (c : EnvCall) → was_met (calls ++ c ∷ []) ≡ cond (is_reset c) false (was_met calls || is_met (era calls ++ c ∷ []))
-was_met_snoc calls c = ap (λ l. list_any is_met (prefixes l)) (era-snoc calls c) ∙ was_met_if (is_reset c) (era calls) c
+pub was_met_snoc : (wanted : ℕ) (calls : List EnvCall) (c : EnvCall)
+    → was_met wanted (calls ++ c ∷ []) ≡ cond (is_reset c) false (was_met wanted calls || is_met wanted (era calls ++ c ∷ []))
+was_met_snoc wanted calls c = ap (λ l. list_any (is_met wanted) (prefixes l)) (era-snoc calls c) ∙ was_met_if wanted (is_reset c) (era calls) c

@@ -180,13 +180,13 @@ any_last p xs x = list_any-append p xs (x ∷ []) ∙ ap (λ b. list_any p xs ||
 count_last : {A : Type 0} (p : A → Bool) (xs : List A) (x : A) → count_by p (xs ++ x ∷ []) ≡ count_by p xs + one (p x)
 count_last p xs x = sum_by_push (λ x. one (p x)) xs x
 
-one_joins_once : (calls : List EnvCall) (identifier : List ℕ) (events end : Bool) → refusal_of calls (Register identifier events end) ≡ None → KnownOnce calls → KnownOnce (calls ++ Register identifier events end ∷ [])
-one_joins_once calls identifier events end ok once other =
+one_joins_once : (wanted : ℕ) (calls : List EnvCall) (identifier : List ℕ) (events end : Bool) → refusal_of wanted calls (Register identifier events end) ≡ None → KnownOnce calls → KnownOnce (calls ++ Register identifier events end ∷ [])
+one_joins_once wanted calls identifier events end ok once other =
     let p = extension identifier events end in
     let has : Party → Bool = λ q. has_identifier other q.identifier in
     let longer : registered (calls ++ Register identifier events end ∷ []) ≡ registered calls ++ p ∷ [] = registered_more calls (Register identifier events end) refl in
     let fresh : bytes_eq other identifier ≡ true → is_known other (registered calls) ≡ false =
-    λ e. rw ((bytes_eq-Decides other identifier).0 e) (registers_unknown calls identifier events end ok) in
+    λ e. rw ((bytes_eq-Decides other identifier).0 e) (registers_unknown wanted calls identifier events end ok) in
     ap (count_by has) longer ∙ count_last has (registered calls) p
     ∙ joins_once (is_known other (registered calls)) (bytes_eq other identifier) (times_known calls other) (once other) fresh
     ∙ ap one (sym (ap (list_any has) longer ∙ any_last has (registered calls) p))
@@ -201,20 +201,20 @@ all_leave calls c clear identifier =
     let nobody : registered (calls ++ c ∷ []) ≡ [] = registered_snoc calls c ∙ rw clear refl in
     rw nobody refl
 
-known_once_more : (calls : List EnvCall) (c : EnvCall) → refusal_of calls c ≡ None → KnownOnce calls → KnownOnce (calls ++ c ∷ [])
-known_once_more calls (RuntimeNext slot) ok once = none_joins calls (RuntimeNext slot) refl refl once
-known_once_more calls (Register identifier events end) ok once = one_joins_once calls identifier events end ok once
-known_once_more calls (ExtensionNext identifier slot) ok once = none_joins calls (ExtensionNext identifier slot) refl refl once
-known_once_more calls (Give id deadline) ok once = none_joins calls (Give id deadline) refl refl once
-known_once_more calls (Answer id) ok once = none_joins calls (Answer id) refl refl once
-known_once_more calls (InitError now) ok once = all_leave calls (InitError now) refl
-known_once_more calls (ExtensionError identifier in_init now) ok once = all_leave calls (ExtensionError identifier in_init now) refl
-known_once_more calls (Timeout now) ok once = all_leave calls (Timeout now) refl
-known_once_more calls (Shutdown now) ok once = all_leave calls (Shutdown now) refl
+known_once_more : (wanted : ℕ) (calls : List EnvCall) (c : EnvCall) → refusal_of wanted calls c ≡ None → KnownOnce calls → KnownOnce (calls ++ c ∷ [])
+known_once_more wanted calls (RuntimeNext slot) ok once = none_joins calls (RuntimeNext slot) refl refl once
+known_once_more wanted calls (Register identifier events end) ok once = one_joins_once wanted calls identifier events end ok once
+known_once_more wanted calls (ExtensionNext identifier slot) ok once = none_joins calls (ExtensionNext identifier slot) refl refl once
+known_once_more wanted calls (Give id deadline) ok once = none_joins calls (Give id deadline) refl refl once
+known_once_more wanted calls (Answer id) ok once = none_joins calls (Answer id) refl refl once
+known_once_more wanted calls (InitError now) ok once = all_leave calls (InitError now) refl
+known_once_more wanted calls (ExtensionError identifier in_init now) ok once = all_leave calls (ExtensionError identifier in_init now) refl
+known_once_more wanted calls (Timeout now) ok once = all_leave calls (Timeout now) refl
+known_once_more wanted calls (Shutdown now) ok once = all_leave calls (Shutdown now) refl
 
 -- an extension that is registered is registered once
-pub known_once : (calls : List EnvCall) → IsLegal calls → KnownOnce calls
-known_once calls legal = legally KnownOnce nobody_known known_once_more calls legal
+pub known_once : (wanted : ℕ) (calls : List EnvCall) → IsLegal wanted calls → KnownOnce calls
+known_once wanted calls legal = legally wanted KnownOnce nobody_known (known_once_more wanted) calls legal
 
 -- ## Who waits afterwards
 
@@ -238,14 +238,14 @@ waits_after slot c false ws e =
     ∙ count_append (waits_on slot) (map (waiter_after c) ws) (map (waiter_after c) (joined (registration c)))
     ∙ omega (arith, who_joins_waits_not slot c)
 
-waiting_snoc : (slot : ℕ) (calls : List EnvCall) (c : EnvCall) → IsLegal calls → refusal_of calls c ≡ None
+waiting_snoc : (wanted slot : ℕ) (calls : List EnvCall) (c : EnvCall) → IsLegal wanted calls → refusal_of wanted calls c ≡ None
     → waiting slot (calls ++ c ∷ []) ≡ count_by (waits_on slot) (map (waiter_after c) (map (waiter_of calls) (parties calls)))
-waiting_snoc slot calls c legal ok =
+waiting_snoc wanted slot calls c legal ok =
     let exts = map (waiter_of calls) (registered calls) in
     let r : waiter_of (calls ++ c ∷ []) runtime ≡ waiter_after c (waiter_of calls runtime) = rw (slot_of_snoc calls c runtime) refl in
     count_cons (waits_on slot) (waiter_of (calls ++ c ∷ []) runtime) (map (waiter_of (calls ++ c ∷ [])) (registered (calls ++ c ∷ [])))
     ∙ ap (λ w. one (waits_on slot w) + count_by (waits_on slot) (map (waiter_of (calls ++ c ∷ [])) (registered (calls ++ c ∷ [])))) r
-    ∙ ap (λ ws. one (waits_on slot (waiter_after c (waiter_of calls runtime))) + count_by (waits_on slot) ws) (extensions_snoc calls c legal ok)
+    ∙ ap (λ ws. one (waits_on slot (waiter_after c (waiter_of calls runtime))) + count_by (waits_on slot) ws) (extensions_snoc wanted calls c legal ok)
     ∙ ap (λ n. one (waits_on slot (waiter_after c (waiter_of calls runtime))) + n) (waits_after slot c (clears c) exts refl)
     ∙ sym (count_cons (waits_on slot) (waiter_after c (waiter_of calls runtime)) (map (waiter_after c) exts))
 
@@ -259,15 +259,15 @@ nobody_polls : (ps : List Party) → count_by (λ (p : Party). false) ps ≡ 0
 nobody_polls [] = refl
 nobody_polls (p ∷ ps) = count_cons (λ (p : Party). false) p ps ∙ omega (arith, nobody_polls ps)
 
-polled_by_call : (slot : ℕ) (calls : List EnvCall) (c : EnvCall) → IsLegal calls → refusal_of calls c ≡ None
+polled_by_call : (wanted slot : ℕ) (calls : List EnvCall) (c : EnvCall) → IsLegal wanted calls → refusal_of wanted calls c ≡ None
     → count_by (λ (p : Party). polled_by slot c p.identifier) (parties calls) ≡ one (polls_on slot c)
-polled_by_call slot calls (RuntimeNext own) legal ok =
+polled_by_call wanted slot calls (RuntimeNext own) legal ok =
     omega (arith, count_cons (λ (p : Party). polled_by slot (RuntimeNext own) p.identifier) runtime (registered calls), no_extension_registered slot own calls)
-polled_by_call slot calls (ExtensionNext identifier own) legal ok =
-    let once : times_known calls identifier ≡ 1 = known_once calls legal identifier ∙ ap one (asks_known calls identifier own ok) in
+polled_by_call wanted slot calls (ExtensionNext identifier own) legal ok =
+    let once : times_known calls identifier ≡ 1 = known_once wanted calls legal identifier ∙ ap one (asks_known wanted calls identifier own ok) in
     count_cons (λ (p : Party). polled_by slot (ExtensionNext identifier own) p.identifier) runtime (registered calls)
     ∙ omega (arith, those_with slot own identifier (registered calls) ∙ ap (λ n. cond (slot == own) n 0) once)
-polled_by_call slot calls c legal ok = nobody_polls (parties calls)
+polled_by_call wanted slot calls c legal ok = nobody_polls (parties calls)
 
 answered_more : (before calls : List EnvCall) (c : EnvCall) → answered_since before (calls ++ c ∷ []) ≡ answered_since before calls ++ answered_by (before ++ calls) c
 answered_more before [] c = append-nil (answered_by before c) ∙ ap (λ l. answered_by l c) (sym (append-nil before))
@@ -279,16 +279,16 @@ answered_more before (call ∷ calls) c =
 abbrev Balanced : ℕ → List EnvCall → Type 0
 Balanced slot calls = polled slot calls ≡ times_answered slot calls + waiting slot calls
 
-abbrev KeptBalanced : List EnvCall → Type 0
-KeptBalanced calls = IsLegal calls × ((slot : ℕ) → Balanced slot calls)
+abbrev KeptBalanced : ℕ → List EnvCall → Type 0
+KeptBalanced wanted calls = IsLegal wanted calls × ((slot : ℕ) → Balanced slot calls)
 
 answers_now : (slot : ℕ) (calls : List EnvCall) (c : EnvCall)
     → count_by (answers_to slot) (answered_by calls c) ≡ count_by (answers_to slot) (filter_map (answered c) (map (waiter_of calls) (parties calls)))
 unfolding answered_by
 answers_now slot calls c = refl
 
-balanced_more : (slot : ℕ) (calls : List EnvCall) (c : EnvCall) → IsLegal calls → refusal_of calls c ≡ None → Balanced slot calls → Balanced slot (calls ++ c ∷ [])
-balanced_more slot calls c legal ok before =
+balanced_more : (wanted slot : ℕ) (calls : List EnvCall) (c : EnvCall) → IsLegal wanted calls → refusal_of wanted calls c ≡ None → Balanced slot calls → Balanced slot (calls ++ c ∷ [])
+balanced_more wanted slot calls c legal ok before =
     let ws = map (waiter_of calls) (parties calls) in
     let polls : polled slot (calls ++ c ∷ []) ≡ polled slot calls + one (polls_on slot c) = count_last (polls_on slot) calls c in
     let answers : times_answered slot (calls ++ c ∷ []) ≡ times_answered slot calls + count_by (answers_to slot) (filter_map (answered c) ws) =
@@ -296,16 +296,16 @@ balanced_more slot calls c legal ok before =
     ∙ count_append (answers_to slot) (all_answers calls) (answered_by calls c)
     ∙ ap (λ n. times_answered slot calls + n) (answers_now slot calls c) in
     let by : count_by (λ (w : Waiter). polled_by slot c w.party.identifier) ws ≡ one (polls_on slot c) =
-    count_map (λ (w : Waiter). polled_by slot c w.party.identifier) (waiter_of calls) (parties calls) ∙ polled_by_call slot calls c legal ok in
-    omega (arith, polls, answers, by, before, all_balance slot c ws, waiting_snoc slot calls c legal ok)
+    count_map (λ (w : Waiter). polled_by slot c w.party.identifier) (waiter_of calls) (parties calls) ∙ polled_by_call wanted slot calls c legal ok in
+    omega (arith, polls, answers, by, before, all_balance slot c ws, waiting_snoc wanted slot calls c legal ok)
 
 nothing_polled : (slot : ℕ) → Balanced slot []
 unfolding registered slot_of
 nothing_polled slot = refl
 
 -- each poll that came on a slot was answered once, or waits
-pub each_poll_is_answered_once_or_waits : (calls : List EnvCall) → IsLegal calls → (slot : ℕ) → Balanced slot calls
-each_poll_is_answered_once_or_waits calls legal =
-    (legally KeptBalanced (legal_nil, nothing_polled)
-    (λ calls c ok kept. (legal_more calls c kept.0 ok, λ slot. balanced_more slot calls c kept.0 ok (kept.1 slot)))
+pub each_poll_is_answered_once_or_waits : (wanted : ℕ) (calls : List EnvCall) → IsLegal wanted calls → (slot : ℕ) → Balanced slot calls
+each_poll_is_answered_once_or_waits wanted calls legal =
+    (legally wanted (KeptBalanced wanted) (legal_nil wanted, nothing_polled)
+    (λ calls c ok kept. (legal_more wanted calls c kept.0 ok, λ slot. balanced_more wanted slot calls c kept.0 ok (kept.1 slot)))
     calls legal).1

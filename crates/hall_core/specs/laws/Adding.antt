@@ -23,6 +23,11 @@ pub history_grows : (s : Settings) (past : Past) (call : HallCall) → (past_aft
 unfolding past_after
 history_grows s past call = refl
 
+-- a call keeps for how many extensions the environments wait
+pub wanted_stays : (s : Settings) (past : Past) (call : HallCall) → (past_after s past call).wanted ≡ past.wanted
+unfolding past_after
+wanted_stays s past call = refl
+
 -- the calls of one environment
 pub calls_more : (past : Past) (call : HallCall) (effect : Effect) (environment : ℕ) → calls_of (past_by past call effect) environment ≡ calls_of past environment ++ calls_in environment effect.made
 unfolding calls_of

@@ -122,12 +122,12 @@ pub in_one : (s : Settings) (environment : ℕ) → IsIn environment (environmen
 in_one s environment i = let r = range_is 1 s.environments environment i in (omega (arith, r.0), omega (arith, r.1))
 
 -- the environment that is ready is one of the settings
-pub ready_is : (s : Settings) (past : Past) (environment : ℕ) → ready_in s past ≡ Some environment → IsOne s environment × (is_ready (calls_of past environment) ≡ true)
+pub ready_is : (s : Settings) (past : Past) (environment : ℕ) → ready_in s past ≡ Some environment → IsOne s environment × (is_ready past.wanted (calls_of past environment) ≡ true)
 ready_is s past environment h =
-    let found = find_some (λ (environment : ℕ). is_ready (calls_of past environment)) (environments s) environment h in
+    let found = find_some (λ (environment : ℕ). is_ready past.wanted (calls_of past environment)) (environments s) environment h in
     (in_one s environment found.1, found.0)
 
-module _ (s : Settings) (past : Past) (all : AllAgree s past.history (calls_of past)) where
+module _ (s : Settings) (past : Past) (all : AllAgree s past.wanted past.history (calls_of past)) where
   -- an event that does not run by the history is held by no environment
   pub idle_never : (id : List ℕ) → is_running (standing_in s past.history id) ≡ false → (environment : ℕ) → running (calls_of past environment) ≡ Some id → ⊥
   idle_never id rests environment runs =
@@ -196,8 +196,8 @@ runs_in_is environment (standing.Running e deadline) h = refl
 runs_in_is environment (standing.Ended outcome at) h = h
 
 -- then an environment that is ready runs nothing by the history either
-pub ready_is_free : (s : Settings) (past : Past) → AllAgree s past.history (calls_of past) → first_unheld s past ≡ None
-    → (environment : ℕ) → is_ready (calls_of past environment) ≡ true → is_busy_in s past.history environment ≡ false
+pub ready_is_free : (s : Settings) (past : Past) → AllAgree s past.wanted past.history (calls_of past) → first_unheld s past ≡ None
+    → (environment : ℕ) → is_ready past.wanted (calls_of past environment) ≡ true → is_busy_in s past.history environment ≡ false
 ready_is_free s past all none environment ready =
     none_passes (λ (event : Event). runs_in environment (standing_in s past.history event.1)) (held past.history)
     (λ event i. false_from_ne_true (runs_in environment (standing_in s past.history event.1)) (λ here.
@@ -205,5 +205,5 @@ ready_is_free s past all none environment ready =
     let runs_it = holder_runs s past all event.1 at.0 at.1 in
     let there = (all.each at.0).runs event.1 runs_it in
     let same : (at.0 == environment) ≡ true = ap (runs_in environment) (sym there.stands) ∙ here in
-    let idle : running (calls_of past environment) ≡ None = ready_runs_nothing (calls_of past environment) ready in
+    let idle : running (calls_of past environment) ≡ None = ready_runs_nothing past.wanted (calls_of past environment) ready in
     none-some event.1 (sym idle ∙ ap (λ e. running (calls_of past e)) (sym (eqb-true at.0 environment same)) ∙ runs_it)))

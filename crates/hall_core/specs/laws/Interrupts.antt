@@ -60,20 +60,20 @@ none_unheld s past id legal none u =
     none-some at.0 (sym u.alone ∙ at.1)
 
 -- then what runs by the history runs in an environment
-pub runs_somewhere : (s : Settings) (past : Past) (id : List ℕ) → AllAgree s past.history (calls_of past) → first_unheld s past ≡ None → is_running (standing_in s past.history id) ≡ true
+pub runs_somewhere : (s : Settings) (past : Past) (id : List ℕ) → AllAgree s past.wanted past.history (calls_of past) → first_unheld s past ≡ None → is_running (standing_in s past.history id) ≡ true
     → (environment : ℕ) × (running (calls_of past environment) ≡ Some id)
 runs_somewhere s past id all none runs =
     let at = held_by_one s past id all.legal none runs in
     (at.0, holder_runs s past all id at.0 at.1)
 
-free_at : (s : Settings) (past : Past) → AllAgree s past.history (calls_of past) → first_unheld s past ≡ None → (ready : Option ℕ) → ready_in s past ≡ ready → IsFree s past.history ready
+free_at : (s : Settings) (past : Past) → AllAgree s past.wanted past.history (calls_of past) → first_unheld s past ≡ None → (ready : Option ℕ) → ready_in s past ≡ ready → IsFree s past.history ready
 free_at s past all none None is = tt
 free_at s past all none (Some environment) is =
     let chosen = ready_is s past environment is in
     (chosen.0.0, chosen.0.1, ready_is_free s past all none environment chosen.1)
 
 -- and the environment that is ready, if one is, is one of the settings that runs nothing by the history
-pub ready_is_free_in : (s : Settings) (past : Past) → AllAgree s past.history (calls_of past) → first_unheld s past ≡ None → IsFree s past.history (ready_in s past)
+pub ready_is_free_in : (s : Settings) (past : Past) → AllAgree s past.wanted past.history (calls_of past) → first_unheld s past ≡ None → IsFree s past.history (ready_in s past)
 ready_is_free_in s past all none = free_at s past all none (ready_in s past) refl
 
 -- ## Where something is

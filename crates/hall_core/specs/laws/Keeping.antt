@@ -73,8 +73,8 @@ other_runs s h c environment calls id false same never runs there = record {
 }
 
 -- a command for an event that the environment does not run
-pub agrees_after_command : (s : Settings) (h : List Command) (c : Command) (environment : ℕ) (calls : List EnvCall) → (running calls ≡ Some c.id → ⊥)
-    → Agrees s h environment calls → Agrees s (h ++ c ∷ []) environment calls
+pub agrees_after_command : (s : Settings) {wanted : ℕ} (h : List Command) (c : Command) (environment : ℕ) (calls : List EnvCall) → (running calls ≡ Some c.id → ⊥)
+    → Agrees s wanted h environment calls → Agrees s wanted (h ++ c ∷ []) environment calls
 agrees_after_command s h c environment calls never agreed = record {
   accepted = agreed.accepted;
   runs = λ id runs. other_runs s h c environment calls id (bytes_eq id c.id) refl never runs (agreed.runs id runs);
@@ -96,10 +96,10 @@ ran_before true before id h = absurd (none-some id h)
 ran_before false before id h = h
 
 -- a call that gives no event
-pub agrees_after_call : (s : Settings) (h : List Command) (environment : ℕ) (calls : List EnvCall) (c : EnvCall) → env_refusal_of calls c ≡ None → given_by c ≡ None
-    → Agrees s h environment calls → Agrees s h environment (calls ++ c ∷ [])
-agrees_after_call s h environment calls c passes gives_none agreed = record {
-  accepted = legal_more calls c agreed.accepted passes;
+pub agrees_after_call : (s : Settings) {wanted : ℕ} (h : List Command) (environment : ℕ) (calls : List EnvCall) (c : EnvCall) → env_refusal_of wanted calls c ≡ None → given_by c ≡ None
+    → Agrees s wanted h environment calls → Agrees s wanted h environment (calls ++ c ∷ [])
+agrees_after_call s {wanted = wanted} h environment calls c passes gives_none agreed = record {
+  accepted = legal_more wanted calls c agreed.accepted passes;
   runs = λ id runs.
       let was : cond (ends_event c) None (option_or (given_by c) (running calls)) ≡ Some id = sym (running_snoc calls c) ∙ runs in
       let before : running calls ≡ Some id = ran_before (ends_event c) (running calls) id (rw gives_none at was) in
@@ -113,21 +113,21 @@ agrees_after_call s h environment calls c passes gives_none agreed = record {
 }
 
 -- a call that ends what the environment runs, whatever the history is then
-pub agrees_after_end : (s : Settings) (h later : List Command) (environment : ℕ) (calls : List EnvCall) (c : EnvCall) → env_refusal_of calls c ≡ None → ends_event c ≡ true
-    → Agrees s h environment calls → Agrees s later environment (calls ++ c ∷ [])
-agrees_after_end s h later environment calls c passes ends agreed = record {
-  accepted = legal_more calls c agreed.accepted passes;
+pub agrees_after_end : (s : Settings) {wanted : ℕ} (h later : List Command) (environment : ℕ) (calls : List EnvCall) (c : EnvCall) → env_refusal_of wanted calls c ≡ None → ends_event c ≡ true
+    → Agrees s wanted h environment calls → Agrees s wanted later environment (calls ++ c ∷ [])
+agrees_after_end s {wanted = wanted} h later environment calls c passes ends agreed = record {
+  accepted = legal_more wanted calls c agreed.accepted passes;
   runs = λ id runs.
       let gone : running (calls ++ c ∷ []) ≡ None = running_snoc calls c ∙ ap (λ b. cond b None (option_or (given_by c) (running calls))) ends in
       absurd (none-some id (sym gone ∙ runs));
 }
 
 -- an event is given that runs there by the history
-pub agrees_after_give : (s : Settings) (h later : List Command) (environment : ℕ) (calls : List EnvCall) (id : List ℕ) (deadline : ℕ)
-    → env_refusal_of calls (env.Give id deadline) ≡ None → IsOne s environment → standing_in s later id ≡ standing.Running environment deadline
-    → Agrees s h environment calls → Agrees s later environment (calls ++ env.Give id deadline ∷ [])
-agrees_after_give s h later environment calls id deadline passes one stands agreed = record {
-  accepted = legal_more calls (env.Give id deadline) agreed.accepted passes;
+pub agrees_after_give : (s : Settings) {wanted : ℕ} (h later : List Command) (environment : ℕ) (calls : List EnvCall) (id : List ℕ) (deadline : ℕ)
+    → env_refusal_of wanted calls (env.Give id deadline) ≡ None → IsOne s environment → standing_in s later id ≡ standing.Running environment deadline
+    → Agrees s wanted h environment calls → Agrees s wanted later environment (calls ++ env.Give id deadline ∷ [])
+agrees_after_give s {wanted = wanted} h later environment calls id deadline passes one stands agreed = record {
+  accepted = legal_more wanted calls (env.Give id deadline) agreed.accepted passes;
   runs = λ other runs.
       let given_so : Some id ≡ Some other = sym (running_snoc calls (env.Give id deadline)) ∙ runs in
       let is : id ≡ other = cc in
@@ -150,9 +150,9 @@ by_environment P at c calls here others environment = go (at == environment) ref
     go true same = subst (λ v. P v (calls v ++ c ∷ [])) (eqb-true at environment same) here
     go false apart = subst (P environment) (sym (append-nil (calls environment))) (others environment (eqb-false at environment apart))
 
-module _ (s : Settings) (h : List Command) (calls : ℕ → List EnvCall) (all : AllAgree s h calls) where
+module _ (s : Settings) {wanted : ℕ} (h : List Command) (calls : ℕ → List EnvCall) (all : AllAgree s wanted h calls) where
   -- nothing is done
-  pub keeps_nothing : AllAgree s (h ++ []) (λ environment. calls environment ++ [])
+  pub keeps_nothing : AllAgree s wanted (h ++ []) (λ environment. calls environment ++ [])
   keeps_nothing = record {
     legal = subst (IsLegal s) (sym (append-nil h)) all.legal;
     each = λ environment. rw (append-nil (calls environment), append-nil h) (all.each environment);
@@ -160,18 +160,18 @@ module _ (s : Settings) (h : List Command) (calls : ℕ → List EnvCall) (all :
 
   -- a command alone, for an event that no environment runs
   pub keeps_command : (c : Command) → refusal_of s h c ≡ None → ((environment : ℕ) → running (calls environment) ≡ Some c.id → ⊥)
-      → AllAgree s (h ++ c ∷ []) (λ environment. calls environment ++ [])
+      → AllAgree s wanted (h ++ c ∷ []) (λ environment. calls environment ++ [])
   keeps_command c passes never = record {
     legal = IsLegal-more s h c all.legal passes;
     each = λ environment. rw (append-nil (calls environment)) (agrees_after_command s h c environment (calls environment) (never environment) (all.each environment));
   }
 
   -- a call alone that gives no event
-  pub keeps_call : (at : ℕ) (c : EnvCall) → env_refusal_of (calls at) c ≡ None → given_by c ≡ None
-      → AllAgree s (h ++ []) (λ environment. calls environment ++ calls_in environment ((at, c) ∷ []))
+  pub keeps_call : (at : ℕ) (c : EnvCall) → env_refusal_of wanted (calls at) c ≡ None → given_by c ≡ None
+      → AllAgree s wanted (h ++ []) (λ environment. calls environment ++ calls_in environment ((at, c) ∷ []))
   keeps_call at c passes gives_none = record {
     legal = subst (IsLegal s) (sym (append-nil h)) all.legal;
-    each = by_environment (λ environment l. Agrees s (h ++ []) environment l) at c calls
+    each = by_environment (λ environment l. Agrees s wanted (h ++ []) environment l) at c calls
         (rw (append-nil h) (agrees_after_call s h at (calls at) c passes gives_none (all.each at)))
         (λ environment apart. rw (append-nil h) (all.each environment));
   }
@@ -185,11 +185,11 @@ module _ (s : Settings) (h : List Command) (calls : ℕ → List EnvCall) (all :
       cc
 
   -- a command and a call that ends the event that it names in the environment that runs it
-  pub keeps_end : (c : Command) (at : ℕ) (call : EnvCall) → running (calls at) ≡ Some c.id → refusal_of s h c ≡ None → env_refusal_of (calls at) call ≡ None → ends_event call ≡ true
-      → AllAgree s (h ++ c ∷ []) (λ environment. calls environment ++ calls_in environment ((at, call) ∷ []))
+  pub keeps_end : (c : Command) (at : ℕ) (call : EnvCall) → running (calls at) ≡ Some c.id → refusal_of s h c ≡ None → env_refusal_of wanted (calls at) call ≡ None → ends_event call ≡ true
+      → AllAgree s wanted (h ++ c ∷ []) (λ environment. calls environment ++ calls_in environment ((at, call) ∷ []))
   keeps_end c at call runs passes accepted ends = record {
     legal = IsLegal-more s h c all.legal passes;
-    each = by_environment (λ environment l. Agrees s (h ++ c ∷ []) environment l) at call calls
+    each = by_environment (λ environment l. Agrees s wanted (h ++ c ∷ []) environment l) at call calls
         (agrees_after_end s h (h ++ c ∷ []) at (calls at) call accepted ends (all.each at))
         (λ environment apart.
         agrees_after_command s h c environment (calls environment) (λ too. apart (runs_in_one at environment c.id runs too)) (all.each environment));
@@ -197,11 +197,11 @@ module _ (s : Settings) (h : List Command) (calls : ℕ → List EnvCall) (all :
 
   -- a start and the give of its event, which no environment runs
   pub keeps_start : (c : Command) (deadline : ℕ) → c.kind ≡ Start → deadline ≡ c.time + 1000 * s.timeout → IsOne s c.environment → refusal_of s h c ≡ None
-      → env_refusal_of (calls c.environment) (env.Give c.id deadline) ≡ None → ((environment : ℕ) → running (calls environment) ≡ Some c.id → ⊥)
-      → AllAgree s (h ++ c ∷ []) (λ environment. calls environment ++ calls_in environment ((c.environment, env.Give c.id deadline) ∷ []))
+      → env_refusal_of wanted (calls c.environment) (env.Give c.id deadline) ≡ None → ((environment : ℕ) → running (calls environment) ≡ Some c.id → ⊥)
+      → AllAgree s wanted (h ++ c ∷ []) (λ environment. calls environment ++ calls_in environment ((c.environment, env.Give c.id deadline) ∷ []))
   keeps_start c deadline start until one passes accepted never = record {
     legal = IsLegal-more s h c all.legal passes;
-    each = by_environment (λ environment l. Agrees s (h ++ c ∷ []) environment l) c.environment (env.Give c.id deadline) calls
+    each = by_environment (λ environment l. Agrees s wanted (h ++ c ∷ []) environment l) c.environment (env.Give c.id deadline) calls
         (agrees_after_give s h (h ++ c ∷ []) c.environment (calls c.environment) c.id deadline accepted one
         (runs_from s h c start ∙ ap (standing.Running c.environment) (sym until)) (all.each c.environment))
         (λ environment apart. agrees_after_command s h c environment (calls environment) (never environment) (all.each environment));
@@ -210,22 +210,22 @@ module _ (s : Settings) (h : List Command) (calls : ℕ → List EnvCall) (all :
   abbrev shutdowns : ℕ → List ℕ → List (ℕ × EnvCall)
   shutdowns now numbers = map (λ (number : ℕ). (number, env.Shutdown now)) numbers
 
-  shut_one : (now environment number : ℕ) (numbers : List ℕ) (l : List EnvCall) (t : Bool) → (number == environment) ≡ t → Agrees s h environment l
-      → ((l : List EnvCall) → Agrees s h environment l → Agrees s h environment (l ++ calls_in environment (shutdowns now numbers)))
-      → Agrees s h environment (l ++ calls_in environment (shutdowns now (number ∷ numbers)))
+  shut_one : (now environment number : ℕ) (numbers : List ℕ) (l : List EnvCall) (t : Bool) → (number == environment) ≡ t → Agrees s wanted h environment l
+      → ((l : List EnvCall) → Agrees s wanted h environment l → Agrees s wanted h environment (l ++ calls_in environment (shutdowns now numbers)))
+      → Agrees s wanted h environment (l ++ calls_in environment (shutdowns now (number ∷ numbers)))
   shut_one now environment number numbers l true same agreed rest =
       rw same
-      (subst (Agrees s h environment) (append_assoc l (env.Shutdown now ∷ []) (calls_in environment (shutdowns now numbers)))
-      (rest (l ++ env.Shutdown now ∷ []) (agrees_after_call s h environment l (env.Shutdown now) (shutdown_is_accepted l now) refl agreed)))
+      (subst (Agrees s wanted h environment) (append_assoc l (env.Shutdown now ∷ []) (calls_in environment (shutdowns now numbers)))
+      (rest (l ++ env.Shutdown now ∷ []) (agrees_after_call s h environment l (env.Shutdown now) (shutdown_is_accepted wanted l now) refl agreed)))
   shut_one now environment number numbers l false apart agreed rest = rw apart (rest l agreed)
 
-  shut : (now environment : ℕ) (numbers : List ℕ) (l : List EnvCall) → Agrees s h environment l → Agrees s h environment (l ++ calls_in environment (shutdowns now numbers))
+  shut : (now environment : ℕ) (numbers : List ℕ) (l : List EnvCall) → Agrees s wanted h environment l → Agrees s wanted h environment (l ++ calls_in environment (shutdowns now numbers))
   shut now environment [] l agreed = rw (append-nil l) agreed
   shut now environment (number ∷ numbers) l agreed = shut_one now environment number numbers l (number == environment) refl agreed (λ l agreed. shut now environment numbers l agreed)
 
   -- a shutdown of each of these environments
   pub keeps_shutdown : (now : ℕ) (numbers : List ℕ)
-      → AllAgree s (h ++ []) (λ environment. calls environment ++ calls_in environment (map (λ (number : ℕ). (number, env.Shutdown now)) numbers))
+      → AllAgree s wanted (h ++ []) (λ environment. calls environment ++ calls_in environment (map (λ (number : ℕ). (number, env.Shutdown now)) numbers))
   keeps_shutdown now numbers = record {
     legal = subst (IsLegal s) (sym (append-nil h)) all.legal;
     each = λ environment. rw (append-nil h) (shut now environment numbers (calls environment) (all.each environment));

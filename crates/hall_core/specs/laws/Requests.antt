@@ -43,7 +43,7 @@ use Rattle.hall_core.specs.laws.Choosing.{runs_is, idle_never}
 -- after this effect the history is legal and the environments agree with it
 abbrev pub Keeps : Settings → Past → Effect → Type 0
 Keeps s past effect =
-    AllAgree s (past.history ++ option_list effect.command) (λ environment. calls_of past environment ++ calls_in environment effect.made)
+    AllAgree s past.wanted (past.history ++ option_list effect.command) (λ environment. calls_of past environment ++ calls_in environment effect.made)
 
 -- an event that runs alone after it, by the history and in no environment, ran so before
 abbrev pub LeavesNone : Settings → Past → Effect → Type 0
@@ -76,7 +76,7 @@ other_kind c d other same is =
     let e : c ≡ d = same_command c d same in
     true≢false (sym is ∙ ap (λ (v : Command). is_interrupt v.kind) (sym e) ∙ other)
 
-module _ (x : Scene) (all : AllAgree x.settings x.past.history (calls_of x.past)) where
+module _ (x : Scene) (all : AllAgree x.settings x.past.wanted x.past.history (calls_of x.past)) where
   pub quiet : (effect : Effect) → effect.command ≡ None → effect.made ≡ [] → Fine x.settings x.past effect
   quiet effect no_command no_calls = record {
     keeps = rw (no_command, no_calls) (keeps_nothing x.settings x.past.history (calls_of x.past) all);
@@ -129,13 +129,13 @@ module _ (x : Scene) (all : AllAgree x.settings x.past.history (calls_of x.past)
 
   -- where the environment accepts the call, what it ends is nothing
   abbrev EndsNothing : ℕ → EnvCall → Type 0
-  EndsNothing environment call = env_refusal_of (calls_of x.past environment) call ≡ None → ends_event call ≡ true → running (calls_of x.past environment) ≡ None
+  EndsNothing environment call = env_refusal_of x.past.wanted (calls_of x.past environment) call ≡ None → ends_event call ≡ true → running (calls_of x.past environment) ≡ None
 
   no_end : (environment : ℕ) (call : EnvCall) → ends_event call ≡ false → EndsNothing environment call
   no_end environment call never passes ends = absurd (true≢false (sym ends ∙ never))
 
   asked : (environment : ℕ) (call : EnvCall) (answered : Option Told) → given_by call ≡ None → is_shutdown call ≡ false → EndsNothing environment call
-      → (o : Option EnvRefusal) → env_refusal_of (calls_of x.past environment) call ≡ o
+      → (o : Option EnvRefusal) → env_refusal_of x.past.wanted (calls_of x.past environment) call ≡ o
       → Fine x.settings x.past (where_accepted o (record { command = None; made = (environment, call) ∷ []; reply = answered }))
   asked environment call answered gives_none unshut ends_nothing None passes = record {
     keeps = keeps_call x.settings x.past.history (calls_of x.past) all environment call passes gives_none;
@@ -147,14 +147,14 @@ module _ (x : Scene) (all : AllAgree x.settings x.past.history (calls_of x.past)
 
   -- a call that gives nothing, alone
   asking : (environment : ℕ) (call : EnvCall) (answered : Option Told) → given_by call ≡ None → is_shutdown call ≡ false → EndsNothing environment call → Fine x.settings x.past (requests x environment call None answered)
-  asking environment call answered gives_none unshut ends_nothing = asked environment call answered gives_none unshut ends_nothing (env_refusal_of (calls_of x.past environment) call) refl
+  asking environment call answered gives_none unshut ends_nothing = asked environment call answered gives_none unshut ends_nothing (env_refusal_of x.past.wanted (calls_of x.past environment) call) refl
 
   module _ (clock : last_moment x.past.history ≤ x.now) (bound : x.now ≤ greatest_moment) where
     runs_so : (environment : ℕ) (id : List ℕ) → running (calls_of x.past environment) ≡ Some id → is_running (standing_in x.settings x.past.history id) ≡ true
     runs_so environment id runs_it = ap is_running ((all.each environment).runs id runs_it).stands
 
     ending : (c : Command) (environment : ℕ) (call : EnvCall) (answered : Option Told) → kind_names c.kind ≡ true → kind_is_start c.kind ≡ false → is_interrupt c.kind ≡ false → running (calls_of x.past environment) ≡ Some c.id → refusal_of x.settings x.past.history c ≡ None
-        → env_refusal_of (calls_of x.past environment) call ≡ None → ends_event call ≡ true → is_shutdown call ≡ false
+        → env_refusal_of x.past.wanted (calls_of x.past environment) call ≡ None → ends_event call ≡ true → is_shutdown call ≡ false
         → Fine x.settings x.past (record { command = Some c; made = (environment, call) ∷ []; reply = answered })
     ending c environment call answered event no_start no_interrupt runs_it passes accepted ends unshut = record {
       keeps = keeps_end x.settings x.past.history (calls_of x.past) all c environment call runs_it passes accepted ends;
@@ -178,7 +178,7 @@ module _ (x : Scene) (all : AllAgree x.settings x.past.history (calls_of x.past)
     exit_names true = refl
     exit_names false = refl
 
-    exited : (environment : ℕ) (identifier : List ℕ) (o : Option EnvRefusal) → env_refusal_of (calls_of x.past environment) (env.ExtensionError identifier false x.now) ≡ o
+    exited : (environment : ℕ) (identifier : List ℕ) (o : Option EnvRefusal) → env_refusal_of x.past.wanted (calls_of x.past environment) (env.ExtensionError identifier false x.now) ≡ o
         → (what : Option (List ℕ)) → running (calls_of x.past environment) ≡ what
         → Fine x.settings x.past (where_accepted o (record { command = option_map (exit_of x) what; made = (environment, env.ExtensionError identifier false x.now) ∷ []; reply = Some reply.taken }))
     exited environment identifier (Some why) passes what runs_it = quiet (refuses _) refl refl
@@ -189,7 +189,7 @@ module _ (x : Scene) (all : AllAgree x.settings x.past.history (calls_of x.past)
 
     exiting : (environment : ℕ) (identifier : List ℕ) → Fine x.settings x.past (exits x environment identifier)
     exiting environment identifier =
-        exited environment identifier (env_refusal_of (calls_of x.past environment) (env.ExtensionError identifier false x.now)) refl (running (calls_of x.past environment)) refl
+        exited environment identifier (env_refusal_of x.past.wanted (calls_of x.past environment) (env.ExtensionError identifier false x.now)) refl (running (calls_of x.past environment)) refl
 
     -- ### Answers
 
@@ -199,7 +199,7 @@ module _ (x : Scene) (all : AllAgree x.settings x.past.history (calls_of x.past)
       times_out environment id answered runs_it late =
           ending (command_for (Fail Timeout) id x.now []) environment (env.Timeout x.now) answered refl refl refl runs_it
           (legal_timeout x.settings x.past.history x.now id clock bound (runs_so environment id runs_it) late)
-          (timeout_is_accepted (calls_of x.past environment) id x.now (all.each environment).accepted (open_ones environment) runs_it) refl refl
+          (timeout_is_accepted x.past.wanted (calls_of x.past environment) id x.now (all.each environment).accepted (open_ones environment) runs_it) refl refl
 
       answered_at : (environment : ℕ) (kind : Kind) (id bytes : List ℕ) → kind_names kind ≡ true → kind_is_start kind ≡ false → is_interrupt kind ≡ false → running (calls_of x.past environment) ≡ Some id
           → (is_late x id ≡ false → refusal_of x.settings x.past.history (command_for kind id x.now bytes) ≡ None)
@@ -217,7 +217,7 @@ module _ (x : Scene) (all : AllAgree x.settings x.past.history (calls_of x.past)
       answered_at environment kind id bytes event no_start no_interrupt runs_it legal true late = times_out environment id (Some (reply.refused Environment refusal.InvalidRequestId)) runs_it late
       answered_at environment kind id bytes event no_start no_interrupt runs_it legal false late =
           ending (command_for kind id x.now bytes) environment (env.Answer id) (Some reply.taken) event no_start no_interrupt runs_it (legal late)
-          (answer_is_accepted (calls_of x.past environment) id (all.each environment).accepted (open_ones environment) runs_it) refl refl
+          (answer_is_accepted x.past.wanted (calls_of x.past environment) id (all.each environment).accepted (open_ones environment) runs_it) refl refl
 
       responded : (environment : ℕ) (kind : Kind) (id bytes : List ℕ) → kind_names kind ≡ true → kind_is_start kind ≡ false → is_interrupt kind ≡ false
           → (is_running (standing_in x.settings x.past.history id) ≡ true → is_late x id ≡ false → refusal_of x.settings x.past.history (command_for kind id x.now bytes) ≡ None)
@@ -247,11 +247,11 @@ module _ (x : Scene) (all : AllAgree x.settings x.past.history (calls_of x.past)
       request_is_fine slot drawn (calls.RuntimeError environment id body) fits runs_on =
           responding environment (Fail Reported) id body refl refl refl (λ id running_it late. legal_error x.settings x.past.history x.now id clock bound body fits running_it late)
       request_is_fine slot drawn (calls.RuntimeInitError environment) fits runs_on =
-          asking environment (env.InitError x.now) (Some reply.taken) refl refl (λ passes ends. init_error_ends_nothing (calls_of x.past environment) x.now (all.each environment).accepted passes)
+          asking environment (env.InitError x.now) (Some reply.taken) refl refl (λ passes ends. init_error_ends_nothing x.past.wanted (calls_of x.past environment) x.now (all.each environment).accepted passes)
       request_is_fine slot drawn (calls.Register environment name events end account) fits runs_on =
           asking environment (env.Register drawn events end) (Some (reply.registered drawn account)) refl refl (no_end environment (env.Register drawn events end) refl)
       request_is_fine slot drawn (calls.ExtensionNext environment identifier) fits runs_on = asking environment (env.ExtensionNext identifier slot) None refl refl (no_end environment (env.ExtensionNext identifier slot) refl)
       request_is_fine slot drawn (calls.ExtensionInitError environment identifier) fits runs_on =
-          asking environment (env.ExtensionError identifier true x.now) (Some reply.taken) refl refl (λ passes ends. extension_init_error_ends_nothing (calls_of x.past environment) identifier x.now (all.each environment).accepted passes)
+          asking environment (env.ExtensionError identifier true x.now) (Some reply.taken) refl refl (λ passes ends. extension_init_error_ends_nothing x.past.wanted (calls_of x.past environment) identifier x.now (all.each environment).accepted passes)
       request_is_fine slot drawn (calls.ExtensionExitError environment identifier) fits runs_on = exiting environment identifier
       request_is_fine slot drawn (calls.Subscribe environment stream) fits runs_on = quiet (says (reply.not_supported stream)) refl refl

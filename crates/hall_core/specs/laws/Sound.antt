@@ -62,7 +62,7 @@ module _ (s : Settings) (past : Past) (kept : IsKept s past) where
     all = record {
       legal = keeps.legal;
       each = λ environment.
-          subst (Agrees s (past.history ++ option_list effect.command) environment) (sym (calls_more past call effect environment)) (keeps.each environment);
+          subst (Agrees s past.wanted (past.history ++ option_list effect.command) environment) (sym (calls_more past call effect environment)) (keeps.each environment);
     };
     unshut = λ runs_on environment.
         ap (list_any is_shutdown) (calls_more past call effect environment)
@@ -154,7 +154,7 @@ call_is_good s past (tick now) kept made =
 call_is_good s past (take_slot slot) kept made = fine_is_good s past nothing (quiet (scene s past 0) kept.all nothing refl refl)
 call_is_good s past (forget_slot slot) kept made = fine_is_good s past nothing (quiet (scene s past 0) kept.all nothing refl refl)
 
-module _ (s : Settings) (past : Past) (all : AllAgree s past.history (calls_of past)) (id : List ℕ) where
+module _ (s : Settings) (past : Past) (all : AllAgree s past.wanted past.history (calls_of past)) (id : List ℕ) where
   unheld_alone : IsUnheld s past id → RunsAlone s past.history (calls_of past) id
   unheld_alone u = record { stands = u.stands; alone = unheld_never s past all id u.alone }
 
@@ -198,14 +198,14 @@ its_own environment call true e = refl
 its_own environment call false e = absurd (eqb-false environment environment e refl)
 
 accepted_call : (s : Settings) (past : Past) (effect : Effect) (environment : ℕ) (call : EnvCall) → Keeps s past effect → effect.made ≡ (environment, call) ∷ []
-    → env_refusal_of (calls_of past environment) call ≡ None
+    → env_refusal_of past.wanted (calls_of past environment) call ≡ None
 accepted_call s past effect environment call keeps made_is =
     let whole : calls_in environment effect.made ≡ call ∷ [] = ap (calls_in environment) made_is ∙ its_own environment call (environment == environment) refl in
-    legal_last (calls_of past environment) call (subst (λ l. IsAccepted (calls_of past environment ++ l)) whole (keeps.each environment).accepted)
+    legal_last past.wanted (calls_of past environment) call (subst (λ l. IsAccepted past.wanted (calls_of past environment ++ l)) whole (keeps.each environment).accepted)
 
 -- and the environment of a call of one accepts it
 pub call_is_accepted : (s : Settings) (past : Past) (call : HallCall) (environment : ℕ) (c : EnvCall) → IsKept s past → IsUnrefused s past call → (effect_of s past call).made ≡ (environment, c) ∷ []
-    → env_refusal_of (calls_of past environment) c ≡ None
+    → env_refusal_of past.wanted (calls_of past environment) c ≡ None
 call_is_accepted s past call environment c kept made made_is = accepted_call s past (effect_of s past call) environment c (call_is_good s past call kept made).keeps made_is
 
 -- ## Runs
@@ -219,19 +219,19 @@ runs_nothing : (id : List ℕ) → running [] ≡ Some id → ⊥
 unfolding unanswered
 runs_nothing id h = none-some id h
 
-nobody_called : (h : List Command) (environment : ℕ) → calls_of (opening h) environment ≡ []
+nobody_called : (wanted : ℕ) (h : List Command) (environment : ℕ) → calls_of (opening wanted h) environment ≡ []
 unfolding calls_of
-nobody_called h environment = refl
+nobody_called wanted h environment = refl
 
 -- it holds at an opening on a legal history
-pub kept_at_opening : (s : Settings) (h : List Command) → IsLegal s h → IsKept s (opening h)
-kept_at_opening s h legal = record {
+pub kept_at_opening : (s : Settings) (wanted : ℕ) (h : List Command) → IsLegal s h → IsKept s (opening wanted h)
+kept_at_opening s wanted h legal = record {
   all = record {
     legal = legal;
     each = λ environment.
-        subst (Agrees s h environment) (sym (nobody_called h environment)) (record { accepted = legal_nil; runs = λ id runs_it. absurd (runs_nothing id runs_it) });
+        subst (Agrees s wanted h environment) (sym (nobody_called wanted h environment)) (record { accepted = legal_nil wanted; runs = λ id runs_it. absurd (runs_nothing id runs_it) });
   };
-  unshut = λ runs_on environment. ap (list_any is_shutdown) (nobody_called h environment);
+  unshut = λ runs_on environment. ap (list_any is_shutdown) (nobody_called wanted h environment);
 }
 
 same_number : (n : ℕ) (t : Bool) → (n == n) ≡ t → t ≡ true
@@ -246,12 +246,12 @@ kept_is_sound s past kept = record {
 }
 
 -- every run from an opening on a legal history keeps it
-pub every_run_keeps : (s : Settings) (opened : List Command) (run : List HallCall) → IsLegal s opened → IsRun s (opening opened) run → IsKept s (past_of s opened run)
-every_run_keeps s opened run legal made = kept_after s (opening opened) run (kept_at_opening s opened legal) made
+pub every_run_keeps : (s : Settings) (wanted : ℕ) (opened : List Command) (run : List HallCall) → IsLegal s opened → IsRun s (opening wanted opened) run → IsKept s (past_of s wanted opened run)
+every_run_keeps s wanted opened run legal made = kept_after s (opening wanted opened) run (kept_at_opening s wanted opened legal) made
 
 -- so every run is sound
-pub every_run_is_sound : (s : Settings) (opened : List Command) (run : List HallCall) → IsLegal s opened → IsRun s (opening opened) run → IsSound s (past_of s opened run)
-every_run_is_sound s opened run legal made = kept_is_sound s (past_of s opened run) (every_run_keeps s opened run legal made)
+pub every_run_is_sound : (s : Settings) (wanted : ℕ) (opened : List Command) (run : List HallCall) → IsLegal s opened → IsRun s (opening wanted opened) run → IsSound s (past_of s wanted opened run)
+every_run_is_sound s wanted opened run legal made = kept_is_sound s (past_of s wanted opened run) (every_run_keeps s wanted opened run legal made)
 
 -- what runs after a run and no environment holds did so before it
 pub unheld_since : (s : Settings) (past : Past) (run : List HallCall) (id : List ℕ) → IsKept s past → IsRun s past run → IsUnheld s (after s past run) id → IsUnheld s past id

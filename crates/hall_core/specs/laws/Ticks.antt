@@ -24,7 +24,7 @@ use Rattle.hall_core.specs.laws.Legal.{Moves, moves_so, legal_interrupt, legal_t
 use Rattle.hall_core.specs.laws.Choosing.{ready_is, idle_never, holder_runs, unheld_never, first_unheld_is, ready_is_free}
 use Rattle.hall_core.specs.laws.Requests.{Fine, same_command, other_kind, quiet, commanding, times_out}
 
-module _ (x : Scene) (all : AllAgree x.settings x.past.history (calls_of x.past)) (clock : last_moment x.past.history ≤ x.now) (bound : x.now ≤ greatest_moment) where
+module _ (x : Scene) (all : AllAgree x.settings x.past.wanted x.past.history (calls_of x.past)) (clock : last_moment x.past.history ≤ x.now) (bound : x.now ≤ greatest_moment) where
   module _ (open_ones : (environment : ℕ) → list_any is_shutdown (calls_of x.past environment) ≡ false) where
     -- a timeout of an event whose environment holds it, or of one that none holds
     timing_out : (id : List ℕ) → is_running (standing_in x.settings x.past.history id) ≡ true → is_late x id ≡ true → (o : Option ℕ) → holder x.settings x.past id ≡ o
@@ -42,12 +42,12 @@ module _ (x : Scene) (all : AllAgree x.settings x.past.history (calls_of x.past)
         record {
           keeps = keeps_start x.settings x.past.history (calls_of x.past) all c (x.now + 1000 * x.settings.timeout) refl refl chosen.0
               (legal_start x.settings x.past.history x.now id clock bound environment chosen.0 (ready_is_free x.settings x.past all none environment chosen.1) facts)
-              (give_is_accepted (calls_of x.past environment) id (x.now + 1000 * x.settings.timeout) chosen.1)
+              (give_is_accepted x.past.wanted (calls_of x.past environment) id (x.now + 1000 * x.settings.timeout) chosen.1)
               (idle_never x.settings x.past all id facts.1);
           unshut = refl;
           leaves_none = λ other u.
               alone_start x.settings x.past.history (calls_of x.past) other c environment (x.now + 1000 * x.settings.timeout)
-              (ready_runs_nothing (calls_of x.past environment) chosen.1) u;
+              (ready_runs_nothing x.past.wanted (calls_of x.past environment) chosen.1) u;
           interrupts = λ d same is. absurd (other_kind c d refl same is);
         }
 

@@ -5,9 +5,9 @@ use Rattle.hall_core.proofs.environments.Environments.call_all.Goals as goal
 
 -- src/calling.rt:30:5
 pub returns-clause-leads : goal.returns-clause-leads
-returns-clause-leads c = λ made hold. rw c.requires.0 (c.in_ok-ended.ensures.hold made hold)
+returns-clause-leads c = λ wanted made hold. rw c.requires.0 (c.in_ok-ended.ensures.hold wanted made hold)
 
 -- src/calling.rt:30:5
 pub returns-clause-answers : goal.returns-clause-answers
-returns-clause-answers c = λ made hold.
-    rw c.requires.0 (c.in_ok-ended.ensures.answers made hold ∙ answered_by_shutdowns made (numbers c.args.self.now) c.args.now)
+returns-clause-answers c = λ wanted made hold.
+    rw c.requires.0 (c.in_ok-ended.ensures.answers wanted made hold ∙ answered_by_shutdowns made (numbers c.args.self.now) c.args.now)

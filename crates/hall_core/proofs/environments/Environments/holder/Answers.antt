@@ -12,8 +12,8 @@ returns-then-runs_in-clause-first c =
     stands_at c.args.self.now c.deref-env-items.result.now c.loop-env.env-index c.env-item.result (c.deref-env-items.ensures.value ∙ c.self.view_is) within c.env-item.is in
     let asked : ForEachList c.env-item.result (λ calls. true ≡ runs calls c.args.id.now) =
     λ calls stands. sym c.if-runs_in.true ∙ c.runs_in.ensures calls stands in
-    λ made hold. ap (λ n. Some n) c.number.ensures
-    ∙ first_does c.args.self.now c.loop-env.env-index c.env-item.result (λ calls. runs calls c.args.id.now) here c.loop-env.invariant asked made hold
+    λ wanted made hold. ap (λ n. Some n) c.number.ensures
+    ∙ first_does c.args.self.now c.loop-env.env-index c.env-item.result (λ wanted calls. runs calls c.args.id.now) here c.loop-env.invariant asked wanted made hold
 
 pub loop-env-preserved : goal.loop-env-preserved
 loop-env-preserved c =
@@ -22,10 +22,10 @@ loop-env-preserved c =
     stands_at c.args.self.now c.deref-env-items.result.now c.loop-env.env-index c.env-item.result (c.deref-env-items.ensures.value ∙ c.self.view_is) within c.env-item.is in
     let asked : ForEachList c.env-item.result (λ calls. false ≡ runs calls c.args.id.now) =
     λ calls stands. sym c.if-runs_in.false ∙ c.runs_in.ensures calls stands in
-    first_does_later c.args.self.now c.loop-env.env-index c.env-item.result (λ calls. runs calls c.args.id.now) here c.loop-env.invariant asked
+    first_does_later c.args.self.now c.loop-env.env-index c.env-item.result (λ wanted calls. runs calls c.args.id.now) here c.loop-env.invariant asked
 
 pub returns-clause-first : goal.returns-clause-first
 returns-clause-first c =
     let same : length c.deref-env-items.result.now ≡ length c.args.self.now = ap length (c.deref-env-items.ensures.value ∙ c.self.view_is) in
     let all : length c.args.self.now ≤ c.loop-env.env-index = omega arith in
-    none_does c.args.self.now c.loop-env.env-index (λ calls. runs calls c.args.id.now) all c.loop-env.invariant
+    none_does c.args.self.now c.loop-env.env-index (λ wanted calls. runs calls c.args.id.now) all c.loop-env.invariant

@@ -4,4 +4,4 @@ use Rattle.hall_core.proofs.environments.Environments.holder.Given as goal
 
 -- the first is not among those that were asked
 abbrev pub invariant-loop-env : goal.invariant-loop-env
-invariant-loop-env l = NotAmong l.self (λ calls. runs calls l.fn.id) l.env-index
+invariant-loop-env l = NotAmong l.self (λ wanted calls. runs calls l.fn.id) l.env-index

@@ -7,6 +7,6 @@ loop-place-preserved c =
     let before = c.loop-place.invariant in
     rw c.in_ok-push.ensures.items
     (record {
-      long = length-append c.loop-place.list.items (c.new.result ∷ []) ∙ ap (λ n. n + 1) before.long;
-      hold = one_more_holds c.loop-place.list.items c.loop-place.place c.new.result before.long before.hold c.new.ensures.number c.new.ensures.stands;
+      long = length-append c.loop-place.list.items (c.waiting_for.result ∷ []) ∙ ap (λ n. n + 1) before.long;
+      hold = one_more_holds c.args.extensions c.loop-place.list.items c.loop-place.place c.waiting_for.result before.long before.hold c.waiting_for.ensures.number c.waiting_for.ensures.wanted c.waiting_for.ensures.stands;
     })

@@ -10,17 +10,17 @@ returns-then-ready-clause-first c =
     let within : c.loop-env.env-index < length c.deref-env-items.result.now = omega arith in
     let here : slice_get c.args.self.now c.loop-env.env-index ≡ Some c.env-item.result =
     stands_at c.args.self.now c.deref-env-items.result.now c.loop-env.env-index c.env-item.result (c.deref-env-items.ensures.value ∙ c.self.view_is) within c.env-item.is in
-    let asked : ForEachList c.env-item.result (λ calls. true ≡ is_ready calls) =
+    let asked : ForEachList c.env-item.result (λ calls. true ≡ is_ready c.env-item.result.wanted calls) =
     λ calls stands. sym c.if-ready.true ∙ c.ready.ensures.by_calls calls stands in
-    λ made hold. ap (λ n. Some n) c.number.ensures
-    ∙ first_does c.args.self.now c.loop-env.env-index c.env-item.result is_ready here c.loop-env.invariant asked made hold
+    λ wanted made hold. ap (λ n. Some n) c.number.ensures
+    ∙ first_does c.args.self.now c.loop-env.env-index c.env-item.result is_ready here c.loop-env.invariant asked wanted made hold
 
 pub loop-env-preserved : goal.loop-env-preserved
 loop-env-preserved c =
     let within : c.loop-env.env-index < length c.deref-env-items.result.now = omega arith in
     let here : slice_get c.args.self.now c.loop-env.env-index ≡ Some c.env-item.result =
     stands_at c.args.self.now c.deref-env-items.result.now c.loop-env.env-index c.env-item.result (c.deref-env-items.ensures.value ∙ c.self.view_is) within c.env-item.is in
-    let asked : ForEachList c.env-item.result (λ calls. false ≡ is_ready calls) =
+    let asked : ForEachList c.env-item.result (λ calls. false ≡ is_ready c.env-item.result.wanted calls) =
     λ calls stands. sym c.if-ready.false ∙ c.ready.ensures.by_calls calls stands in
     first_does_later c.args.self.now c.loop-env.env-index c.env-item.result is_ready here c.loop-env.invariant asked
 

@@ -18,3 +18,9 @@ returns-clause-hold c =
     let whole : c.loop-env.env-index ≡ length c.args.self.now = omega arith in
     all_ended c.args.self.now c.args.now c.loop-env.list.items c.loop-env.answers.items
     (subst (EndedSoFar c.args.self.now c.args.now c.loop-env.list.items c.loop-env.answers.items) whole c.loop-env.invariant)
+
+pub returns-clause-answers : goal.returns-clause-answers
+returns-clause-answers c =
+    let same : length c.deref-env-items.result.now ≡ length c.args.self.now = ap length (c.deref-env-items.ensures.value ∙ c.self.view_is) in
+    let whole : c.loop-env.env-index ≡ length c.args.self.now = omega arith in
+    (subst (EndedSoFar c.args.self.now c.args.now c.loop-env.list.items c.loop-env.answers.items) whole c.loop-env.invariant).answered

@@ -37,7 +37,7 @@ returns-in-Ok-do_for-clause-ok g c = λ past stands.
     let none : refusal_of_arrival old (is_some effect.command) ≡ None = search rules in
     arrived old new past c.args.slot c.args.call c.args.now c.args.words effect c.in-Ok-prepare.prepared c.is_stop-stops.result c.in-Ok.unavailable c.in-Ok-do_for.issued
     (g.met.I.Issuer.laws c.args.self.now.issuer) (g.met.I.Issuer.laws c.do_for.new.self.issuer) stands c.requires.fit none plans prepared c.in-Ok-do_for.ensures.dialect
-    c.in-Ok-do_for.ensures.issuer c.in-Ok-do_for.ensures.issued c.in-Ok-do_for.ensures.count c.in-Ok-do_for.ensures.environments
+    c.in-Ok-do_for.ensures.issuer c.in-Ok-do_for.ensures.issued c.in-Ok-do_for.ensures.count c.in-Ok-do_for.ensures.environments c.in-Ok-do_for.ensures.wanted
     c.in-Ok-do_for.ensures.slots c.in-Ok.ensures c.in-Ok-do_for.ensures.stops c.is_stop-stops.ensures
 
 pub returns-in-Err-clause-refused : goal.returns-in-Err-clause-refused

@@ -19,6 +19,7 @@ pub returns-in-Err-clause-err : goal.returns-in-Err-clause-err
 returns-in-Err-clause-err g c = record {
   issuer = search rules;
   environments = refl;
+  wanted = refl;
   slots = λ events keep. c.undo.ensures _ events calls.StopBroker (c.in_ok-open.ensures.ok _ events keep c.requires.told calls.StopBroker);
   dialect = refl;
   stops = refl;

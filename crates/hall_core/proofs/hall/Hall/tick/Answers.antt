@@ -31,7 +31,7 @@ returns-in-Ok-do_moving-clause-ok g c = λ past stands.
     let none : refusal_of_moving old (is_some effect.command) ≡ None = search rules in
     ticked old new past c.args.now effect c.in-Ok.prepared c.in-Ok-do_moving.issued
     (g.met.I.Issuer.laws c.args.self.now.issuer) (g.met.I.Issuer.laws c.do_moving.new.self.issuer) stands c.requires none plans prepared c.in-Ok-do_moving.ensures.dialect
-    c.in-Ok-do_moving.ensures.issuer c.in-Ok-do_moving.ensures.issued c.in-Ok-do_moving.ensures.count c.in-Ok-do_moving.ensures.environments
+    c.in-Ok-do_moving.ensures.issuer c.in-Ok-do_moving.ensures.issued c.in-Ok-do_moving.ensures.count c.in-Ok-do_moving.ensures.environments c.in-Ok-do_moving.ensures.wanted
     c.in-Ok-do_moving.ensures.slots c.in-Ok-do_moving.ensures.stops
 
 pub returns-in-Err-clause-refused : goal.returns-in-Err-clause-refused

@@ -4,4 +4,4 @@ use Rattle.hall_core.proofs.planner.Planner.ready.Goals as goal
 
 pub returns-clause-ready : goal.returns-clause-ready
 unfolding calls_of
-returns-clause-ready c past meets = c.ready.ensures.first past.made meets.hold ∙ rw meets.count refl
+returns-clause-ready c past meets = c.ready.ensures.first past.wanted past.made meets.hold ∙ rw meets.count refl
