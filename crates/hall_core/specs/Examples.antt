@@ -163,7 +163,7 @@ comes_and_waits = invokes 1 1000 1 ∷ runtime_asks 2 1000 ∷ []
 
 -- and then an extension registers
 abbrev pub one_registers : List HallCall
-one_registers = comes_and_waits ++ asks 3 1000 21 (calls.Register 1 [] true false) ∷ []
+one_registers = comes_and_waits ++ asks 3 1000 21 (calls.Register 1 [] true false false) ∷ []
 
 -- and asks
 abbrev pub one_has_asked : List HallCall

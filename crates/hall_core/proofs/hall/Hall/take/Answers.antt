@@ -19,7 +19,7 @@ returns-in-None-clause-gives g c = λ past stands.
 pub returns-in-Some-clause-some : goal.returns-in-Some-clause-some
 returns-in-Some-clause-some g c = λ past stands.
     let old = view_of g.I.Issuer.view c.args.self.now in
-    taken_from old (record old { slots = c.take.new.self }) past c.args.slot stands (g.met.I.Issuer.laws c.args.self.now.issuer) refl refl refl refl
+    taken_from old (record old { slots = c.take.new.self }) past c.args.slot stands (g.met.I.Issuer.laws c.args.self.now.issuer) refl refl refl refl refl
     (c.in-Some.ensures.some _ past.slots stands.slots)
 
 pub returns-in-Some-clause-kept : goal.returns-in-Some-clause-kept
