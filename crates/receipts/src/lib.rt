@@ -19,6 +19,7 @@ mod marks;
 mod office;
 mod opening;
 mod unlocked;
+mod witness;
 
 pub use desk::{Desk, desks};
 pub use drill::{Ask, Step};
@@ -27,3 +28,4 @@ pub use mark::{Gone, Mark, SharedTrace, Trace};
 pub use office::Office;
 pub use opening::{GoneTable, OpeningTrace, SharedOpening};
 pub use unlocked::Unlocked;
+pub use witness::Witnessed;
