@@ -28,6 +28,7 @@ impl<A: Drop, L: Ledger, T: Trace> Witnessed<A, L, T> {
             left: Seen::of(left),
         }
     }
+
     /// The answer, and what was seen without it.
     pub fn split(self) -> (A, Witnessed<(), L, T>)
         ensures answer { result.0 ≡ self.answer }
