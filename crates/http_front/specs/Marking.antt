@@ -1,5 +1,9 @@
 -- What a ticker has marked, beside the steps that it made.
-use Rattle.std.specs.Prelude.{◌≡◌, ℕ, ◌+◌, true, false, List, sum_by}
+use Rattle.std.specs.Prelude.{◌≡◌, ◌⊎◌, ℕ, ◌+◌, true, false, List, sum_by, None}
+use Rattle.hall_core.specs.declared.error.HallError.{HallError}
+use Rattle.hall_core.specs.Hall.{HallView}
+use Rattle.hall_core.specs.Past.{tick}
+use Rattle.receipts.specs.UnderLock.{AnswersItsNumber, IsNotMoved}
 use Rattle.commit_loop.specs.Ticker.{Step, counted, ticked, called, slept}
 
 -- how many moves a step made
@@ -13,3 +17,7 @@ moves_in slept = 0
 -- the desk, which had so many marks, has one more for each move, and no other
 abbrev pub HasMarked : ℕ → List Step → ℕ → Type 0
 HasMarked old steps new = new ≡ old + sum_by moves_in steps
+
+-- no move is made of this hall for a desk that was told so much: none is due, or it is refused
+abbrev pub FindsNothing : HallView → ℕ → ℕ → Type 0
+FindsNothing hall told now = AnswersItsNumber hall (tick now) None ⊎ ((why : HallError) × IsNotMoved hall told now why)

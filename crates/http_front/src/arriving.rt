@@ -1,12 +1,13 @@
 // A request comes to the hall.
 ghost use Rattle.std.specs.Prelude.{◌≤◌, IfOk, IfErr};
 ghost use Rattle.invoke_records.specs.Spelling.{greatest_moment};
-ghost use Rattle.long_poll.specs.Port.{IsSlot};
+ghost use Rattle.long_poll.specs.Port.{IsSlot, IsRequestRefusal};
 ghost use Rattle.http_front.specs.Refusals.{IsArrivalError};
 
 use crate::error::ArrivalError;
 use crate::moment::{now, words};
 use api_core::Call;
+use hall_core::HallError;
 use long_poll::{Arrived, Port};
 use receipts::Trace;
 use std::io;
@@ -41,12 +42,26 @@ fn make_moves<R: Wait, L: Ledger, T: Trace>(rt: &R, port: &Port<L, T>, now: u64)
 {
     let mut moved = false;
     for _ in rt.forever() {
-        if !matches!(port.tick(rt, now), Ok(Some(_))) {
+        if !matches!(port.tick(rt, now).answer, Ok(Some(_))) {
             break;
         }
         moved = true;
     }
     moved
+}
+
+// A call comes to the port's office, as `Port::arrive` says.
+fn hand_over<R: Wait, L: Ledger, T: Trace>(
+    rt: &R,
+    port: &Port<L, T>,
+    call: Call,
+    now: u64,
+    words: [u64; 2],
+) -> Result<Arrived, HallError>
+    ensures slot { IfOk result (λ arrived. IsSlot arrived.slot) }
+    ensures refused { IfErr result IsRequestRefusal }
+{
+    port.arrive(rt, call, now, words).answer
 }
 
 /// A call comes to a port now, with two random words, and then the moves that are due are made.
@@ -63,7 +78,7 @@ pub(crate) fn arrive<R: Wait + Clock + RandomSource, L: Ledger, T: Trace>(
     let moves = may_move(&call);
     let words = words_for(rt, &call)?;
     let now = now(rt)?;
-    let mut arrived = port.arrive(rt, call, now, words)?;
+    let mut arrived = hand_over(rt, port, call, now, words)?;
     if moves && make_moves(rt, port, now) {
         arrived.has_command = true;
     }

@@ -3,10 +3,11 @@ ghost use Rattle.std.specs.Prelude.{◌≡◌, IfOk, IfErr, OnErr};
 ghost use Rattle.group_commit.specs.Splitting.{broker_of};
 ghost use Rattle.receipts.specs.Answers.{IsToldMore, IsCommitRefusal};
 ghost use Rattle.receipts.specs.Serving.{HasServed};
+ghost use Rattle.receipts.specs.UnderLock.{IsCommitted, IsNotCommitted};
 
 use group_commit::{DiskHalf, Durable};
 use hall_core::HallError;
-use receipts::{Desk, Office, Trace};
+use receipts::{Desk, Office, Trace, Witnessed};
 use sector_disk::Disk;
 use std::sync::Wait;
 use std::sync::ledger::Ledger;
@@ -34,14 +35,18 @@ pub(crate) fn ask<D: Disk, L: Ledger, T: Trace, R: Wait>(
     office: &Office<L, T>,
     desk: &mut Desk<L, T>,
     half: &mut DiskHalf<D>,
-) -> Result<Durable, NotCommitted>
-    ensures told { IfOk result (IsToldMore desk.old.told desk.new.told) }
-    ensures err { OnErr result (desk.new.told ≡ desk.old.told) }
-    ensures refused { IfErr result (λ refused. IsCommitRefusal desk.old.told refused.why) }
+) -> Witnessed<Result<Durable, NotCommitted>, L, T>
+    ensures told { IfOk result.answer (IsToldMore desk.old.told desk.new.told) }
+    ensures err { OnErr result.answer (desk.new.told ≡ desk.old.told) }
+    ensures refused { IfErr result.answer (λ refused. IsCommitRefusal desk.old.told refused.why) }
     ensures served { HasServed D.view D.fault_count (broker_of half.old) (broker_of half.new) }
+    ensures committed { IfOk result.answer (IsCommitted result.met.value.hall.issuer result.left.value.hall.issuer) }
+    ensures reason { IfErr result.answer (λ refused.
+        IsNotCommitted desk.old.told result.met.value.hall.issuer result.left.value.hall.issuer refused.why) }
 {
-    match office.commit(rt, desk, half) {
-        Ok(durable) => Ok(durable),
-        Err(why) => Err(NotCommitted { why }),
+    let (answer, seen) = office.commit(rt, desk, half).split();
+    match answer {
+        Ok(durable) => seen.with(Ok(durable)),
+        Err(why) => seen.with(Err(NotCommitted { why })),
     }
 }

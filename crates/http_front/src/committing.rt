@@ -61,6 +61,7 @@ impl<R: Wait, L: Ledger, T: Trace, D: Disk> Committing for AtFront<'_, R, L, T, 
             &mut self.committer.desk,
             &mut self.committer.half,
         )
+        .answer
     }
 
     fn is_broken_by(&self, why: &NotCommitted) -> bool {

@@ -1,14 +1,15 @@
 // The ticker: what its loop works on.
-ghost use Rattle.std.specs.Prelude.{◌≡◌, ◌≤◌, ◌+◌, [], ◌∷◌, ◌++◌, length, map, sum_by};
+ghost use Rattle.std.specs.Prelude.{◌≡◌, ◌≤◌, ◌+◌, [], ◌∷◌, ◌++◌, length, map, sum_by, false};
 ghost use Rattle.invoke_records.specs.Spelling.{greatest_moment};
 ghost use Rattle.commit_loop.specs.Ticker.{Step, ticked, IsRun};
-ghost use Rattle.http_front.specs.Marking.{HasMarked};
+ghost use Rattle.receipts.specs.Kept.{hall_in};
+ghost use Rattle.http_front.specs.Marking.{HasMarked, FindsNothing};
 ghost use Rattle.http_front.specs.laws.Marked.{marked_nothing, marked_more};
 
 use crate::front::Front;
 use crate::moment::now;
 use commit_loop::{Gate, Ticking};
-use receipts::{Desk, Trace};
+use receipts::{Desk, Trace, Witnessed};
 use std::sync::Wait;
 use std::sync::ledger::Ledger;
 use std::thread;
@@ -31,17 +32,21 @@ fn make_move<R: Wait, L: Ledger, T: Trace>(
     front: &Front<L, T>,
     desk: &mut Desk<L, T>,
     now: u64,
-) -> bool
+) -> Witnessed<bool, L, T>
     requires { now ≤ greatest_moment }
-    ensures { HasMarked (length (map T.mark desk.old.own.items)) (ticked result ∷ []) (length (map T.mark desk.new.own.items)) }
+    ensures marked { HasMarked (length (map T.mark desk.old.own.items)) (ticked result.answer ∷ [])
+        (length (map T.mark desk.new.own.items)) }
+    ensures nothing { result.answer ≡ false → FindsNothing (hall_in result.met.value.hall) desk.old.told now }
 {
-    match front.office.tick(rt, desk, now) {
+    let (answer, seen) = front.office.tick(rt, desk, now).split();
+    match answer {
         Ok(Some(number)) => {
             let answered = desk.take_answered();
             front.bell.answer(rt, &answered, number);
-            true
+            seen.with(true)
         }
-        _ => false,
+        Ok(None) => seen.with(false),
+        Err(_) => seen.with(false),
     }
 }
 
@@ -54,7 +59,7 @@ fn tick<R: Wait + Clock, L: Ledger, T: Trace>(
     ensures { HasMarked (length (map T.mark desk.old.own.items)) (ticked result ∷ []) (length (map T.mark desk.new.own.items)) }
 {
     match now(rt) {
-        Ok(now) => make_move(rt, front, desk, now),
+        Ok(now) => make_move(rt, front, desk, now).answer,
         Err(_) => false,
     }
 }

@@ -1,7 +1,10 @@
 -- What a port answers, whose desk is behind its lock.
-use Rattle.std.specs.Prelude.{ℕ, ◌<◌}
+use Rattle.std.specs.Prelude.{ℕ, ◌<◌, List}
+use Rattle.api_core.specs.declared.call.Call.{Call}
 use Rattle.hall_core.specs.declared.error.HallError.{HallError}
+use Rattle.hall_core.specs.Hall.{HallView}
 use Rattle.receipts.specs.Answers.{IsSlotOf, IsArrivalRefusal, IsTickRefusal}
+use Rattle.receipts.specs.UnderLock.{IsNotMade, IsNotMoved}
 
 -- the slot is one of some desk
 abbrev pub IsSlot : ℕ → Type 0
@@ -14,3 +17,13 @@ IsRequestRefusal why = (told : ℕ) × IsArrivalRefusal told why
 -- the same of a tick
 abbrev pub IsMoveRefusal : HallError → Type 0
 IsMoveRefusal why = (told : ℕ) × IsTickRefusal told why
+
+-- why this hall, where so many slots were counted, is not asked the request by some desk that was told some number
+abbrev pub IsRequestReason : HallView → ℕ → Call → ℕ → List ℕ → HallError → Type 0
+IsRequestReason hall slots call now words why =
+    (told : ℕ) × (desk : ℕ)
+    × IsNotMade hall slots (record { told = told; desk = desk; call = call; now = now; words = words }) why
+
+-- the same of a tick
+abbrev pub IsMoveReason : HallView → ℕ → HallError → Type 0
+IsMoveReason hall now why = (told : ℕ) × IsNotMoved hall told now why

@@ -1,15 +1,19 @@
 // What the futures of one port share.
-ghost use Rattle.std.specs.Prelude.{◌≡◌, ◌≤◌, IfOk, IfErr, IfSome};
+ghost use Rattle.std.specs.Prelude.{◌≡◌, ◌≤◌, IfOk, IfErr, OnOk, IfSome, OnSome, IfNone};
 ghost use Rattle.invoke_records.specs.Spelling.{greatest_moment};
-ghost use Rattle.hall_core.specs.Hall.{slot_told};
-ghost use Rattle.long_poll.specs.Port.{IsSlot, IsRequestRefusal, IsMoveRefusal};
+ghost use Rattle.hall_core.specs.Hall.{slot_told, request, Gives, IsDone, IsSameHall, ForEachPast};
+ghost use Rattle.hall_core.specs.Past.{tick, take_slot, forget_slot};
+ghost use Rattle.hall_core.specs.Slots.{point_of};
+ghost use Rattle.receipts.specs.Kept.{hall_in};
+ghost use Rattle.receipts.specs.UnderLock.{AnswersItsNumber};
+ghost use Rattle.long_poll.specs.Port.{IsSlot, IsRequestRefusal, IsMoveRefusal, IsRequestReason, IsMoveReason};
 
 use crate::bell::Bell;
 use api_core::Call;
 use front_board::Seated;
 use group_commit::{Receipt, Ticket};
 use hall_core::{HallError, Released};
-use receipts::{Desk, Mark, Office, Trace};
+use receipts::{Desk, Mark, Office, Trace, Witnessed};
 use std::sync::ledger::Ledger;
 use std::sync::{Arc, Mutex, Wait};
 
@@ -73,58 +77,85 @@ impl<L: Ledger, T: Trace> Port<L, T> {
         call: Call,
         now: u64,
         words: [u64; 2],
-    ) -> Result<Arrived, HallError>
-        ensures slot { IfOk result (λ arrived. IsSlot arrived.slot) }
-        ensures refused { IfErr result IsRequestRefusal }
+    ) -> Witnessed<Result<Arrived, HallError>, L, T>
+        ensures slot { IfOk result.answer (λ arrived. IsSlot arrived.slot) }
+        ensures refused { IfErr result.answer IsRequestRefusal }
+
+        // Just this request was done to what was met under the lock, or there is a reason there why it was not.
+        ensures done { IfOk result.answer (λ arrived.
+            IsDone (hall_in result.met.value.hall) (hall_in result.left.value.hall) (request arrived.slot call now words)) }
+        ensures reason { IfErr result.answer
+            (IsRequestReason (hall_in result.met.value.hall) result.met.value.slots call now words) }
     {
         let mut desk = self.desk.lock(rt);
         let marked = desk.marks().len();
-        let (ticket, slot) = self.office.arrive(rt, &mut desk, call, now, words)?;
+        let (answer, seen) = self.office.arrive(rt, &mut desk, call, now, words).split();
+        let (ticket, slot) = match answer {
+            Ok(arrived) => arrived,
+            Err(why) => return seen.with(Err(why)),
+        };
         let has_command = marked < desk.marks().len();
         let answered = desk.take_answered();
         drop(desk);
         self.bell.answer(rt, &answered, ticket.number());
-        Ok(Arrived {
+        seen.with(Ok(Arrived {
             ticket,
             slot,
             has_command,
-        })
+        }))
     }
 
     /// Makes one move that is due, as `Office::tick` says, from the port's desk. The bell is told which parked polls it
     /// answered. A moment is at most the end of the year 9999.
-    pub fn tick<R: Wait>(&self, rt: &R, now: u64) -> Result<Option<u64>, HallError>
+    pub fn tick<R: Wait>(&self, rt: &R, now: u64) -> Witnessed<Result<Option<u64>, HallError>, L, T>
         requires { now ≤ greatest_moment }
-        ensures { IfErr result IsMoveRefusal }
+        ensures refused { IfErr result.answer IsMoveRefusal }
+
+        // Just this move was made in what was met under the lock, or there is a reason there why it was not.
+        ensures done { OnOk result.answer (IsDone (hall_in result.met.value.hall) (hall_in result.left.value.hall) (tick now)) }
+        ensures answer { IfOk result.answer (AnswersItsNumber (hall_in result.met.value.hall) (tick now)) }
+        ensures reason { IfErr result.answer (IsMoveReason (hall_in result.met.value.hall) now) }
     {
         let mut desk = self.desk.lock(rt);
-        let moved = self.office.tick(rt, &mut desk, now)?;
+        let (answer, seen) = self.office.tick(rt, &mut desk, now).split();
+        let moved = match answer {
+            Ok(moved) => moved,
+            Err(why) => return seen.with(Err(why)),
+        };
         let answered = desk.take_answered();
         drop(desk);
         if let Some(number) = moved {
             self.bell.answer(rt, &answered, number);
         }
-        Ok(moved)
+        seen.with(Ok(moved))
     }
 
     /// The reply of a slot, as `Office::take` gives it.
-    pub(crate) fn take<R: Wait>(&self, rt: &R, slot: u64) -> Option<Released>
-        ensures slot { IfSome result (λ released. slot_told released ≡ slot) }
+    pub(crate) fn take<R: Wait>(&self, rt: &R, slot: u64) -> Witnessed<Option<Released>, L, T>
+        ensures slot { IfSome result.answer (λ released. slot_told released ≡ slot) }
+        ensures gives { Gives (hall_in result.met.value.hall) slot result.answer }
+        ensures done { OnSome result.answer
+            (IsDone (hall_in result.met.value.hall) (hall_in result.left.value.hall) (take_slot slot)) }
+        ensures none { IfNone result.answer (IsSameHall (hall_in result.met.value.hall) (hall_in result.left.value.hall)) }
     {
         let mut desk = self.desk.lock(rt);
         self.office.take(rt, &mut desk, slot)
     }
 
     /// How much has to be durable before the reply of a slot is told, as `Office::point` says.
-    pub(crate) fn point<R: Wait>(&self, rt: &R, slot: u64) -> Option<u64> {
+    pub(crate) fn point<R: Wait>(&self, rt: &R, slot: u64) -> Witnessed<Option<u64>, L, T>
+        ensures point { ForEachPast (hall_in result.met.value.hall) (λ past. result.answer ≡ point_of past slot) }
+    {
         let mut desk = self.desk.lock(rt);
         self.office.point(rt, &mut desk, slot)
     }
 
     /// The reply of a slot is not wanted any more, as `Office::forget` says.
-    pub(crate) fn forget<R: Wait>(&self, rt: &R, slot: u64) {
+    pub(crate) fn forget<R: Wait>(&self, rt: &R, slot: u64) -> Witnessed<(), L, T>
+        ensures done { IsDone (hall_in result.met.value.hall) (hall_in result.left.value.hall) (forget_slot slot) }
+    {
         let mut desk = self.desk.lock(rt);
-        self.office.forget(rt, &mut desk, slot);
+        self.office.forget(rt, &mut desk, slot)
     }
 
     /// A receipt where the board shows at least the ticket's number, else the ticket again.

@@ -157,7 +157,7 @@ impl<R: Wait, L: Ledger, T: Trace> Waiting<R, L, T> {
         ensures told { OnSome result (number_at self.new.progress ≡ None) }
         ensures waits { IfNone result (number_at self.new.progress ≡ number_at self.old.progress) }
     {
-        let released = self.port.take(&self.rt, self.slot)?;
+        let released = self.port.take(&self.rt, self.slot).answer?;
         self.progress = Progress::Told;
         Some(released)
     }
@@ -200,7 +200,7 @@ impl<R: Wait, L: Ledger, T: Trace> Waiting<R, L, T> {
         ensures number { number_at self.new.progress ≡ number_at self.old.progress }
     {
         let _ = parked;
-        let number = self.port.point(&self.rt, self.slot)?;
+        let number = self.port.point(&self.rt, self.slot).answer?;
         if let Progress::Durable(receipt) = &self.progress {
             self.progress = Progress::Answered(*receipt, number);
         }

@@ -4,7 +4,8 @@
 //! own. What is kept of a mark is a type parameter, a `Trace`: the mark itself, or `Gone`, which has no bytes and which
 //! proofs alone see. The crates above use that what a desk was told is never undercut, that a call adds the mark of the
 //! command that it tells and no other, and that at the end each desk that kept its marks has its history among all marks.
-//! Whenever the lock is free the table tells what the marks tell.
+//! Whenever the lock is free the table tells what the marks tell. Beside each answer of an office proofs see what its call
+//! met under the lock and what it left there, of which the clauses say what was done.
 #![tactic(auto)]
 
 mod desk;
@@ -19,6 +20,7 @@ mod marks;
 mod office;
 mod opening;
 mod unlocked;
+mod witness;
 
 pub use desk::{Desk, desks};
 pub use drill::{Ask, Step};
@@ -27,3 +29,4 @@ pub use mark::{Gone, Mark, SharedTrace, Trace};
 pub use office::Office;
 pub use opening::{GoneTable, OpeningTrace, SharedOpening};
 pub use unlocked::Unlocked;
+pub use witness::Witnessed;

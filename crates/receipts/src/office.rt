@@ -1,5 +1,5 @@
 // The office: the hall under its lock.
-ghost use Rattle.std.specs.Prelude.{◌≡◌, ◌≤◌, [], map, All, Err, vec_len, vec_capacity, IfOk, IfErr, OnOk, OnErr, IfSome};
+ghost use Rattle.std.specs.Prelude.{◌≡◌, ◌≤◌, [], map, All, Err, vec_len, vec_capacity, IfOk, IfErr, OnOk, OnErr, IfSome, OnSome, IfNone, length};
 ghost use Rattle.std.specs.List.{range_with_len};
 ghost use Rattle.invoke_records.specs.Spelling.{greatest_moment};
 ghost use Rattle.group_commit.specs.Broker.{pending_of, settings_of, table_in};
@@ -7,13 +7,25 @@ ghost use Rattle.group_commit.specs.IssuerBroker.{issuer_of};
 ghost use Rattle.group_commit.specs.Refusals.{FaultsHaveRisen};
 ghost use Rattle.group_commit.specs.Splitting.{broker_of, IsSplitReason};
 ghost use Rattle.hall_core.specs.declared.error.HallError.TheVariants as HallError;
-ghost use Rattle.hall_core.specs.Hall.{view_of, slot_told};
+ghost use Rattle.hall_core.specs.Hall.{view_of, slot_told, request, Gives, GivesFor, IsDone, IsSameHall, IsAsDurable, AnswersPolls, ForEachPast, StandsFor};
+ghost use Rattle.hall_core.specs.Hall.{pending_in, open_slot_count};
+ghost use Rattle.hall_core.specs.OpenSlots.{ForEachKept};
+ghost use Rattle.hall_core.specs.Past.{tick, take_slot, forget_slot};
+ghost use Rattle.hall_core.specs.Slots.{open_slots, point_in, point_of};
 ghost use Rattle.hall_core.specs.Fresh.{IsFresh};
-ghost use Rattle.hall_core.specs.Halves.{HasSameParts};
+ghost use Rattle.hall_core.specs.Halves.{HasSameParts, IsNotDurable};
 ghost use Rattle.receipts.specs.Desks.{desk_count};
 ghost use Rattle.receipts.specs.Answers.{AddsAtMostOne, AddsAnswered, IsToldMore, IsToldIfAny, IsSlotOf};
 ghost use Rattle.receipts.specs.Answers.{AddsAsked, IsArrivalRefusal, IsTickRefusal, IsCommitRefusal};
-ghost use Rattle.receipts.specs.Serving.{CommitsTo};
+ghost use Rattle.receipts.specs.Kept.{hall_in, issuer_in, IsToldByLoan, IsNotLentTo};
+ghost use Rattle.receipts.specs.Marks.{KeepsHistories};
+ghost use Rattle.receipts.specs.Serving.{CommitsTo, IsToldOf};
+ghost use Rattle.receipts.specs.UnderLock.{DoesAt, AnswersItsNumber, AddBoth, LendsAs, Counts, IsNotMade, IsNotMoved, IsSameUnderLock, IsNoFault};
+ghost use Rattle.receipts.specs.UnderLock.{IsCommitted, IsNotCommitted};
+ghost use Rattle.group_commit.specs.Issuer.{issued_in};
+ghost use Rattle.group_commit.specs.IssuerHalf.{has_same_lent};
+ghost use Rattle.group_commit.specs.Batch.{last_in};
+ghost use Rattle.group_commit.specs.Lending.{SettlesBy};
 ghost use Rattle.hall_core.specs.Plans.{drawn_by};
 
 use crate::desk::{Desk, desks};
@@ -23,11 +35,13 @@ use crate::kept::{Kept, Loan};
 use crate::mark::{Mark, Trace};
 use crate::marks::Marks;
 use crate::opening::OpeningTrace;
+use crate::witness::Witnessed;
 use api_core::Call;
-use group_commit::{Broker, DiskHalf, Durable, SplitError, Ticket};
+use group_commit::{Broker, DiskHalf, Durable, Failed, SplitError, Ticket, Written};
 use hall_core::{Hall, HallError, Released};
 use sector_disk::Disk;
 use std::alloc::{AllocError, Global};
+use std::snapshot::Snapshot as Seen;
 use std::sync::ledger::{Blank, Ledger, Share};
 use std::sync::{Mutex, Wait};
 
@@ -173,18 +187,45 @@ impl<L: Ledger, T: Trace> Office<L, T> {
         call: Call,
         now: u64,
         words: [u64; 2],
-    ) -> Result<(Ticket, u64), HallError>
-        ensures marks { IfOk result (λ r.
+    ) -> Witnessed<Result<(Ticket, u64), HallError>, L, T>
+        ensures marks { IfOk result.answer (λ r.
             AddsAtMostOne desk.old.number (map T.mark desk.old.own.items) (map T.mark desk.new.own.items) r.0) }
-        ensures told { IfOk result (λ r. IsToldMore desk.old.told desk.new.told r.0) }
-        ensures slot { IfOk result (λ r. IsSlotOf desk.old.number r.1) }
+        ensures told { IfOk result.answer (λ r. IsToldMore desk.old.told desk.new.told r.0) }
+        ensures slot { IfOk result.answer (λ r. IsSlotOf desk.old.number r.1) }
         ensures number { desk.new.number ≡ desk.old.number }
-        ensures err { OnErr result ((desk.new.own.items ≡ desk.old.own.items) × (desk.new.told ≡ desk.old.told)) }
-        ensures asked { OnOk result (AddsAsked (drawn_by words) call (map T.mark desk.old.own.items) (map T.mark desk.new.own.items)) }
-        ensures refused { IfErr result (IsArrivalRefusal desk.old.told) }
-        ensures kept_answered { OnErr result (desk.new.answered.items ≡ desk.old.answered.items) }
+        ensures err { OnErr result.answer ((desk.new.own.items ≡ desk.old.own.items) × (desk.new.told ≡ desk.old.told)) }
+        ensures asked { OnOk result.answer (AddsAsked (drawn_by words) call (map T.mark desk.old.own.items) (map T.mark desk.new.own.items)) }
+        ensures refused { IfErr result.answer (IsArrivalRefusal desk.old.told) }
+        ensures kept_answered { OnErr result.answer (desk.new.answered.items ≡ desk.old.answered.items) }
+
+        // Just this request was done to what was met under the lock, with the slot that is answered, and its command was marked
+        // there and at the desk. A refusal is the first check that failed there, and changed nothing.
+        ensures done { IfOk result.answer (λ r.
+            DoesAt (hall_in result.met.value.hall) (hall_in result.left.value.hall) (request r.1 call now words)
+            desk.old.number (map T.mark desk.old.own.items) (map T.mark desk.new.own.items)) }
+        ensures both { OnOk result.answer (AddBoth (map T.mark desk.old.own.items) (map T.mark desk.new.own.items)
+            (map T.mark result.met.value.marks.all.items) (map T.mark result.left.value.marks.all.items)) }
+        ensures histories { OnOk result.answer (KeepsHistories desk.old.number
+            (map T.mark result.met.value.marks.all.items) (map T.mark desk.old.own.items)
+            (map T.mark result.left.value.marks.all.items) (map T.mark desk.new.own.items)) }
+        ensures unmarked { OnErr result.answer (result.left.value.marks.all.items ≡ result.met.value.marks.all.items) }
+        ensures counts { IfOk result.answer (λ r. Counts result.met.value.slots result.left.value.slots desk.old.number r.1) }
+        ensures ticket { IfOk result.answer (λ r. r.0 ≡ issued_in (issuer_in result.left.value.hall)) }
+        ensures kept { OnOk result.answer (IsAsDurable (hall_in result.met.value.hall) (hall_in result.left.value.hall)) }
+        ensures no_call { has_same_lent result.met.value.hall.issuer result.left.value.hall.issuer }
+        ensures opening { result.left.value.opening ≡ result.met.value.opening }
+        ensures answered { IfOk result.answer (λ r.
+            AnswersPolls (hall_in result.met.value.hall) (request r.1 call now words) desk.new.answered.items) }
+        ensures reason { IfErr result.answer (IsNotMade (hall_in result.met.value.hall) result.met.value.slots
+            (record { told = desk.old.told; desk = desk.old.number; call = call; now = now; words = words })) }
+        ensures same { OnErr result.answer (IsSameUnderLock (hall_in result.met.value.hall) (hall_in result.left.value.hall)
+            (map T.mark result.met.value.marks.all.items) (map T.mark result.left.value.marks.all.items)
+            result.met.value.slots result.left.value.slots) }
     {
-        self.kept.lock(rt).arrive(desk, call, now, words)
+        let mut kept = self.kept.lock(rt);
+        let met = Seen::of(&*kept);
+        let answer = kept.arrive(desk, call, now, words);
+        Witnessed::new(answer, met, &kept)
     }
 
     /// Makes one move that is due now, as `Hall::tick` does, and answers the number of its command, of which the desk gets
@@ -198,16 +239,95 @@ impl<L: Ledger, T: Trace> Office<L, T> {
         rt: &R,
         desk: &mut Desk<L, T>,
         now: u64,
-    ) -> Result<Option<u64>, HallError>
+    ) -> Witnessed<Result<Option<u64>, HallError>, L, T>
         requires { now ≤ greatest_moment }
-        ensures marks { IfOk result (AddsAnswered desk.old.number (map T.mark desk.old.own.items) (map T.mark desk.new.own.items)) }
-        ensures told { IfOk result (IsToldIfAny desk.old.told desk.new.told) }
+        ensures marks { IfOk result.answer (AddsAnswered desk.old.number (map T.mark desk.old.own.items) (map T.mark desk.new.own.items)) }
+        ensures told { IfOk result.answer (IsToldIfAny desk.old.told desk.new.told) }
         ensures number { desk.new.number ≡ desk.old.number }
-        ensures err { OnErr result ((desk.new.own.items ≡ desk.old.own.items) × (desk.new.told ≡ desk.old.told)) }
-        ensures refused { IfErr result (IsTickRefusal desk.old.told) }
-        ensures kept_answered { OnErr result (desk.new.answered.items ≡ desk.old.answered.items) }
+        ensures err { OnErr result.answer ((desk.new.own.items ≡ desk.old.own.items) × (desk.new.told ≡ desk.old.told)) }
+        ensures refused { IfErr result.answer (IsTickRefusal desk.old.told) }
+        ensures kept_answered { OnErr result.answer (desk.new.answered.items ≡ desk.old.answered.items) }
+
+        // Just this move was made in what was met under the lock, and its command was marked there and at the desk. A refusal is
+        // the first check that failed there, and changed nothing.
+        ensures done { OnOk result.answer (
+            DoesAt (hall_in result.met.value.hall) (hall_in result.left.value.hall) (tick now)
+            desk.old.number (map T.mark desk.old.own.items) (map T.mark desk.new.own.items)) }
+        ensures answer { IfOk result.answer (AnswersItsNumber (hall_in result.met.value.hall) (tick now)) }
+        ensures both { OnOk result.answer (AddBoth (map T.mark desk.old.own.items) (map T.mark desk.new.own.items)
+            (map T.mark result.met.value.marks.all.items) (map T.mark result.left.value.marks.all.items)) }
+        ensures histories { OnOk result.answer (KeepsHistories desk.old.number
+            (map T.mark result.met.value.marks.all.items) (map T.mark desk.old.own.items)
+            (map T.mark result.left.value.marks.all.items) (map T.mark desk.new.own.items)) }
+        ensures unmarked { OnErr result.answer (result.left.value.marks.all.items ≡ result.met.value.marks.all.items) }
+        ensures counted { result.left.value.slots ≡ result.met.value.slots }
+        ensures kept { OnOk result.answer (IsAsDurable (hall_in result.met.value.hall) (hall_in result.left.value.hall)) }
+        ensures no_call { has_same_lent result.met.value.hall.issuer result.left.value.hall.issuer }
+        ensures opening { result.left.value.opening ≡ result.met.value.opening }
+        ensures answered { OnOk result.answer (AnswersPolls (hall_in result.met.value.hall) (tick now) desk.new.answered.items) }
+        ensures reason { IfErr result.answer (IsNotMoved (hall_in result.met.value.hall) desk.old.told now) }
+        ensures same { OnErr result.answer (IsSameUnderLock (hall_in result.met.value.hall) (hall_in result.left.value.hall)
+            (map T.mark result.met.value.marks.all.items) (map T.mark result.left.value.marks.all.items)
+            result.met.value.slots result.left.value.slots) }
     {
-        self.kept.lock(rt).tick(desk, now)
+        let mut kept = self.kept.lock(rt);
+        let met = Seen::of(&*kept);
+        let answer = kept.tick(desk, now);
+        Witnessed::new(answer, met, &kept)
+    }
+
+    // Lends what is pending, as `Kept::lend` says.
+    fn lend<R: Wait>(
+        &self,
+        rt: &R,
+        desk: &mut Desk<L, T>,
+    ) -> Witnessed<Result<Loan, HallError>, L, T>
+        ensures told { IfOk result.answer (IsToldByLoan desk.old.told desk.new.told) }
+        ensures number { desk.new.number ≡ desk.old.number }
+        ensures own { desk.new.own.items ≡ desk.old.own.items }
+        ensures answered { desk.new.answered ≡ desk.old.answered }
+        ensures err { OnErr result.answer (desk.new.told ≡ desk.old.told) }
+        ensures refused { IfErr result.answer (IsNotLentTo desk.old.told result.met.value.hall.issuer) }
+        ensures no_fault { IfErr result.answer IsNoFault }
+        ensures lends { IfOk result.answer (LendsAs result.met.value.hall.issuer result.left.value.hall.issuer) }
+        ensures same { IsSameUnderLock (hall_in result.met.value.hall) (hall_in result.left.value.hall)
+            (map T.mark result.met.value.marks.all.items) (map T.mark result.left.value.marks.all.items)
+            result.met.value.slots result.left.value.slots }
+        ensures opening { result.left.value.opening ≡ result.met.value.opening }
+    {
+        let mut kept = self.kept.lock(rt);
+        let met = Seen::of(&*kept);
+        let loan = kept.lend(desk);
+        Witnessed::new(loan, met, &kept)
+    }
+
+    // Settles what became of the batch that is out, as `Kept::settle` says.
+    fn settle<R: Wait>(
+        &self,
+        rt: &R,
+        desk: &mut Desk<L, T>,
+        outcome: Result<Written, Failed>,
+    ) -> Witnessed<Result<Durable, HallError>, L, T>
+        requires { desk.old.told ≤ last_in outcome }
+        ensures told { IfOk result.answer (IsToldMore desk.old.told desk.new.told) }
+        ensures number { desk.new.number ≡ desk.old.number }
+        ensures own { desk.new.own.items ≡ desk.old.own.items }
+        ensures answered { desk.new.answered ≡ desk.old.answered }
+        ensures err { OnErr result.answer (desk.new.told ≡ desk.old.told) }
+        ensures refused { IfErr result.answer
+            (IsNotDurable result.met.value.hall.issuer result.left.value.hall.issuer outcome) }
+        ensures settles { IfOk result.answer
+            (SettlesBy result.met.value.hall.issuer result.left.value.hall.issuer outcome) }
+        ensures tells { IsToldOf outcome result.answer }
+        ensures stands { ForEachPast (hall_in result.met.value.hall) (λ past. StandsFor (hall_in result.left.value.hall) past) }
+        ensures all { result.left.value.marks.all.items ≡ result.met.value.marks.all.items }
+        ensures counted { result.left.value.slots ≡ result.met.value.slots }
+        ensures opening { result.left.value.opening ≡ result.met.value.opening }
+    {
+        let mut kept = self.kept.lock(rt);
+        let met = Seen::of(&*kept);
+        let settled = kept.settle(desk, outcome);
+        Witnessed::new(settled, met, &kept)
     }
 
     /// Makes all that is pending durable: how many commands that is. The commands are lent under the lock, written outside
@@ -224,71 +344,148 @@ impl<L: Ledger, T: Trace> Office<L, T> {
         rt: &R,
         desk: &mut Desk<L, T>,
         disk: &mut DiskHalf<D>,
-    ) -> Result<Durable, HallError>
-        ensures told { IfOk result (IsToldMore desk.old.told desk.new.told) }
+    ) -> Witnessed<Result<Durable, HallError>, L, T>
+        ensures told { IfOk result.answer (IsToldMore desk.old.told desk.new.told) }
         ensures number { desk.new.number ≡ desk.old.number }
         ensures marks { desk.new.own.items ≡ desk.old.own.items }
         ensures answered { desk.new.answered ≡ desk.old.answered }
-        ensures err { OnErr result (desk.new.told ≡ desk.old.told) }
-        ensures refused { IfErr result (IsCommitRefusal desk.old.told) }
-        ensures disk { CommitsTo D.view D.fault_count (broker_of disk.old) (broker_of disk.new) result }
-        ensures fault { result ≡ Err HallError.Fault → FaultsHaveRisen D.fault_count (broker_of disk.old) (broker_of disk.new) }
+        ensures err { OnErr result.answer (desk.new.told ≡ desk.old.told) }
+        ensures refused { IfErr result.answer (IsCommitRefusal desk.old.told) }
+        ensures disk { CommitsTo D.view D.fault_count (broker_of disk.old) (broker_of disk.new) result.answer }
+        ensures fault { result.answer ≡ Err HallError.Fault → FaultsHaveRisen D.fault_count (broker_of disk.old) (broker_of disk.new) }
+
+        // What was lent or settled, or why nothing was, is told of what the call's last step met under the lock. The hall stands
+        // for what it stood for, and nothing is marked or counted.
+        ensures committed { IfOk result.answer
+            (IsCommitted result.met.value.hall.issuer result.left.value.hall.issuer) }
+        ensures reason { IfErr result.answer
+            (IsNotCommitted desk.old.told result.met.value.hall.issuer result.left.value.hall.issuer) }
+        ensures stands { ForEachPast (hall_in result.met.value.hall) (λ past. StandsFor (hall_in result.left.value.hall) past) }
+        ensures unmarked { map T.mark result.left.value.marks.all.items ≡ map T.mark result.met.value.marks.all.items }
+        ensures counted { result.left.value.slots ≡ result.met.value.slots }
+        ensures opening { result.left.value.opening ≡ result.met.value.opening }
     {
-        let loan = self.kept.lock(rt).lend(desk)?;
+        let Witnessed { answer, met, left } = self.lend(rt, desk);
+        let loan = match answer {
+            Ok(loan) => loan,
+            Err(why) => {
+                let answer = Err(why);
+                return Witnessed { answer, met, left };
+            }
+        };
         match loan {
-            Loan::Nothing(durable) => Ok(durable),
+            Loan::Nothing(durable) => {
+                let answer = Ok(durable);
+                Witnessed { answer, met, left }
+            }
             Loan::Out(batch) => {
                 let outcome = disk.write(batch);
-                self.kept.lock(rt).settle(desk, outcome)
+                self.settle(rt, desk, outcome)
             }
         }
     }
 
     /// The reply of a slot, where all that it shows is durable, as `Hall::take` gives it. It takes no memory.
-    pub fn take<R: Wait>(&self, rt: &R, desk: &mut Desk<L, T>, slot: u64) -> Option<Released>
-        ensures slot { IfSome result (λ released. slot_told released ≡ slot) }
+    pub fn take<R: Wait>(
+        &self,
+        rt: &R,
+        desk: &mut Desk<L, T>,
+        slot: u64,
+    ) -> Witnessed<Option<Released>, L, T>
+        ensures slot { IfSome result.answer (λ released. slot_told released ≡ slot) }
         ensures desk { desk.new ≡ desk.old }
+        ensures gives { Gives (hall_in result.met.value.hall) slot result.answer }
+        ensures by_events { ForEachKept result.met.value.hall.slots (GivesFor (hall_in result.met.value.hall) slot result.answer) }
+        ensures done { OnSome result.answer
+            (IsDone (hall_in result.met.value.hall) (hall_in result.left.value.hall) (take_slot slot)) }
+        ensures none { IfNone result.answer (IsSameHall (hall_in result.met.value.hall) (hall_in result.left.value.hall)) }
+        ensures issuer { result.left.value.hall.issuer ≡ result.met.value.hall.issuer }
+        ensures marks { result.left.value.marks.all.items ≡ result.met.value.marks.all.items }
+        ensures counted { result.left.value.slots ≡ result.met.value.slots }
+        ensures opening { result.left.value.opening ≡ result.met.value.opening }
     {
         let _ = desk;
-        self.kept.lock(rt).take(slot)
+        let mut kept = self.kept.lock(rt);
+        let met = Seen::of(&*kept);
+        let released = kept.take(slot);
+        Witnessed::new(released, met, &kept)
     }
 
     /// How many commands have to be durable before the reply of a slot is told, where it is computed and still wanted, as
     /// `Hall::point` says. It takes no memory.
-    pub fn point<R: Wait>(&self, rt: &R, desk: &mut Desk<L, T>, slot: u64) -> Option<u64>
+    pub fn point<R: Wait>(
+        &self,
+        rt: &R,
+        desk: &mut Desk<L, T>,
+        slot: u64,
+    ) -> Witnessed<Option<u64>, L, T>
         ensures desk { desk.new ≡ desk.old }
+        ensures by_past { ForEachPast (hall_in result.met.value.hall) (λ past. result.answer ≡ point_of past slot) }
+        ensures by_events { ForEachKept result.met.value.hall.slots (λ _ events. result.answer ≡ point_in events slot) }
+        ensures same { result.left.value ≡ result.met.value }
     {
         let _ = desk;
-        self.kept.lock(rt).point(slot)
+        let kept = self.kept.lock(rt);
+        let met = Seen::of(&*kept);
+        Witnessed::new(kept.point(slot), met, &kept)
     }
 
     /// The reply of a slot is not wanted any more, as `Hall::forget` says. It takes no memory.
-    pub fn forget<R: Wait>(&self, rt: &R, desk: &mut Desk<L, T>, slot: u64)
+    pub fn forget<R: Wait>(&self, rt: &R, desk: &mut Desk<L, T>, slot: u64) -> Witnessed<(), L, T>
         ensures desk { desk.new ≡ desk.old }
+        ensures done { IsDone (hall_in result.met.value.hall) (hall_in result.left.value.hall) (forget_slot slot) }
+        ensures issuer { result.left.value.hall.issuer ≡ result.met.value.hall.issuer }
+        ensures marks { result.left.value.marks.all.items ≡ result.met.value.marks.all.items }
+        ensures counted { result.left.value.slots ≡ result.met.value.slots }
+        ensures opening { result.left.value.opening ≡ result.met.value.opening }
     {
         let _ = desk;
-        self.kept.lock(rt).forget(slot)
+        let mut kept = self.kept.lock(rt);
+        let met = Seen::of(&*kept);
+        kept.forget(slot);
+        Witnessed::new((), met, &kept)
     }
 
     /// How many commands are issued and not durable: at most 256.
-    pub fn pending<R: Wait>(&self, rt: &R) -> usize
-        ensures { result ≤ 256 }
+    pub fn pending<R: Wait>(&self, rt: &R) -> Witnessed<usize, L, T>
+        ensures is { result.answer ≡ pending_in (issuer_in result.met.value.hall) }
+        ensures few { result.answer ≤ 256 }
+        ensures same { result.left.value ≡ result.met.value }
     {
-        self.kept.lock(rt).pending()
+        let kept = self.kept.lock(rt);
+        let met = Seen::of(&*kept);
+        Witnessed::new(kept.pending(), met, &kept)
     }
 
     /// How many slots are open.
-    pub fn open_slots<R: Wait>(&self, rt: &R) -> usize {
-        self.kept.lock(rt).open_slots()
+    pub fn open_slots<R: Wait>(&self, rt: &R) -> Witnessed<usize, L, T>
+        ensures by_parts { result.answer ≡ open_slot_count (hall_in result.met.value.hall) }
+        ensures by_past { ForEachPast (hall_in result.met.value.hall)
+            (λ past. result.answer ≡ length (open_slots (issuer_in result.met.value.hall).broken past)) }
+        ensures same { result.left.value ≡ result.met.value }
+    {
+        let kept = self.kept.lock(rt);
+        let met = Seen::of(&*kept);
+        Witnessed::new(kept.open_slots(), met, &kept)
     }
 
     /// Whether a request asked the broker to stop.
-    pub fn is_stopping<R: Wait>(&self, rt: &R) -> bool {
-        self.kept.lock(rt).is_stopping()
+    pub fn is_stopping<R: Wait>(&self, rt: &R) -> Witnessed<bool, L, T>
+        ensures is { result.answer ≡ (hall_in result.met.value.hall).stops }
+        ensures same { result.left.value ≡ result.met.value }
+    {
+        let kept = self.kept.lock(rt);
+        let met = Seen::of(&*kept);
+        Witnessed::new(kept.is_stopping(), met, &kept)
     }
 
     /// Whether the device failed: the disk has to be opened again.
-    pub fn is_broken<R: Wait>(&self, rt: &R) -> bool {
-        self.kept.lock(rt).is_broken()
+    pub fn is_broken<R: Wait>(&self, rt: &R) -> Witnessed<bool, L, T>
+        ensures is { result.answer ≡ (issuer_in result.met.value.hall).broken }
+        ensures same { result.left.value ≡ result.met.value }
+    {
+        let kept = self.kept.lock(rt);
+        let met = Seen::of(&*kept);
+        Witnessed::new(kept.is_broken(), met, &kept)
     }
 }

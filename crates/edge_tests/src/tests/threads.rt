@@ -32,7 +32,7 @@ fn arrive<L: Ledger, R: Wait>(
     let Ok(call) = invoke(alloc) else {
         return 0;
     };
-    match office.arrive(rt, desk, call, NOW, [0, n]) {
+    match office.arrive(rt, desk, call, NOW, [0, n]).answer {
         Ok((_, slot)) => slot,
         Err(_) => 0,
     }
@@ -41,7 +41,7 @@ fn arrive<L: Ledger, R: Wait>(
 // The status of the reply of a slot, once it is told; 0 where it is not.
 fn status_of<L: Ledger, R: Wait>(rt: &R, office: &Office<L>, desk: &mut Desk<L>, slot: u64) -> u16 {
     for _turn in 0..MOST_TURNS {
-        if let Some(released) = office.take(rt, desk, slot) {
+        if let Some(released) = office.take(rt, desk, slot).answer {
             return released.into_reply().status;
         }
         thread::yield_now();
@@ -80,7 +80,9 @@ fn commit_at<L: Ledger, D: Disk, R: Wait>(
         if done >= plan.commits {
             break;
         }
-        if office.pending(rt) == plan.pending && office.commit(rt, &mut desk, &mut half).is_ok() {
+        if office.pending(rt).answer == plan.pending
+            && office.commit(rt, &mut desk, &mut half).answer.is_ok()
+        {
             done += 1;
         }
         thread::yield_now();

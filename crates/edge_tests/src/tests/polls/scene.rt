@@ -202,7 +202,10 @@ where
 {
     // A request comes, with this number for a new id.
     fn arrive(&self, call: Call, number: u64) -> Option<Arrived> {
-        self.port.arrive(&self.rt, call, NOW, [0, number]).ok()
+        self.port
+            .arrive(&self.rt, call, NOW, [0, number])
+            .answer
+            .ok()
     }
 
     /// An invoke comes, whose event gets the n-th id.
@@ -258,7 +261,10 @@ where
     pub fn ticket(&mut self) -> Option<Ticket> {
         let office = self.port.office();
         let call = Call::Oldest(Side::Success);
-        match office.arrive(&self.rt, &mut self.desk, call, NOW, [0, 0]) {
+        match office
+            .arrive(&self.rt, &mut self.desk, call, NOW, [0, 0])
+            .answer
+        {
             Ok((ticket, slot)) => {
                 office.forget(&self.rt, &mut self.desk, slot);
                 Some(ticket)
@@ -278,7 +284,7 @@ where
 
     /// The command of the move that is made, 0 where there is none.
     pub fn tick(&self) -> u64 {
-        match self.port.tick(&self.rt, NOW) {
+        match self.port.tick(&self.rt, NOW).answer {
             Ok(Some(number)) => number,
             _ => 0,
         }
@@ -287,7 +293,9 @@ where
     /// Commits: the number that is durable.
     pub fn commit(&mut self) -> Result<u64, HallError> {
         let office = self.port.office();
-        let durable = office.commit(&self.rt, &mut self.desk, &mut self.half)?;
+        let durable = office
+            .commit(&self.rt, &mut self.desk, &mut self.half)
+            .answer?;
         self.durable = durable;
         Ok(durable.number())
     }
@@ -335,6 +343,6 @@ where
 
     /// How many slots are open.
     pub fn open_slots(&self) -> usize {
-        self.port.office().open_slots(&self.rt)
+        self.port.office().open_slots(&self.rt).answer
     }
 }

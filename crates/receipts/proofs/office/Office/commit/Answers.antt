@@ -2,8 +2,8 @@ use Rattle.std.proofs.Common.{inl, inr, refl}
 use Rattle.receipts.proofs.UnderLock.{fault_told}
 use Rattle.receipts.proofs.office.Office.commit.Goals as goal
 
-pub returns-in_err-loan-clause-disk : goal.returns-in_err-loan-clause-disk
-returns-in_err-loan-clause-disk g c = inl refl
+pub returns-in-Err-clause-disk : goal.returns-in-Err-clause-disk
+returns-in-Err-clause-disk g c = inl refl
 
 pub returns-in-Nothing-clause-disk : goal.returns-in-Nothing-clause-disk
 returns-in-Nothing-clause-disk g c = inl refl
