@@ -41,7 +41,8 @@ fn arrive<L: Ledger, R: Wait>(
 // The status of the reply of a slot, once it is told; 0 where it is not.
 fn status_of<L: Ledger, R: Wait>(rt: &R, office: &Office<L>, desk: &mut Desk<L>, slot: u64) -> u16 {
     for _turn in 0..MOST_TURNS {
-        if let Some(released) = office.take(rt, desk, slot).answer {
+        let told = office.take(rt, desk, slot).answer;
+        if let Some(released) = told {
             return released.into_reply().status;
         }
         thread::yield_now();

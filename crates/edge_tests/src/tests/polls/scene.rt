@@ -261,10 +261,10 @@ where
     pub fn ticket(&mut self) -> Option<Ticket> {
         let office = self.port.office();
         let call = Call::Oldest(Side::Success);
-        match office
+        let arrived = office
             .arrive(&self.rt, &mut self.desk, call, NOW, [0, 0])
-            .answer
-        {
+            .answer;
+        match arrived {
             Ok((ticket, slot)) => {
                 office.forget(&self.rt, &mut self.desk, slot);
                 Some(ticket)
