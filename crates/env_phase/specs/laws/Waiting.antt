@@ -1,5 +1,5 @@
 -- Laws: an environment stays in init until as many extensions are registered as it waits for.
-use Rattle.std.proofs.Common.{◌≡◌, ℕ, ◌+◌, ◌<◌, ◌≤◌, List, [], ◌∷◌, ◌++◌, Bool, true, false, not, ◌&&◌, ◌||◌, cond, refl, sym, ap, subst, ◌∙◌, arith, length, length-append, None, ◌⊎◌, inl, inr}
+use Rattle.std.proofs.Common.{◌≡◌, ℕ, ◌<◌, ◌≤◌, List, [], ◌∷◌, ◌++◌, Bool, true, false, not, ◌&&◌, ◌||◌, refl, sym, ap, ◌∙◌, arith, length, length-append, None, ◌⊎◌, inl, inr}
 use Rattle.std.specs.Prelude.{is_none, nat_le}
 use Rattle.std.specs.List.{list_any, list_all}
 use Rattle.std.proofs.Math.Dec.{leb-zero}
@@ -11,7 +11,7 @@ use Rattle.env_phase.specs.declared.call.EnvCall.TheVariants.{Register}
 use Rattle.env_phase.specs.declared.refusal.Refusal.{Refusal}
 use Rattle.env_phase.specs.declared.refusal.Refusal.TheVariants as refusal
 use Rattle.env_phase.specs.Calls.{is_reset, is_shutdown, clears, extension, registration, is_known}
-use Rattle.env_phase.specs.Environment.{era, registered, parties, is_parked, unanswered, has_enough, is_met, was_met, phase_of, phase_by, phase_is_init, init, is_ready, knows}
+use Rattle.env_phase.specs.Environment.{era, registered, parties, is_parked, unanswered, is_met, was_met, phase_of, phase_is_init, init, is_ready, knows}
 use Rattle.env_phase.specs.Polls.{first_failed, refusal_of, IsLegal, IsWaiting}
 use Rattle.env_phase.specs.laws.Calls.{more, era-snoc, registered_snoc}
 use Rattle.env_phase.specs.laws.Eras.{is_met_era, none_was_met, was_met_snoc}

@@ -1,4 +1,3 @@
-use Rattle.std.proofs.Common.{◌≡◌}
 use Rattle.api_core.proofs.replying.with_id.Goals as goal
 
 pub returns-in-Ok : goal.returns-in-Ok

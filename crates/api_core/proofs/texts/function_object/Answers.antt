@@ -1,4 +1,3 @@
-use Rattle.std.proofs.Common.{[], ◌∷◌}
 use Rattle.destination_json.specs.Json.{in_quotes, member}
 use Rattle.destination_json.specs.Record.{latest}
 use Rattle.api_core.proofs.Objects.{three}

@@ -1,4 +1,4 @@
-use Rattle.std.proofs.Common.{◌≡◌, ℕ, ◌+◌, ◌≤◌, List, [], ◌∷◌, ◌++◌, length, codes, arith}
+use Rattle.std.proofs.Common.{ℕ, ◌≤◌, List, [], ◌∷◌, ◌++◌, length, arith}
 use Rattle.destination_json.specs.Json.{in_quotes, member}
 use Rattle.api_core.specs.declared.object.Object.{Object}
 use Rattle.api_core.specs.Replies.{account_member}

@@ -1,4 +1,4 @@
-use Rattle.std.proofs.Common.{rules, ◌≡◌, ◌∙◌, ap, sym}
+use Rattle.std.proofs.Common.{rules, ◌≡◌}
 use Rattle.hall_core.specs.Plans.{ForEachPast, calls_made}
 use Rattle.hall_core.specs.Changes.{answered_to}
 use Rattle.hall_core.proofs.preparing.prepare.Goals as goal
