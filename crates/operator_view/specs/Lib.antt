@@ -1,0 +1,6 @@
+pub mod Census
+pub mod EventText
+pub mod Lines
+pub mod ListText
+pub mod Page
+pub mod Standings

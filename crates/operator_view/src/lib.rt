@@ -1,0 +1,34 @@
+//! What an operator is shown of the rows of a table: how many stand where, lists in pages, one event, and records to send on.
+//!
+//! Rows are seen as a list in the order of acceptance, a page as the places of its rows. The crates above use that a census
+//! counts the rows, that a page leaves none out, and that each text is the one of the definitions. Nothing here writes.
+#![tactic(auto)]
+
+mod accepting;
+mod counting;
+mod detail;
+mod ending;
+mod error;
+mod finding;
+mod lines;
+mod list_json;
+mod members;
+mod numbers;
+mod oldest;
+mod page;
+mod payload;
+mod places;
+mod standings;
+
+pub use accepting::events_page;
+pub use counting::census;
+pub use detail::event_json;
+pub use ending::records_page;
+pub use error::PageError;
+pub use finding::find;
+pub use lines::record_lines;
+pub use list_json::events_json;
+pub use numbers::Census;
+pub use oldest::{oldest_record, oldest_waiting};
+pub use page::Page;
+pub use standings::Which;

@@ -1,0 +1,53 @@
+// The destination records of a page, one a line.
+ghost use Rattle.std.specs.Prelude.{◌≡◌, ◌≤◌, ◌+◌, ◌↔◌, ◌⊎◌, IsTrue, IfOk};
+ghost use Rattle.operator_view.specs.Lines.{line_at, Tells};
+
+use crate::detail::ending_of;
+use crate::page::{Page, last_id};
+use destination_json::record;
+use invoke_records::EventRow;
+use retry_rules::Settings;
+use std::alloc::{AllocError, Global};
+
+// The line of the row at a place, or nothing where it has no record.
+fn line_at(
+    alloc: Global,
+    rows: &[EventRow],
+    settings: &Settings,
+    place: usize,
+) -> Result<Vec<u8>, AllocError>
+    ensures { IfOk result (λ line. line.items ≡ line_at settings.now rows.now place) }
+{
+    let Some(row) = rows.get(place) else {
+        return Ok(Vec::new(alloc));
+    };
+    let Some(ended) = ending_of(row) else {
+        return Ok(Vec::new(alloc));
+    };
+    let mut line = record(alloc, &ended, settings)?;
+    line.push(b'\n')?;
+    Ok(line)
+}
+
+/// The destination records of a page's events, each on a line, as many whole ones as fit into so many bytes, and at least one;
+/// and the id of the last one that is told, where more come behind it. Only want of memory is refused.
+pub fn record_lines(
+    alloc: Global,
+    rows: &[EventRow],
+    page: &Page,
+    settings: &Settings,
+    most: usize,
+) -> Result<(Vec<u8>, Option<[u8; 16]>), AllocError>
+    ensures { IfOk result (λ told. Tells settings.now rows.now page.now most told.0.items told.1) }
+{
+    let places = page.places.as_slice();
+    let mut text = Vec::new(alloc);
+    for (index, place) in places.iter().enumerate() {
+        let line = line_at(alloc, rows, settings, *place)?;
+        if index > 0 && text.len().saturating_add(line.len()) > most {
+            return Ok((text, last_id(rows, &places[..index])));
+        }
+        text.extend_from_slice(line.as_slice())?;
+    }
+    Ok((text, page.next))
+}
