@@ -79,9 +79,13 @@ event_text r = codes "{" ++ (members_text r ++ codes "}")
 
 -- ## With its payload and its record
 
--- the first 1024 bytes of a payload, as far as they are whole characters
-abbrev pub beginning : List ℕ → List ℕ
-beginning payload = take (utf8_valid_len (take 1024 payload)) (take 1024 payload)
+-- bytes as far as they are whole characters
+abbrev pub whole_characters : List ℕ → List ℕ
+whole_characters bytes = take (utf8_valid_len bytes) bytes
+
+-- the first 1024 bytes of a payload, without a character that is cut
+unfoldable pub beginning : List ℕ → List ℕ
+beginning payload = whole_characters (take 1024 payload)
 
 -- what is told of an event that ended, up to the end of the year 9999: no moment behind that has a text
 abbrev pub ending_by : EventRow → Standing → Option Ending

@@ -34,9 +34,13 @@ abbrev pub start_behind : Option (List ℕ) → List EventRow → Option ℕ
 start_behind None rows = Some 0
 start_behind (Some id) rows = option_map (λ place. place + 1) (position (has_id id) rows)
 
+-- the row at this place is asked for, of those from the start on
+abbrev pub is_asked : Which → ℕ → ℕ → EventRow → Bool
+is_asked which start place r = nat_le start place && shows which r.standing
+
 -- the places from this one on whose events are asked for
 abbrev pub event_places : Which → ℕ → List EventRow → List ℕ
-event_places which start rows = places_where (λ place r. nat_le start place && shows which r.standing) rows
+event_places which start rows = places_where (is_asked which start) rows
 
 -- ## In the order of ending: of the commands that ended the events
 
@@ -53,9 +57,13 @@ abbrev pub is_behind : Option ℕ → ℕ → Bool
 is_behind None number = true
 is_behind (Some behind) number = nat_lt behind number
 
+-- it ended on this side, and behind this command
+abbrev pub is_record : Option Side → Option ℕ → EventRow → Bool
+is_record side behind r = ended_on side r.standing && is_behind behind r.last_number
+
 -- the places of the events that ended on this side, behind this command
 abbrev pub record_places : Option Side → Option ℕ → List EventRow → List ℕ
-record_places side behind rows = places_where (λ place r. ended_on side r.standing && is_behind behind r.last_number) rows
+record_places side behind rows = places_where (λ place r. is_record side behind r) rows
 
 -- the last command of the row at a place
 abbrev pub number_at : List EventRow → ℕ → ℕ

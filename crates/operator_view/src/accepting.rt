@@ -1,6 +1,7 @@
 // Pages of events in the order of acceptance.
-ghost use Rattle.std.specs.Prelude.{◌≡◌, ◌↔◌, IfOk, IfSome, IsNone, IsErrOf};
+ghost use Rattle.std.specs.Prelude.{◌≡◌, ◌<◌, ◌↔◌, length, position, IfOk, IfSome, IsNone, IsErrOf};
 ghost use Rattle.std.specs.Option.{option_copied};
+ghost use Rattle.async_core.specs.Rules.{has_id};
 ghost use Rattle.operator_view.specs.Page.{start_behind, event_places, IsFirst};
 
 use crate::error::PageError;
@@ -11,17 +12,24 @@ use crate::standings::Which;
 use invoke_records::EventRow;
 use std::alloc::Global;
 
+fn place_of(rows: &[EventRow], id: &[u8; 16]) -> Option<usize>
+    ensures is { result ≡ position (has_id id.now) rows.now }
+    ensures within { IfSome result (λ place. place < length rows.now) }
+{
+    rows.iter().position(|row| has_id(row, id))
+}
+
 // The place behind this event, if it is held.
 fn start_behind(rows: &[EventRow], after: Option<&[u8; 16]>) -> Option<usize>
     ensures { result ≡ start_behind (option_copied after.entry) rows.now }
 {
-    let Some(id) = after else { return Some(0) };
-    for (place, row) in rows.iter().enumerate() {
-        if has_id(row, id) {
-            return Some(place + 1);
+    match after {
+        None => Some(0),
+        Some(id) => {
+            let place = place_of(rows, id)?;
+            Some(place + 1)
         }
     }
-    None
 }
 
 /// The next events that stand so, at most so many, in the order of acceptance: behind the one that is named, wherever that

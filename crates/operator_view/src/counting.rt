@@ -4,8 +4,8 @@ ghost use Rattle.async_core.specs.Standings.{is_running};
 ghost use Rattle.operator_view.specs.Standings.{is_waiting, is_due_again, ended_with, stands};
 ghost use Rattle.operator_view.specs.Census.{IsCensus};
 
-use crate::standings::{ended_with, is_due_again, is_running, is_waiting};
 use crate::numbers::Census;
+use crate::standings::{ended_with, is_due_again, is_running, is_waiting};
 use invoke_records::{EventRow, Outcome};
 
 fn count_waiting(rows: &[EventRow]) -> usize

@@ -58,11 +58,7 @@ fn opened(alloc: Global, row: &EventRow) -> Result<Vec<u8>, AllocError>
 /// One event as JSON: as it stands in a list, with the beginning of its payload as a string, and its destination record where
 /// it has ended. Only want of memory is refused.
 #[tactic(auto, unfolding(crate::specs::EventText::detail_text))]
-pub fn event_json(
-    alloc: Global,
-    row: &EventRow,
-    settings: &Settings,
-) -> Result<Vec<u8>, AllocError>
+pub fn event_json(alloc: Global, row: &EventRow, settings: &Settings) -> Result<Vec<u8>, AllocError>
     ensures { IfOk result (λ json. json.items ≡ detail_text settings.now row.now) }
 {
     let mut out = opened(alloc, row)?;

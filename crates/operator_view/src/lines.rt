@@ -1,5 +1,6 @@
 // The destination records of a page, one a line.
-ghost use Rattle.std.specs.Prelude.{◌≡◌, ◌≤◌, ◌+◌, ◌↔◌, ◌⊎◌, IsTrue, IfOk};
+ghost use Rattle.std.specs.Prelude.{◌≡◌, ◌≤◌, ◌<◌, ◌+◌, IfOk};
+ghost use Rattle.std.specs.Bool.{OnTrue, OnFalse};
 ghost use Rattle.operator_view.specs.Lines.{line_at, Tells};
 
 use crate::detail::ending_of;
@@ -29,6 +30,14 @@ fn line_at(
     Ok(line)
 }
 
+// Whether a line is told behind so many lines of so many bytes.
+fn has_room(count: usize, told: usize, line: usize, most: usize) -> bool
+    ensures yes { OnTrue result (0 < count → told + line ≤ most) }
+    ensures no { OnFalse result ((0 < count) × (most < told + line)) }
+{
+    count == 0 || (told <= most && line <= most - told)
+}
+
 /// The destination records of a page's events, each on a line, as many whole ones as fit into so many bytes, and at least one;
 /// and the id of the last one that is told, where more come behind it. Only want of memory is refused.
 pub fn record_lines(
@@ -44,7 +53,7 @@ pub fn record_lines(
     let mut text = Vec::new(alloc);
     for (index, place) in places.iter().enumerate() {
         let line = line_at(alloc, rows, settings, *place)?;
-        if index > 0 && text.len().saturating_add(line.len()) > most {
+        if !has_room(index, text.len(), line.len(), most) {
             return Ok((text, last_id(rows, &places[..index])));
         }
         text.extend_from_slice(line.as_slice())?;

@@ -1,12 +1,12 @@
 // A page of events as JSON.
 ghost use Rattle.std.specs.Prelude.{◌≡◌, ◌++◌, IfOk, OnOk, string_bytes};
 ghost use Rattle.std.specs.Option.{option_copied};
-ghost use Rattle.operator_view.specs.ListText.{text_at, events_text, next_text, list_text};
+ghost use Rattle.operator_view.specs.ListText.{text_at, separator, events_text, next_text, list_text};
 
 use crate::members::put_members;
 use crate::page::Page;
-use invoke_records::EventRow;
 use destination_json::id_text;
+use invoke_records::EventRow;
 use std::alloc::{AllocError, Global};
 
 // Puts the event at a place behind a text.
@@ -28,14 +28,21 @@ fn put_event(
     }
 }
 
+fn put_separator(out: &mut String, index: usize) -> Result<(), AllocError>
+    ensures { OnOk result (string_bytes out.new ≡ string_bytes out.old ++ separator index) }
+{
+    if index == 0 {
+        return Ok(());
+    }
+    out.push_str(",")
+}
+
 fn events_text(alloc: Global, rows: &[EventRow], places: &[usize]) -> Result<String, AllocError>
     ensures { IfOk result (λ text. string_bytes text ≡ events_text rows.now places.now) }
 {
     let mut out = String::new(alloc);
     for (index, place) in places.iter().enumerate() {
-        if index > 0 {
-            out.push_str(",")?;
-        }
+        put_separator(&mut out, index)?;
         put_event(alloc, &mut out, rows, *place)?;
     }
     Ok(out)

@@ -103,11 +103,7 @@ fn put_sizes(out: &mut String, payload: usize, answer: usize) -> Result<(), Allo
 
 /// Puts the members of an event behind a text.
 #[tactic(auto, unfolding(crate::specs::EventText::members_text))]
-pub(crate) fn put_members(
-    alloc: Global,
-    out: &mut String,
-    row: &EventRow,
-) -> Result<(), AllocError>
+pub(crate) fn put_members(alloc: Global, out: &mut String, row: &EventRow) -> Result<(), AllocError>
     ensures { OnOk result (string_bytes out.new ≡ string_bytes out.old ++ members_text row.now) }
 {
     put_names(alloc, out, &row.id, row.standing)?;

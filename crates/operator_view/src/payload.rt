@@ -10,20 +10,21 @@ use std::str;
 // How many bytes of a payload are shown.
 const SHOWN: usize = 1024;
 
-fn front(payload: &[u8]) -> &[u8]
-    ensures { result.now ≡ take 1024 payload.now }
+// Its first bytes, at most so many.
+fn front(payload: &[u8], most: usize) -> &[u8]
+    ensures { result.now ≡ take most payload.now }
 {
-    if payload.len() <= SHOWN {
+    if payload.len() <= most {
         return payload;
     }
-    &payload[..SHOWN]
+    &payload[..most]
 }
 
 // As much of it as is whole characters.
 fn beginning(payload: &[u8]) -> &str
     ensures { result.now ≡ beginning payload.now }
 {
-    let front = front(payload);
+    let front = front(payload, SHOWN);
     match str::from_utf8(front) {
         Ok(text) => text,
         Err(why) => match str::from_utf8(&front[..why.valid_up_to()]) {

@@ -1,0 +1,5 @@
+pub mod Behind
+pub mod Joining
+pub mod Least
+pub mod Passing
+pub mod Told
