@@ -1,5 +1,6 @@
 pub mod Census
 pub mod EventText
+pub mod Examples
 pub mod Lines
 pub mod ListText
 pub mod Page

@@ -9,6 +9,7 @@ mod counting;
 mod detail;
 mod ending;
 mod error;
+pub mod examples;
 mod finding;
 mod lines;
 mod list_json;
