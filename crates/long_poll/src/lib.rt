@@ -9,7 +9,11 @@ mod bell;
 mod port;
 mod waiters;
 mod waiting;
+mod watching;
+mod window;
 
 pub use bell::Bell;
 pub use port::{Arrived, Port};
 pub use waiting::Waiting;
+pub use watching::Watching;
+pub use window::{Glimpse, Window};

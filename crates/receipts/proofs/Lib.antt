@@ -5,3 +5,4 @@ pub mod Refused
 pub mod UnderLock
 pub mod Running
 pub mod Histories
+pub mod Tallied

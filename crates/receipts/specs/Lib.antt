@@ -6,4 +6,6 @@ pub mod Kept
 pub mod UnderLock
 pub mod Running
 pub mod Serving
+pub mod Tallies
+pub mod Sights
 pub mod laws

@@ -8,6 +8,7 @@ ghost use Rattle.receipts.specs.Kept.{hall_in, issuer_in, IsToldByLoan, IsNotLen
 ghost use Rattle.receipts.specs.UnderLock.{DoesAt, AnswersItsNumber, AddBoth, LendsAs, Counts, next_slot, IsNotMade, IsNotMoved, IsSameUnderLock, IsNoFault};
 ghost use Rattle.receipts.specs.Running.{HasRuns};
 ghost use Rattle.receipts.specs.Serving.{IsToldOf};
+ghost use Rattle.receipts.specs.Sights.{Withholds};
 ghost use Rattle.invoke_records.specs.Spelling.{greatest_moment};
 ghost use Rattle.group_commit.specs.Batch.{last_in};
 ghost use Rattle.hall_core.specs.Past.{tick, take_slot, forget_slot};
@@ -25,9 +26,11 @@ use crate::desk::Desk;
 use crate::desk_count::DeskCount;
 use crate::mark::{Mark, Trace};
 use crate::marks::Marks;
+use crate::sight::{Sight, Withheld};
 use api_core::Call;
 use group_commit::{Batch, Durable, Failed, IssueHalf, Ticket, Written};
 use hall_core::{Hall, HallError, Issued, Released};
+use std::alloc::AllocError;
 use std::sync::ledger::Ledger;
 
 /// How many slots an office counts.
@@ -346,6 +349,27 @@ impl<L: Ledger, T: Trace> Kept<L, T> {
         ensures by_past { ForEachPast (hall_in self.now.hall) (λ past. result ≡ length (open_slots (issuer_in self.now.hall).broken past)) }
     {
         self.hall.open_slots()
+    }
+
+    /// What an operator is shown of the hall and of the marks, withheld until all of it is durable.
+    pub(crate) fn look(&self) -> Result<Withheld, AllocError>
+        ensures { IfOk result (Withholds (hall_in self.now.hall) (map T.mark self.now.marks.all.items)) }
+    {
+        let look = self.hall.look()?;
+        let tally = self.marks.tally;
+        Ok(Withheld {
+            sight: Sight { look, tally },
+            number: self.hall.issued(),
+        })
+    }
+
+    /// The same with a ticket of all that was issued.
+    pub(crate) fn look_with_ticket(&self) -> Result<(Withheld, Ticket), AllocError>
+        ensures shows { IfOk result (λ r. Withholds (hall_in self.now.hall) (map T.mark self.now.marks.all.items) r.0) }
+        ensures ticket { IfOk result (λ r. r.1 ≡ issued_in (issuer_in self.now.hall)) }
+    {
+        let withheld = self.look()?;
+        Ok((withheld, self.hall.ticket()))
     }
 
     /// Whether a request asked the hall to stop.

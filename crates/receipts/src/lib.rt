@@ -5,7 +5,8 @@
 //! proofs alone see. The crates above use that what a desk was told is never undercut, that a call adds the mark of the
 //! command that it tells and no other, and that at the end each desk that kept its marks has its history among all marks.
 //! Whenever the lock is free the table tells what the marks tell. Beside each answer of an office proofs see what its call
-//! met under the lock and what it left there, of which the clauses say what was done.
+//! met under the lock and what it left there, of which the clauses say what was done. What an operator is shown is withheld until
+//! all of it is durable.
 #![tactic(auto)]
 
 mod desk;
@@ -19,6 +20,8 @@ mod mark;
 mod marks;
 mod office;
 mod opening;
+mod sight;
+mod tally;
 mod unlocked;
 mod witness;
 
@@ -28,5 +31,7 @@ pub use error::{FinishError, FinishFailure, OfficeFailure, UnlockedFailure};
 pub use mark::{Gone, Mark, SharedTrace, Trace};
 pub use office::Office;
 pub use opening::{GoneTable, OpeningTrace, SharedOpening};
+pub use sight::{Sight, Withheld};
+pub use tally::Tally;
 pub use unlocked::Unlocked;
 pub use witness::Witnessed;

@@ -1,9 +1,11 @@
 // The marks of all desks, and the book that counts them.
 ghost use Rattle.std.specs.Prelude.{◌≡◌, ◌+◌, ◌<◌, ◌++◌, ◌∷◌, [], map, OnOk, length, vec_len, vec_capacity};
 ghost use Rattle.receipts.specs.Marks.{sum_of_lists};
+ghost use Rattle.receipts.specs.Tallies.{tally_of};
 
 use crate::desk::Desk;
 use crate::mark::{Mark, Trace};
+use crate::tally::Tally;
 use std::alloc::{AllocError, Global};
 use std::sync::ledger::{Book, Ledger, Share};
 
@@ -14,7 +16,10 @@ pub(crate) struct Marks<L: Ledger, T: Trace> {
     pub(crate) all: Vec<T>,
     /// The sum of what all desks have.
     pub(crate) book: Book<L>,
+    /// How many of them are of which kind.
+    pub(crate) tally: Tally,
     ghost counted: { vec_len all ≡ book.total },
+    ghost tallied: { tally ≡ tally_of (map T.mark all.items) },
 }
 
 // What is counted of these desks together, and of a share beside them.
@@ -40,6 +45,7 @@ impl<L: Ledger, T: Trace> Marks<L, T> {
         Marks {
             all: Vec::new(alloc),
             book,
+            tally: Tally::new(),
         }
     }
 
@@ -65,10 +71,11 @@ impl<L: Ledger, T: Trace> Marks<L, T> {
         ensures own { map T.mark desk.new.own.items ≡ map T.mark desk.old.own.items ++ mark ∷ [] }
         ensures desk { (desk.new.number ≡ desk.old.number) × (desk.new.told ≡ desk.old.told) }
     {
-        let Marks { all, book } = self;
+        let Marks { all, book, tally } = self;
         let Desk { own, share, .. } = desk;
         own.push_reserved(T::of(&mark));
         all.push_reserved(T::of(&mark));
+        tally.count(mark.kind);
         book.add(share, 1);
     }
 }
@@ -81,7 +88,7 @@ impl<L: Ledger> Marks<L, Mark> {
         ensures all { result.items ≡ self.all.items }
         ensures sum { sum_of_lists (λ d. d.own.items) desks.items ≡ length self.all.items }
     {
-        let Marks { all, book } = self;
+        let Marks { all, book, .. } = self;
         let mut book = book;
         let mut desks = desks;
         if let Some(desk) = desks.pop() {

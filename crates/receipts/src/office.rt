@@ -20,6 +20,7 @@ ghost use Rattle.receipts.specs.Answers.{AddsAsked, IsArrivalRefusal, IsTickRefu
 ghost use Rattle.receipts.specs.Kept.{hall_in, issuer_in, IsToldByLoan, IsNotLentTo};
 ghost use Rattle.receipts.specs.Marks.{KeepsHistories};
 ghost use Rattle.receipts.specs.Serving.{CommitsTo, IsToldOf};
+ghost use Rattle.receipts.specs.Sights.{Withholds};
 ghost use Rattle.receipts.specs.UnderLock.{DoesAt, AnswersItsNumber, AddBoth, LendsAs, Counts, IsNotMade, IsNotMoved, IsSameUnderLock, IsNoFault};
 ghost use Rattle.receipts.specs.UnderLock.{IsCommitted, IsNotCommitted};
 ghost use Rattle.group_commit.specs.Issuer.{issued_in};
@@ -35,6 +36,7 @@ use crate::kept::{Kept, Loan};
 use crate::mark::{Mark, Trace};
 use crate::marks::Marks;
 use crate::opening::OpeningTrace;
+use crate::sight::Withheld;
 use crate::witness::Witnessed;
 use api_core::Call;
 use group_commit::{Broker, DiskHalf, Durable, Failed, SplitError, Ticket, Written};
@@ -467,6 +469,19 @@ impl<L: Ledger, T: Trace> Office<L, T> {
         let kept = self.kept.lock(rt);
         let met = Seen::of(&*kept);
         Witnessed::new(kept.open_slots(), met, &kept)
+    }
+
+    /// What an operator is shown of the office, withheld until all of it is durable, with a ticket of that. It changes nothing,
+    /// copies no byte of a payload, and is refused only for want of memory.
+    pub fn look<R: Wait>(&self, rt: &R) -> Witnessed<Result<(Withheld, Ticket), AllocError>, L, T>
+        ensures shows { IfOk result.answer (λ r.
+            Withholds (hall_in result.met.value.hall) (map T.mark result.met.value.marks.all.items) r.0) }
+        ensures ticket { IfOk result.answer (λ r. r.1 ≡ issued_in (issuer_in result.met.value.hall)) }
+        ensures same { result.left.value ≡ result.met.value }
+    {
+        let kept = self.kept.lock(rt);
+        let met = Seen::of(&*kept);
+        Witnessed::new(kept.look_with_ticket(), met, &kept)
     }
 
     /// Whether a request asked the broker to stop.

@@ -1,0 +1,107 @@
+// The future of what an operator is shown.
+ghost use Rattle.std.specs.Prelude.{◌≡◌, Some, None, IsSome};
+ghost use Rattle.futures.specs.Task.{Covers, Keeps};
+ghost use Rattle.futures.specs.Poll.{IfReady, OnPending};
+
+use crate::window::{Glimpse, Window};
+use futures::Future;
+use futures::task::{Context, Poll};
+use receipts::{Mark, Sight, Trace};
+use std::sync::ledger::Ledger;
+use std::sync::{Arc, Wait};
+
+/// Waits until what was seen of an office is durable, and then gives it. None where the hall broke before, and where it was given.
+pub struct Watching<R: Wait, L: Ledger, T: Trace = Mark> {
+    rt: R,
+    window: Arc<Window<L, T>>,
+    /// Where it waits at the bell.
+    place: u64,
+    glimpse: Option<Glimpse>,
+}
+
+impl<R: Wait, L: Ledger, T: Trace> Watching<R, L, T> {
+    ghost use Rattle.long_poll.specs.Bell.{source_of};
+    ghost use Rattle.long_poll.specs.Watching.{IsOf};
+
+    /// Waits at this window with what was seen there.
+    pub fn new(rt: R, window: Arc<Window<L, T>>, glimpse: Glimpse) -> Watching<R, L, T>
+        ensures glimpse { result.glimpse ≡ Some glimpse }
+        ensures window { result.window ≡ window }
+    {
+        let place = window.take_place();
+        Watching {
+            rt,
+            window,
+            place,
+            glimpse: Some(glimpse),
+        }
+    }
+
+    // Looks at the board: what was seen where all of it is durable.
+    fn check(&mut self) -> Poll<Option<Sight>>
+        ensures same { self.new.window ≡ self.old.window }
+        ensures shown { IfReady result (IsOf self.old.glimpse) }
+        ensures waits { OnPending result (self.new.glimpse ≡ self.old.glimpse) }
+    {
+        let Some(glimpse) = self.glimpse.take() else {
+            return Poll::Ready(None);
+        };
+        let (withheld, ticket) = glimpse.into_parts();
+        match self.window.check(&self.rt, ticket) {
+            Ok(receipt) => Poll::Ready(withheld.open(receipt)),
+            Err(ticket) => {
+                if self.window.bell().has_broken() {
+                    return Poll::Ready(None);
+                }
+                self.glimpse = Some(Glimpse::of(withheld, ticket));
+                Poll::Pending
+            }
+        }
+    }
+
+    // The number for which the task registers.
+    fn number(&self) -> u64 {
+        match &self.glimpse {
+            Some(glimpse) => glimpse.number(),
+            None => 0,
+        }
+    }
+
+    // Registers for rings of the number that has to be durable.
+    fn register(&self, cx: &mut Context<'_>)
+        ensures covers { Covers cx.new (λ source. source ≡ source_of self.now.window.value.bell.value) }
+        ensures kept { Keeps cx.old cx.new }
+    {
+        let number = self.number();
+        let registered = self
+            .window
+            .bell()
+            .register(&self.rt, self.place, number, cx);
+        drop(registered);
+    }
+}
+
+impl<R: Wait + Drop, L: Ledger, T: Trace> Future for Watching<R, L, T> {
+    type Output = Option<Sight>;
+
+    ghost use Rattle.long_poll.specs.Bell.{source_of};
+    ghost use Rattle.long_poll.specs.Watching.{IsOf};
+
+    ghost needs = { λ watching source. source ≡ source_of watching.window.value.bell.value };
+
+    ghost gives = { λ watching told. IsOf watching.glimpse told };
+
+    fn poll(&mut self, cx: &mut Context<'_>) -> Poll<Option<Sight>> {
+        if let Poll::Ready(told) = self.check() {
+            return Poll::Ready(told);
+        }
+        self.register(cx);
+        self.check()
+    }
+}
+
+impl<R: Wait + Drop, L: Ledger, T: Trace> Drop for Watching<R, L, T> {
+    fn drop(self) {
+        let Watching { .. } = self;
+    }
+}
