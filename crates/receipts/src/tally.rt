@@ -29,6 +29,7 @@ pub struct Tally {
 
 impl Tally {
     /// Of no command.
+    #[tactic(auto, unfolding(crate::specs::Tallies::tally_of))]
     pub(crate) fn new() -> Tally
         ensures { result ≡ tally_of [] }
     {

@@ -1,0 +1,69 @@
+// A reply of the operator's port.
+ghost use Rattle.std.specs.Prelude.{◌≡◌, ◌++◌, ◌∷◌, IfOk, None};
+
+use std::alloc::{AllocError, Global};
+
+/// What a body is.
+#[derive(Clone, Copy, Debug, PartialEq, Eq)]
+pub enum Media {
+    Text,
+    /// Prometheus' text format, version 0.0.4.
+    Metrics,
+    Json,
+    /// A JSON text a line.
+    Lines,
+    Html,
+}
+
+impl Media {
+    /// The value of the header `Content-Type`.
+    pub fn content_type(self) -> &'static str {
+        match self {
+            Media::Text => "text/plain; charset=utf-8",
+            Media::Metrics => "text/plain; version=0.0.4; charset=utf-8",
+            Media::Json => "application/json",
+            Media::Lines => "application/x-ndjson",
+            Media::Html => "text/html; charset=utf-8",
+        }
+    }
+}
+
+/// A reply before it is sent.
+#[derive(Debug, Drop)]
+pub struct Reply {
+    pub status: u16,
+    pub media: Media,
+    pub body: Vec<u8>,
+    /// The id to go on after, where a list has more.
+    pub next: Option<[u8; 16]>,
+}
+
+impl Reply {
+    /// 200 with this body.
+    pub(crate) fn shown(media: Media, body: Vec<u8>) -> Reply
+        ensures status { result.status ≡ 200 }
+        ensures body { result.body ≡ body }
+        ensures next { result.next ≡ None }
+    {
+        Reply {
+            status: 200,
+            media,
+            body,
+            next: None,
+        }
+    }
+
+    /// A status with a line of text.
+    pub fn line(alloc: Global, status: u16, words: &str) -> Result<Reply, AllocError>
+        ensures { IfOk result (λ reply. reply.status ≡ status) }
+    {
+        let mut body = Vec::from_slice(alloc, words.as_bytes())?;
+        body.push(b'\n')?;
+        Ok(Reply {
+            status,
+            media: Media::Text,
+            body,
+            next: None,
+        })
+    }
+}
