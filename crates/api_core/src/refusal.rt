@@ -50,8 +50,8 @@ pub enum Refusal {
 }
 
 impl Refusal {
-    /// Its status.
-    pub(crate) fn status(self) -> u16
+    /// The status of the reply that tells it.
+    pub fn status(self) -> u16
         ensures { result ≡ (fault_of self).status }
     {
         match self {

@@ -4,5 +4,6 @@ pub mod Polls
 pub mod State
 pub mod Slots
 pub mod Steps
+pub mod Watching
 pub mod Examples
 pub mod laws

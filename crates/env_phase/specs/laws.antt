@@ -5,4 +5,5 @@ pub mod Accepted
 pub mod Running
 pub mod States
 pub mod Waiting
+pub mod Watching
 pub mod Slots

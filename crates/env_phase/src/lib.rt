@@ -12,12 +12,15 @@ mod env;
 pub mod examples;
 mod judging;
 pub mod laws;
+mod phase;
 mod refusal;
 mod steps;
+mod watching;
 
 pub use answer::{PollAnswer, Reason};
 pub use call::{EnvCall, Party, Waiter};
 pub use calls::Answered;
 pub use env::Env;
 pub use judging::MOST_EXTENSIONS;
+pub use phase::Phase;
 pub use refusal::{EnvError, Refusal};

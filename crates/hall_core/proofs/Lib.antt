@@ -17,3 +17,4 @@ mod Arriving
 mod Reasons
 mod Ticking
 mod Opened
+mod Showing

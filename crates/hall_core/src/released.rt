@@ -32,6 +32,13 @@ impl Released {
         self.slot
     }
 
+    /// The HTTP status of the reply.
+    pub fn status(&self) -> u16
+        ensures { result ≡ self.now.reply.status }
+    {
+        self.reply.status
+    }
+
     /// The reply, as it was released: nobody can change it in here.
     pub fn into_reply(self) -> Reply
         ensures { result ≡ self.reply }

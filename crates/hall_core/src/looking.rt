@@ -1,0 +1,66 @@
+// What an operator is shown of a hall.
+ghost use Rattle.std.specs.Prelude.{◌≡◌, IfOk};
+ghost use Rattle.env_phase.specs.State.{ForEachList};
+ghost use Rattle.hall_core.specs.Hall.{view_of};
+ghost use Rattle.hall_core.specs.Look.{IsShownAfter, Shows};
+
+use crate::hall::Hall;
+use env_phase::{Env, Phase};
+use group_commit::Issuer;
+use invoke_records::Snapshot;
+use std::alloc::AllocError;
+
+/// What is shown of one environment.
+#[derive(Clone, Copy, Debug, PartialEq, Eq)]
+pub struct EnvironmentLook {
+    /// Its number, from 1 on.
+    pub number: u16,
+    pub phase: Phase,
+    /// How many of its parties are parked, of the runtime and the extensions that are registered.
+    pub parked: usize,
+}
+
+/// What is shown of a hall at a moment.
+#[derive(Debug, Drop)]
+pub struct Look {
+    /// The table after all that was issued.
+    pub table: Snapshot,
+    /// How many commands are durable.
+    pub durable: u64,
+    pub open_slots: usize,
+    /// One for each environment, in the order of their numbers.
+    pub environments: Vec<EnvironmentLook>,
+    /// A request asked the hall to stop.
+    pub is_stopping: bool,
+}
+
+/// What is shown of an environment. It takes no memory.
+pub(crate) fn environment_look(env: &Env) -> EnvironmentLook
+    ensures number { result.number ≡ env.now.number }
+    ensures shown { ForEachList env.now (λ calls. IsShownAfter env.now.wanted calls result) }
+{
+    EnvironmentLook {
+        number: env.number(),
+        phase: env.phase(),
+        parked: env.parked(),
+    }
+}
+
+impl<I: Issuer> Hall<I> {
+    /// What an operator is shown of it: the table after all that was issued, how many commands are durable, and its
+    /// slots and environments. It changes nothing, and the bytes of payloads are shared and not copied. It is refused by
+    /// want of memory alone.
+    pub fn look(&self) -> Result<Look, AllocError>
+        ensures { IfOk result (Shows (view_of I.view self.now)) }
+    {
+        let table = self.issuer.table().snapshot()?;
+        let environments = self.environments.looks()?;
+        Ok(Look {
+            table,
+            durable: self.issuer.durable().number(),
+            open_slots: self.open_slots(),
+            environments,
+            is_stopping: self.stops,
+        })
+    }
+}
