@@ -16,3 +16,12 @@ pub events_told : (start : Option ℕ) (rows : List EventRow) (which : Which) (l
     → IfSome start (λ at. (status ≡ 200) × (body ≡ first_text rows (event_places which at rows) limit))
 events_told None rows which limit page status body first good is = tt
 events_told (Some at) rows which limit page status body first good is = (good, is ∙ (cc))
+
+pub records_told : (behind : Option (Option ℕ)) (s : Settings) (rows : List EventRow) (side : Side) (limit most : ℕ) (page : Page)
+    (status : ℕ) (body : List ℕ) (next : Option (List ℕ))
+    → IfSome behind (λ at. IsFirstEnded rows (record_places (Some side) at rows) limit page)
+    → status ≡ 200 → Tells s rows page most body next
+    → IfSome behind (λ at. (p : Page) × (status ≡ 200) × IsFirstEnded rows (record_places (Some side) at rows) limit p
+      × Tells s rows p most body next)
+records_told None s rows side limit most page status body next first good tells = tt
+records_told (Some at) s rows side limit most page status body next first good tells = (page, good, first, tells)

@@ -2,3 +2,4 @@ pub mod Learning
 pub mod Marking
 pub mod Refusals
 pub mod laws
+pub mod Watching

@@ -18,6 +18,7 @@ use receipts::{Desk, Trace};
 use sector_disk::Disk;
 use std::sync::Wait;
 use std::sync::ledger::Ledger;
+use std::time::{Clock, Instant};
 
 /// What the committer works with: a desk, the half of the broker over the disk, and a seat of the board.
 #[derive(Drop)]
@@ -35,7 +36,7 @@ struct AtFront<'a, R, L: Ledger, T: Trace, D: Disk> {
     committer: Committer<L, T, D>,
 }
 
-impl<R: Wait, L: Ledger, T: Trace, D: Disk> Committing for AtFront<'_, R, L, T, D> {
+impl<R: Wait + Clock, L: Ledger, T: Trace, D: Disk> Committing for AtFront<'_, R, L, T, D> {
     type Durable = Durable;
 
     type Failure = NotCommitted;
@@ -55,13 +56,18 @@ impl<R: Wait, L: Ledger, T: Trace, D: Disk> Committing for AtFront<'_, R, L, T, 
     }
 
     fn commit(&mut self) -> Result<Durable, NotCommitted> {
-        ask(
+        let begun = Instant::now(self.rt);
+        let committed = ask(
             self.rt,
             &self.front.office,
             &mut self.committer.desk,
             &mut self.committer.half,
         )
-        .answer
+        .answer;
+        self.front
+            .meters
+            .note_commit(self.rt, begun, &self.committer.half);
+        committed
     }
 
     fn is_broken_by(&self, why: &NotCommitted) -> bool {
@@ -120,7 +126,7 @@ impl<L: Ledger, T: Trace, D: Disk + Drop> Committer<L, T, D> {
     ///
     /// On an honest disk a stop at any moment leaves a legal stop of the half's list with what it took: a beginning of that with
     /// all that was durable at the call.
-    pub fn run<R: Wait, G: Gate>(self, rt: &R, front: &Front<L, T>, gate: &G) -> Committer<L, T, D>
+    pub fn run<R: Wait + Clock, G: Gate>(self, rt: &R, front: &Front<L, T>, gate: &G) -> Committer<L, T, D>
         ensures learned { IsRun HasLearned (G.says gate.now)
             (known self.desk.told (seen_by self.seated))
             (known result.desk.told (seen_by result.seated)) }
@@ -134,6 +140,13 @@ impl<L: Ledger, T: Trace, D: Disk + Drop> Committer<L, T, D> {
         commit_all(rt, gate, &mut at);
         let AtFront { committer, .. } = at;
         committer
+    }
+
+    /// The half of the broker over the disk.
+    pub(crate) fn half(&self) -> &DiskHalf<D>
+        ensures { result.now ≡ self.now.half }
+    {
+        &self.half
     }
 
     /// Its desk, and the half of the broker over the disk.

@@ -5,7 +5,9 @@ ghost use Rattle.http_front.specs.Refusals.{IsArrivalError};
 
 use crate::arriving::arrive;
 use crate::error::ArrivalError;
+use crate::meters::Meters;
 use crate::wake::Wake;
+use admin_replies::Facts;
 use api_core::{Call, Dialect};
 use group_commit::Durable;
 use long_poll::{Arrived, Bell, Port};
@@ -36,6 +38,10 @@ pub struct Front<L: Ledger, T: Trace> {
     pub(crate) bell: Arc<Bell>,
     pub(crate) wake: Wake,
     pub(crate) ending: CancellationToken,
+    /// What is counted for an operator.
+    pub(crate) meters: Meters,
+    /// What an operator is told beside what is seen.
+    pub(crate) facts: Facts,
     pub(crate) settings: Settings,
     /// In which words requests are read and refused.
     pub(crate) dialect: Dialect,
@@ -45,13 +51,14 @@ pub struct Front<L: Ledger, T: Trace> {
 
 impl<L: Ledger, T: Trace> Front<L, T> {
     /// A front over an office with these settings, of which so much is durable, which no thread serves yet. It reads requests
-    /// in this dialect.
+    /// in this dialect, and tells an operator these facts.
     pub fn new(
         alloc: Global,
         office: Arc<Office<L, T>>,
         settings: Settings,
         dialect: Dialect,
         durable: Durable,
+        facts: Facts,
     ) -> Result<Front<L, T>, AllocError>
         ensures office { IfOk result (λ front. front.office ≡ office) }
         ensures settings { IfOk result (λ front. front.settings ≡ settings) }
@@ -64,6 +71,8 @@ impl<L: Ledger, T: Trace> Front<L, T> {
             bell: Arc::new(alloc, Bell::new(alloc, durable))?,
             wake: Wake::new(),
             ending: CancellationToken::new(alloc)?,
+            meters: Meters::new(),
+            facts,
             settings,
             dialect,
             most,

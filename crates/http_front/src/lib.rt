@@ -1,4 +1,4 @@
-//! The front: HTTP/1.1 on one port for callers and one for each environment.
+//! The front: HTTP/1.1 on one port for callers, one for each environment, and one for an operator who looks.
 //!
 //! Each port has a thread of its own, on which each request becomes a call, is handed to the office and waits for its
 //! reply. A committer writes what is pending outside the office's lock, and a ticker makes the moves
@@ -10,6 +10,7 @@ mod asking;
 mod committing;
 mod error;
 mod front;
+mod meters;
 mod moment;
 mod opening;
 mod port_application;
@@ -17,6 +18,7 @@ mod replying;
 mod serving;
 mod ticking;
 mod wake;
+mod watching;
 
 pub use commit_loop::{Gate, Turn, WhenPending};
 pub use committing::Committer;
@@ -25,3 +27,4 @@ pub use front::Front;
 pub use moment::now;
 pub use serving::{Ending, Served, serve};
 pub use ticking::tick_all;
+pub use watching::Admin;

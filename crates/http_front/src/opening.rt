@@ -8,11 +8,12 @@ ghost use Rattle.receipts.specs.Desks.{desk_count};
 use crate::committing::Committer;
 use crate::error::ServeError;
 use crate::front::Front;
+use admin_replies::Facts;
 use api_core::Dialect;
 use front_board::Seated;
 use group_commit::{Broker, DiskHalf, Durable};
 use hall_core::Hall;
-use long_poll::Port;
+use long_poll::{Port, Window};
 use receipts::{Desk, Office, Trace};
 use retry_rules::Settings;
 use sector_disk::Disk;
@@ -27,6 +28,18 @@ pub(crate) struct Opened<L: Ledger, T: Trace, D: Disk> {
     pub(crate) ports: Vec<Port<L, T>>,
     pub(crate) committer: Committer<L, T, D>,
     pub(crate) ticker: Desk<L, T>,
+    /// Where an operator looks.
+    pub(crate) window: Window<L, T>,
+}
+
+// A window with this seat.
+fn window<L: Ledger, T: Trace>(
+    front: &Front<L, T>,
+    seated: Seated,
+) -> Result<Window<L, T>, AllocError> {
+    let office = Arc::try_clone(&front.office)?;
+    let bell = Arc::try_clone(&front.bell)?;
+    Ok(Window::new(office, bell, seated))
 }
 
 // A port with this desk and seat.
@@ -65,9 +78,10 @@ fn shared<L: Ledger, T: Trace>(
     settings: Settings,
     dialect: Dialect,
     durable: Durable,
+    facts: Facts,
 ) -> Result<Arc<Front<L, T>>, AllocError> {
     let office = Arc::new(alloc, office)?;
-    let front = Front::new(alloc, office, settings, dialect, durable)?;
+    let front = Front::new(alloc, office, settings, dialect, durable, facts)?;
     Ok(Arc::new(alloc, front)?)
 }
 
@@ -80,21 +94,26 @@ fn furnish<L: Ledger, T: Trace, D: Disk + Drop>(
     half: DiskHalf<D>,
 ) -> Result<Opened<L, T, D>, ServeError>
     requires desks { 2 ≤ vec_len desks }
-    requires seats { 1 ≤ vec_len seats }
+    requires seats { 2 ≤ vec_len seats }
     ensures ports { IsErrOf result ServeError.TooManyPorts → ⊥ }
     ensures half { IfOk result (λ opened. opened.committer.half ≡ half) }
 {
     let mut desks = desks;
     let mut seats = seats;
-    let (Some(desk), Some(ticker), Some(seated)) = (desks.pop(), desks.pop(), seats.pop()) else {
+    let (Some(desk), Some(ticker)) = (desks.pop(), desks.pop()) else {
         unreachable!();
     };
+    let (Some(seated), Some(seat)) = (seats.pop(), seats.pop()) else {
+        unreachable!();
+    };
+    let window = window(&front, seat)?;
     let ports = ports(alloc, &front, desks, seats)?;
     Ok(Opened {
         front,
         ports,
         committer: Committer::new(desk, half, seated),
         ticker,
+        window,
     })
 }
 
@@ -115,10 +134,11 @@ pub(crate) fn open<L: Ledger, T: Trace, D: Disk + Drop>(
     let settings = hall.table().settings().copy()?;
     let dialect = hall.dialect();
     let durable = hall.durable();
+    let facts = Facts::of(hall.table())?;
     match Office::<L, T>::new(alloc, hall, blank) {
         Ok((office, desks, half)) => {
-            let seats = Seated::open(alloc, durable, desks.len())?;
-            let front = shared(alloc, office, settings, dialect, durable)?;
+            let seats = Seated::open(alloc, durable, desks.len() + 1)?;
+            let front = shared(alloc, office, settings, dialect, durable, facts)?;
             furnish(alloc, front, desks, seats, half)
         }
         Err(failure) => Err(ServeError::Office(failure.cause)),

@@ -27,6 +27,8 @@ pub(crate) struct Replying<R: Wait, L: Ledger, T: Trace> {
     waiting: Waiting<R, L, T>,
     /// The id of its request, where the reply is to tell one.
     id: Option<[u8; 16]>,
+    rt: R,
+    front: Arc<Front<L, T>>,
 }
 
 impl<R: Wait + Drop, L: Ledger, T: Trace> Future for Replying<R, L, T> {
@@ -37,7 +39,10 @@ impl<R: Wait + Drop, L: Ledger, T: Trace> Future for Replying<R, L, T> {
     fn poll(&mut self, cx: &mut Context<'_>) -> Poll<Telling> {
         match self.waiting.poll(cx) {
             Poll::Pending => Poll::Pending,
-            Poll::Ready(released) => Poll::Ready(Telling::new(released, self.id)),
+            Poll::Ready(released) => {
+                self.front.meters.note_status(&self.rt, released.status());
+                Poll::Ready(Telling::new(released, self.id))
+            }
         }
     }
 }
@@ -135,9 +140,19 @@ impl<R: Wait + Clock + RandomSource + Drop + Copy, L: Ledger, T: Trace> Applicat
             Err(ReadError::CutOff) => return Err(Refused::bare(alloc, StatusCode::BAD_REQUEST)),
         };
         let id = self.request_id();
-        match arrived {
-            Ok(waiting) => Ok(Replying { waiting, id }),
-            Err(why) => Err(refuse(alloc, &self.front.settings, self.manner(id), why)),
-        }
+        let why = match (arrived, Arc::try_clone(&self.front)) {
+            (Ok(waiting), Ok(front)) => {
+                return Ok(Replying {
+                    waiting,
+                    id,
+                    rt: self.rt,
+                    front,
+                });
+            }
+            (Ok(_), Err(_)) => Refusal::Unavailable,
+            (Err(why), _) => why,
+        };
+        self.front.meters.note_status(&self.rt, why.status());
+        Err(refuse(alloc, &self.front.settings, self.manner(id), why))
     }
 }

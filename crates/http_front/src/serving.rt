@@ -13,17 +13,20 @@ use crate::front::Front;
 use crate::opening::{Opened, open};
 use crate::port_application::PortApplication;
 use crate::ticking::tick_all;
+use crate::watching::{Admin, AdminPort, Lookout};
 use commit_loop::{Gate, Turn};
 use group_commit::{Broker, DiskHalf};
 use hall_core::Hall;
 use http_port::Limits;
-use long_poll::Port;
+use long_poll::{Port, Window};
 use receipts::{Desk, SharedOpening, SharedTrace, Trace, desks};
 use retry_rules::Settings;
 use sector_disk::Disk;
 use std::alloc::AllocGlobal;
+use std::fs::File;
 use std::net::{Net, TcpListener, TcpStream};
 use std::random::RandomSource;
+use std::rt::Files;
 use std::sync::ledger::{Blank, Ledger};
 use std::sync::{Arc, Wait};
 use std::thread::{JoinHandle, Threads};
@@ -186,6 +189,64 @@ where
     Ok(())
 }
 
+// Serves the operator's port to its end. Where it fails, the front goes on.
+fn serve_admin<R, L, T>(rt: R, port: AdminPort<R, L, T>, listener: TcpListener) -> io::Result<()>
+where
+    R: Wait
+        + Clock
+        + Net<Listener = TcpListener, Stream = TcpStream>
+        + Files<File = File>
+        + RandomSource
+        + AllocGlobal
+        + Copy
+        + Drop,
+    L: Ledger,
+    T: Trace,
+{
+    let front = Arc::try_clone(&port.lookout.front)?;
+    http_port::serve(rt, port, listener, Limits::default(), &front.ending)
+}
+
+// Starts the thread of the operator's port, where there is one.
+fn start_admin<R, L, T>(
+    rt: R,
+    front: &Arc<Front<L, T>>,
+    window: Window<L, T>,
+    admin: Option<Admin>,
+    threads: &mut Vec<JoinHandle<io::Result<()>>>,
+) -> io::Result<()>
+where
+    R: Threads
+        + Wait
+        + Clock
+        + Net<Listener = TcpListener, Stream = TcpStream>
+        + Files<File = File>
+        + RandomSource
+        + AllocGlobal
+        + Copy
+        + Drop
+        + Send
+        + 'static,
+    L: Ledger + Send + Sync + 'static,
+    T: SharedTrace + 'static,
+    T::Opening: SharedOpening + 'static,
+{
+    let Some(Admin { listener, written }) = admin else {
+        return Ok(());
+    };
+    let lookout = Lookout {
+        front: Arc::try_clone(front)?,
+        window: Arc::new(rt.alloc(), window)?,
+        written,
+    };
+    let port = AdminPort {
+        rt,
+        lookout: Arc::new(rt.alloc(), lookout)?,
+    };
+    threads.push(thread::spawn(&rt, move || serve_admin(rt, port, listener))?)?;
+    Ok(())
+}
+
 // Waits until all threads have ended: the first error that one ended with.
 fn join_all<R: Threads>(rt: &R, threads: Vec<JoinHandle<io::Result<()>>>) -> io::Result<()> {
     let mut outcome = Ok(());
@@ -232,11 +293,42 @@ where
     Ok(half)
 }
 
+// Starts all threads that serve ports.
+fn start_all<R, L, T>(
+    rt: R,
+    front: &Arc<Front<L, T>>,
+    ports: Vec<Port<L, T>>,
+    listeners: Vec<TcpListener>,
+    window: Window<L, T>,
+    admin: Option<Admin>,
+    threads: &mut Vec<JoinHandle<io::Result<()>>>,
+) -> io::Result<()>
+where
+    R: Threads
+        + Wait
+        + Clock
+        + Net<Listener = TcpListener, Stream = TcpStream>
+        + Files<File = File>
+        + RandomSource
+        + AllocGlobal
+        + Copy
+        + Drop
+        + Send
+        + 'static,
+    L: Ledger + Send + Sync + 'static,
+    T: SharedTrace + 'static,
+    T::Opening: SharedOpening + 'static,
+{
+    start_admin(rt, front, window, admin, threads)?;
+    start(rt, front, ports, listeners, threads)
+}
+
 // Serves an opened front to its end, and waits for its threads.
 fn run<R, L, T, D, G>(
     rt: R,
     opened: Opened<L, T, D>,
     listeners: Vec<TcpListener>,
+    admin: Option<Admin>,
     gate: &G,
 ) -> io::Result<Served<D>>
 where
@@ -244,6 +336,7 @@ where
         + Wait
         + Clock
         + Net<Listener = TcpListener, Stream = TcpStream>
+        + Files<File = File>
         + RandomSource
         + AllocGlobal
         + Copy
@@ -262,9 +355,11 @@ where
         ports,
         committer,
         ticker,
+        window,
     } = opened;
+    front.meters.note_opening(&rt, committer.half());
     let mut threads = Vec::new(rt.alloc());
-    let outcome = match start(rt, &front, ports, listeners, &mut threads) {
+    let outcome = match start_all(rt, &front, ports, listeners, window, admin, &mut threads) {
         Ok(()) => commit_and_tick(rt, &front, committer, ticker, gate),
         Err(why) => Err(why),
     };
@@ -286,7 +381,8 @@ fn port_count(settings: &Settings) -> u64
 /// Serves a hall, in which nothing has come yet and nothing is pending, with a ledger of as many parts as there are desks:
 /// the callers' port at the first listener, that of environment n at the listener n behind it. It returns once the broker
 /// was stopped or its device failed and every open request was answered or its client has gone. The committer, on the
-/// calling thread, is asked by the gate beside that.
+/// calling thread, is asked by the gate beside that. Where there is an operator's port, it shows the hall once that is durable, and
+/// changes nothing.
 ///
 /// The half over the disk is handed back: it is the hall's broker with what was committed since. On an honest disk a stop at any
 /// moment of the serving leaves a legal stop of its list: a beginning of that with all that was durable before.
@@ -298,6 +394,7 @@ pub fn serve<R, L, T, D, G>(
     hall: Hall<Broker<D>>,
     blank: Blank,
     listeners: Vec<TcpListener>,
+    admin: Option<Admin>,
     gate: &G,
 ) -> Result<Served<D>, ServeError>
 where
@@ -305,6 +402,7 @@ where
         + Wait
         + Clock
         + Net<Listener = TcpListener, Stream = TcpStream>
+        + Files<File = File>
         + RandomSource
         + AllocGlobal
         + Copy
@@ -329,5 +427,5 @@ where
         return Err(ServeError::TooManyPorts);
     }
     let opened = open::<L, T, D>(rt.alloc(), hall, blank)?;
-    Ok(run(rt, opened, listeners, gate)?)
+    Ok(run(rt, opened, listeners, admin, gate)?)
 }

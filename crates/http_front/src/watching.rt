@@ -1,0 +1,229 @@
+// The operator's port: what it tells of the office, once that is durable.
+ghost use Rattle.std.specs.Prelude.{◌≡◌, ◌≤◌, IfSome};
+ghost use Rattle.http.specs.Response.{head_of};
+ghost use Rattle.http_front.specs.Watching.{status_told};
+
+use crate::front::Front;
+use crate::moment::now;
+use admin_replies::{Facts, Measures, Reply, tell};
+use admin_words::{Asked, read};
+use bytes::Bytes;
+use destination_json::id_text;
+use disk_meter::Written;
+use futures::Future;
+use futures::task::{Context, Poll};
+use http::request::Parts;
+use http_body_util::Full;
+use http_port::{Answered, Application, ReadError, Refused, Told};
+use hyper::{Response, StatusCode};
+use long_poll::{Watching, Window};
+use receipts::{Sight, Trace};
+use std::alloc::{AllocGlobal, Global};
+use std::fs::{File, read_to_string};
+use std::net::TcpListener;
+use std::rt::Files;
+use std::sync::ledger::Ledger;
+use std::sync::{Arc, Wait};
+use std::time::Clock;
+
+/// How many bytes a page of memory has.
+const PAGE_BYTES: u64 = 4096;
+
+/// How many bytes of a body are read: these requests have none.
+const MOST_BODY: usize = 1024;
+
+/// The port of an operator.
+#[derive(Drop)]
+pub struct Admin {
+    pub listener: TcpListener,
+    /// How many bytes were written to the disk.
+    pub written: Written,
+}
+
+// A reply as a response. None where memory is wanting.
+fn response_of(alloc: Global, reply: Reply) -> Option<Answered>
+    ensures { IfSome result (λ r. (head_of r).status ≡ reply.status) }
+{
+    let mut builder = Response::builder(alloc)
+        .header("content-type", reply.media.content_type())
+        .header("cache-control", "no-store");
+    if let Some(id) = &reply.next {
+        let text = id_text(alloc, id).ok()?;
+        builder = builder.header("next-after", text.as_str());
+    }
+    let Reply { status, body, .. } = reply;
+    let body = Bytes::from_vec(body).ok()?;
+    builder.status(status).body(Full::new(body)).ok()
+}
+
+/// What an operator is told. None where memory is wanting.
+#[derive(Drop)]
+pub(crate) struct Shown {
+    reply: Option<Reply>,
+}
+
+impl Told for Shown {
+    ghost use Rattle.http_front.specs.Watching.{status_told};
+
+    ghost status = { λ shown. status_told shown.reply };
+
+    fn into_response(self, alloc: Global) -> Option<Answered> {
+        let Shown { reply } = self;
+        response_of(alloc, reply?)
+    }
+}
+
+// How many bytes of memory the process has, as Linux tells it; 0 where it tells nothing.
+fn resident_bytes<R: Files<File = File> + AllocGlobal>(rt: &R) -> u64 {
+    let Ok(text) = read_to_string(rt, "/proc/self/statm") else {
+        return 0;
+    };
+    let pages = text.as_str().split(' ').nth(1);
+    match pages {
+        Some(pages) => pages.parse::<u64>().unwrap_or(0).saturating_mul(PAGE_BYTES),
+        None => 0,
+    }
+}
+
+/// What the requests of the operator's port share.
+#[derive(Drop)]
+pub(crate) struct Lookout<L: Ledger, T: Trace> {
+    pub(crate) front: Arc<Front<L, T>>,
+    pub(crate) window: Arc<Window<L, T>>,
+    pub(crate) written: Written,
+}
+
+impl<L: Ledger, T: Trace> Lookout<L, T> {
+    // What was counted and measured now.
+    fn measures<R: Wait + Files<File = File> + AllocGlobal>(&self, rt: &R) -> Measures {
+        Measures {
+            counters: self.front.meters.read(rt),
+            written_bytes: self.written.bytes(),
+            resident_bytes: resident_bytes(rt),
+            has_fault: self.front.bell.has_broken(),
+        }
+    }
+
+    // What is told of what was seen.
+    fn tell<R: Wait + Clock + Files<File = File> + AllocGlobal>(
+        &self,
+        rt: &R,
+        asked: &Asked,
+        sight: &Sight,
+    ) -> Shown {
+        let now = now(rt).unwrap_or(0);
+        let measures = self.measures(rt);
+        let reply = tell(
+            self.front.alloc,
+            &self.front.facts,
+            asked,
+            sight,
+            &measures,
+            now,
+        );
+        Shown { reply: reply.ok() }
+    }
+}
+
+/// The reply to an operator, which is told once all that it shows is durable.
+#[derive(Drop)]
+pub(crate) struct Showing<R: Wait, L: Ledger, T: Trace> {
+    rt: R,
+    lookout: Arc<Lookout<L, T>>,
+    asked: Asked,
+    watching: Watching<R, L, T>,
+}
+
+impl<R: Wait + Clock + Files<File = File> + AllocGlobal + Drop, L: Ledger, T: Trace> Future
+    for Showing<R, L, T> {
+    type Output = Shown;
+
+    fn poll(&mut self, cx: &mut Context<'_>) -> Poll<Shown> {
+        match self.watching.poll(cx) {
+            Poll::Pending => Poll::Pending,
+            Poll::Ready(Some(sight)) => {
+                Poll::Ready(self.lookout.tell(&self.rt, &self.asked, &sight))
+            }
+            Poll::Ready(None) => {
+                let reply = Reply::line(self.lookout.front.alloc, 503, "device fault");
+                Poll::Ready(Shown { reply: reply.ok() })
+            }
+        }
+    }
+}
+
+/// The operator's port.
+#[derive(Drop)]
+pub(crate) struct AdminPort<R, L: Ledger, T: Trace> {
+    pub(crate) rt: R,
+    pub(crate) lookout: Arc<Lookout<L, T>>,
+}
+
+// A refusal with a line of text. Where memory is wanting, 503 alone.
+fn refuse(alloc: Global, status: u16, words: &str) -> Refused
+    requires { 400 ≤ status }
+{
+    let response = match Reply::line(alloc, status, words) {
+        Ok(reply) => response_of(alloc, reply),
+        Err(_) => None,
+    };
+    match response {
+        Some(response) => Refused::new(response),
+        None => Refused::bare(alloc, StatusCode::SERVICE_UNAVAILABLE),
+    }
+}
+
+// Why a request is refused, in words.
+fn refuse_words(alloc: Global, why: admin_words::Refused) -> Refused {
+    match format!(in alloc; "{why}") {
+        Ok(words) => refuse(alloc, why.status(), words.as_str()),
+        Err(_) => Refused::bare(alloc, StatusCode::SERVICE_UNAVAILABLE),
+    }
+}
+
+impl<R, L, T> Application for AdminPort<R, L, T>
+where
+    R: Wait + Clock + Files<File = File> + AllocGlobal + Drop + Copy,
+    L: Ledger,
+    T: Trace,
+{
+    type Given = Shown;
+
+    type Reply = Showing<R, L, T>;
+
+    fn most(&self) -> usize {
+        MOST_BODY
+    }
+
+    fn answer(
+        &self,
+        head: &Parts,
+        body: Result<Vec<u8>, ReadError>,
+    ) -> Result<Showing<R, L, T>, Refused> {
+        let alloc = self.lookout.front.alloc;
+        drop(body);
+        let target = match head.uri.path_and_query() {
+            Some(target) => target.as_str(),
+            None => "/",
+        };
+        let asked = match read(&head.method, target) {
+            Ok(asked) => asked,
+            Err(why) => return Err(refuse_words(alloc, why)),
+        };
+        let Ok(glimpse) = self.lookout.window.look(&self.rt).answer else {
+            return Err(Refused::bare(alloc, StatusCode::SERVICE_UNAVAILABLE));
+        };
+        let (Ok(window), Ok(lookout)) = (
+            Arc::try_clone(&self.lookout.window),
+            Arc::try_clone(&self.lookout),
+        ) else {
+            return Err(Refused::bare(alloc, StatusCode::SERVICE_UNAVAILABLE));
+        };
+        Ok(Showing {
+            rt: self.rt,
+            lookout,
+            asked,
+            watching: Watching::new(self.rt, window, glimpse),
+        })
+    }
+}
