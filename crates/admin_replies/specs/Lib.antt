@@ -1,2 +1,4 @@
 pub mod Lists
+pub mod Counting
 pub mod Numbers
+pub mod Telling

@@ -1,0 +1,112 @@
+-- The numbers of a broker, by what was seen of it.
+use Rattle.std.specs.Prelude.{◌≡◌, ℕ, ◌+◌, ◌-◌, ◌^◌, ◌≤◌, ◌↔◌, Bool, true, false, List, [], Option, Some, None, min, IfSome, IsNone, All, Contains}
+use Rattle.std.specs.List.{count_by, sum_by}
+use Rattle.env_phase.specs.declared.phase.Phase.{Phase}
+use Rattle.env_phase.specs.declared.phase.Phase.TheVariants.{Init, Ready, Busy, Closing}
+use Rattle.hall_core.specs.declared.looking.EnvironmentLook.{EnvironmentLook}
+use Rattle.operator_view.specs.declared.numbers.Census.{Census}
+use Rattle.operator_view.specs.Census.{IsCensus, oldest_waiting, ends}
+use Rattle.receipts.specs.declared.sight.Sight.{Sight}
+use Rattle.receipts.specs.declared.tally.Tally.{Tally}
+use Rattle.admin_words.specs.declared.figures.Figures.{Figures}
+use Rattle.admin_words.specs.declared.figures.Phases.{Phases}
+use Rattle.admin_words.specs.declared.figures.Process.{Process}
+use Rattle.admin_words.specs.declared.figures.Tally.{Tally as Told}
+use Rattle.admin_replies.specs.declared.figures.Measures.{Measures}
+use Rattle.admin_replies.specs.Counting.{sum_up_to}
+
+-- how long ago that was, in milliseconds: 0 where it was not, or will be
+abbrev pub age_of : ℕ → Option ℕ → ℕ
+age_of now None = 0
+age_of now (Some moment) = now - moment
+
+-- it is the first of these moments, if there is one
+pub record IsFirst (moments : List ℕ) (first : Option ℕ) : Type 0 where
+  pub none : IsNone first ↔ (moments ≡ [])
+  pub one : IfSome first (λ moment. Contains moments moment)
+  pub least : IfSome first (λ moment. All (λ at. moment ≤ at) moments)
+
+-- it is how long ago the first of these moments was
+abbrev pub IsOldestAge : ℕ → List ℕ → ℕ → Type 0
+IsOldestAge now moments age = (first : Option ℕ) × IsFirst moments first × (age ≡ age_of now first)
+
+-- ## Environments
+
+abbrev pub is_phase : Phase → Phase → Bool
+is_phase Init Init = true
+is_phase Ready Ready = true
+is_phase Busy Busy = true
+is_phase Closing Closing = true
+is_phase phase other = false
+
+abbrev pub is_in_phase : Phase → EnvironmentLook → Bool
+is_in_phase phase look = is_phase phase look.phase
+
+abbrev pub phases_of : List EnvironmentLook → Phases
+phases_of environments = record {
+  init = count_by (is_in_phase Init) environments;
+  ready = count_by (is_in_phase Ready) environments;
+  busy = count_by (is_in_phase Busy) environments;
+  closing = count_by (is_in_phase Closing) environments;
+}
+
+-- how many polls are parked
+abbrev pub parked_in : List EnvironmentLook → ℕ
+parked_in environments = sum_by (λ (look : EnvironmentLook). look.parked) environments
+
+-- ## What became of events since the opening
+
+-- how many have ended and are held
+abbrev pub ended_in : Census → ℕ
+ended_in census = census.success + (census.retries_exhausted + census.event_age_exceeded)
+
+-- how many have ended since so many had: those that are held, and those that were collected
+abbrev pub ended_since : (before ended collected : ℕ) → ℕ
+ended_since before ended collected = sum_up_to ended collected - before
+
+-- each that ended neither with success nor by its age had no retries left
+abbrev pub tally_told : ℕ → ℕ → Tally → Told
+tally_told before ended counted = record {
+  accepted = counted.accepted;
+  success = counted.succeeded;
+  retries_exhausted = ended_since before ended counted.collected - counted.succeeded - counted.expired;
+  event_age_exceeded = counted.expired;
+  collected = counted.collected;
+  started = counted.started;
+  throttled = counted.throttled;
+  interrupted = counted.interrupted;
+}
+
+-- ## Of the process
+
+abbrev pub process_told : Measures → Bool → Process
+process_told measures is_stopping = record {
+  commits = measures.counters.commits;
+  switches = measures.counters.generation - measures.counters.first_generation;
+  written_bytes = measures.written_bytes;
+  commit_microseconds = measures.counters.commit_microseconds;
+  buckets = measures.counters.buckets;
+  generation = measures.counters.generation;
+  sectors = measures.counters.sectors;
+  free_sectors = measures.counters.free_sectors;
+  resident_bytes = measures.resident_bytes;
+  is_stopping = is_stopping;
+  has_fault = measures.has_fault;
+  refused = measures.counters.refused;
+}
+
+-- ## All of them
+
+-- the numbers of what was seen: those of its table's rows are the census of these
+pub record AreFigures (before : ℕ) (sight : Sight) (measures : Measures) (now : ℕ) (figures : Figures) : Type 0 where
+  pub census : IsCensus sight.look.table.rows figures.census
+  pub oldest_wait : figures.oldest_wait_age ≡ age_of now (oldest_waiting sight.look.table.rows)
+  pub oldest_record : IsOldestAge now (ends sight.look.table.rows) figures.oldest_record_age
+  pub issued : figures.issued ≡ sight.look.table.number
+  pub durable : figures.durable ≡ sight.look.durable
+  pub pending : figures.pending ≡ sight.look.table.number - sight.look.durable
+  pub open_slots : figures.open_slots ≡ sight.look.open_slots
+  pub parked : figures.parked_polls ≡ min (parked_in sight.look.environments.items) (2 ^ 64 - 1)
+  pub environments : figures.environments ≡ phases_of sight.look.environments.items
+  pub tally : figures.tally ≡ tally_told before (min (ended_in figures.census) (2 ^ 64 - 1)) sight.tally
+  pub process : figures.process ≡ process_told measures sight.look.is_stopping

@@ -1,0 +1,33 @@
+-- What is told to an operator of what was seen of a broker.
+use Rattle.std.specs.Prelude.{◌≡◌, ℕ, Bool, if◌then◌else◌}
+use Rattle.receipts.specs.declared.sight.Sight.{Sight}
+use Rattle.admin_words.specs.declared.asked.Asked.{Asked}
+use Rattle.admin_words.specs.declared.asked.Asked.TheVariants as asked
+use Rattle.admin_words.specs.declared.figures.Figures.{Figures}
+use Rattle.admin_words.specs.Metrics.{metrics_text}
+use Rattle.admin_replies.specs.declared.telling.Facts.{Facts}
+use Rattle.admin_replies.specs.declared.figures.Measures.{Measures}
+use Rattle.admin_replies.specs.declared.reply.Reply.{Reply}
+use Rattle.admin_replies.specs.Lists.{TellsEvents, TellsEvent, TellsRecords}
+use Rattle.admin_replies.specs.Numbers.{AreFigures}
+
+-- 503 where the device failed or the broker stops
+abbrev pub health_status : Bool → Bool → ℕ
+health_status has_fault is_stopping = if has_fault then 503 else if is_stopping then 503 else 200
+
+-- the text of the numbers of what was seen
+abbrev pub TellsNumbers : Facts → Sight → Measures → ℕ → Reply → Type 0
+TellsNumbers facts sight measures now reply =
+    (figures : Figures) × AreFigures facts.ended_before sight measures now figures
+    × (reply.status ≡ 200) × (reply.body.items ≡ metrics_text figures facts.settings)
+
+-- each list, event and number is that of the table that was seen
+abbrev pub TellsOf : Facts → Sight → Measures → ℕ → Asked → Reply → Type 0
+TellsOf facts sight measures now asked.Page reply = reply.status ≡ 200
+TellsOf facts sight measures now asked.Metrics reply = TellsNumbers facts sight measures now reply
+TellsOf facts sight measures now asked.Health reply = reply.status ≡ health_status measures.has_fault sight.look.is_stopping
+TellsOf facts sight measures now (asked.Events which after limit) reply =
+    TellsEvents which after limit sight.look.table.rows reply
+TellsOf facts sight measures now (asked.Event id) reply = TellsEvent facts.settings id sight.look.table.rows reply
+TellsOf facts sight measures now (asked.Records side after limit) reply =
+    TellsRecords facts.settings side after limit 4194304 sight.look.table.rows reply

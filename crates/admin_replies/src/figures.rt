@@ -1,0 +1,141 @@
+// The numbers of a broker.
+ghost use Rattle.std.specs.Prelude.{◌≡◌, ◌^◌, ◌-◌, min, count_by};
+ghost use Rattle.operator_view.specs.Census.{ends};
+ghost use Rattle.admin_replies.specs.Numbers.{age_of, is_in_phase, phases_of, parked_in, ended_in, tally_told, process_told, IsOldestAge, AreFigures};
+
+use crate::counters::Counters;
+use admin_words::{Figures, Phases, Process, Tally};
+use env_phase::Phase;
+use hall_core::EnvironmentLook;
+use invoke_records::EventRow;
+use operator_view::{Census, census, oldest_record, oldest_waiting};
+use receipts::Sight;
+
+/// What was counted and measured of a process.
+#[derive(Clone, Copy, Debug)]
+pub struct Measures {
+    pub counters: Counters,
+    /// How many bytes were written to the disk.
+    pub written_bytes: u64,
+    /// How many bytes of memory the process has.
+    pub resident_bytes: u64,
+    /// The device failed.
+    pub has_fault: bool,
+}
+
+// How long ago that was, in milliseconds: 0 where it was not, or will be.
+fn age_of(now: u64, moment: Option<u64>) -> u64
+    ensures { result ≡ age_of now moment }
+{
+    match moment {
+        Some(moment) => now.saturating_sub(moment),
+        None => 0,
+    }
+}
+
+// How long ago the first of the events that ended did so.
+fn oldest_record_age(now: u64, rows: &[EventRow]) -> u64
+    ensures { IsOldestAge now (ends rows.now) result }
+{
+    let oldest = oldest_record(rows);
+    age_of(now, oldest)
+}
+
+fn count_in_phase(environments: &[EnvironmentLook], phase: Phase) -> u64
+    ensures { result ≡ count_by (is_in_phase phase) environments.now }
+{
+    environments.iter().filter(|look| look.phase == phase).count() as u64
+}
+
+fn phases_of(environments: &[EnvironmentLook]) -> Phases
+    ensures { result ≡ phases_of environments.now }
+{
+    Phases {
+        init: count_in_phase(environments, Phase::Init),
+        ready: count_in_phase(environments, Phase::Ready),
+        busy: count_in_phase(environments, Phase::Busy),
+        closing: count_in_phase(environments, Phase::Closing),
+    }
+}
+
+// How many polls are parked, up to the greatest number.
+fn parked_in(environments: &[EnvironmentLook]) -> u64
+    ensures { result ≡ min (parked_in environments.now) (2 ^ 64 - 1) }
+{
+    let mut parked = 0u64;
+    for look in environments {
+        parked = parked.saturating_add(look.parked as u64);
+    }
+    parked
+}
+
+/// How many events have ended and are held.
+pub(crate) fn ended_in(census: &Census) -> u64
+    ensures { result ≡ min (ended_in census.now) (2 ^ 64 - 1) }
+{
+    let failures = (census.retries_exhausted as u64).saturating_add(census.event_age_exceeded as u64);
+    (census.success as u64).saturating_add(failures)
+}
+
+// What became of events since the opening, when so many had ended. An event that ended and is not held was collected; one that
+// ended neither with success nor by its age had no retries left.
+fn tally_told(before: u64, ended: u64, counted: &receipts::Tally) -> Tally
+    ensures { result ≡ tally_told before ended counted.now }
+{
+    let all = ended.saturating_add(counted.collected).saturating_sub(before);
+    let others = all.saturating_sub(counted.succeeded);
+    Tally {
+        accepted: counted.accepted,
+        success: counted.succeeded,
+        retries_exhausted: others.saturating_sub(counted.expired),
+        event_age_exceeded: counted.expired,
+        collected: counted.collected,
+        started: counted.started,
+        throttled: counted.throttled,
+        interrupted: counted.interrupted,
+    }
+}
+
+fn process_told(measures: &Measures, is_stopping: bool) -> Process
+    ensures { result ≡ process_told measures.now is_stopping }
+{
+    let counters = measures.counters;
+    Process {
+        commits: counters.commits,
+        switches: counters.switches(),
+        written_bytes: measures.written_bytes,
+        commit_microseconds: counters.commit_microseconds,
+        buckets: counters.buckets,
+        generation: counters.generation,
+        sectors: counters.sectors,
+        free_sectors: counters.free_sectors,
+        resident_bytes: measures.resident_bytes,
+        is_stopping,
+        has_fault: measures.has_fault,
+        refused: counters.refused,
+    }
+}
+
+/// The numbers of a broker that was seen so, of which so much was counted and measured, now, in milliseconds since 1970. At the
+/// opening so many events had ended.
+pub fn figures(before: u64, sight: &Sight, measures: &Measures, now: u64) -> Figures
+    ensures { AreFigures before sight.now measures.now now result }
+{
+    let look = &sight.look;
+    let rows = look.table.rows.as_slice();
+    let census = census(rows);
+    let issued = look.table.number;
+    Figures {
+        census,
+        oldest_wait_age: age_of(now, oldest_waiting(rows)),
+        oldest_record_age: oldest_record_age(now, rows),
+        issued,
+        durable: look.durable,
+        pending: issued.saturating_sub(look.durable),
+        open_slots: look.open_slots as u64,
+        parked_polls: parked_in(&look.environments),
+        environments: phases_of(&look.environments),
+        tally: tally_told(before, ended_in(&census), &sight.tally),
+        process: process_told(measures, look.is_stopping),
+    }
+}
