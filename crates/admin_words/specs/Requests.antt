@@ -1,7 +1,7 @@
 -- What a request to the operator's port asks for, by its method and its target, or the first check that refuses it.
-use Rattle.std.specs.Prelude.{ℕ, ◌+◌, ◌*◌, ◌-◌, nat_le, ◌==◌, ◌&&◌, ◌||◌, List, [], ◌∷◌, length, drop, Bool, Option, Some, None, Result, Ok, Err, find, count_by, option_map, if◌then◌else◌, codes, bytes_eq, starts_with, nat_eq}
+use Rattle.std.specs.Prelude.{ℕ, ◌+◌, ◌*◌, ◌-◌, nat_le, ◌==◌, ◌&&◌, ◌||◌, List, [], ◌∷◌, length, drop, Bool, Option, Some, None, Result, Ok, Err, find, count_by, option_map, if◌then◌else◌, codes, bytes_eq, take}
 use Rattle.std.specs.List.{before_first, after_first, slice_split, list_all, list_any}
-use Rattle.std.specs.Str.{byte, all_ascii_digits}
+use Rattle.std.specs.Str.{byte, is_utf8, all_ascii_digits}
 use Rattle.uuid.specs.Text.{parsed}
 use Rattle.async_core.specs.declared.choice.Side.{Side}
 use Rattle.async_core.specs.declared.choice.Side.TheVariants as side
@@ -40,10 +40,18 @@ is_empty part = length part == 0
 
 -- ## The path
 
+-- the id that a text is
+abbrev pub id_of : List ℕ → Option (List ℕ)
+id_of bytes = if is_utf8 bytes then parsed bytes else None
+
 -- what a path that begins with `/events/` names
 abbrev pub event_at : Option (List ℕ) → Result Place Refused
 event_at None = Err why.Id
 event_at (Some id) = Ok (place.Event id)
+
+-- what a path names that is no fixed one
+unfoldable pub named_by : List ℕ → Result Place Refused
+named_by path = if bytes_eq (take 8 path) (codes "/events/") then event_at (id_of (drop 8 path)) else Err why.Path
 
 -- what is at a path
 abbrev pub place_of : List ℕ → Result Place Refused
@@ -54,8 +62,7 @@ place_of path =
     else if bytes_eq path (codes "/events") then Ok place.Events
     else if bytes_eq path (codes "/records/success") then Ok (place.Records side.Success)
     else if bytes_eq path (codes "/records/failure") then Ok (place.Records side.Failure)
-    else if starts_with nat_eq path (codes "/events/") then event_at (parsed (drop 8 path))
-    else Err why.Path
+    else named_by path
 
 -- ## The query
 
@@ -101,7 +108,7 @@ behind (Some id) = Ok (Some id)
 
 abbrev pub after_of : Option (List ℕ) → Result (Option (List ℕ)) Refused
 after_of None = Ok None
-after_of (Some text) = behind (parsed text)
+after_of (Some text) = behind (id_of text)
 
 -- the number behind these digits
 abbrev pub number_after : ℕ → List ℕ → ℕ

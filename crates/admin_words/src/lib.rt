@@ -4,6 +4,7 @@
 #![tactic(auto)]
 
 mod asked;
+mod ids;
 mod name;
 mod place;
 mod query;

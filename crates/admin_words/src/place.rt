@@ -1,11 +1,10 @@
 // What is at a path.
 ghost use Rattle.std.specs.Prelude.{◌≡◌};
-ghost use Rattle.uuid.specs.Text.{parsed};
-ghost use Rattle.admin_words.specs.Requests.{place_of, event_at, path_of, query_of};
+ghost use Rattle.admin_words.specs.Requests.{place_of, named_by, event_at};
 
+use crate::ids::read_id;
 use crate::refused::Refused;
 use async_core::Side;
-use uuid::Uuid;
 
 /// What is at a path.
 #[derive(Clone, Copy)]
@@ -18,22 +17,23 @@ pub(crate) enum Place {
     Records(Side),
 }
 
-/// The id that a text is.
-pub(crate) fn read_id(text: &str) -> Option<[u8; 16]>
-    ensures { result ≡ parsed text.now }
-{
-    match Uuid::parse_str(text) {
-        Ok(id) => Some(id.into_bytes()),
-        Err(_) => None,
-    }
-}
-
 fn event_at(id: Option<[u8; 16]>) -> Result<Place, Refused>
     ensures { result ≡ event_at id }
 {
     match id {
         Some(id) => Ok(Place::Event(id)),
         None => Err(Refused::Id),
+    }
+}
+
+// What a path names that is no fixed one.
+#[tactic(auto, unfolding(crate::specs::Requests::named_by))]
+fn named_by(path: &[u8]) -> Result<Place, Refused>
+    ensures { result ≡ named_by path.now }
+{
+    match path.strip_prefix(b"/events/") {
+        Some(id) => event_at(read_id(id)),
+        None => Err(Refused::Path),
     }
 }
 
@@ -48,9 +48,6 @@ pub(crate) fn place_of(path: &str) -> Result<Place, Refused>
         "/events" => Ok(Place::Events),
         "/records/success" => Ok(Place::Records(Side::Success)),
         "/records/failure" => Ok(Place::Records(Side::Failure)),
-        _ => match path.strip_prefix("/events/") {
-            Some(text) => event_at(read_id(text)),
-            None => Err(Refused::Path),
-        },
+        _ => named_by(path.as_bytes()),
     }
 }

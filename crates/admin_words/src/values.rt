@@ -3,7 +3,7 @@ ghost use Rattle.std.specs.Prelude.{◌≡◌, ◌≤◌};
 ghost use Rattle.std.specs.Option.{option_copied};
 ghost use Rattle.admin_words.specs.Requests.{standing_of, after_of, limit_of, number_of};
 
-use crate::place::read_id;
+use crate::ids::read_id;
 use crate::refused::Refused;
 use operator_view::Which;
 
@@ -27,7 +27,7 @@ pub(crate) fn read_after(text: Option<&str>) -> Result<Option<[u8; 16]>, Refused
     ensures { result ≡ after_of (option_copied text.entry) }
 {
     let Some(text) = text else { return Ok(None) };
-    match read_id(text) {
+    match read_id(text.as_bytes()) {
         Some(id) => Ok(Some(id)),
         None => Err(Refused::After),
     }
