@@ -1,0 +1,17 @@
+//! The words of the operator's port: which request was asked, and the text of the numbers that a monitor collects.
+//!
+//! A target is seen as its bytes, and what it asks for is a function of them. Nothing here reads or writes.
+#![tactic(auto)]
+
+mod asked;
+mod ids;
+mod name;
+mod place;
+mod query;
+mod reading;
+mod refused;
+mod values;
+
+pub use asked::Asked;
+pub use reading::read;
+pub use refused::Refused;
