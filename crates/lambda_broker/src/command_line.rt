@@ -17,7 +17,7 @@ use std::alloc::AllocGlobal;
 use std::fmt::Display;
 use std::fs::File;
 use std::io;
-use std::io::Write;
+use std::io::{Eprint, Write};
 use std::net::{Net, TcpListener, TcpStream};
 use std::random::RandomSource;
 use std::rt::Files;
@@ -39,6 +39,7 @@ const DEVICE: u8 = 3;
 pub fn run<R, W>(rt: R, words: &[String], out: &mut W) -> io::Result<u8>
 where
     R: Files<File = File>
+        + Eprint
         + Threads
         + Wait
         + Clock
@@ -169,6 +170,7 @@ fn print_migrate<R: Files<File = File> + AllocGlobal, W: Write>(
 fn print_serve<R, W>(rt: R, at: &Address<'_>, out: &mut W) -> io::Result<u8>
 where
     R: Files<File = File>
+        + Eprint
         + Threads
         + Wait
         + Clock

@@ -6,17 +6,18 @@ ghost use Rattle.lambda_broker.specs.Serving.{ComesToRest};
 ghost use Rattle.hall_core.specs.Fresh.{IsFresh};
 
 use api_core::Dialect;
+use disk_meter::{CountingDisk, Written};
 use group_commit::{Broker, CommitError, IssueError, OpenError, without_disk};
 use hall_core::{Hall, HallFailure};
-use http_front::{Ending, ServeError, WhenPending, now, serve};
+use http_front::{Admin, Ending, ServeError, WhenPending, now, serve};
 use receipts::{Gone, SharedOpening, SharedTrace, desks};
 use sector_disk::{Disk, FileDisk, FileError};
 use std::alloc::{AllocError, AllocGlobal, Global};
 use std::fs::File;
 use std::io;
-use std::io::Write;
+use std::io::{Eprint, Write};
 use std::marker::Brand;
-use std::net::{Ipv4Addr, Net, SocketAddr, TcpListener, TcpStream};
+use std::net::{IpAddr, Ipv4Addr, Net, SocketAddr, TcpListener, TcpStream};
 use std::random::RandomSource;
 use std::rt::Files;
 use std::sync::Wait;
@@ -25,13 +26,18 @@ use std::thread::Threads;
 use std::time::Clock;
 use thiserror::Error;
 
-/// A disk that is to be served, the port of its callers, in which words requests are answered, and for how many extensions an
-/// environment waits, 10 at most.
+/// A disk that is to be served, where, in which words requests are answered, and for how many extensions an environment waits, 10
+/// at most.
 #[derive(Clone, Copy, Debug)]
 pub struct Address<'a> {
     /// A file or a block device.
     pub path: &'a str,
+    /// Where the callers' port and those of the environments are.
+    pub reach: IpAddr,
+    /// The port of the callers.
     pub port: u16,
+    /// The operator's port, which is on the loopback address.
+    pub admin: Option<u16>,
     pub dialect: Dialect,
     pub extensions: u8,
 }
@@ -82,13 +88,13 @@ fn open<D: Disk + Drop>(alloc: Global, disk: D) -> Result<Broker<D>, OpenError> 
 }
 
 // Binds the port of the callers and one for each environment behind it.
-fn bind<R>(rt: &R, port: u16, environments: u8) -> io::Result<Vec<TcpListener>>
+fn bind<R>(rt: &R, at: &Address<'_>, environments: u8) -> io::Result<Vec<TcpListener>>
 where
     R: Net<Listener = TcpListener, Stream = TcpStream> + AllocGlobal,
 {
     let mut listeners = Vec::with_capacity(rt.alloc(), usize::from(environments) + 1)?;
     for number in 0..=u16::from(environments) {
-        let address = SocketAddr::from((Ipv4Addr::LOCALHOST, port.saturating_add(number)));
+        let address = SocketAddr::new(at.reach, at.port.saturating_add(number));
         listeners.push(TcpListener::bind(rt, address)?)?;
     }
     Ok(listeners)
@@ -123,17 +129,46 @@ fn resume<R: Clock + Wait, D: Disk>(rt: &R, broker: &mut Broker<D>) -> Result<()
     }
 }
 
+// Why a port is not listened on.
+fn not_bound(why: &io::Error) -> ServingError {
+    if why.kind() == io::ErrorKind::OutOfMemory {
+        ServingError::OutOfMemory(AllocError)
+    } else {
+        ServingError::Port
+    }
+}
+
 // Listens on the port of the callers and on one for each environment behind it.
-fn listen<R>(rt: &R, port: u16, environments: u8) -> Result<Vec<TcpListener>, ServingError>
+fn listen<R>(
+    rt: &R,
+    at: &Address<'_>,
+    environments: u8,
+) -> Result<Vec<TcpListener>, ServingError>
 where
     R: Net<Listener = TcpListener, Stream = TcpStream> + AllocGlobal,
 {
-    match bind(rt, port, environments) {
+    match bind(rt, at, environments) {
         Ok(listeners) => Ok(listeners),
-        Err(why) if why.kind() == io::ErrorKind::OutOfMemory => {
-            Err(ServingError::OutOfMemory(AllocError))
-        }
-        Err(_) => Err(ServingError::Port),
+        Err(why) => Err(not_bound(&why)),
+    }
+}
+
+// Listens on the operator's port, if there is to be one: on the loopback address, wherever the others are.
+fn listen_admin<R>(
+    rt: &R,
+    at: &Address<'_>,
+    written: Written,
+) -> Result<Option<Admin>, ServingError>
+where
+    R: Net<Listener = TcpListener, Stream = TcpStream> + AllocGlobal,
+{
+    let Some(port) = at.admin else {
+        return Ok(None);
+    };
+    let address = SocketAddr::from((Ipv4Addr::LOCALHOST, port));
+    match TcpListener::bind(rt, address) {
+        Ok(listener) => Ok(Some(Admin { listener, written })),
+        Err(why) => Err(not_bound(&why)),
     }
 }
 
@@ -156,10 +191,23 @@ fn hall_over<D: Disk + Drop>(
     }
 }
 
-// Prints the line from which on callers are served.
-fn announce<W: Write>(port: u16, out: &mut W) -> io::Result<()> {
-    writeln!(out, "serving on 127.0.0.1:{port}")?;
+// Prints the line from which on callers are served, and one of the operator's port.
+fn announce<W: Write>(at: &Address<'_>, out: &mut W) -> io::Result<()> {
+    let address = SocketAddr::new(at.reach, at.port);
+    writeln!(out, "serving on {address}")?;
+    if let Some(admin) = at.admin {
+        writeln!(out, "showing on 127.0.0.1:{admin}")?;
+    }
     out.flush()
+}
+
+// Says on standard error what an address that others reach opens to whom.
+fn warn<R: Eprint>(rt: &R, at: &Address<'_>) -> io::Result<()> {
+    if at.reach.is_loopback() {
+        return Ok(());
+    }
+    let reach = at.reach;
+    eprintln!(rt; "warning: whoever reaches {reach} can invoke the function, answer for it, read its payloads and records, and stop the broker")
 }
 
 // Serves a hall until the broker is stopped.
@@ -167,12 +215,14 @@ fn serve_hall<R, T, D>(
     rt: R,
     hall: Hall<Broker<D>>,
     listeners: Vec<TcpListener>,
+    admin: Option<Admin>,
 ) -> Result<(), ServingError>
 where
     R: Threads
         + Wait
         + Clock
         + Net<Listener = TcpListener, Stream = TcpStream>
+        + Files<File = File>
         + RandomSource
         + AllocGlobal
         + Copy
@@ -186,7 +236,7 @@ where
     requires fresh { IsFresh (settings_of hall.issuer) hall }
 {
     let blank = Blank::new(desks(hall.table().settings()));
-    let served = serve::<R, Brand, T, D, WhenPending>(rt, hall, blank, listeners, &WhenPending)?;
+    let served = serve::<R, Brand, T, D, WhenPending>(rt, hall, blank, listeners, admin, &WhenPending)?;
     match served.ending {
         Ending::Stopped => Ok(()),
         Ending::Broken => Err(ServingError::Broken),
@@ -194,12 +244,19 @@ where
 }
 
 // Serves what is on a disk: the ports first, then the attempts that the last stop cut off.
-fn serve_on<R, T, D, W>(rt: R, disk: D, at: &Address<'_>, out: &mut W) -> Result<(), ServingError>
+fn serve_on<R, T, D, W>(
+    rt: R,
+    disk: D,
+    written: Written,
+    at: &Address<'_>,
+    out: &mut W,
+) -> Result<(), ServingError>
 where
     R: Threads
         + Wait
         + Clock
         + Net<Listener = TcpListener, Stream = TcpStream>
+        + Files<File = File>
         + RandomSource
         + AllocGlobal
         + Copy
@@ -213,11 +270,12 @@ where
 {
     let mut broker = open(rt.alloc(), disk)?;
     let environments = broker.table().settings().environments;
-    let listeners = listen(&rt, at.port, environments)?;
+    let listeners = listen(&rt, at, environments)?;
+    let admin = listen_admin(&rt, at, written)?;
     resume(&rt, &mut broker)?;
     let hall = hall_over(rt.alloc(), broker, at)?;
-    announce(at.port, out)?;
-    serve_hall::<R, T, D>(rt, hall, listeners)
+    announce(at, out)?;
+    serve_hall::<R, T, D>(rt, hall, listeners, admin)
 }
 
 /// Serves a disk: callers on a port of this machine and environment n on the port n behind it, from the line that is
@@ -225,6 +283,7 @@ where
 pub fn serve_disk<R, W>(rt: R, at: &Address<'_>, out: &mut W) -> Result<(), ServingError>
 where
     R: Files<File = File>
+        + Eprint
         + Threads
         + Wait
         + Clock
@@ -238,5 +297,8 @@ where
     W: Write,
 {
     let disk = FileDisk::open(&rt, at.path)?;
-    serve_on::<R, Gone, FileDisk, W>(rt, disk, at, out)
+    warn(&rt, at)?;
+    let written = Written::new(rt.alloc())?;
+    let counting = CountingDisk::over(disk, written.another()?);
+    serve_on::<R, Gone, CountingDisk<FileDisk>, W>(rt, counting, written, at, out)
 }

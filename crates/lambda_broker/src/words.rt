@@ -9,6 +9,7 @@ use clap::builder::ValueParser;
 use clap::error::ErrorKind;
 use clap::{Arg, ArgAction, ArgMatches, Command, Error, value_parser};
 use std::alloc::{AllocError, Global};
+use std::net::IpAddr;
 use uuid::Uuid;
 
 /// A command of the program.
@@ -140,6 +141,8 @@ fn serve_command<'a>(alloc: Global) -> Result<Command<'a>, AllocError> {
     let port = option(alloc, "port", help);
     let dialect = option(alloc, "dialect", "Whose words errors and names are in");
     let extensions = "Extensions for which an environment waits before its first event, 0 to 10";
+    let reach = "IP address of the callers' and the environments' ports";
+    let admin = "Port of the operator, who only looks, 1024 to 65535, on the loopback address";
     Command::new(alloc, "serve")
         .about("Serve a disk until POST /broker/stop")
         .arg(disk(alloc))?
@@ -158,7 +161,13 @@ fn serve_command<'a>(alloc: Global) -> Result<Command<'a>, AllocError> {
             extensions,
             "0",
             value_parser!(u8).range(0..11),
-        ))
+        ))?
+        .arg(
+            option(alloc, "address", reach)
+                .value_name("IP")
+                .default_value("127.0.0.1"),
+        )?
+        .arg(option(alloc, "admin", admin).value_parser(value_parser!(u16).range(1024..65536)))
 }
 
 fn commands<'a>(alloc: Global) -> Result<Command<'a>, AllocError> {
@@ -251,13 +260,32 @@ fn dialect(name: &str) -> Dialect {
     }
 }
 
-fn address<'a>(matches: &ArgMatches<'a>) -> Option<Address<'a>> {
+// The fault of an address that is none.
+fn bad_address(alloc: Global, address: &str) -> Result<Error, AllocError> {
+    let message =
+        format!(in alloc; "invalid value '{address}' for '--address <IP>': no IP address")?;
+    serve_command(alloc)?.error(ErrorKind::ValueValidation, message.as_str())
+}
+
+fn address_at<'a>(matches: &ArgMatches<'a>, reach: IpAddr) -> Option<Address<'a>> {
     Some(Address {
         path: matches.get_str("disk")?,
+        reach,
         port: matches.get_one("port")?,
+        admin: matches.get_one("admin"),
         dialect: dialect(matches.get_str("dialect")?),
         extensions: matches.get_one("extensions")?,
     })
+}
+
+fn address<'a>(alloc: Global, matches: &ArgMatches<'a>) -> Result<Option<Task<'a>>, Error> {
+    let Some(reach) = matches.get_str("address") else {
+        return Ok(None);
+    };
+    match reach.parse::<IpAddr>() {
+        Ok(ip) => Ok(address_at(matches, ip).map(Task::Serve)),
+        Err(_) => Err(bad_address(alloc, reach)?),
+    }
 }
 
 /// The command that the words are, the first of which is the program's name.
@@ -269,7 +297,7 @@ pub fn read_task<'a>(alloc: Global, words: &'a [String]) -> Result<Option<Task<'
     match name {
         "trial" => Ok(Some(Task::Job(Job::Trial))),
         "format" => Ok(new_disk(told).map(Job::Format).map(Task::Job)),
-        "serve" => Ok(address(told).map(Task::Serve)),
+        "serve" => address(alloc, told),
         "audit" => old_disk(alloc, told),
         "configure" => Ok(new_policy(told).map(Job::Configure).map(Task::Job)),
         "migrate" => Ok(old_version(told).map(Job::Migrate).map(Task::Job)),

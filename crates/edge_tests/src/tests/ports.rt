@@ -89,7 +89,7 @@ where
     let (listeners, doors) = doors(&rt, rt.alloc()).ok()?;
     let clients = thread::spawn(&rt, move || talk_at(&rt, doors, &watch, talk)).ok()?;
     let gate = AtLeast::new(talk.pending());
-    let served = serve::<R, L, T, D, AtLeast>(rt, hall, blank, listeners, &gate).ok();
+    let served = serve::<R, L, T, D, AtLeast>(rt, hall, blank, listeners, None, &gate).ok();
     let told = clients.join(&rt);
     if served?.ending == talk.ending() {
         Some(told)
