@@ -1,5 +1,5 @@
 -- A journal as contracts see it, and what a stop may leave of its area.
-use Rattle.std.specs.Prelude.{◌≡◌, ◌⊎◌, ℕ, ◌+◌, nat_le, Bool, List, Result, Ok, Err, OnOk}
+use Rattle.std.specs.Prelude.{◌≡◌, ◌⊎◌, ℕ, ◌+◌, ◌-◌, nat_le, Bool, List, Result, Ok, Err, OnOk}
 use Rattle.sector_disk.specs.Disk.{DiskView, HasOneImage}
 use Rattle.sector_disk.specs.Moments.{LeavesOnly}
 use Rattle.invoke_records.specs.declared.command.Command.{Command}
@@ -25,6 +25,10 @@ next_of journal = journal.next
 -- the sector behind its area
 abbrev pub end_of : Journal → ℕ
 end_of journal = journal.end
+
+-- how many sectors are free behind its last frame: from the gate after that, where the next frame would begin, up to its area's end
+abbrev pub free_sectors_of : Journal → ℕ
+free_sectors_of journal = end_of journal - next_of journal
 
 -- a frame of commands that fill so many bytes fits behind the last one: its gate, its body and a closed gate
 abbrev pub fits : Journal → ℕ → Bool

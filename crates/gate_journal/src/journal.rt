@@ -2,7 +2,7 @@
 ghost use Rattle.std.specs.Prelude.{◌≡◌, ◌↔◌, ◌+◌, ◌≤◌, ◌^◌, length, false, All, None, IsErrOf, OnOk, OnErr, IfOk};
 ghost use Rattle.sector_disk.specs.Disk.{IsSameDisk, HasRisen, IsUntouched};
 ghost use Rattle.invoke_records.specs.Spelling.{commands_text, command_fault};
-ghost use Rattle.gate_journal.specs.Journal.{generation_of, number_of, next_of, end_of, fits, IsFound, TellsDamage, Acknowledges, LeavesBeforeOrAfter};
+ghost use Rattle.gate_journal.specs.Journal.{generation_of, number_of, next_of, end_of, free_sectors_of, fits, IsFound, TellsDamage, Acknowledges, LeavesBeforeOrAfter};
 
 use crate::reading::read_frame;
 use crate::writing::{batch_size, spell_frame};
@@ -39,12 +39,19 @@ impl Journal {
         }
     }
 
+    /// How many sectors are free behind the last frame, from where the next frame would begin up to the area's end.
+    pub fn free_sectors(&self) -> u64
+        ensures { result ≡ free_sectors_of self.now }
+    {
+        self.end.saturating_sub(self.next)
+    }
+
     /// Whether a frame of commands that fill so many bytes fits behind the last one.
     pub fn fits(&self, size: u64) -> bool
         ensures { result ≡ fits self.now size }
     {
         let sectors = size / 512 + (size % 512 + 543) / 512;
-        sectors + 2 <= self.end.saturating_sub(self.next)
+        sectors + 2 <= self.free_sectors()
     }
 
     /// Reads the frames of an area: each command with the sector of its frame's gate. It only reads.
