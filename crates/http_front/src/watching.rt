@@ -206,7 +206,7 @@ where
             Some(target) => target.as_str(),
             None => "/",
         };
-        let asked = match read(&head.method, target) {
+        let asked = match read(head.method.as_str(), target) {
             Ok(asked) => asked,
             Err(why) => return Err(refuse_words(alloc, why)),
         };
