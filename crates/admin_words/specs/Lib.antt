@@ -1,1 +1,4 @@
+pub mod Lines
 pub mod Requests
+pub mod Table
+pub mod Values
