@@ -1,1 +1,5 @@
+pub mod Lines
+pub mod Metrics
 pub mod Requests
+pub mod Table
+pub mod Values

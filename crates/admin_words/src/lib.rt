@@ -4,14 +4,23 @@
 #![tactic(auto)]
 
 mod asked;
+mod figure;
+mod figures;
 mod ids;
+mod lines;
 mod name;
 mod place;
 mod query;
 mod reading;
 mod refused;
+mod settings;
+mod table;
+mod telling;
+mod value;
 mod values;
 
 pub use asked::Asked;
+pub use figures::{Figures, Phases, Process, Refusals, Tally};
 pub use reading::read;
 pub use refused::Refused;
+pub use telling::metrics;

@@ -1,0 +1,94 @@
+// The numbers that a monitor collects.
+
+use operator_view::Census;
+
+/// The numbers that a monitor collects, as they are at one moment.
+#[derive(Clone, Copy, Debug, PartialEq, Eq)]
+pub struct Figures {
+    pub census: Census,
+    /// How long ago the oldest event that waits was accepted, in milliseconds.
+    pub oldest_wait_age: Option<u64>,
+    /// How long ago the oldest record that is held came to be, in milliseconds.
+    pub oldest_record_age: Option<u64>,
+    /// Commands.
+    pub issued: u64,
+    /// Commands.
+    pub durable: u64,
+    /// Commands that are issued and not yet durable.
+    pub pending: u64,
+    /// Requests that wait for their reply.
+    pub open_slots: u64,
+    /// Long polls that wait for something to tell.
+    pub parked_polls: u64,
+    pub environments: Phases,
+    pub tally: Tally,
+    pub process: Process,
+}
+
+/// How many environments are in which phase.
+#[derive(Clone, Copy, Debug, PartialEq, Eq)]
+pub struct Phases {
+    pub init: u64,
+    pub ready: u64,
+    pub busy: u64,
+    pub closing: u64,
+}
+
+/// How often something happened to an event.
+#[derive(Clone, Copy, Debug, PartialEq, Eq)]
+pub struct Tally {
+    pub accepted: u64,
+    pub success: u64,
+    pub retries_exhausted: u64,
+    pub event_age_exceeded: u64,
+    pub collected: u64,
+    pub started: u64,
+    pub throttled: u64,
+    pub interrupted: u64,
+}
+
+/// What the process does with its disk and its ports.
+#[derive(Clone, Copy, Debug, PartialEq, Eq)]
+pub struct Process {
+    pub commits: u64,
+    /// To the other segment of the disk.
+    pub switches: u64,
+    /// To the disk.
+    pub written_bytes: u64,
+    /// How long the commits took in all.
+    pub commit_microseconds: u64,
+    /// How many commits took at most 0.001, 0.0025, 0.005, 0.01, 0.025, 0.1, 0.5 and 2.5 seconds. Each counts those of the
+    /// one before it too.
+    pub buckets: [u64; 8],
+    /// Of the segment that is written.
+    pub generation: u64,
+    /// Of the disk.
+    pub sectors: u64,
+    /// In the segment that is written.
+    pub free_sectors: u64,
+    pub resident_bytes: u64,
+    pub is_stopping: bool,
+    /// The disk has failed.
+    pub has_fault: bool,
+    pub refused: Refusals,
+}
+
+/// How many requests were refused, by their status.
+#[derive(Clone, Copy, Debug, PartialEq, Eq)]
+pub struct Refusals {
+    /// 400.
+    pub bad_request: u64,
+    /// 404.
+    pub not_found: u64,
+    /// 409.
+    pub conflict: u64,
+    /// 413.
+    pub too_large: u64,
+    /// 431.
+    pub head_too_large: u64,
+    /// 429.
+    pub too_many: u64,
+    /// 503.
+    pub unavailable: u64,
+    pub other: u64,
+}
