@@ -39,6 +39,10 @@ number_of opened = journal.number_of opened.journal
 abbrev pub end_of : Opened → ℕ
 end_of opened = journal.end_of opened.journal
 
+-- how many sectors of the live segment are free: those behind its last frame
+abbrev pub free_sectors_of : Opened → ℕ
+free_sectors_of opened = journal.free_sectors_of opened.journal
+
 -- the gate of the other segment is open
 abbrev pub is_other_open : Opened → Bool
 is_other_open opened = opened.other_open

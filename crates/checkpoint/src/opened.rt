@@ -25,7 +25,7 @@ pub struct Opened {
 }
 
 impl Opened {
-    ghost use Rattle.checkpoint.specs.Live.{version_of, settings_of, generation_of, number_of, end_of, fits, Acknowledges, LeavesBeforeOrAfter};
+    ghost use Rattle.checkpoint.specs.Live.{version_of, settings_of, generation_of, number_of, end_of, free_sectors_of, fits, Acknowledges, LeavesBeforeOrAfter};
 
     /// The settings that the disk was formatted with.
     pub fn settings(&self) -> &Settings
@@ -46,6 +46,13 @@ impl Opened {
         ensures { result ≡ generation_of self.now }
     {
         self.generation
+    }
+
+    /// How many sectors of the live segment are free: those behind its last frame.
+    pub fn free_sectors(&self) -> u64
+        ensures { result ≡ free_sectors_of self.now }
+    {
+        self.journal.free_sectors()
     }
 
     /// Appends a batch of commands as one frame.
