@@ -15,10 +15,10 @@ use Rattle.admin_words.specs.declared.figures.Tally.{Tally as Told}
 use Rattle.admin_replies.specs.declared.figures.Measures.{Measures}
 use Rattle.admin_replies.specs.Counting.{sum_up_to}
 
--- how long ago that was, in milliseconds: 0 where it was not, or will be
-abbrev pub age_of : ℕ → Option ℕ → ℕ
-age_of now None = 0
-age_of now (Some moment) = now - moment
+-- how long ago that was, in milliseconds, if it was: 0 where it will be
+abbrev pub age_of : ℕ → Option ℕ → Option ℕ
+age_of now None = None
+age_of now (Some moment) = Some (now - moment)
 
 -- it is the first of these moments, if there is one
 pub record IsFirst (moments : List ℕ) (first : Option ℕ) : Type 0 where
@@ -27,7 +27,7 @@ pub record IsFirst (moments : List ℕ) (first : Option ℕ) : Type 0 where
   pub least : IfSome first (λ moment. All (λ at. moment ≤ at) moments)
 
 -- it is how long ago the first of these moments was
-abbrev pub IsOldestAge : ℕ → List ℕ → ℕ → Type 0
+abbrev pub IsOldestAge : ℕ → List ℕ → Option ℕ → Type 0
 IsOldestAge now moments age = (first : Option ℕ) × IsFirst moments first × (age ≡ age_of now first)
 
 -- ## Environments

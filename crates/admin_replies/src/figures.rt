@@ -23,18 +23,18 @@ pub struct Measures {
     pub has_fault: bool,
 }
 
-// How long ago that was, in milliseconds: 0 where it was not, or will be.
-fn age_of(now: u64, moment: Option<u64>) -> u64
+// How long ago that was, in milliseconds: 0 where it will be.
+fn age_of(now: u64, moment: Option<u64>) -> Option<u64>
     ensures { result ≡ age_of now moment }
 {
     match moment {
-        Some(moment) => now.saturating_sub(moment),
-        None => 0,
+        Some(moment) => Some(now.saturating_sub(moment)),
+        None => None,
     }
 }
 
 // How long ago the first of the events that ended did so.
-fn oldest_record_age(now: u64, rows: &[EventRow]) -> u64
+fn oldest_record_age(now: u64, rows: &[EventRow]) -> Option<u64>
     ensures { IsOldestAge now (ends rows.now) result }
 {
     let oldest = oldest_record(rows);

@@ -60,7 +60,7 @@ fn metrics_reply(
 {
     let figures = figures(facts.ended_before, sight, measures, now);
     let text = metrics(alloc, &figures, &facts.settings)?;
-    Ok(Reply::shown(Media::Metrics, text.into_bytes()))
+    Ok(Reply::shown(Media::Metrics, text))
 }
 
 fn page_reply(alloc: Global) -> Result<Reply, AllocError>

@@ -11,6 +11,7 @@ use std::sync::ledger::Ledger;
 use std::sync::{Arc, Wait};
 
 /// Waits until what was seen of an office is durable, and then gives it. None where the hall broke before, and where it was given.
+#[derive(Drop)]
 pub struct Watching<R: Wait, L: Ledger, T: Trace = Mark> {
     rt: R,
     window: Arc<Window<L, T>>,
@@ -97,11 +98,5 @@ impl<R: Wait + Drop, L: Ledger, T: Trace> Future for Watching<R, L, T> {
         }
         self.register(cx);
         self.check()
-    }
-}
-
-impl<R: Wait + Drop, L: Ledger, T: Trace> Drop for Watching<R, L, T> {
-    fn drop(self) {
-        let Watching { .. } = self;
     }
 }
