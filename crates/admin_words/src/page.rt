@@ -54,11 +54,9 @@ td.id { font: .875rem ui-monospace, monospace; }
 </style>
 </head>
 <body>
-<header>
 <h1 id="name">Lambda broker</h1>
 <p id="health" role="status">asking the broker</p>
 <p class="soft" id="when"></p>
-</header>
 <main id="main">
 <noscript>This page needs JavaScript; the links at its end do not.</noscript>
 <h2>Events held: <span id="held">–</span></h2>
