@@ -9,6 +9,7 @@ mod figures;
 mod ids;
 mod lines;
 mod name;
+mod page;
 mod place;
 mod query;
 mod reading;
@@ -21,6 +22,7 @@ mod values;
 
 pub use asked::Asked;
 pub use figures::{Figures, Phases, Process, Refusals, Tally};
+pub use page::PAGE;
 pub use reading::read;
 pub use refused::Refused;
 pub use telling::metrics;
