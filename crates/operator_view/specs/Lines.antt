@@ -1,5 +1,5 @@
 -- Destination records of a page, one a line, as many as fit into so many bytes.
-use Rattle.std.specs.Prelude.{◌≡◌, ℕ, ◌+◌, ◌<◌, ◌≤◌, nat_lt, List, [], ◌∷◌, ◌++◌, length, map, take, Option, slice_get, if◌then◌else◌}
+use Rattle.std.specs.Prelude.{◌≡◌, ℕ, ◌==◌, ◌||◌, ◌+◌, ◌<◌, ◌≤◌, nat_lt, List, [], ◌∷◌, ◌++◌, length, map, take, Option, slice_get, if◌then◌else◌}
 use Rattle.std.specs.List.{concat}
 use Rattle.std.specs.Option.{option_and_then, option_map_or}
 use Rattle.retry_rules.specs.declared.settings.Settings.{Settings}
@@ -10,9 +10,13 @@ use Rattle.operator_view.specs.EventText.{ending_of}
 use Rattle.operator_view.specs.Page.{last_id}
 use Rattle.operator_view.specs.declared.page.Page.{Page}
 
--- a record and the end of its line
+-- a line break becomes a space: in a JSON text it stands between its parts alone, and says nothing
+abbrev pub flat : ℕ → ℕ
+flat byte = if (byte == 10) || (byte == 13) then 32 else byte
+
+-- a record without line breaks, and the end of its line
 abbrev pub line_text : Settings → Ending → List ℕ
-line_text s e = record_text s e ++ 10 ∷ []
+line_text s e = map flat (record_text s e) ++ 10 ∷ []
 
 -- the line of the row at a place; nothing where that has no record, as in no page of records
 abbrev pub line_at : Settings → List EventRow → ℕ → List ℕ

@@ -1,7 +1,7 @@
 // The destination records of a page, one a line.
-ghost use Rattle.std.specs.Prelude.{◌≡◌, ◌≤◌, ◌<◌, ◌+◌, IfOk};
+ghost use Rattle.std.specs.Prelude.{◌≡◌, ◌≤◌, ◌<◌, ◌+◌, IfOk, map};
 ghost use Rattle.std.specs.Bool.{OnTrue, OnFalse};
-ghost use Rattle.operator_view.specs.Lines.{line_at, Tells};
+ghost use Rattle.operator_view.specs.Lines.{flat, line_at, Tells};
 
 use crate::detail::ending_of;
 use crate::page::{Page, last_id};
@@ -9,6 +9,25 @@ use destination_json::record;
 use invoke_records::EventRow;
 use retry_rules::Settings;
 use std::alloc::{AllocError, Global};
+
+// A line break becomes a space.
+fn flat(byte: u8) -> u8
+    ensures { result ≡ flat byte }
+{
+    match byte {
+        b'\n' | b'\r' => b' ',
+        other => other,
+    }
+}
+
+// A text in one line.
+fn flatten(text: &mut Vec<u8>)
+    ensures { text.new.items ≡ map flat text.old.items }
+{
+    for place in 0..text.len() {
+        text[place] = flat(text[place]);
+    }
+}
 
 // The line of the row at a place, or nothing where it has no record.
 fn line_at(
@@ -26,6 +45,7 @@ fn line_at(
         return Ok(Vec::new(alloc));
     };
     let mut line = record(alloc, &ended, settings)?;
+    flatten(&mut line);
     line.push(b'\n')?;
     Ok(line)
 }

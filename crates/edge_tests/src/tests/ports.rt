@@ -8,6 +8,7 @@ mod clients;
 mod crowd;
 mod limits;
 mod talks;
+mod watching;
 
 use crate::tests::disks::{
     NO_TROUBLE, SECTORS, TestDisk, Trouble, Watch, format_disk, hall, hall_over,
@@ -19,7 +20,8 @@ use crate::tests::ports::clients::{Doors, Told, listen};
 use crate::tests::ports::talks::{Leaving, Party, Talk, talk_at};
 use group_commit::Broker;
 use hall_core::Hall;
-use http_front::serve;
+use disk_meter::Written;
+use http_front::{Admin, serve};
 use receipts::{Gone, SharedOpening, SharedTrace, desks};
 use sector_disk::{Disk, FileDisk};
 use std::alloc::{AllocGlobal, Global};
@@ -36,8 +38,8 @@ use std::thread::Threads;
 use std::time::Clock;
 use std::{fs, io, thread};
 
-// A listener for callers and one for the environment, and where they listen.
-fn doors<N>(rt: &N, alloc: Global) -> io::Result<(Vec<TcpListener>, Doors)>
+// A listener for callers and one for the environment, one for an operator, and where they listen.
+fn doors<N>(rt: &N, alloc: Global) -> io::Result<(Vec<TcpListener>, TcpListener, Doors)>
 where
     N: Net<Listener = TcpListener, Stream = TcpStream>,
 {
@@ -46,13 +48,13 @@ where
     listeners.push(listener)?;
     let (listener, environment) = listen(rt)?;
     listeners.push(listener)?;
-    Ok((
-        listeners,
-        Doors {
-            callers,
-            environment,
-        },
-    ))
+    let (looking, admin) = listen(rt)?;
+    let doors = Doors {
+        callers,
+        environment,
+        admin,
+    };
+    Ok((listeners, looking, doors))
 }
 
 // Serves a hall while a thread talks to its ports: what that was told. None where the front does not end as it has to.
@@ -69,6 +71,7 @@ where
         + Wait
         + Clock
         + Net<Listener = TcpListener, Stream = TcpStream>
+        + Files<File = File>
         + RandomSource
         + AllocGlobal
         + Copy
@@ -86,10 +89,12 @@ where
     requires parts { blank.parts ≡ L.parts }
     requires count { L.parts ≡ desk_count (settings_of hall.issuer) }
 {
-    let (listeners, doors) = doors(&rt, rt.alloc()).ok()?;
+    let (listeners, listener, doors) = doors(&rt, rt.alloc()).ok()?;
+    let written = Written::new(rt.alloc()).ok()?;
+    let admin = Some(Admin { listener, written });
     let clients = thread::spawn(&rt, move || talk_at(&rt, doors, &watch, talk)).ok()?;
     let gate = AtLeast::new(talk.pending());
-    let served = serve::<R, L, T, D, AtLeast>(rt, hall, blank, listeners, None, &gate).ok();
+    let served = serve::<R, L, T, D, AtLeast>(rt, hall, blank, listeners, admin, &gate).ok();
     let told = clients.join(&rt);
     if served?.ending == talk.ending() {
         Some(told)
@@ -111,6 +116,7 @@ where
         + Wait
         + Clock
         + Net<Listener = TcpListener, Stream = TcpStream>
+        + Files<File = File>
         + RandomSource
         + AllocGlobal
         + Copy
@@ -139,6 +145,7 @@ where
         + Wait
         + Clock
         + Net<Listener = TcpListener, Stream = TcpStream>
+        + Files<File = File>
         + RandomSource
         + AllocGlobal
         + Copy
@@ -167,6 +174,7 @@ where
         + Wait
         + Clock
         + Net<Listener = TcpListener, Stream = TcpStream>
+        + Files<File = File>
         + RandomSource
         + AllocGlobal
         + Copy
@@ -196,6 +204,21 @@ fn a_commit_holds_no_lock_and_no_port_while_it_writes(rt: HostRuntime) -> Result
 #[test]
 fn a_connection_goes_on_and_a_large_body_is_told_as_such(rt: HostRuntime) -> Result<(), Fail> {
     tell(rt, NO_TROUBLE, Talk::Connection)
+}
+
+#[test]
+fn a_life_is_shown_to_those_who_watch(rt: HostRuntime) -> Result<(), Fail> {
+    tell(rt, NO_TROUBLE, Talk::Watched)
+}
+
+#[test]
+fn events_are_shown_once_they_are_durable(rt: HostRuntime) -> Result<(), Fail> {
+    tell(rt, Trouble { fault: 0, ..HELD }, Talk::Withheld)
+}
+
+#[test]
+fn what_an_operator_may_not_ask_is_refused(rt: HostRuntime) -> Result<(), Fail> {
+    tell(rt, NO_TROUBLE, Talk::Misasked)
 }
 
 #[test]
@@ -273,6 +296,7 @@ where
         + Wait
         + Clock
         + Net<Listener = TcpListener, Stream = TcpStream>
+        + Files<File = File>
         + RandomSource
         + AllocGlobal
         + Copy

@@ -13,6 +13,8 @@ const PATIENCE: u64 = 20;
 pub struct Doors {
     pub callers: SocketAddr,
     pub environment: SocketAddr,
+    /// Where an operator looks.
+    pub admin: SocketAddr,
 }
 
 /// A listener on a port that the system picks.

@@ -12,10 +12,12 @@ use http_front::{ServeError, WhenPending, serve};
 use receipts::{Gone, SharedOpening, SharedTrace, desks};
 use sector_disk::Disk;
 use std::alloc::{AllocGlobal, Global};
+use std::fs::File;
 use std::io;
 use std::marker::Brand;
 use std::net::{Net, TcpListener, TcpStream};
 use std::random::RandomSource;
+use std::rt::Files;
 use std::sync::ledger::{Blank, Ledger};
 use std::sync::{Arc, Wait};
 use std::test::Fail;
@@ -45,6 +47,7 @@ where
         + Wait
         + Clock
         + Net<Listener = TcpListener, Stream = TcpStream>
+        + Files<File = File>
         + RandomSource
         + AllocGlobal
         + Copy
@@ -64,7 +67,7 @@ where
     let Ok(listeners) = crowd(&rt, rt.alloc()) else {
         return false;
     };
-    let ending = serve::<R, L, T, D, WhenPending>(rt, hall, blank, listeners, &WhenPending);
+    let ending = serve::<R, L, T, D, WhenPending>(rt, hall, blank, listeners, None, &WhenPending);
     matches!(ending, Err(ServeError::TooManyPorts))
 }
 
@@ -75,6 +78,7 @@ where
         + Wait
         + Clock
         + Net<Listener = TcpListener, Stream = TcpStream>
+        + Files<File = File>
         + RandomSource
         + AllocGlobal
         + Copy

@@ -2,6 +2,7 @@
 use crate::tests::disks::Watch;
 use crate::tests::house::expect;
 use crate::tests::ports::clients::{Doors, Told, ask, hear, send};
+use crate::tests::ports::watching::{a_watched_life, refused_looks, withheld_events};
 use http_front::Ending;
 use std::alloc::{AllocGlobal, Global};
 use std::net::{Net, TcpListener, TcpStream};
@@ -47,13 +48,19 @@ pub enum Talk {
     Connection,
     /// Clients who close within a request.
     Cut,
+    /// A life as an operator is shown it.
+    Watched,
+    /// Two callers whose invokes share a commit, and an operator who asks while the disk makes its first barrier.
+    Withheld,
+    /// An operator who asks for what is not there.
+    Misasked,
 }
 
 impl Talk {
     /// How many commands are pending before the committer commits.
     pub fn pending(self) -> usize {
         match self {
-            Talk::Held => 2,
+            Talk::Held | Talk::Withheld => 2,
             _ => 1,
         }
     }
@@ -67,13 +74,13 @@ impl Talk {
     }
 }
 
-const INVOKE: &str =
+pub const INVOKE: &str =
     "POST /2015-03-31/functions/my-function/invocations HTTP/1.1\r\nhost: h\r\nconnection: close\r\nx-amz-invocation-type: Event\r\ncontent-length: 7\r\n\r\n{\"a\":1}";
 
-const NEXT: &str =
+pub const NEXT: &str =
     "GET /2018-06-01/runtime/invocation/next HTTP/1.1\r\nhost: h\r\nconnection: close\r\n\r\n";
 
-const RESPONSE: [&str; 2] = [
+pub const RESPONSE: [&str; 2] = [
     "POST /2018-06-01/runtime/invocation/",
     "/response HTTP/1.1\r\nhost: h\r\nconnection: close\r\ncontent-length: 2\r\n\r\nok",
 ];
@@ -92,21 +99,21 @@ const OLDEST: &str =
 // So often an answer is sent before a test has failed.
 const MOST_ANSWERS: u64 = 100_000;
 
-const NOWHERE: &str = "GET /x HTTP/1.1\r\nhost: h\r\nconnection: close\r\n\r\n";
+pub const NOWHERE: &str = "GET /x HTTP/1.1\r\nhost: h\r\nconnection: close\r\n\r\n";
 
 const STOP: &str =
     "POST /broker/stop HTTP/1.1\r\nhost: h\r\nconnection: close\r\ncontent-length: 0\r\n\r\n";
 
-// A caller asks: whether these statuses are told.
-fn call<R>(rt: &R, doors: Doors, request: &str, statuses: &str) -> bool
+/// A caller asks: whether these statuses are told.
+pub fn call<R>(rt: &R, doors: Doors, request: &str, statuses: &str) -> bool
 where
     R: AllocGlobal + Net<Listener = TcpListener, Stream = TcpStream>,
 {
     ask(rt, rt.alloc(), doors.callers, [request, "", ""]).has(statuses)
 }
 
-// A caller invokes: the response, with the request's id.
-fn invoke<R>(rt: &R, doors: Doors) -> Told
+/// A caller invokes: the response, with the request's id.
+pub fn invoke<R>(rt: &R, doors: Doors) -> Told
 where
     R: AllocGlobal + Net<Listener = TcpListener, Stream = TcpStream>,
 {
@@ -119,16 +126,16 @@ fn is_event(told: &Told, id: &str) -> bool {
     is_whole && told.header("lambda-runtime-aws-request-id: ") == id
 }
 
-// A client of the environment's port asks: whether this status is told.
-fn run<R>(rt: &R, doors: Doors, parts: [&str; 3], status: &str) -> bool
+/// A client of the environment's port asks: whether this status is told.
+pub fn run<R>(rt: &R, doors: Doors, parts: [&str; 3], status: &str) -> bool
 where
     R: AllocGlobal + Net<Listener = TcpListener, Stream = TcpStream>,
 {
     ask(rt, rt.alloc(), doors.environment, parts).has(status)
 }
 
-// The runtime asks for its next event: whether it is that of an invoke.
-fn is_run<R>(rt: &R, doors: Doors, id: &str) -> bool
+/// The runtime asks for its next event: whether it is that of an invoke.
+pub fn is_run<R>(rt: &R, doors: Doors, id: &str) -> bool
 where
     R: AllocGlobal + Net<Listener = TcpListener, Stream = TcpStream>,
 {
@@ -338,8 +345,8 @@ fn has_passed<R: Clock>(rt: &R, began: Instant) -> bool {
     }
 }
 
-// Lets the other threads run for 10000 turns. On a machine that does other work a turn is long, so it takes a second at most.
-fn let_others_run<R: Clock>(rt: &R) {
+/// Lets the other threads run for 10000 turns. On a machine that does other work a turn is long, so it takes a second at most.
+pub fn let_others_run<R: Clock>(rt: &R) {
     let Ok(began) = Instant::now(rt) else {
         return;
     };
@@ -435,6 +442,14 @@ where
     expect(rt, watch.barriers() == 1, "no command was issued");
 }
 
+// The broker stops behind that.
+fn stop_after<R>(rt: &R, doors: Doors, _done: ())
+where
+    R: Abort + AllocGlobal + Net<Listener = TcpListener, Stream = TcpStream>,
+{
+    expect(rt, call(rt, doors, STOP, "202"), "the broker stops");
+}
+
 // Nothing that a test compares.
 fn nothing(alloc: Global) -> Told {
     hear(alloc, None)
@@ -459,6 +474,9 @@ where
         Talk::Fault(party, leaving) => a_fault(rt, doors, watch, party, leaving),
         Talk::Connection => a_connection(rt, doors),
         Talk::Cut => cut_requests(rt, doors, watch),
+        Talk::Watched => stop_after(rt, doors, a_watched_life(rt, doors)),
+        Talk::Withheld => stop_after(rt, doors, withheld_events(rt, doors, watch)),
+        Talk::Misasked => stop_after(rt, doors, refused_looks(rt, doors)),
     }
     nothing(rt.alloc())
 }
