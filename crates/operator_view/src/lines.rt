@@ -21,11 +21,12 @@ fn flat(byte: u8) -> u8
 }
 
 // A text in one line.
-fn flatten(text: &mut Vec<u8>)
-    ensures { text.new.items ≡ map flat text.old.items }
+fn flatten(text: &mut [u8])
+    ensures { text.new ≡ map flat text.old }
 {
     for place in 0..text.len() {
-        text[place] = flat(text[place]);
+        let byte = text[place];
+        text[place] = flat(byte);
     }
 }
 
