@@ -4,6 +4,7 @@
 #![tactic(auto)]
 
 mod asked;
+pub mod examples;
 mod figure;
 mod figures;
 mod ids;
