@@ -64,7 +64,6 @@ pub fn event_reply(
 /// The destination records of the next events that ended on a side, behind the one that is named, at most so many, in the order
 /// in which they ended, each on a line: as many whole ones as fit into 4 MiB, and at least one. 404 where the one that is named
 /// is not held, or has not ended on this side. Only want of memory is refused.
-#[tactic(auto, using(crate::proofs::Told::records_told))]
 pub fn records_reply(
     alloc: Global,
     rows: &[EventRow],
