@@ -1,10 +1,9 @@
 -- Lemmas: environments as they are shown, one more at a time, and by the past of their hall.
-use Rattle.std.proofs.Common.{◌≡◌, ℕ, ◌+◌, List, [], ◌∷◌, ◌++◌, map, refl, sym, ap, subst, ◌∙◌, arith, Some}
-use Rattle.std.specs.Prelude.{slice_get, All}
+use Rattle.std.proofs.Common.{◌≡◌, ℕ, ◌+◌, List, [], ◌∷◌, ◌++◌, refl, sym, ap, subst, ◌∙◌, arith, Some}
+use Rattle.std.specs.Prelude.{slice_get}
 use Rattle.std.specs.List.{range_with_len}
 use Rattle.std.proofs.lemmas.List.{map_push}
 use Rattle.std.proofs.lemmas.List.Elements.{All-push}
-use Rattle.env_phase.specs.declared.call.EnvCall.{EnvCall}
 use Rattle.env_phase.specs.State.{EnvState, ForEachList}
 use Rattle.hall_core.specs.declared.looking.EnvironmentLook.{EnvironmentLook}
 use Rattle.hall_core.specs.Past.{calls_in, calls_of}
@@ -18,9 +17,6 @@ use Rattle.hall_core.proofs.Holding.{so_of_calls}
 pub record ShownSoFar (envs : List EnvState) (looks : List EnvironmentLook) (so_far : ℕ) : Type 0 where
   pub numbers : numbers_shown looks ≡ range_with_len 1 so_far
   pub each : ForEachMade envs (λ wanted made. AreShownAfter wanted (λ n. calls_in n made) looks)
-
-pub none_shown : (envs : List EnvState) → ShownSoFar envs [] 0
-none_shown envs = record { numbers = refl; each = λ wanted made hold k d within. absurd (omega arith) }
 
 -- the next one is shown
 pub one_more_shown : (envs : List EnvState) (looks : List EnvironmentLook) (i : ℕ) (env : EnvState) (look : EnvironmentLook) → AreNumbered envs
