@@ -62,11 +62,10 @@ fn phases_of(environments: &[EnvironmentLook]) -> Phases
 fn parked_in(environments: &[EnvironmentLook]) -> u64
     ensures { result ≡ min (parked_in environments.now) (2 ^ 64 - 1) }
 {
-    let mut parked = 0u64;
-    for look in environments {
-        parked = parked.saturating_add(look.parked as u64);
+    match environments {
+        [] => 0,
+        [look, more @ ..] => (look.parked as u64).saturating_add(parked_in(more)),
     }
-    parked
 }
 
 /// How many events have ended and are held.
