@@ -13,6 +13,7 @@ mod copying;
 mod disk_half;
 mod drilling;
 mod error;
+mod figures;
 mod issue_half;
 mod issuer;
 mod issuing;
