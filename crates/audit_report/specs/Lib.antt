@@ -1,4 +1,6 @@
 pub mod Comparison
 pub mod Counts
 pub mod Explanation
+pub mod Figures
+pub mod Records
 pub mod Report
