@@ -25,7 +25,8 @@ pub record AreFigures (rows : List EventRow) (report : Report) (figures : Figure
   pub oldest_waiting : figures.oldest_waiting ≡ oldest_waiting rows
   pub oldest_record : IsOldestRecord rows figures.oldest_record
   pub older : figures.older ≡ report.older
-  pub in_force : (figures.retries, figures.age) ≡ (report.retries, report.age)
+  pub retries : figures.retries ≡ report.retries
+  pub age : figures.age ≡ report.age
 
 -- ## Their line, piece by piece
 

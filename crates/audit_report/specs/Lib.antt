@@ -1,5 +1,6 @@
 pub mod Comparison
 pub mod Counts
+pub mod Examples
 pub mod Explanation
 pub mod Figures
 pub mod Records

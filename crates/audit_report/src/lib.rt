@@ -7,6 +7,7 @@
 
 mod auditing;
 mod counting;
+pub mod examples;
 mod explaining;
 mod figures_json;
 mod figuring;

@@ -1,6 +1,6 @@
 // Auditing a disk in a file.
-ghost use Rattle.std.specs.Prelude.{◌≡◌};
-ghost use Rattle.lambda_broker.specs.Auditing.{is_device_fault};
+ghost use Rattle.std.specs.Prelude.{◌≡◌, IfOk};
+ghost use Rattle.lambda_broker.specs.Auditing.{is_device_fault, IsTold, Answers};
 
 use async_core::Table;
 use audit_report::{Report, all_records, audit, explain, figures, inspect, json_line};
@@ -81,20 +81,24 @@ fn told_of(
     table: &Table,
     report: &Report,
     asked: Asked,
-) -> Result<Told, AllocError> {
+) -> Result<Told, AllocError>
+    ensures { IfOk result (IsTold table.now report.now asked) }
+{
     match asked {
         Asked::Report => Ok(Told::Report),
         Asked::Event(id) => Ok(Told::Event(explain(alloc, table, &id)?)),
-        Asked::Figures => Ok(Told::Figures(json_line(
-            alloc,
-            &figures(table, report)?,
-        )?)),
+        Asked::Figures => {
+            let numbers = figures(table, report)?;
+            Ok(Told::Figures(json_line(alloc, &numbers)?))
+        }
         Asked::Records => Ok(Told::Records(all_records(alloc, table)?)),
     }
 }
 
 // What a disk holds, and what else is asked for.
-fn with_more<D: Disk>(alloc: Global, disk: &mut D, asked: Asked) -> Result<Audit, AuditError> {
+fn with_more<D: Disk>(alloc: Global, disk: &mut D, asked: Asked) -> Result<Audit, AuditError>
+    ensures { (D.view disk.old).honest → IfOk result (Answers (D.view disk.old).content asked) }
+{
     let (table, report) = inspect(alloc, disk)?;
     let told = told_of(alloc, &table, &report, asked)?;
     Ok(Audit { report, told })
