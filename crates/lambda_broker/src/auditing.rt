@@ -76,12 +76,7 @@ impl AuditError {
 }
 
 // What is told of a table where this is asked for.
-fn told_of(
-    alloc: Global,
-    table: &Table,
-    report: &Report,
-    asked: Asked,
-) -> Result<Told, AllocError>
+fn told_of(alloc: Global, table: &Table, report: &Report, asked: Asked) -> Result<Told, AllocError>
     ensures { IfOk result (IsTold table.now report.now asked) }
 {
     match asked {
