@@ -1,5 +1,5 @@
 -- A page without a bound has all places, and where nothing more comes all their lines were told.
-use Rattle.std.proofs.Common.{◌≡◌, ℕ, ◌+◌, ◌-◌, ◌<◌, ◌≤◌, Bool, List, length, get_or, take, map, Option, None, Some, option_map, All, sym, ap, ◌∙◌, inl, inr, arith}
+use Rattle.std.proofs.Common.{◌≡◌, ℕ, ◌-◌, ◌<◌, ◌≤◌, Bool, List, length, get_or, take, map, Option, None, Some, option_map, All, sym, ap, ◌∙◌, inl, inr, arith}
 use Rattle.std.specs.Prelude.{nat_lt, slice_get, if◌then◌else◌}
 use Rattle.std.specs.List.{enumerate_from, concat}
 use Rattle.std.specs.Option.{option_and_then}
