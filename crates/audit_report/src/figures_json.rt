@@ -47,11 +47,7 @@ fn put_moment(out: &mut String, moment: Option<u64>) -> Result<(), AllocError>
     }
 }
 
-fn put_moments(
-    out: &mut String,
-    waiting: Option<u64>,
-    ended: Option<u64>,
-) -> Result<(), AllocError>
+fn put_moments(out: &mut String, waiting: Option<u64>, ended: Option<u64>) -> Result<(), AllocError>
     ensures { OnOk result (string_bytes out.new ≡ string_bytes out.old ++ moment_members waiting ended) }
 {
     out.push_str(",\"oldest_waiting\":")?;
