@@ -1,1 +1,2 @@
+pub mod AllTold
 pub mod Audits

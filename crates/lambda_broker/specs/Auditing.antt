@@ -1,11 +1,51 @@
--- Which faults of an audit are the device's, and the program's status for what it tells.
-use Rattle.std.specs.Prelude.{ℕ, Bool, true, false}
+-- What the command `audit` tells, which of its faults are the device's, and the program's status for what it tells.
+use Rattle.std.specs.Prelude.{◌≡◌, ℕ, List, Bool, true, false, string_bytes}
 use Rattle.sector_disk.specs.declared.file.FileError.TheVariants as file_error
 use Rattle.checkpoint.specs.declared.error.OpenError.TheVariants as open_error
+use Rattle.async_core.specs.State.{State}
+use Rattle.async_core.specs.Rules.{row_at, standing_at}
+use Rattle.async_core.specs.Readers.{accepted_at, counts_at, judge_at}
+use Rattle.audit_report.specs.declared.numbers.Figures.{Figures}
 use Rattle.audit_report.specs.declared.report.Older.{Older}
 use Rattle.audit_report.specs.declared.report.Older.TheVariants as older
+use Rattle.audit_report.specs.declared.report.Report.{Report}
+use Rattle.audit_report.specs.Explanation.{explanation}
+use Rattle.audit_report.specs.Figures.{AreFigures, figures_text}
+use Rattle.audit_report.specs.Records.{AreRecords}
+use Rattle.audit_report.specs.Report.{IsAudit}
+use Rattle.lambda_broker.specs.declared.auditing.Asked.{Asked}
+use Rattle.lambda_broker.specs.declared.auditing.Asked.TheVariants as asked
+use Rattle.lambda_broker.specs.declared.auditing.Audit.{Audit}
 use Rattle.lambda_broker.specs.declared.auditing.AuditError.{AuditError}
 use Rattle.lambda_broker.specs.declared.auditing.AuditError.TheVariants.{File, Open}
+use Rattle.lambda_broker.specs.declared.auditing.Told.{Told}
+use Rattle.lambda_broker.specs.declared.auditing.Told.TheVariants as told
+
+-- the line of an event of this table
+abbrev pub line_of : State → List ℕ → List ℕ
+line_of state id =
+    let row = row_at state.table id in
+    explanation id (standing_at state.table id) (accepted_at row) (counts_at row) (judge_at row)
+
+-- the line of the numbers of this table's events, with this report
+pub record IsFiguresLine (state : State) (report : Report) (line : List ℕ) : Type 0 where
+  pub figures : Figures
+  pub are : AreFigures state.table.rows report figures
+  pub text : line ≡ figures_text figures
+
+-- what is told of a table and of the report on its disk where this is asked for
+abbrev pub IsTold : State → Report → Asked → Told → Type 0
+IsTold state report asked.Report told.Report = Unit {0}
+IsTold state report (asked.Event id) (told.Event line) = string_bytes line ≡ line_of state id
+IsTold state report asked.Figures (told.Figures line) = IsFiguresLine state report (string_bytes line)
+IsTold state report asked.Records (told.Records lines) = AreRecords state.settings state.table.rows lines.items
+IsTold state report asking telling = ⊥
+
+-- what is told of the disk with these bytes
+pub record Answers (bytes : List ℕ) (asking : Asked) (audit : Audit) : Type 0 where
+  pub table : State
+  pub is_audit : IsAudit bytes table audit.report
+  pub is_told : IsTold table audit.report asking audit.told
 
 abbrev pub is_device_fault : AuditError → Bool
 is_device_fault (File file_error.Fault) = true

@@ -1,8 +1,9 @@
 // Auditing a disk in a file.
-ghost use Rattle.std.specs.Prelude.{◌≡◌};
-ghost use Rattle.lambda_broker.specs.Auditing.{is_device_fault};
+ghost use Rattle.std.specs.Prelude.{◌≡◌, IfOk};
+ghost use Rattle.lambda_broker.specs.Auditing.{is_device_fault, IsTold, Answers};
 
-use audit_report::{Report, audit, explain, inspect};
+use async_core::Table;
+use audit_report::{Report, all_records, audit, explain, figures, inspect, json_line};
 use group_commit::OpenError;
 use sector_disk::{Disk, FileDisk, FileError};
 use std::alloc::{AllocError, Global};
@@ -15,16 +16,40 @@ use thiserror::Error;
 pub struct OldDisk<'a> {
     /// A file or a block device.
     pub path: &'a str,
-    /// The event that is asked for, by its id.
-    pub event: Option<[u8; 16]>,
+    pub asked: Asked,
+}
+
+/// What is asked of a disk.
+#[derive(Clone, Copy, Debug)]
+pub enum Asked {
+    /// A report, for a person to read.
+    Report,
+    /// A report, and the event with this id.
+    Event([u8; 16]),
+    /// The numbers, as JSON.
+    Figures,
+    /// The destination records.
+    Records,
 }
 
 /// What an audit tells.
 #[derive(Debug, Drop)]
 pub struct Audit {
     pub report: Report,
-    /// The line of the event that is asked for.
-    pub event: Option<String>,
+    pub told: Told,
+}
+
+/// What is printed of an audit.
+#[derive(Debug, Drop)]
+pub enum Told {
+    /// The report alone.
+    Report,
+    /// The report, and behind it the line of an event.
+    Event(String),
+    /// The line of the numbers alone.
+    Figures(String),
+    /// The lines of the destination records alone.
+    Records(Vec<u8>),
 }
 
 /// Why a disk was not audited.
@@ -50,14 +75,28 @@ impl AuditError {
     }
 }
 
-// What a disk holds, and the line of one event.
-fn with_event<D: Disk>(alloc: Global, disk: &mut D, id: &[u8; 16]) -> Result<Audit, AuditError> {
+// What is told of a table where this is asked for.
+fn told_of(alloc: Global, table: &Table, report: &Report, asked: Asked) -> Result<Told, AllocError>
+    ensures { IfOk result (IsTold table.now report.now asked) }
+{
+    match asked {
+        Asked::Report => Ok(Told::Report),
+        Asked::Event(id) => Ok(Told::Event(explain(alloc, table, &id)?)),
+        Asked::Figures => {
+            let numbers = figures(table, report)?;
+            Ok(Told::Figures(json_line(alloc, &numbers)?))
+        }
+        Asked::Records => Ok(Told::Records(all_records(alloc, table)?)),
+    }
+}
+
+// What a disk holds, and what else is asked for.
+fn with_more<D: Disk>(alloc: Global, disk: &mut D, asked: Asked) -> Result<Audit, AuditError>
+    ensures { (D.view disk.old).honest → IfOk result (Answers (D.view disk.old).content asked) }
+{
     let (table, report) = inspect(alloc, disk)?;
-    let event = explain(alloc, &table, id)?;
-    Ok(Audit {
-        report,
-        event: Some(event),
-    })
+    let told = told_of(alloc, &table, &report, asked)?;
+    Ok(Audit { report, told })
 }
 
 /// Reads what a disk holds, which is opened for reading alone.
@@ -66,14 +105,14 @@ pub fn audit_disk<R: Files<File = File> + AllocGlobal>(
     old: &OldDisk<'_>,
 ) -> Result<Audit, AuditError> {
     let mut disk = FileDisk::open_read_only(rt, old.path)?;
-    match old.event {
-        Some(id) => with_event(rt.alloc(), &mut disk, &id),
-        None => {
+    match old.asked {
+        Asked::Report => {
             let report = audit(rt.alloc(), disk)?;
             Ok(Audit {
                 report,
-                event: None,
+                told: Told::Report,
             })
         }
+        asked => with_more(rt.alloc(), &mut disk, asked),
     }
 }

@@ -3,7 +3,7 @@ ghost use Rattle.std.specs.Prelude.{◌≡◌, ◌≤◌, IfOk, if◌then◌else
 ghost use Rattle.lambda_broker.specs.Auditing.{status_for};
 ghost use Rattle.lambda_broker.specs.Trial.{status_of};
 
-use crate::auditing::{Audit, OldDisk, audit_disk};
+use crate::auditing::{Audit, OldDisk, Told, audit_disk};
 use crate::configuring::{NewPolicy, configure_disk};
 use crate::formatting::{NewDisk, make_disk};
 use crate::migrating::{Migrated, OldVersion, migrate_file};
@@ -190,16 +190,26 @@ where
     }
 }
 
+// Prints what is told of an audit.
+fn print_told<W: Write>(audit: &Audit, out: &mut W) -> io::Result<()> {
+    let report = audit.report;
+    match &audit.told {
+        Told::Report => writeln!(out, "{report}"),
+        Told::Event(event) => {
+            writeln!(out, "{report}")?;
+            writeln!(out, "{event}")
+        }
+        Told::Figures(line) => writeln!(out, "{line}"),
+        Told::Records(lines) => out.write_all(lines.as_slice()),
+    }
+}
+
 // Prints the lines of an audit.
 fn print_lines<W: Write>(audit: &Audit, out: &mut W) -> io::Result<u8>
     ensures { IfOk result (λ status. status ≡ status_for audit.now.report.older) }
 {
-    let report = audit.report;
-    writeln!(out, "{report}")?;
-    if let Some(event) = &audit.event {
-        writeln!(out, "{event}")?;
-    }
-    Ok(match report.older {
+    print_told(audit, out)?;
+    Ok(match audit.report.older {
         Older::Differs => REFUSED,
         _ => DONE,
     })

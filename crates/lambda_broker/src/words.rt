@@ -1,5 +1,5 @@
 // The words of the command line: which command they are, and what it is told.
-use crate::auditing::OldDisk;
+use crate::auditing::{Asked, OldDisk};
 use crate::configuring::NewPolicy;
 use crate::formatting::{Function, NewDisk, Numbers};
 use crate::migrating::OldVersion;
@@ -110,12 +110,30 @@ fn format_command<'a>(alloc: Global) -> Result<Command<'a>, AllocError> {
     with_limits(alloc, command)
 }
 
+// An option without a value, which others exclude.
+fn flag<'a>(
+    alloc: Global,
+    name: &'a str,
+    help: &'a str,
+    others: &[&'a str],
+) -> Result<Arg<'a>, AllocError> {
+    Arg::new(alloc, name)
+        .long(name)
+        .action(ArgAction::SetTrue)
+        .help(help)
+        .conflicts_with_all(others)
+}
+
 fn audit_command<'a>(alloc: Global) -> Result<Command<'a>, AllocError> {
     let event = option(alloc, "event", "Tell of the event with this id, too");
+    let json = "Tell the numbers as one line of JSON instead";
+    let records = "Tell the destination records instead, one a line";
     Command::new(alloc, "audit")
         .about("Tell what a disk holds, and whether its two segments tell one story")
         .arg(disk(alloc))?
-        .arg(event.value_name("ID"))
+        .arg(event.value_name("ID"))?
+        .arg(flag(alloc, "json", json, &["event", "records"])?)?
+        .arg(flag(alloc, "records", records, &["event", "json"])?)
 }
 
 fn configure_command<'a>(alloc: Global) -> Result<Command<'a>, AllocError> {
@@ -221,20 +239,29 @@ fn bad_id(alloc: Global, id: &str) -> Result<Error, AllocError> {
     audit_command(alloc)?.error(ErrorKind::ValueValidation, message.as_str())
 }
 
+// What is asked of a disk that is audited.
+fn asked(alloc: Global, matches: &ArgMatches<'_>) -> Result<Asked, Error> {
+    if matches.get_flag("json") {
+        return Ok(Asked::Figures);
+    }
+    if matches.get_flag("records") {
+        return Ok(Asked::Records);
+    }
+    let Some(id) = matches.get_str("event") else {
+        return Ok(Asked::Report);
+    };
+    match Uuid::parse_str(id) {
+        Ok(id) => Ok(Asked::Event(id.into_bytes())),
+        Err(_) => Err(bad_id(alloc, id)?),
+    }
+}
+
 fn old_disk<'a>(alloc: Global, matches: &ArgMatches<'a>) -> Result<Option<Task<'a>>, Error> {
     let Some(path) = matches.get_str("disk") else {
         return Ok(None);
     };
-    let Some(id) = matches.get_str("event") else {
-        return Ok(Some(Task::Job(Job::Audit(OldDisk { path, event: None }))));
-    };
-    match Uuid::parse_str(id) {
-        Ok(id) => {
-            let event = Some(id.into_bytes());
-            Ok(Some(Task::Job(Job::Audit(OldDisk { path, event }))))
-        }
-        Err(_) => Err(bad_id(alloc, id)?),
-    }
+    let asked = asked(alloc, matches)?;
+    Ok(Some(Task::Job(Job::Audit(OldDisk { path, asked }))))
 }
 
 fn new_policy<'a>(matches: &ArgMatches<'a>) -> Option<NewPolicy<'a>> {
