@@ -10,6 +10,7 @@ mod figures;
 mod ids;
 mod lines;
 mod name;
+mod parameters;
 mod place;
 mod query;
 mod reading;
@@ -18,7 +19,6 @@ mod settings;
 mod table;
 mod telling;
 mod value;
-mod values;
 
 pub use asked::Asked;
 pub use figures::{Figures, Phases, Process, Refusals, Tally};
