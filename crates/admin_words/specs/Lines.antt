@@ -1,5 +1,5 @@
 -- One number in Prometheus' text form: its name and labels, a space, and the number; two lines before it where a family begins.
-use Rattle.std.specs.Prelude.{ℕ, zero, suc, ◌/◌, ◌%◌, List, [], ◌∷◌, ◌++◌, codes, decimal}
+use Rattle.std.specs.Prelude.{ℕ, zero, suc, ◌/◌, ◌%◌, List, [], ◌++◌, codes, decimal}
 use Rattle.admin_words.specs.declared.figure.Figure.{Figure}
 use Rattle.admin_words.specs.declared.figures.Figures.{Figures}
 use Rattle.admin_words.specs.declared.table.Row.{Row}

@@ -2,7 +2,6 @@
 -- the labels of a line of their own.
 use Rattle.std.specs.Prelude.{ℕ, List, [], ◌∷◌, ◌++◌, codes, decimal}
 use Rattle.std.specs.List.{flat_map}
-use Prim.Native.String.{String}
 use Rattle.retry_rules.specs.declared.settings.Settings.{Settings}
 use Rattle.retry_rules.specs.declared.settings.Field.{Field}
 use Rattle.retry_rules.specs.declared.settings.Field.TheVariants.{Retries, Age, Timeout, Concurrency, Environments, Events, Payload, Response, Name, Handler, Arn}

@@ -1,5 +1,5 @@
 -- The number that each figure names.
-use Rattle.std.specs.Prelude.{ℕ, Bool, true, false, Option, Some, None, slice_index, unwrap_or}
+use Rattle.std.specs.Prelude.{ℕ, Bool, true, false, Option, slice_index, unwrap_or}
 use Rattle.operator_view.specs.declared.numbers.Census.{Census}
 use Rattle.admin_words.specs.declared.figures.Figures.{Figures}
 use Rattle.admin_words.specs.declared.figures.Phases.{Phases}

@@ -11,6 +11,7 @@ mod ids;
 mod lines;
 mod name;
 mod page;
+mod parameters;
 mod place;
 mod query;
 mod reading;
@@ -19,7 +20,6 @@ mod settings;
 mod table;
 mod telling;
 mod value;
-mod values;
 
 pub use asked::Asked;
 pub use figures::{Figures, Phases, Process, Refusals, Tally};

@@ -4,10 +4,10 @@ ghost use Rattle.admin_words.specs.Requests.{path_of, query_of, parts_of, names_
 
 use crate::asked::Asked;
 use crate::name::Name;
+use crate::parameters::{read_after, read_limit, read_standing};
 use crate::place::{Place, place_of};
 use crate::query::{fits, given};
 use crate::refused::Refused;
-use crate::values::{read_after, read_limit, read_standing};
 use async_core::Side;
 
 const OF_EVENTS: [Name; 3] = [Name::Standing, Name::After, Name::Limit];
