@@ -64,7 +64,6 @@ impl<L: Ledger, T: Trace> Marks<L, T> {
     }
 
     /// Adds a mark here and at the desk, where there is room. It takes no memory.
-    #[tactic(auto, using(crate::proofs::Tallied::tally_more, crate::proofs::Tallied::has_room))]
     pub(crate) fn add(&mut self, desk: &mut Desk<L, T>, mark: Mark)
         requires room_here { vec_len self.old.all < vec_capacity self.old.all }
         requires room_there { vec_len desk.old.own < vec_capacity desk.old.own }
