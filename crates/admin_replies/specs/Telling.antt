@@ -6,7 +6,7 @@ use Rattle.admin_words.specs.declared.asked.Asked.TheVariants as asked
 use Rattle.admin_words.specs.declared.figures.Figures.{Figures}
 use Rattle.admin_words.specs.Metrics.{metrics_text}
 use Rattle.admin_replies.specs.declared.telling.Facts.{Facts}
-use Rattle.admin_replies.specs.declared.figures.Measures.{Measures}
+use Rattle.admin_replies.specs.declared.measuring.Measures.{Measures}
 use Rattle.admin_replies.specs.declared.reply.Reply.{Reply}
 use Rattle.admin_replies.specs.Lists.{TellsEvents, TellsEvent, TellsRecords}
 use Rattle.admin_replies.specs.Numbers.{AreFigures}

@@ -5,13 +5,13 @@
 #![tactic(auto)]
 
 mod counters;
-mod figures;
 mod lists;
+mod measuring;
 mod reply;
 mod telling;
 
 pub use counters::Counters;
-pub use figures::{Measures, figures};
 pub use lists::{event_reply, events_reply, records_reply};
+pub use measuring::{Measures, figures};
 pub use reply::{Media, Reply};
 pub use telling::{Facts, tell};

@@ -2,7 +2,7 @@
 ghost use Rattle.std.specs.Prelude.{◌≡◌, IfOk};
 ghost use Rattle.admin_replies.specs.Telling.{TellsOf, TellsNumbers, health_status};
 
-use crate::figures::{Measures, ended_in, figures};
+use crate::measuring::{Measures, ended_in, figures};
 use crate::lists::{event_reply, events_reply, records_reply};
 use crate::reply::{Media, Reply};
 use admin_words::{Asked, PAGE, metrics};
