@@ -1,14 +1,23 @@
 // The future of what an operator is shown.
-ghost use Rattle.std.specs.Prelude.{◌≡◌, Some, None, IsSome};
+ghost use Rattle.std.specs.Prelude.{◌≡◌, Some};
 ghost use Rattle.futures.specs.Task.{Covers, Keeps};
 ghost use Rattle.futures.specs.Poll.{IfReady, OnPending};
+ghost use Rattle.long_poll.specs.Watching.{IsOf};
 
 use crate::window::{Glimpse, Window};
 use futures::Future;
 use futures::task::{Context, Poll};
-use receipts::{Mark, Sight, Trace};
+use group_commit::Receipt;
+use receipts::{Mark, Sight, Trace, Withheld};
 use std::sync::ledger::Ledger;
 use std::sync::{Arc, Wait};
+
+// What was withheld, where this is the receipt of all that it shows.
+fn open(withheld: Withheld, receipt: Receipt) -> Option<Sight>
+    ensures { IsOf (Some withheld) result }
+{
+    withheld.open(receipt)
+}
 
 /// Waits until what was seen of an office is durable, and then gives it. None where the hall broke before, and where it was given.
 #[derive(Drop)]
@@ -22,7 +31,7 @@ pub struct Watching<R: Wait, L: Ledger, T: Trace = Mark> {
 
 impl<R: Wait, L: Ledger, T: Trace> Watching<R, L, T> {
     ghost use Rattle.long_poll.specs.Bell.{source_of};
-    ghost use Rattle.long_poll.specs.Watching.{IsOf};
+    ghost use Rattle.long_poll.specs.Watching.{withheld_in, IsOf};
 
     /// Waits at this window with what was seen there.
     pub fn new(rt: R, window: Arc<Window<L, T>>, glimpse: Glimpse) -> Watching<R, L, T>
@@ -41,15 +50,15 @@ impl<R: Wait, L: Ledger, T: Trace> Watching<R, L, T> {
     // Looks at the board: what was seen where all of it is durable.
     fn check(&mut self) -> Poll<Option<Sight>>
         ensures same { self.new.window ≡ self.old.window }
-        ensures shown { IfReady result (IsOf self.old.glimpse) }
-        ensures waits { OnPending result (self.new.glimpse ≡ self.old.glimpse) }
+        ensures shown { IfReady result (IsOf (withheld_in self.old.glimpse)) }
+        ensures waits { OnPending result (withheld_in self.new.glimpse ≡ withheld_in self.old.glimpse) }
     {
         let Some(glimpse) = self.glimpse.take() else {
             return Poll::Ready(None);
         };
         let (withheld, ticket) = glimpse.into_parts();
         match self.window.check(&self.rt, ticket) {
-            Ok(receipt) => Poll::Ready(withheld.open(receipt)),
+            Ok(receipt) => Poll::Ready(open(withheld, receipt)),
             Err(ticket) => {
                 if self.window.bell().has_broken() {
                     return Poll::Ready(None);
@@ -86,11 +95,11 @@ impl<R: Wait + Drop, L: Ledger, T: Trace> Future for Watching<R, L, T> {
     type Output = Option<Sight>;
 
     ghost use Rattle.long_poll.specs.Bell.{source_of};
-    ghost use Rattle.long_poll.specs.Watching.{IsOf};
+    ghost use Rattle.long_poll.specs.Watching.{withheld_in, IsOf};
 
     ghost needs = { λ watching source. source ≡ source_of watching.window.value.bell.value };
 
-    ghost gives = { λ watching told. IsOf watching.glimpse told };
+    ghost gives = { λ watching told. IsOf (withheld_in watching.glimpse) told };
 
     fn poll(&mut self, cx: &mut Context<'_>) -> Poll<Option<Sight>> {
         if let Poll::Ready(told) = self.check() {
