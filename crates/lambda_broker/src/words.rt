@@ -110,30 +110,29 @@ fn format_command<'a>(alloc: Global) -> Result<Command<'a>, AllocError> {
     with_limits(alloc, command)
 }
 
-// An option without a value, which others exclude.
-fn flag<'a>(
-    alloc: Global,
-    name: &'a str,
-    help: &'a str,
-    others: &[&'a str],
-) -> Result<Arg<'a>, AllocError> {
+// An option without a value.
+fn flag<'a>(alloc: Global, name: &'a str, help: &'a str) -> Arg<'a> {
     Arg::new(alloc, name)
         .long(name)
         .action(ArgAction::SetTrue)
         .help(help)
-        .conflicts_with_all(others)
 }
 
 fn audit_command<'a>(alloc: Global) -> Result<Command<'a>, AllocError> {
     let event = option(alloc, "event", "Tell of the event with this id, too");
-    let json = "Tell the numbers as one line of JSON instead";
+    let json = flag(
+        alloc,
+        "json",
+        "Tell the numbers as one line of JSON instead",
+    );
     let records = "Tell the destination records instead, one a line";
+    let records = flag(alloc, "records", records);
     Command::new(alloc, "audit")
         .about("Tell what a disk holds, and whether its two segments tell one story")
         .arg(disk(alloc))?
         .arg(event.value_name("ID"))?
-        .arg(flag(alloc, "json", json, &["event", "records"])?)?
-        .arg(flag(alloc, "records", records, &["event", "json"])?)
+        .arg(json.conflicts_with("event")?.conflicts_with("records")?)?
+        .arg(records.conflicts_with("event")?)
 }
 
 fn configure_command<'a>(alloc: Global) -> Result<Command<'a>, AllocError> {
