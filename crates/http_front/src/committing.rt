@@ -66,7 +66,7 @@ impl<R: Wait + Clock, L: Ledger, T: Trace, D: Disk> Committing for AtFront<'_, R
         .answer;
         self.front
             .meters
-            .note_commit(self.rt, begun, &self.committer.half);
+            .note_commit(self.rt, begun, committed.is_ok(), &self.committer.half);
         committed
     }
 

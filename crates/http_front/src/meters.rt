@@ -25,14 +25,19 @@ impl Meters {
         *self.counters.lock(rt)
     }
 
-    /// A commit was made that began then, and left the half so. Where the clock cannot be read, it took no time.
+    /// A commit that began then was made, or was not, and left the half so. One that was not is not counted. Where the clock
+    /// cannot be read, it took no time.
     pub(crate) fn note_commit<R: Wait + Clock, D: Disk>(
         &self,
         rt: &R,
         begun: io::Result<Instant>,
+        is_made: bool,
         half: &DiskHalf<D>,
     ) {
         let took = micros_since(rt, begun);
+        if !is_made {
+            return;
+        }
         let mut counters = self.counters.lock(rt);
         counters.note_commit(took);
         counters.note_disk(half.generation(), half.sectors(), half.free_sectors());
