@@ -22,6 +22,6 @@ pub records_told : (behind : Option (Option ℕ)) (s : Settings) (rows : List Ev
     → IfSome behind (λ at. IsFirstEnded rows (record_places (Some side) at rows) limit page)
     → status ≡ 200 → Tells s rows page most body next
     → IfSome behind (λ at. (p : Page) × (status ≡ 200) × IsFirstEnded rows (record_places (Some side) at rows) limit p
-      × Tells s rows p most body next)
+    × Tells s rows p most body next)
 records_told None s rows side limit most page status body next first good tells = tt
 records_told (Some at) s rows side limit most page status body next first good tells = (page, good, first, tells)

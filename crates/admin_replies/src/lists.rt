@@ -6,7 +6,9 @@ ghost use Rattle.admin_replies.specs.Lists.{TellsEvents, TellsEvent, TellsRecord
 use crate::reply::{Media, Reply};
 use async_core::Side;
 use invoke_records::EventRow;
-use operator_view::{PageError, Which, event_json, events_json, events_page, find, record_lines, records_page};
+use operator_view::{
+    PageError, Which, event_json, events_json, events_page, find, record_lines, records_page,
+};
 use retry_rules::Settings;
 use std::alloc::{AllocError, Global};
 

@@ -44,7 +44,10 @@ fn oldest_record_age(now: u64, rows: &[EventRow]) -> Option<u64>
 fn count_in_phase(environments: &[EnvironmentLook], phase: Phase) -> u64
     ensures { result ≡ count_by (is_in_phase phase) environments.now }
 {
-    environments.iter().filter(|look| look.phase == phase).count() as u64
+    environments
+        .iter()
+        .filter(|look| look.phase == phase)
+        .count() as u64
 }
 
 fn phases_of(environments: &[EnvironmentLook]) -> Phases
@@ -72,7 +75,9 @@ fn parked_in(environments: &[EnvironmentLook]) -> u64
 pub(crate) fn ended_in(census: &Census) -> u64
     ensures { result ≡ min (ended_in census.now) (2 ^ 64 - 1) }
 {
-    let failures = (census.retries_exhausted as u64).saturating_add(census.event_age_exceeded as u64);
+    let failures = (census.retries_exhausted as u64).saturating_add(
+        census.event_age_exceeded as u64,
+    );
     (census.success as u64).saturating_add(failures)
 }
 
@@ -81,7 +86,9 @@ pub(crate) fn ended_in(census: &Census) -> u64
 fn tally_told(before: u64, ended: u64, counted: &receipts::Tally) -> Tally
     ensures { result ≡ tally_told before ended counted.now }
 {
-    let all = ended.saturating_add(counted.collected).saturating_sub(before);
+    let all = ended
+        .saturating_add(counted.collected)
+        .saturating_sub(before);
     let others = all.saturating_sub(counted.succeeded);
     Tally {
         accepted: counted.accepted,

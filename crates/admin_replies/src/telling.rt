@@ -2,8 +2,8 @@
 ghost use Rattle.std.specs.Prelude.{◌≡◌, IfOk};
 ghost use Rattle.admin_replies.specs.Telling.{TellsOf, TellsNumbers, health_status};
 
-use crate::measuring::{Measures, ended_in, figures};
 use crate::lists::{event_reply, events_reply, records_reply};
+use crate::measuring::{Measures, ended_in, figures};
 use crate::reply::{Media, Reply};
 use admin_words::{Asked, PAGE, metrics};
 use async_core::Table;

@@ -126,7 +126,12 @@ impl<L: Ledger, T: Trace, D: Disk + Drop> Committer<L, T, D> {
     ///
     /// On an honest disk a stop at any moment leaves a legal stop of the half's list with what it took: a beginning of that with
     /// all that was durable at the call.
-    pub fn run<R: Wait + Clock, G: Gate>(self, rt: &R, front: &Front<L, T>, gate: &G) -> Committer<L, T, D>
+    pub fn run<R: Wait + Clock, G: Gate>(
+        self,
+        rt: &R,
+        front: &Front<L, T>,
+        gate: &G,
+    ) -> Committer<L, T, D>
         ensures learned { IsRun HasLearned (G.says gate.now)
             (known self.desk.told (seen_by self.seated))
             (known result.desk.told (seen_by result.seated)) }

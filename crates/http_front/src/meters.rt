@@ -2,9 +2,9 @@
 use admin_replies::Counters;
 use group_commit::DiskHalf;
 use sector_disk::Disk;
+use std::io;
 use std::sync::{Mutex, Wait};
 use std::time::{Clock, Instant};
-use std::io;
 
 /// What the threads of a front count for its operator, behind a lock that is held for no longer than an addition.
 #[derive(Drop)]
@@ -60,7 +60,10 @@ impl Meters {
 // How many microseconds have passed, as far as the clock says.
 fn micros_since<R: Clock>(rt: &R, begun: io::Result<Instant>) -> u64 {
     match (begun, Instant::now(rt)) {
-        (Ok(begun), Ok(now)) => now.saturating_duration_since(begun).as_micros().min(u128::from(u64::MAX)) as u64,
+        (Ok(begun), Ok(now)) => now
+            .saturating_duration_since(begun)
+            .as_micros()
+            .min(u128::from(u64::MAX)) as u64,
         _ => 0,
     }
 }

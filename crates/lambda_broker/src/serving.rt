@@ -139,11 +139,7 @@ fn not_bound(why: &io::Error) -> ServingError {
 }
 
 // Listens on the port of the callers and on one for each environment behind it.
-fn listen<R>(
-    rt: &R,
-    at: &Address<'_>,
-    environments: u8,
-) -> Result<Vec<TcpListener>, ServingError>
+fn listen<R>(rt: &R, at: &Address<'_>, environments: u8) -> Result<Vec<TcpListener>, ServingError>
 where
     R: Net<Listener = TcpListener, Stream = TcpStream> + AllocGlobal,
 {
@@ -207,7 +203,9 @@ fn warn<R: Eprint>(rt: &R, at: &Address<'_>) -> io::Result<()> {
         return Ok(());
     }
     let reach = at.reach;
-    eprintln!(rt; "warning: whoever reaches {reach} can invoke the function, answer for it, read its payloads and records, and stop the broker")
+    eprintln!(rt;
+        "warning: whoever reaches {reach} can invoke the function, answer for it, read its payloads and records, and stop the broker"
+    )
 }
 
 // Serves a hall until the broker is stopped.
@@ -236,7 +234,14 @@ where
     requires fresh { IsFresh (settings_of hall.issuer) hall }
 {
     let blank = Blank::new(desks(hall.table().settings()));
-    let served = serve::<R, Brand, T, D, WhenPending>(rt, hall, blank, listeners, admin, &WhenPending)?;
+    let served = serve::<R, Brand, T, D, WhenPending>(
+        rt,
+        hall,
+        blank,
+        listeners,
+        admin,
+        &WhenPending,
+    )?;
     match served.ending {
         Ending::Stopped => Ok(()),
         Ending::Broken => Err(ServingError::Broken),

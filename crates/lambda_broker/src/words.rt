@@ -288,8 +288,9 @@ fn dialect(name: &str) -> Dialect {
 
 // The fault of an address that is none.
 fn bad_address(alloc: Global, address: &str) -> Result<Error, AllocError> {
-    let message =
-        format!(in alloc; "invalid value '{address}' for '--address <IP>': no IP address")?;
+    let message = format!(in alloc;
+        "invalid value '{address}' for '--address <IP>': no IP address"
+    )?;
     serve_command(alloc)?.error(ErrorKind::ValueValidation, message.as_str())
 }
 

@@ -2,7 +2,9 @@
 use crate::tests::disks::Watch;
 use crate::tests::house::expect;
 use crate::tests::ports::clients::{Doors, Told, ask, hear, send};
-use crate::tests::ports::talks::{INVOKE, NEXT, NOWHERE, RESPONSE, call, invoke, is_run, let_others_run, run};
+use crate::tests::ports::talks::{
+    INVOKE, NEXT, NOWHERE, RESPONSE, call, invoke, is_run, let_others_run, run,
+};
 use std::alloc::AllocGlobal;
 use std::io::Read;
 use std::net::{Net, TcpListener, TcpStream};
@@ -73,11 +75,19 @@ where
     let events = look(rt, doors, EVENTS);
     expect(rt, shows(&events, "200", id), "the event is in the list");
     let event = look_at(rt, doors, id);
-    expect(rt, shows(&event, "200", "\"record\":null"), "it has no record");
+    expect(
+        rt,
+        shows(&event, "200", "\"record\":null"),
+        "it has no record",
+    );
     let metrics = look(rt, doors, METRICS);
     expect(
         rt,
-        shows(&metrics, "200", "\nlambda_broker_events{standing=\"waiting\"} 1\n"),
+        shows(
+            &metrics,
+            "200",
+            "\nlambda_broker_events{standing=\"waiting\"} 1\n",
+        ),
         "it waits",
     );
     expect(
@@ -94,11 +104,19 @@ where
     let records = look(rt, doors, RECORDS);
     expect(rt, shows(&records, "200", id), "its record is in the list");
     let event = look_at(rt, doors, id);
-    expect(rt, shows(&event, "200", "requestPayload"), "it has a record");
+    expect(
+        rt,
+        shows(&event, "200", "requestPayload"),
+        "it has a record",
+    );
     let metrics = look(rt, doors, METRICS);
     expect(
         rt,
-        shows(&metrics, "200", "\nlambda_broker_events_ended_total{outcome=\"Success\"} 1\n"),
+        shows(
+            &metrics,
+            "200",
+            "\nlambda_broker_events_ended_total{outcome=\"Success\"} 1\n",
+        ),
         "it ended with success",
     );
 }
@@ -192,18 +210,36 @@ pub fn refused_looks<R>(rt: &R, doors: Doors)
 where
     R: Abort + AllocGlobal + Net<Listener = TcpListener, Stream = TcpStream>,
 {
-    for path in ["/x", "/events/00000000-0000-4000-8000-000000000009", "/records"] {
+    for path in [
+        "/x",
+        "/events/00000000-0000-4000-8000-000000000009",
+        "/records",
+    ] {
         expect(rt, is_refused(rt, doors, path, "404"), "nothing is there");
     }
-    for path in ["/events?limit=0", "/events?limit=1001", "/events?limit=x", "/events?standing=dead"] {
+    for path in [
+        "/events?limit=0",
+        "/events?limit=1001",
+        "/events?limit=x",
+        "/events?standing=dead",
+    ] {
         expect(rt, is_refused(rt, doors, path, "400"), "a value is bad");
     }
-    for path in ["/events?after=x", "/events/x", "/events?a=b", "/records/success?standing=all"] {
+    for path in [
+        "/events?after=x",
+        "/events/x",
+        "/events?a=b",
+        "/records/success?standing=all",
+    ] {
         expect(rt, is_refused(rt, doors, path, "400"), "a word is bad");
     }
     let behind = "/records/success?after=00000000-0000-4000-8000-000000000009";
     expect(rt, is_refused(rt, doors, behind, "404"), "it is in no list");
-    expect(rt, look(rt, doors, NEXT).has("404"), "no runtime is answered");
+    expect(
+        rt,
+        look(rt, doors, NEXT).has("404"),
+        "no runtime is answered",
+    );
     expect(rt, look(rt, doors, INVOKE).has("405"), "nothing is invoked");
     expect(rt, look(rt, doors, NOWHERE).has("404"), "nothing is there");
     before_an_event(rt, doors);

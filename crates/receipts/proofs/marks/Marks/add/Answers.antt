@@ -16,7 +16,7 @@ pub invariant_of-self : goal.invariant_of-self
 invariant_of-self g c =
     let marks = map g.T.Trace.mark c.args.self.now.all.items in
     let added : map g.T.Trace.mark c.push_reserved-2.new.self.items ≡ marks ++ c.args.mark ∷ [] =
-        ap (map g.T.Trace.mark) c.push_reserved-2.ensures.items ∙ map-append g.T.Trace.mark c.args.self.now.all.items (c.of-2.result ∷ []) ∙ ap (λ (m : Mark). marks ++ m ∷ []) c.of-2.ensures in
+    ap (map g.T.Trace.mark) c.push_reserved-2.ensures.items ∙ map-append g.T.Trace.mark c.args.self.now.all.items (c.of-2.result ∷ []) ∙ ap (λ (m : Mark). marks ++ m ∷ []) c.of-2.ensures in
     record {
       counted = search rules;
       tallied = c.count.ensures ∙ ap (λ (t : Tally). counted t c.args.mark.kind) c.args.self.now.tallied ∙ sym (tally_more marks c.args.mark) ∙ ap tally_of (sym added);
