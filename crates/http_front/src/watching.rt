@@ -18,7 +18,7 @@ use http_port::{Answered, Application, ReadError, Refused, Told};
 use hyper::{Response, StatusCode};
 use long_poll::{Watching, Window};
 use receipts::{Sight, Trace};
-use std::alloc::{AllocGlobal, Global};
+use std::alloc::{AllocError, AllocGlobal, Global};
 use std::fs::{File, read_to_string};
 use std::net::TcpListener;
 use std::rt::Files;
@@ -181,6 +181,21 @@ fn refuse_words(alloc: Global, why: admin_words::Refused) -> Refused {
     }
 }
 
+impl<R: Wait + Copy, L: Ledger, T: Trace> AdminPort<R, L, T> {
+    // What is asked for is seen now, and is told once it is durable.
+    fn watch(&self, asked: Asked) -> Result<Showing<R, L, T>, AllocError> {
+        let glimpse = self.lookout.window.look(&self.rt).answer?;
+        let window = Arc::try_clone(&self.lookout.window)?;
+        let lookout = Arc::try_clone(&self.lookout)?;
+        Ok(Showing {
+            rt: self.rt,
+            lookout,
+            asked,
+            watching: Watching::new(self.rt, window, glimpse),
+        })
+    }
+}
+
 impl<R, L, T> Application for AdminPort<R, L, T>
 where
     R: Wait + Clock + Files<File = File> + AllocGlobal + Drop + Copy,
@@ -193,6 +208,10 @@ where
 
     fn most(&self) -> usize {
         MOST_BODY
+    }
+
+    fn unread_header(&self) -> Option<&'static str> {
+        None
     }
 
     fn answer(
@@ -210,20 +229,9 @@ where
             Ok(asked) => asked,
             Err(why) => return Err(refuse_words(alloc, why)),
         };
-        let Ok(glimpse) = self.lookout.window.look(&self.rt).answer else {
-            return Err(Refused::bare(alloc, StatusCode::SERVICE_UNAVAILABLE));
-        };
-        let (Ok(window), Ok(lookout)) = (
-            Arc::try_clone(&self.lookout.window),
-            Arc::try_clone(&self.lookout),
-        ) else {
-            return Err(Refused::bare(alloc, StatusCode::SERVICE_UNAVAILABLE));
-        };
-        Ok(Showing {
-            rt: self.rt,
-            lookout,
-            asked,
-            watching: Watching::new(self.rt, window, glimpse),
-        })
+        match self.watch(asked) {
+            Ok(showing) => Ok(showing),
+            Err(_) => Err(Refused::bare(alloc, StatusCode::SERVICE_UNAVAILABLE)),
+        }
     }
 }

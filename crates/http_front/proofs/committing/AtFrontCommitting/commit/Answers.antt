@@ -5,7 +5,7 @@ use Rattle.http_front.proofs.committing.AtFrontCommitting.commit.Goals as goal
 
 pub returns : goal.returns
 returns g c = (
-  learned_commit (λ refused. is_last refused.why) c.args.self.now.committer.desk.told c.ask.new.desk.told (seen_by c.args.self.now.committer.seated)
-      c.ask.result.answer c.ask.ensures.told c.ask.ensures.err,
-  c.ask.ensures.served,
+  learned_commit (λ refused. is_last refused.why) c.args.self.now.committer.desk.told c.ask-committed.new.desk.told (seen_by c.args.self.now.committer.seated)
+      c.ask-committed.result.answer c.ask-committed.ensures.told c.ask-committed.ensures.err,
+  c.ask-committed.ensures.served,
 )
