@@ -23,10 +23,8 @@ use receipts::{Desk, SharedOpening, SharedTrace, Trace, desks};
 use retry_rules::Settings;
 use sector_disk::Disk;
 use std::alloc::AllocGlobal;
-use std::fs::File;
 use std::net::{Net, TcpListener, TcpStream};
 use std::random::RandomSource;
-use std::rt::Files;
 use std::sync::ledger::{Blank, Ledger};
 use std::sync::{Arc, Wait};
 use std::thread::{JoinHandle, Threads};
@@ -195,7 +193,6 @@ where
     R: Wait
         + Clock
         + Net<Listener = TcpListener, Stream = TcpStream>
-        + Files<File = File>
         + RandomSource
         + AllocGlobal
         + Copy
@@ -220,7 +217,6 @@ where
         + Wait
         + Clock
         + Net<Listener = TcpListener, Stream = TcpStream>
-        + Files<File = File>
         + RandomSource
         + AllocGlobal
         + Copy
@@ -231,13 +227,21 @@ where
     T: SharedTrace + 'static,
     T::Opening: SharedOpening + 'static,
 {
-    let Some(Admin { listener, written }) = admin else {
+    let Some(
+        Admin {
+            listener,
+            written,
+            memory,
+        },
+    ) = admin
+    else {
         return Ok(());
     };
     let lookout = Lookout {
         front: Arc::try_clone(front)?,
         window: Arc::new(rt.alloc(), window)?,
         written,
+        memory,
     };
     let port = AdminPort {
         rt,
@@ -308,7 +312,6 @@ where
         + Wait
         + Clock
         + Net<Listener = TcpListener, Stream = TcpStream>
-        + Files<File = File>
         + RandomSource
         + AllocGlobal
         + Copy
@@ -336,7 +339,6 @@ where
         + Wait
         + Clock
         + Net<Listener = TcpListener, Stream = TcpStream>
-        + Files<File = File>
         + RandomSource
         + AllocGlobal
         + Copy
@@ -402,7 +404,6 @@ where
         + Wait
         + Clock
         + Net<Listener = TcpListener, Stream = TcpStream>
-        + Files<File = File>
         + RandomSource
         + AllocGlobal
         + Copy

@@ -18,16 +18,19 @@ use http_port::{Answered, Application, ReadError, Refused, Told};
 use hyper::{Response, StatusCode};
 use long_poll::{Watching, Window};
 use receipts::{Sight, Trace};
-use std::alloc::{AllocError, AllocGlobal, Global};
-use std::fs::{File, read_to_string};
+use std::alloc::{AllocError, Global};
+use std::fs::File;
 use std::net::TcpListener;
-use std::rt::Files;
+use std::os::unix::fs::FileExt;
 use std::sync::ledger::Ledger;
 use std::sync::{Arc, Wait};
 use std::time::Clock;
 
 /// How many bytes a page of memory has.
 const PAGE_BYTES: u64 = 4096;
+
+/// How many bytes of that file are read: it has seven numbers.
+const MOST_TOLD: usize = 256;
 
 /// How many bytes of a body are read: these requests have none.
 const MOST_BODY: usize = 1024;
@@ -38,6 +41,8 @@ pub struct Admin {
     pub listener: TcpListener,
     /// How many bytes were written to the disk.
     pub written: Written,
+    /// Where Linux tells how many pages the process has, `/proc/self/statm`.
+    pub memory: Option<File>,
 }
 
 // A reply as a response. None where memory is wanting.
@@ -73,15 +78,24 @@ impl Told for Shown {
     }
 }
 
-// How many bytes of memory the process has, as Linux tells it; 0 where it tells nothing.
-fn resident_bytes<R: Files<File = File> + AllocGlobal>(rt: &R) -> u64 {
-    let Ok(text) = read_to_string(rt, "/proc/self/statm") else {
+// The second of the words in which Linux tells a process's pages: how many of them are in memory. 0 where it is no number.
+fn resident_pages(text: &str) -> u64 {
+    match text.split(' ').nth(1) {
+        Some(pages) => pages.parse::<u64>().unwrap_or(0),
+        None => 0,
+    }
+}
+
+// How many bytes of memory the process has, as this file tells it; 0 where it tells nothing.
+fn resident_bytes(memory: Option<&File>) -> u64 {
+    let Some(file) = memory else { return 0 };
+    let mut text = [0u8; MOST_TOLD];
+    let Ok(count) = file.read_at(&mut text, 0) else {
         return 0;
     };
-    let pages = text.as_str().split(' ').nth(1);
-    match pages {
-        Some(pages) => pages.parse::<u64>().unwrap_or(0).saturating_mul(PAGE_BYTES),
-        None => 0,
+    match str::from_utf8(&text[..count]) {
+        Ok(told) => resident_pages(told).saturating_mul(PAGE_BYTES),
+        Err(_) => 0,
     }
 }
 
@@ -91,26 +105,22 @@ pub(crate) struct Lookout<L: Ledger, T: Trace> {
     pub(crate) front: Arc<Front<L, T>>,
     pub(crate) window: Arc<Window<L, T>>,
     pub(crate) written: Written,
+    pub(crate) memory: Option<File>,
 }
 
 impl<L: Ledger, T: Trace> Lookout<L, T> {
     // What was counted and measured now.
-    fn measures<R: Wait + Files<File = File> + AllocGlobal>(&self, rt: &R) -> Measures {
+    fn measures<R: Wait>(&self, rt: &R) -> Measures {
         Measures {
             counters: self.front.meters.read(rt),
             written_bytes: self.written.bytes(),
-            resident_bytes: resident_bytes(rt),
+            resident_bytes: resident_bytes(self.memory.as_ref()),
             has_fault: self.front.bell.has_broken(),
         }
     }
 
     // What is told of what was seen.
-    fn tell<R: Wait + Clock + Files<File = File> + AllocGlobal>(
-        &self,
-        rt: &R,
-        asked: &Asked,
-        sight: &Sight,
-    ) -> Shown {
+    fn tell<R: Wait + Clock>(&self, rt: &R, asked: &Asked, sight: &Sight) -> Shown {
         let now = now(rt).unwrap_or(0);
         let measures = self.measures(rt);
         let reply = tell(
@@ -134,8 +144,7 @@ pub(crate) struct Showing<R: Wait, L: Ledger, T: Trace> {
     watching: Watching<R, L, T>,
 }
 
-impl<R: Wait + Clock + Files<File = File> + AllocGlobal + Drop, L: Ledger, T: Trace> Future
-    for Showing<R, L, T> {
+impl<R: Wait + Clock + Drop, L: Ledger, T: Trace> Future for Showing<R, L, T> {
     type Output = Shown;
 
     fn poll(&mut self, cx: &mut Context<'_>) -> Poll<Shown> {
@@ -198,7 +207,7 @@ impl<R: Wait + Copy, L: Ledger, T: Trace> AdminPort<R, L, T> {
 
 impl<R, L, T> Application for AdminPort<R, L, T>
 where
-    R: Wait + Clock + Files<File = File> + AllocGlobal + Drop + Copy,
+    R: Wait + Clock + Drop + Copy,
     L: Ledger,
     T: Trace,
 {

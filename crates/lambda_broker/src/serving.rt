@@ -149,6 +149,9 @@ where
     }
 }
 
+/// Where Linux tells how many pages this process has.
+const MEMORY: &str = "/proc/self/statm";
+
 // Listens on the operator's port, if there is to be one: on the loopback address, wherever the others are.
 fn listen_admin<R>(
     rt: &R,
@@ -156,14 +159,18 @@ fn listen_admin<R>(
     written: Written,
 ) -> Result<Option<Admin>, ServingError>
 where
-    R: Net<Listener = TcpListener, Stream = TcpStream> + AllocGlobal,
+    R: Files<File = File> + Net<Listener = TcpListener, Stream = TcpStream> + AllocGlobal,
 {
     let Some(port) = at.admin else {
         return Ok(None);
     };
     let address = SocketAddr::from((Ipv4Addr::LOCALHOST, port));
     match TcpListener::bind(rt, address) {
-        Ok(listener) => Ok(Some(Admin { listener, written })),
+        Ok(listener) => Ok(Some(Admin {
+            listener,
+            written,
+            memory: File::open(rt, MEMORY).ok(),
+        })),
         Err(why) => Err(not_bound(&why)),
     }
 }
@@ -220,7 +227,6 @@ where
         + Wait
         + Clock
         + Net<Listener = TcpListener, Stream = TcpStream>
-        + Files<File = File>
         + RandomSource
         + AllocGlobal
         + Copy

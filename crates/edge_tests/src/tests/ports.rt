@@ -71,7 +71,6 @@ where
         + Wait
         + Clock
         + Net<Listener = TcpListener, Stream = TcpStream>
-        + Files<File = File>
         + RandomSource
         + AllocGlobal
         + Copy
@@ -91,7 +90,11 @@ where
 {
     let (listeners, listener, doors) = doors(&rt, rt.alloc()).ok()?;
     let written = Written::new(rt.alloc()).ok()?;
-    let admin = Some(Admin { listener, written });
+    let admin = Some(Admin {
+        listener,
+        written,
+        memory: None,
+    });
     let clients = thread::spawn(&rt, move || talk_at(&rt, doors, &watch, talk)).ok()?;
     let gate = AtLeast::new(talk.pending());
     let served = serve::<R, L, T, D, AtLeast>(rt, hall, blank, listeners, admin, &gate).ok();
@@ -116,7 +119,6 @@ where
         + Wait
         + Clock
         + Net<Listener = TcpListener, Stream = TcpStream>
-        + Files<File = File>
         + RandomSource
         + AllocGlobal
         + Copy
@@ -145,7 +147,6 @@ where
         + Wait
         + Clock
         + Net<Listener = TcpListener, Stream = TcpStream>
-        + Files<File = File>
         + RandomSource
         + AllocGlobal
         + Copy
@@ -174,7 +175,6 @@ where
         + Wait
         + Clock
         + Net<Listener = TcpListener, Stream = TcpStream>
-        + Files<File = File>
         + RandomSource
         + AllocGlobal
         + Copy
@@ -296,7 +296,6 @@ where
         + Wait
         + Clock
         + Net<Listener = TcpListener, Stream = TcpStream>
-        + Files<File = File>
         + RandomSource
         + AllocGlobal
         + Copy

@@ -12,12 +12,10 @@ use http_front::{ServeError, WhenPending, serve};
 use receipts::{Gone, SharedOpening, SharedTrace, desks};
 use sector_disk::Disk;
 use std::alloc::{AllocGlobal, Global};
-use std::fs::File;
 use std::io;
 use std::marker::Brand;
 use std::net::{Net, TcpListener, TcpStream};
 use std::random::RandomSource;
-use std::rt::Files;
 use std::sync::ledger::{Blank, Ledger};
 use std::sync::{Arc, Wait};
 use std::test::Fail;
@@ -47,7 +45,6 @@ where
         + Wait
         + Clock
         + Net<Listener = TcpListener, Stream = TcpStream>
-        + Files<File = File>
         + RandomSource
         + AllocGlobal
         + Copy
@@ -78,7 +75,6 @@ where
         + Wait
         + Clock
         + Net<Listener = TcpListener, Stream = TcpStream>
-        + Files<File = File>
         + RandomSource
         + AllocGlobal
         + Copy
