@@ -35,6 +35,8 @@ const MOST_TOLD: usize = 256;
 /// How many bytes of a body are read: these requests have none.
 const MOST_BODY: usize = 1024;
 
+const NOT_LOCAL: &str = "this port answers to the hosts 127.0.0.1, localhost and [::1] alone";
+
 /// The port of an operator.
 #[derive(Drop)]
 pub struct Admin {
@@ -190,6 +192,28 @@ fn refuse_words(alloc: Global, why: admin_words::Refused) -> Refused {
     }
 }
 
+// Whether a host is this name, with a port or without.
+fn has_name(host: &str, name: &str) -> bool {
+    match host.strip_prefix(name) {
+        Some(rest) => rest.is_empty() || rest.starts_with(':'),
+        None => false,
+    }
+}
+
+// Whether a request names this machine as its host, or none. A page of another site, whose name is made to lead here, lets a
+// browser name that site.
+fn is_local(head: &Parts) -> bool {
+    let Some(host) = head.headers.get("host") else {
+        return true;
+    };
+    match host.to_str() {
+        Ok(host) => {
+            has_name(host, "127.0.0.1") || has_name(host, "localhost") || has_name(host, "[::1]")
+        }
+        Err(_) => false,
+    }
+}
+
 impl<R: Wait + Copy, L: Ledger, T: Trace> AdminPort<R, L, T> {
     // What is asked for is seen now, and is told once it is durable.
     fn watch(&self, asked: Asked) -> Result<Showing<R, L, T>, AllocError> {
@@ -238,6 +262,9 @@ where
             Ok(asked) => asked,
             Err(why) => return Err(refuse_words(alloc, why)),
         };
+        if !is_local(head) {
+            return Err(refuse(alloc, 403, NOT_LOCAL));
+        }
         match self.watch(asked) {
             Ok(showing) => Ok(showing),
             Err(_) => Err(Refused::bare(alloc, StatusCode::SERVICE_UNAVAILABLE)),

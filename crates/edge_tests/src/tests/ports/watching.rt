@@ -13,13 +13,17 @@ use std::thread;
 use std::thread::Threads;
 use std::time::{Clock, Duration};
 
-const HEALTH: &str = "GET /healthz HTTP/1.1\r\nhost: h\r\nconnection: close\r\n\r\n";
+const HEALTH: &str = "GET /healthz HTTP/1.1\r\nhost: localhost\r\nconnection: close\r\n\r\n";
 
-const METRICS: &str = "GET /metrics HTTP/1.1\r\nhost: h\r\nconnection: close\r\n\r\n";
+const ELSEWHERE: &str =
+    "GET /events HTTP/1.1\r\nhost: localhost.elsewhere:80\r\nconnection: close\r\n\r\n";
 
-const EVENTS: &str = "GET /events HTTP/1.1\r\nhost: h\r\nconnection: close\r\n\r\n";
+const METRICS: &str = "GET /metrics HTTP/1.1\r\nhost: localhost\r\nconnection: close\r\n\r\n";
 
-const RECORDS: &str = "GET /records/success HTTP/1.1\r\nhost: h\r\nconnection: close\r\n\r\n";
+const EVENTS: &str = "GET /events HTTP/1.1\r\nhost: localhost\r\nconnection: close\r\n\r\n";
+
+const RECORDS: &str =
+    "GET /records/success HTTP/1.1\r\nhost: localhost\r\nconnection: close\r\n\r\n";
 
 // How long nothing is told before it is said to be withheld, in milliseconds.
 const SILENCE: u64 = 200;
@@ -43,7 +47,7 @@ where
     let parts = [
         "GET /events/",
         id,
-        " HTTP/1.1\r\nhost: h\r\nconnection: close\r\n\r\n",
+        " HTTP/1.1\r\nhost: localhost\r\nconnection: close\r\n\r\n",
     ];
     ask(rt, rt.alloc(), doors.admin, parts)
 }
@@ -200,7 +204,7 @@ where
     let parts = [
         "GET ",
         path,
-        " HTTP/1.1\r\nhost: h\r\nconnection: close\r\n\r\n",
+        " HTTP/1.1\r\nhost: localhost\r\nconnection: close\r\n\r\n",
     ];
     ask(rt, rt.alloc(), doors.admin, parts).has(status)
 }
