@@ -1,3 +1,4 @@
+pub mod Media
 pub mod Lists
 pub mod Counting
 pub mod Numbers

@@ -1,5 +1,8 @@
 -- What is told to an operator of what was seen of a broker.
-use Rattle.std.specs.Prelude.{◌≡◌, ℕ, Bool, if◌then◌else◌}
+use Rattle.std.specs.Prelude.{◌≡◌, ℕ, ◌-◌, ◌^◌, Bool, List, min, if◌then◌else◌}
+use Rattle.invoke_records.specs.declared.row.EventRow.{EventRow}
+use Rattle.operator_view.specs.declared.numbers.Census.{Census}
+use Rattle.operator_view.specs.Census.{IsCensus}
 use Rattle.receipts.specs.declared.sight.Sight.{Sight}
 use Rattle.admin_words.specs.declared.asked.Asked.{Asked}
 use Rattle.admin_words.specs.declared.asked.Asked.TheVariants as asked
@@ -9,7 +12,11 @@ use Rattle.admin_replies.specs.declared.telling.Facts.{Facts}
 use Rattle.admin_replies.specs.declared.measuring.Measures.{Measures}
 use Rattle.admin_replies.specs.declared.reply.Reply.{Reply}
 use Rattle.admin_replies.specs.Lists.{TellsEvents, TellsEvent, TellsRecords}
-use Rattle.admin_replies.specs.Numbers.{AreFigures}
+use Rattle.admin_replies.specs.Numbers.{AreFigures, ended_in}
+
+-- so many of these events have ended, by their census
+abbrev pub CountsEnded : List EventRow → ℕ → Type 0
+CountsEnded rows count = (census : Census) × IsCensus rows census × (count ≡ min (ended_in census) (2 ^ 64 - 1))
 
 -- 503 where the device failed or the broker stops
 abbrev pub health_status : Bool → Bool → ℕ

@@ -1,5 +1,6 @@
 // A reply of the operator's port.
-ghost use Rattle.std.specs.Prelude.{◌≡◌, ◌++◌, ◌∷◌, IfOk, None};
+ghost use Rattle.std.specs.Prelude.{◌≡◌, ◌++◌, ◌∷◌, [], IfOk, None};
+ghost use Rattle.admin_replies.specs.Media.{content_type_of};
 
 use std::alloc::{AllocError, Global};
 
@@ -17,7 +18,9 @@ pub enum Media {
 
 impl Media {
     /// The value of the header `Content-Type`.
-    pub fn content_type(self) -> &'static str {
+    pub fn content_type(self) -> &'static str
+        ensures { result.now ≡ content_type_of self }
+    {
         match self {
             Media::Text => "text/plain; charset=utf-8",
             Media::Metrics => "text/plain; version=0.0.4; charset=utf-8",
@@ -55,7 +58,8 @@ impl Reply {
 
     /// A status with a line of text.
     pub fn line(alloc: Global, status: u16, words: &str) -> Result<Reply, AllocError>
-        ensures { IfOk result (λ reply. reply.status ≡ status) }
+        ensures status { IfOk result (λ reply. reply.status ≡ status) }
+        ensures body { IfOk result (λ reply. reply.body.items ≡ words.now ++ 10 ∷ []) }
     {
         let mut body = Vec::from_slice(alloc, words.as_bytes())?;
         body.push(b'\n')?;

@@ -1,6 +1,6 @@
 // What is told of what was seen.
 ghost use Rattle.std.specs.Prelude.{◌≡◌, IfOk};
-ghost use Rattle.admin_replies.specs.Telling.{TellsOf, TellsNumbers, health_status};
+ghost use Rattle.admin_replies.specs.Telling.{TellsOf, TellsNumbers, CountsEnded, health_status};
 
 use crate::lists::{event_reply, events_reply, records_reply};
 use crate::measuring::{Measures, ended_in, figures};
@@ -24,6 +24,7 @@ impl Facts {
     /// Of a broker that is opened with this table.
     pub fn of(table: &Table) -> Result<Facts, AllocError>
         ensures settings { IfOk result (λ facts. facts.settings ≡ table.now.settings) }
+        ensures ended { IfOk result (λ facts. CountsEnded table.now.table.rows facts.ended_before) }
     {
         let settings = table.settings().copy()?;
         let snapshot = table.snapshot()?;
