@@ -9,7 +9,8 @@ use crate::gate::{Gate, Turn};
 use std::sync::Wait;
 use std::thread;
 
-/// What a committer works on, by the steps that it makes.
+/// What a committer works on, by the steps that it makes. Each step answers what shows that it was made, so that a step that
+/// does nothing cannot be written where only the real one gives that.
 pub trait Committing {
     /// What a commit made durable.
     type Durable: Drop;
@@ -17,8 +18,29 @@ pub trait Committing {
     /// Why a commit failed.
     type Failure: Drop;
 
+    /// A look at what is pending.
+    type Counted: Drop;
+
+    /// That the bell was rung for some.
+    type Rung: Drop;
+
+    /// That the bell was rung for all.
+    type RungForAll: Drop;
+
+    /// That it was said that the hall is broken.
+    type SaidBroken: Drop;
+
+    /// That one slept, or had been called.
+    type Slept: Drop;
+
     /// How many commands are durable.
     ghost number: { Self.Durable → ℕ };
+
+    /// How many commands a look found pending.
+    ghost count: { Self.Counted → ℕ };
+
+    /// The bell was rung for those that wait for so much, or less.
+    ghost up_to: { Self.Rung → ℕ };
 
     /// Whether nothing more becomes durable. Where it does not hold, a later commit may succeed.
     ghost breaks: { Self.Failure → Bool };
@@ -27,8 +49,9 @@ pub trait Committing {
     ghost leads: { Self → List Step → Self → Type 0 };
 
     /// How many commands are issued and not durable.
-    fn pending(&mut self) -> usize
-        ensures { leads self.old (counted result ∷ []) self.new };
+    fn pending(&mut self) -> (usize, Self::Counted)
+        ensures steps { leads self.old (counted result.0 ∷ []) self.new }
+        ensures shown { result.0 ≡ count result.1 };
 
     /// Makes all that is pending durable.
     fn commit(&mut self) -> Result<Self::Durable, Self::Failure>
@@ -43,19 +66,20 @@ pub trait Committing {
         ensures { leads self.old (raised (number durable.now) ∷ []) self.new };
 
     /// Says that the hall is broken.
-    fn say_broken(&mut self)
+    fn say_broken(&mut self) -> Self::SaidBroken
         ensures { leads self.old (said_broken ∷ []) self.new };
 
     /// Rings the bell for those whose reply may be told now: they wait for so much, or less.
-    fn ring(&mut self, durable: &Self::Durable)
-        ensures { leads self.old (rang (number durable.now) ∷ []) self.new };
+    fn ring(&mut self, durable: &Self::Durable) -> Self::Rung
+        ensures steps { leads self.old (rang (number durable.now) ∷ []) self.new }
+        ensures shown { up_to result ≡ number durable.now };
 
     /// Rings the bell for all that wait for a reply.
-    fn ring_all(&mut self)
+    fn ring_all(&mut self) -> Self::RungForAll
         ensures { leads self.old (rang_all ∷ []) self.new };
 
     /// Sleeps until it is called, or has been since the last time.
-    fn sleep(&mut self)
+    fn sleep(&mut self) -> Self::Slept
         ensures { leads self.old (slept ∷ []) self.new };
 
     /// No step leads to the same value.
@@ -142,8 +166,8 @@ fn turn<G: Gate, C: Committing>(gate: &G, committer: &mut C) -> bool
     ensures turned { OnTrue result (IsTurn C.leads (G.says gate.now) committer.old committer.new) }
     ensures ended { OnFalse result (IsEnd C.leads (G.says gate.now) committer.old committer.new) }
 {
-    let pending = committer.pending();
-    let said = gate.turn(pending);
+    let (pending, _counted) = committer.pending();
+    let (said, _seen) = gate.turn(pending);
     act(committer, pending, said)
 }
 

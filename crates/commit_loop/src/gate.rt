@@ -16,12 +16,19 @@ pub enum Turn {
 
 /// Is asked at each turn of a loop.
 pub trait Gate {
+    /// What it saw, beside what is pending.
+    type Seen: Drop;
+
     /// With so many commands pending it may say this.
     ghost says: { Self → ℕ → Turn → Type 0 } = { λ _ _ _. Unit {0} };
 
+    /// What it saw leads to this.
+    ghost leads_to: { Self.Seen → Turn → Type 0 } = { λ _ _. Unit {0} };
+
     /// What the loop does next, with so many commands issued and not durable.
-    fn turn(&self, pending: usize) -> Turn
-        ensures { says self.now pending result };
+    fn turn(&self, pending: usize) -> (Turn, Self::Seen)
+        ensures says { says self.now pending result.0 }
+        ensures seen { leads_to result.1 result.0 };
 }
 
 /// Commits whatever is pending.
@@ -29,13 +36,15 @@ pub trait Gate {
 pub struct WhenPending;
 
 impl Gate for WhenPending {
+    type Seen = ();
+
     ghost says = { λ _ pending said. said ≡ (if nat_lt 0 pending then turn.Commit else turn.Skip) };
 
-    fn turn(&self, pending: usize) -> Turn {
+    fn turn(&self, pending: usize) -> (Turn, ()) {
         if pending > 0 {
-            Turn::Commit
+            (Turn::Commit, ())
         } else {
-            Turn::Skip
+            (Turn::Skip, ())
         }
     }
 }

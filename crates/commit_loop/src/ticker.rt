@@ -1,5 +1,5 @@
 // The ticker's loop.
-ghost use Rattle.std.specs.Prelude.{◌≡◌, ℕ, List, [], ◌∷◌, ◌++◌};
+ghost use Rattle.std.specs.Prelude.{◌≡◌, ℕ, Bool, List, [], ◌∷◌, ◌++◌};
 ghost use Rattle.std.specs.Bool.{OnTrue, OnFalse};
 ghost use Rattle.commit_loop.specs.Ticker.{Step, counted, ticked, called, slept};
 ghost use Rattle.commit_loop.specs.Ticker.{steps_of_moves, Acts, IsTurn, IsEnd, IsRun};
@@ -8,25 +8,46 @@ ghost use Rattle.commit_loop.specs.declared.gate.Turn.TheVariants.{End};
 use crate::gate::{Gate, Turn};
 use std::sync::Wait;
 
-/// What a ticker works on, by the steps that it makes.
+/// What a ticker works on, by the steps that it makes. Each step answers what shows that it was made, so that a step that does
+/// nothing cannot be written where only the real one gives that.
 pub trait Ticking {
+    /// A look at what is pending.
+    type Counted: Drop;
+
+    /// A look for a move that is due.
+    type Looked: Drop;
+
+    /// That the committer was called.
+    type Called: Drop;
+
+    /// That one slept.
+    type Slept: Drop;
+
+    /// How many commands a look found pending.
+    ghost count: { Self.Counted → ℕ };
+
+    /// The look shows that a move was made, or that none was due.
+    ghost shows: { Self.Looked → Bool → Type 0 };
+
     /// These steps, in this order, lead from the first value to the second.
     ghost leads: { Self → List Step → Self → Type 0 };
 
     /// How many commands are issued and not durable.
-    fn pending(&mut self) -> usize
-        ensures { leads self.old (counted result ∷ []) self.new };
+    fn pending(&mut self) -> (usize, Self::Counted)
+        ensures steps { leads self.old (counted result.0 ∷ []) self.new }
+        ensures shown { result.0 ≡ count result.1 };
 
     /// Makes one move that is due: whether it made one.
-    fn tick(&mut self) -> bool
-        ensures { leads self.old (ticked result ∷ []) self.new };
+    fn tick(&mut self) -> (bool, Self::Looked)
+        ensures steps { leads self.old (ticked result.0 ∷ []) self.new }
+        ensures shown { shows result.1 result.0 };
 
     /// Calls the committer.
-    fn call(&mut self)
+    fn call(&mut self) -> Self::Called
         ensures { leads self.old (called ∷ []) self.new };
 
     /// Sleeps until the next turn.
-    fn sleep(&mut self)
+    fn sleep(&mut self) -> Self::Slept
         ensures { leads self.old (slept ∷ []) self.new };
 
     /// No step leads to the same value.
@@ -41,7 +62,8 @@ fn make_moves<R: Wait, T: Ticking>(rt: &R, ticker: &mut T)
     ensures { (made : ℕ) × T.leads ticker.old (steps_of_moves made) ticker.new }
 {
     for _ in rt.forever() {
-        if !ticker.tick() {
+        let (moved, _looked) = ticker.tick();
+        if !moved {
             break;
         }
     }
@@ -72,7 +94,8 @@ fn turn<R: Wait, G: Gate, T: Ticking>(rt: &R, gate: &G, ticker: &mut T) -> bool
     ensures turned { OnTrue result (IsTurn T.leads (G.says gate.now) ticker.old ticker.new) }
     ensures ended { OnFalse result (IsEnd T.leads (G.says gate.now) ticker.old ticker.new) }
 {
-    let said = gate.turn(ticker.pending());
+    let (pending, _counted) = ticker.pending();
+    let (said, _seen) = gate.turn(pending);
     act(rt, ticker, said)
 }
 

@@ -13,10 +13,10 @@ returns g c =
     let old = c.args.committer.now in
     let now = c.pending-pending.new.self in
     let new = c.act.new.committer in
-    let said = c.turn-said.result in
-    let may = c.turn-said.ensures in
-    let count = c.pending-pending.ensures in record {
-      turned = on_true c.act.result (Acts leads c.pending-pending.result said now new) (IsTurn leads says old new) (one_turn leads says goes_on old now new c.pending-pending.result said may count) c.act.ensures.turned;
+    let said = c.turn-said.result.0 in
+    let may = c.turn-said.ensures.says in
+    let count = c.pending-pending.ensures.steps in record {
+      turned = on_true c.act.result (Acts leads c.pending-pending.result.0 said now new) (IsTurn leads says old new) (one_turn leads says goes_on old now new c.pending-pending.result.0 said may count) c.act.ensures.turned;
       ended =
-          on_false c.act.result ((said ≡ turn.End) × leads now [] new) (IsEnd leads says old new) (end_of_turns leads says goes_on old now new c.pending-pending.result said may count) c.act.ensures.ended;
+          on_false c.act.result ((said ≡ turn.End) × leads now [] new) (IsEnd leads says old new) (end_of_turns leads says goes_on old now new c.pending-pending.result.0 said may count) c.act.ensures.ended;
     }
