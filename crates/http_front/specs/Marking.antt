@@ -21,3 +21,7 @@ HasMarked old steps new = new ≡ old + sum_by moves_in steps
 -- no move is made of this hall for a desk that was told so much: none is due, or it is refused
 abbrev pub FindsNothing : HallView → ℕ → ℕ → Type 0
 FindsNothing hall told now = AnswersItsNumber hall (tick now) None ⊎ ((why : HallError) × IsNotMoved hall told now why)
+
+-- no move is made of this hall for some desk
+abbrev pub FindsNothingFor : HallView → ℕ → Type 0
+FindsNothingFor hall now = (told : ℕ) × FindsNothing hall told now

@@ -5,7 +5,7 @@ ghost use Rattle.long_poll.specs.Port.{IsSlot, IsRequestRefusal};
 ghost use Rattle.http_front.specs.Refusals.{IsArrivalError};
 
 use crate::error::ArrivalError;
-use crate::moment::{now, words};
+use crate::moment::{Moment, words};
 use api_core::Call;
 use hall_core::HallError;
 use long_poll::{Arrived, Port};
@@ -77,7 +77,7 @@ pub(crate) fn arrive<R: Wait + Clock + RandomSource, L: Ledger, T: Trace>(
 {
     let moves = may_move(&call);
     let words = words_for(rt, &call)?;
-    let now = now(rt)?;
+    let now = Moment::now(rt)?.millis();
     let mut arrived = hand_over(rt, port, call, now, words)?;
     if moves && make_moves(rt, port, now) {
         arrived.has_command = true;

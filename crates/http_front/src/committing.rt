@@ -3,6 +3,8 @@ ghost use Rattle.std.specs.Prelude.{◌≡◌, [], ◌∷◌, ◌++◌};
 ghost use Rattle.commit_loop.specs.Committer.{Step, IsRun};
 ghost use Rattle.front_board.specs.Seated.{seen_by};
 ghost use Rattle.group_commit.specs.Splitting.{broker_of};
+ghost use Rattle.hall_core.specs.Hall.{pending_in};
+ghost use Rattle.receipts.specs.Kept.{issuer_in};
 ghost use Rattle.receipts.specs.Serving.{HasServed};
 ghost use Rattle.receipts.specs.laws.Serving.{served_at_first, served_both};
 ghost use Rattle.http_front.specs.Learning.{known, HasLearned};
@@ -11,10 +13,12 @@ ghost use Rattle.http_front.specs.laws.Learned.{learned_nothing, learned_more};
 
 use crate::asking::{NotCommitted, ask};
 use crate::front::Front;
+use crate::wake::Slept;
 use commit_loop::{Committing, Gate, commit_all};
 use front_board::Seated;
 use group_commit::{DiskHalf, Durable};
-use receipts::{Desk, Trace};
+use long_poll::{Rung, RungForAll, SaidBroken};
+use receipts::{Desk, Trace, Witnessed};
 use sector_disk::Disk;
 use std::sync::Wait;
 use std::sync::ledger::Ledger;
@@ -41,7 +45,21 @@ impl<R: Wait + Clock, L: Ledger, T: Trace, D: Disk> Committing for AtFront<'_, R
 
     type Failure = NotCommitted;
 
+    type Counted = Witnessed<(), L, T>;
+
+    type Rung = Rung;
+
+    type RungForAll = RungForAll;
+
+    type SaidBroken = SaidBroken;
+
+    type Slept = Slept;
+
     ghost number = { λ durable. durable };
+
+    ghost count = { λ seen. pending_in (issuer_in seen.met.value.hall) };
+
+    ghost up_to = { λ rung. rung.up_to };
 
     ghost breaks = { λ refused. is_last refused.why };
 
@@ -51,8 +69,8 @@ impl<R: Wait + Clock, L: Ledger, T: Trace, D: Disk> Committing for AtFront<'_, R
         (known new.committer.desk.told (seen_by new.committer.seated))
         × HasServed D.view D.fault_count (broker_of old.committer.half) (broker_of new.committer.half) };
 
-    fn pending(&mut self) -> usize {
-        self.front.pending(self.rt)
+    fn pending(&mut self) -> (usize, Witnessed<(), L, T>) {
+        self.front.office.pending(self.rt).split()
     }
 
     fn commit(&mut self) -> Result<Durable, NotCommitted> {
@@ -78,20 +96,20 @@ impl<R: Wait + Clock, L: Ledger, T: Trace, D: Disk> Committing for AtFront<'_, R
         self.committer.seated.raise(*durable);
     }
 
-    fn say_broken(&mut self) {
-        self.front.bell.say_broken();
+    fn say_broken(&mut self) -> SaidBroken {
+        self.front.bell.say_broken()
     }
 
-    fn ring(&mut self, durable: &Durable) {
-        self.front.bell.ring(self.rt, *durable);
+    fn ring(&mut self, durable: &Durable) -> Rung {
+        self.front.bell.ring(self.rt, *durable)
     }
 
-    fn ring_all(&mut self) {
-        self.front.bell.ring_all(self.rt);
+    fn ring_all(&mut self) -> RungForAll {
+        self.front.bell.ring_all(self.rt)
     }
 
-    fn sleep(&mut self) {
-        self.front.wake.wait(self.rt);
+    fn sleep(&mut self) -> Slept {
+        self.front.wake.wait(self.rt)
     }
 
     ghost stays = { λ value. (

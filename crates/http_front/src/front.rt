@@ -98,21 +98,4 @@ impl<L: Ledger, T: Trace> Front<L, T> {
         }
         Ok(arrived)
     }
-
-    /// How many commands wait to be written: none once the hall broke.
-    pub(crate) fn pending<R: Wait>(&self, rt: &R) -> usize {
-        if self.bell.has_broken() {
-            0
-        } else {
-            self.office.pending(rt).answer
-        }
-    }
-
-    /// Whether all is done: the broker was stopped and nothing is pending, or its disk failed, and every open slot was
-    /// answered or forgotten.
-    pub(crate) fn is_over<R: Wait>(&self, rt: &R) -> bool {
-        (self.bell.has_broken() || self.office.is_stopping(rt).answer)
-            && self.pending(rt) == 0
-            && self.office.open_slots(rt).answer == 0
-    }
 }

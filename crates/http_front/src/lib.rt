@@ -8,6 +8,7 @@
 mod arriving;
 mod asking;
 mod committing;
+mod ending;
 mod error;
 mod front;
 mod meters;
@@ -24,7 +25,7 @@ pub use commit_loop::{Gate, Turn, WhenPending};
 pub use committing::Committer;
 pub use error::ServeError;
 pub use front::Front;
-pub use moment::now;
+pub use moment::Moment;
 pub use serving::{Ending, Served, serve};
 pub use ticking::tick_all;
 pub use watching::Admin;

@@ -1,5 +1,6 @@
 // The clock and the source of random words.
-ghost use Rattle.std.specs.Prelude.{◌≤◌, IfOk};
+ghost use Rattle.std.specs.Prelude.{◌≡◌, ◌≤◌};
+ghost use Rattle.http_front.specs.Moments.{millis_in};
 
 use hall_core::drawn_id;
 use invoke_records::GREATEST_MOMENT;
@@ -9,14 +10,29 @@ use std::io;
 use std::random::RandomSource;
 use std::time::{Clock, SystemTime};
 
-/// The moment now, in milliseconds since 1970. A clock outside the years 1970 to 9999 shows the nearer end.
-pub fn now<C: Clock>(rt: &C) -> io::Result<u64>
-    ensures { IfOk result (λ now. now ≤ 253402300799999) }
-{
-    let since = SystemTime::now(rt)?.duration_since(SystemTime::UNIX_EPOCH);
-    match since {
-        Ok(since) => Ok(since.as_millis().min(u128::from(GREATEST_MOMENT)) as u64),
-        Err(_) => Ok(0),
+/// A moment as the clock showed it. Only a look at the clock gives one.
+#[derive(Clone, Copy)]
+pub struct Moment {
+    shown: SystemTime,
+}
+
+impl Moment {
+    /// The moment now. It is refused where the clock cannot be read, or shows a time before 1970.
+    pub fn now<C: Clock>(rt: &C) -> io::Result<Moment> {
+        Ok(Moment {
+            shown: SystemTime::now(rt)?,
+        })
+    }
+
+    /// In milliseconds since 1970. A clock that shows a year after 9999 counts as its end.
+    pub fn millis(self) -> u64
+        ensures is { result ≡ millis_in self.shown }
+        ensures few { result ≤ 253402300799999 }
+    {
+        match self.shown.duration_since(SystemTime::UNIX_EPOCH) {
+            Ok(since) => since.as_millis().min(u128::from(GREATEST_MOMENT)) as u64,
+            Err(_) => 0,
+        }
     }
 }
 

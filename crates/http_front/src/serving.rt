@@ -1,5 +1,5 @@
 // A whole front, until its last thread has ended.
-ghost use Rattle.std.specs.Prelude.{◌≡◌, ◌⊎◌, ◌≤◌, ◌<◌, ◌+◌, [], vec_len, IsErrOf, OnOk, IfOk};
+ghost use Rattle.std.specs.Prelude.{◌≡◌, ◌⊎◌, ◌≤◌, ◌<◌, ◌+◌, [], vec_len, IsErrOf, OnOk, IfOk, IfErr, if◌then◌else◌};
 ghost use Rattle.commit_loop.specs.declared.gate.Turn.TheVariants as turn;
 ghost use Rattle.group_commit.specs.Broker.{pending_of, settings_of};
 ghost use Rattle.group_commit.specs.Splitting.{broker_of};
@@ -8,6 +8,7 @@ ghost use Rattle.receipts.specs.Desks.{desk_count};
 ghost use Rattle.receipts.specs.Serving.{HasServed};
 
 use crate::committing::Committer;
+use crate::ending::{Ended, LookAtEnding};
 use crate::error::ServeError;
 use crate::front::Front;
 use crate::opening::{Opened, open};
@@ -68,13 +69,19 @@ struct UntilOver<'a, R, L: Ledger, T: Trace, G> {
 }
 
 impl<R: Wait, L: Ledger, T: Trace, G: Gate> Gate for UntilOver<'_, R, L, T, G> {
+    type Seen = Result<G::Seen, Ended<L, T>>;
+
     ghost says = { λ gate pending said. (said ≡ turn.End) ⊎ G.says gate.inner.now pending said };
 
-    fn turn(&self, pending: usize) -> Turn {
-        if self.front.ending.is_cancelled() || self.front.is_over(self.rt) {
-            Turn::End
-        } else {
-            self.inner.turn(pending)
+    ghost leads_to = { λ seen said. IfOk seen (λ inner. G.leads_to inner said) × IfErr seen (λ _. said ≡ turn.End) };
+
+    fn turn(&self, pending: usize) -> (Turn, Result<G::Seen, Ended<L, T>>) {
+        match self.front.ended(self.rt) {
+            Some(ended) => (Turn::End, Err(ended)),
+            None => {
+                let (said, seen) = self.inner.turn(pending);
+                (said, Ok(seen))
+            }
         }
     }
 }
@@ -86,13 +93,18 @@ struct UntilEnding<'a, L: Ledger, T: Trace> {
 }
 
 impl<L: Ledger, T: Trace> Gate for UntilEnding<'_, L, T> {
+    type Seen = LookAtEnding;
+
     ghost says = { λ _ _ said. (said ≡ turn.End) ⊎ (said ≡ turn.Commit) };
 
-    fn turn(&self, _pending: usize) -> Turn {
-        if self.front.ending.is_cancelled() {
-            Turn::End
+    ghost leads_to = { λ look said. said ≡ (if look.ends then turn.End else turn.Commit) };
+
+    fn turn(&self, _pending: usize) -> (Turn, LookAtEnding) {
+        let look = self.front.look_at_ending();
+        if look.ends() {
+            (Turn::End, look)
         } else {
-            Turn::Commit
+            (Turn::Commit, look)
         }
     }
 }

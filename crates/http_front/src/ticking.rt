@@ -1,19 +1,21 @@
 // The ticker: what its loop works on.
-ghost use Rattle.std.specs.Prelude.{◌≡◌, ◌≤◌, ◌+◌, [], ◌∷◌, ◌++◌, length, map, sum_by, false};
-ghost use Rattle.invoke_records.specs.Spelling.{greatest_moment};
+ghost use Rattle.std.specs.Prelude.{◌≡◌, ◌≤◌, ◌+◌, [], ◌∷◌, ◌++◌, length, map, sum_by, false, IfOk};
+ghost use Rattle.hall_core.specs.Hall.{pending_in};
 ghost use Rattle.commit_loop.specs.Ticker.{Step, ticked, IsRun};
-ghost use Rattle.receipts.specs.Kept.{hall_in};
-ghost use Rattle.http_front.specs.Marking.{HasMarked, FindsNothing};
+ghost use Rattle.receipts.specs.Kept.{hall_in, issuer_in};
+ghost use Rattle.http_front.specs.Marking.{HasMarked, FindsNothing, FindsNothingFor};
+ghost use Rattle.http_front.specs.Moments.{millis_in};
 ghost use Rattle.http_front.specs.laws.Marked.{marked_nothing, marked_more};
 
 use crate::front::Front;
-use crate::moment::now;
+use crate::moment::Moment;
+use crate::wake::{Called, Slept, pause};
 use commit_loop::{Gate, Ticking};
 use receipts::{Desk, Trace, Witnessed};
+use std::io;
 use std::sync::Wait;
 use std::sync::ledger::Ledger;
-use std::thread;
-use std::time::{Clock, Duration};
+use std::time::Clock;
 
 /// How long the ticker sleeps between its turns, in milliseconds.
 const PAUSE: u64 = 100;
@@ -26,19 +28,25 @@ struct AtFront<'a, R, L: Ledger, T: Trace> {
     desk: Desk<L, T>,
 }
 
-// Makes a move that is due now: whether it made one. The bell is told which parked polls it answered.
+/// What the office held when a move was looked for, at a moment that the clock showed.
+#[derive(Drop)]
+struct Looked<L: Ledger, T: Trace> {
+    seen: Witnessed<(), L, T>,
+    at: Moment,
+}
+
+// Makes a move that is due at this moment: whether it made one. The bell is told which parked polls it answered.
 fn make_move<R: Wait, L: Ledger, T: Trace>(
     rt: &R,
     front: &Front<L, T>,
     desk: &mut Desk<L, T>,
-    now: u64,
+    at: Moment,
 ) -> Witnessed<bool, L, T>
-    requires { now ≤ greatest_moment }
     ensures marked { HasMarked (length (map T.mark desk.old.own.items)) (ticked result.answer ∷ [])
         (length (map T.mark desk.new.own.items)) }
-    ensures nothing { result.answer ≡ false → FindsNothing (hall_in result.met.value.hall) desk.old.told now }
+    ensures nothing { result.answer ≡ false → FindsNothing (hall_in result.met.value.hall) desk.old.told (millis_in at.shown) }
 {
-    let (answer, seen) = front.office.tick(rt, desk, now).split();
+    let (answer, seen) = front.office.tick(rt, desk, at.millis()).split();
     match answer {
         Ok(Some(number)) => {
             let answered = desk.take_answered();
@@ -50,38 +58,57 @@ fn make_move<R: Wait, L: Ledger, T: Trace>(
     }
 }
 
-// Makes a move that is due now: whether it made one. Where the clock cannot be read none is made.
+// Makes a move that is due now: whether it made one, and what shows it. Where the clock cannot be read none is made.
 fn tick<R: Wait + Clock, L: Ledger, T: Trace>(
     rt: &R,
     front: &Front<L, T>,
     desk: &mut Desk<L, T>,
-) -> bool
-    ensures { HasMarked (length (map T.mark desk.old.own.items)) (ticked result ∷ []) (length (map T.mark desk.new.own.items)) }
+) -> (bool, io::Result<Looked<L, T>>)
+    ensures marked { HasMarked (length (map T.mark desk.old.own.items)) (ticked result.0 ∷ [])
+        (length (map T.mark desk.new.own.items)) }
+    ensures nothing { result.0 ≡ false → IfOk result.1 (λ looked.
+        FindsNothing (hall_in looked.seen.met.value.hall) desk.old.told (millis_in looked.at.shown)) }
 {
-    match now(rt) {
-        Ok(now) => make_move(rt, front, desk, now).answer,
-        Err(_) => false,
+    match Moment::now(rt) {
+        Ok(at) => {
+            let (moved, seen) = make_move(rt, front, desk, at).split();
+            (moved, Ok(Looked { seen, at }))
+        }
+        Err(why) => (false, Err(why)),
     }
 }
 
 impl<R: Wait + Clock, L: Ledger, T: Trace> Ticking for AtFront<'_, R, L, T> {
+    type Counted = Witnessed<(), L, T>;
+
+    type Looked = io::Result<Looked<L, T>>;
+
+    type Called = Called;
+
+    type Slept = Slept;
+
+    ghost count = { λ seen. pending_in (issuer_in seen.met.value.hall) };
+
+    ghost shows = { λ looked moved. moved ≡ false → IfOk looked (λ looked.
+        FindsNothingFor (hall_in looked.seen.met.value.hall) (millis_in looked.at.shown)) };
+
     ghost leads = { λ old steps new.
         HasMarked (length (map T.mark old.desk.own.items)) steps (length (map T.mark new.desk.own.items)) };
 
-    fn pending(&mut self) -> usize {
-        self.front.pending(self.rt)
+    fn pending(&mut self) -> (usize, Witnessed<(), L, T>) {
+        self.front.office.pending(self.rt).split()
     }
 
-    fn tick(&mut self) -> bool {
+    fn tick(&mut self) -> (bool, io::Result<Looked<L, T>>) {
         tick(self.rt, self.front, &mut self.desk)
     }
 
-    fn call(&mut self) {
-        self.front.wake.call(self.rt);
+    fn call(&mut self) -> Called {
+        self.front.wake.call(self.rt)
     }
 
-    fn sleep(&mut self) {
-        thread::sleep(self.rt, Duration::from_millis(PAUSE));
+    fn sleep(&mut self) -> Slept {
+        pause(self.rt, PAUSE)
     }
 
     ghost stays = { λ value. marked_nothing (length (map T.mark value.desk.own.items)) };

@@ -4,7 +4,7 @@ ghost use Rattle.http.specs.Response.{head_of};
 ghost use Rattle.http_front.specs.Watching.{status_told};
 
 use crate::front::Front;
-use crate::moment::now;
+use crate::moment::Moment;
 use admin_replies::{Facts, Measures, Reply, tell};
 use admin_words::{Asked, read};
 use bytes::Bytes;
@@ -123,7 +123,10 @@ impl<L: Ledger, T: Trace> Lookout<L, T> {
 
     // What is told of what was seen.
     fn tell<R: Wait + Clock>(&self, rt: &R, asked: &Asked, sight: &Sight) -> Shown {
-        let now = now(rt).unwrap_or(0);
+        let now = match Moment::now(rt) {
+            Ok(at) => at.millis(),
+            Err(_) => 0,
+        };
         let measures = self.measures(rt);
         let reply = tell(
             self.front.alloc,

@@ -9,7 +9,7 @@ use api_core::Dialect;
 use disk_meter::{CountingDisk, Written};
 use group_commit::{Broker, CommitError, IssueError, OpenError, without_disk};
 use hall_core::{Hall, HallFailure};
-use http_front::{Admin, Ending, ServeError, WhenPending, now, serve};
+use http_front::{Admin, Ending, Moment, ServeError, WhenPending, serve};
 use receipts::{Gone, SharedOpening, SharedTrace, desks};
 use sector_disk::{Disk, FileDisk, FileError};
 use std::alloc::{AllocError, AllocGlobal, Global};
@@ -108,7 +108,7 @@ fn interrupt_attempts<R: Clock + Wait, D: Disk>(
     ensures settings { settings_of broker.new ≡ settings_of broker.old }
     ensures rest { ForEachHistory D.view broker.old (λ history. OnOk result (ComesToRest D.view history broker.new)) }
 {
-    let now = now(rt)?;
+    let now = Moment::now(rt)?.millis();
     for _ in rt.forever() {
         if broker.resume(now)?.is_none() {
             break;

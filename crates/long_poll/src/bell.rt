@@ -1,4 +1,5 @@
 // The bell: tasks register there, and a ring wakes those that can go on.
+ghost use Rattle.std.specs.Prelude.{◌≡◌};
 ghost use Rattle.futures.specs.Task.{Hears, IsArmed, Keeps};
 
 use crate::waiters::{Parked, Registered, Waiters};
@@ -7,6 +8,24 @@ use group_commit::Durable;
 use std::alloc::Global;
 use std::sync::atomic::{AtomicBool, Ordering};
 use std::sync::{Mutex, Wait};
+
+/// That a bell was rung for those that wait for so much, or less. Only a ring gives it.
+#[derive(Drop)]
+pub struct Rung {
+    up_to: u64,
+}
+
+/// That a bell was rung for all that wait. Only such a ring gives it.
+#[derive(Drop)]
+pub struct RungForAll {
+    rung: Rung,
+}
+
+/// That it was said at a bell that the hall broke. Only the bell gives it.
+#[derive(Drop)]
+pub struct SaidBroken {
+    said: (),
+}
 
 /// Tasks wait here, each for a slot: for a number that has to be durable, or, where it is a parked poll, for its answer.
 /// It also says whether the hall broke.
@@ -86,30 +105,48 @@ impl Bell {
 
     /// Wakes the tasks that wait for what is durable now. A waker wakes its task when it is dropped, which happens outside
     /// the lock.
-    pub fn ring<R: Wait>(&self, rt: &R, durable: Durable) {
-        self.ring_up_to(rt, durable.number());
+    pub fn ring<R: Wait>(&self, rt: &R, durable: Durable) -> Rung
+        ensures { result.up_to ≡ durable }
+    {
+        self.ring_up_to(rt, durable.number())
     }
 
     /// Wakes all tasks. Each that registers from now on is polled again at once.
-    pub fn ring_all<R: Wait>(&self, rt: &R) {
-        self.ring_up_to(rt, u64::MAX);
+    pub fn ring_all<R: Wait>(&self, rt: &R) -> RungForAll
+        ensures { result.rung.up_to ≡ 18446744073709551615 }
+    {
+        let rung = self.ring_up_to(rt, u64::MAX);
         self.waiters.lock(rt).wake_parked();
+        RungForAll { rung }
     }
 
     // Wakes the tasks that wait for this number or one below.
-    fn ring_up_to<R: Wait>(&self, rt: &R, number: u64) {
+    fn ring_up_to<R: Wait>(&self, rt: &R, number: u64) -> Rung
+        ensures { result.up_to ≡ number }
+    {
         let mut wakers = self.waiters.lock(rt).take_wakers(number);
         wakers.clear();
         self.waiters.lock(rt).give_back(wakers);
+        Rung { up_to: number }
     }
 
     /// Says that the hall broke, before a ring: every poll then asks the office.
-    pub fn say_broken(&self) {
+    pub fn say_broken(&self) -> SaidBroken {
         self.broke.store(true, Ordering::SeqCst);
+        SaidBroken { said: () }
     }
 
     /// Whether it was said that the hall broke.
     pub fn has_broken(&self) -> bool {
         self.broke.load(Ordering::SeqCst)
+    }
+
+    /// What shows that it was said that the hall broke, once it was.
+    pub fn said_broken(&self) -> Option<SaidBroken> {
+        if self.has_broken() {
+            Some(SaidBroken { said: () })
+        } else {
+            None
+        }
     }
 }

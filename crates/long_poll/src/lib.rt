@@ -12,7 +12,7 @@ mod waiting;
 mod watching;
 mod window;
 
-pub use bell::Bell;
+pub use bell::{Bell, Rung, RungForAll, SaidBroken};
 pub use port::{Arrived, Port};
 pub use waiting::Waiting;
 pub use watching::Watching;

@@ -22,13 +22,16 @@ impl AtLeast {
 }
 
 impl Gate for AtLeast {
-    fn turn(&self, pending: usize) -> Turn {
-        if self.turns.fetch_add(1, Ordering::SeqCst) >= LAST_TURN {
+    type Seen = ();
+
+    fn turn(&self, pending: usize) -> (Turn, ()) {
+        let said = if self.turns.fetch_add(1, Ordering::SeqCst) >= LAST_TURN {
             Turn::End
         } else if pending < self.pending {
             Turn::Skip
         } else {
             Turn::Commit
-        }
+        };
+        (said, ())
     }
 }
