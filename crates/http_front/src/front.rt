@@ -40,9 +40,8 @@ pub struct Front<L: Ledger, T: Trace> {
     pub(crate) ending: CancellationToken,
     /// What is counted for an operator.
     pub(crate) meters: Meters,
-    /// What an operator is told beside what is seen.
+    /// What is known of the broker from its opening on: its settings, and what an operator is told beside what is seen.
     pub(crate) facts: Facts,
-    pub(crate) settings: Settings,
     /// In which words requests are read and refused.
     pub(crate) dialect: Dialect,
     /// How many bytes of a body are read.
@@ -50,21 +49,20 @@ pub struct Front<L: Ledger, T: Trace> {
 }
 
 impl<L: Ledger, T: Trace> Front<L, T> {
-    /// A front over an office with these settings, of which so much is durable, which no thread serves yet. It reads requests
-    /// in this dialect, and tells an operator these facts.
+    /// A front over an office of which these facts are known and so much is durable, which no thread serves yet. It reads
+    /// requests in this dialect.
     pub fn new(
         alloc: Global,
         office: Arc<Office<L, T>>,
-        settings: Settings,
         dialect: Dialect,
         durable: Durable,
         facts: Facts,
     ) -> Result<Front<L, T>, AllocError>
         ensures office { IfOk result (λ front. front.office ≡ office) }
-        ensures settings { IfOk result (λ front. front.settings ≡ settings) }
+        ensures facts { IfOk result (λ front. front.facts ≡ facts) }
         ensures dialect { IfOk result (λ front. front.dialect ≡ dialect) }
     {
-        let most = most_read(&settings);
+        let most = most_read(&facts.settings);
         Ok(Front {
             alloc,
             office,
@@ -73,7 +71,6 @@ impl<L: Ledger, T: Trace> Front<L, T> {
             ending: CancellationToken::new(alloc)?,
             meters: Meters::new(),
             facts,
-            settings,
             dialect,
             most,
         })

@@ -15,7 +15,6 @@ use group_commit::{Broker, DiskHalf, Durable};
 use hall_core::Hall;
 use long_poll::{Port, Window};
 use receipts::{Desk, Office, Trace};
-use retry_rules::Settings;
 use sector_disk::Disk;
 use std::alloc::{AllocError, Global};
 use std::sync::Arc;
@@ -75,13 +74,15 @@ fn ports<L: Ledger, T: Trace>(
 fn shared<L: Ledger, T: Trace>(
     alloc: Global,
     office: Office<L, T>,
-    settings: Settings,
     dialect: Dialect,
     durable: Durable,
     facts: Facts,
-) -> Result<Arc<Front<L, T>>, AllocError> {
+) -> Result<Arc<Front<L, T>>, AllocError>
+    ensures dialect { IfOk result (λ front. front.value.dialect ≡ dialect) }
+    ensures facts { IfOk result (λ front. front.value.facts ≡ facts) }
+{
     let office = Arc::new(alloc, office)?;
-    let front = Front::new(alloc, office, settings, dialect, durable, facts)?;
+    let front = Front::new(alloc, office, dialect, durable, facts)?;
     Ok(Arc::new(alloc, front)?)
 }
 
@@ -97,6 +98,7 @@ fn furnish<L: Ledger, T: Trace, D: Disk + Drop>(
     requires seats { 2 ≤ vec_len seats }
     ensures ports { IsErrOf result ServeError.TooManyPorts → ⊥ }
     ensures half { IfOk result (λ opened. opened.committer.half ≡ half) }
+    ensures front { IfOk result (λ opened. opened.front ≡ front) }
 {
     let mut desks = desks;
     let mut seats = seats;
@@ -117,7 +119,8 @@ fn furnish<L: Ledger, T: Trace, D: Disk + Drop>(
     })
 }
 
-/// Opens a front over a hall: its office, its board, and the ports. The committer has the half of the hall's broker.
+/// Opens a front over a hall: its office, its board, and the ports. The committer has the half of the hall's broker. Requests
+/// are read in the dialect in which the hall tells its replies, and by its settings.
 pub(crate) fn open<L: Ledger, T: Trace, D: Disk + Drop>(
     alloc: Global,
     hall: Hall<Broker<D>>,
@@ -130,15 +133,16 @@ pub(crate) fn open<L: Ledger, T: Trace, D: Disk + Drop>(
     requires count { L.parts ≡ desk_count (settings_of hall.issuer) }
     ensures ports { IsErrOf result ServeError.TooManyPorts → ⊥ }
     ensures half { IfOk result (λ opened. broker_of opened.committer.half ≡ hall.issuer) }
+    ensures dialect { IfOk result (λ opened. opened.front.value.dialect ≡ hall.dialect) }
+    ensures settings { IfOk result (λ opened. opened.front.value.facts.settings ≡ settings_of hall.issuer) }
 {
-    let settings = hall.table().settings().copy()?;
     let dialect = hall.dialect();
     let durable = hall.durable();
     let facts = Facts::of(hall.table())?;
     match Office::<L, T>::new(alloc, hall, blank) {
         Ok((office, desks, half)) => {
             let seats = Seated::open(alloc, durable, desks.len() + 1)?;
-            let front = shared(alloc, office, settings, dialect, durable, facts)?;
+            let front = shared(alloc, office, dialect, durable, facts)?;
             furnish(alloc, front, desks, seats, half)
         }
         Err(failure) => Err(ServeError::Office(failure.cause)),

@@ -93,7 +93,7 @@ impl<R: Wait + Clock + RandomSource + Copy, L: Ledger, T: Trace> PortApplication
         let call = match read_request(
             front.alloc,
             front.dialect,
-            &front.settings,
+            &front.facts.settings,
             self.number,
             &head.method,
             target,
@@ -153,6 +153,11 @@ impl<R: Wait + Clock + RandomSource + Drop + Copy, L: Ledger, T: Trace> Applicat
             (Err(why), _) => why,
         };
         self.front.meters.note_status(&self.rt, why.status());
-        Err(refuse(alloc, &self.front.settings, self.manner(id), why))
+        Err(refuse(
+            alloc,
+            &self.front.facts.settings,
+            self.manner(id),
+            why,
+        ))
     }
 }
