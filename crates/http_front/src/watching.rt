@@ -1,7 +1,7 @@
 // The operator's port: what it tells of the office, once that is durable.
 ghost use Rattle.std.specs.Prelude.{◌≡◌, ◌≤◌, IfSome};
 ghost use Rattle.http.specs.Response.{head_of};
-ghost use Rattle.http_front.specs.Watching.{status_told};
+ghost use Rattle.http_front.specs.Watching.{status_told, TellsOfFault};
 
 use crate::front::Front;
 use crate::moment::Moment;
@@ -110,7 +110,18 @@ pub(crate) struct Lookout<L: Ledger, T: Trace> {
     pub(crate) memory: Option<File>,
 }
 
+// That the hall broke.
+fn device_fault(alloc: Global) -> Shown
+    ensures { TellsOfFault result.reply }
+{
+    Shown {
+        reply: Reply::line(alloc, 503, "device fault").ok(),
+    }
+}
+
 impl<L: Ledger, T: Trace> Lookout<L, T> {
+    ghost use Rattle.http_front.specs.Watching.{TellsOfSight};
+
     // What was counted and measured now.
     fn measures<R: Wait>(&self, rt: &R) -> Measures {
         Measures {
@@ -122,7 +133,9 @@ impl<L: Ledger, T: Trace> Lookout<L, T> {
     }
 
     // What is told of what was seen.
-    fn tell<R: Wait + Clock>(&self, rt: &R, asked: &Asked, sight: &Sight) -> Shown {
+    fn tell<R: Wait + Clock>(&self, rt: &R, asked: &Asked, sight: &Sight) -> Shown
+        ensures { TellsOfSight self.now.front.value.facts asked.now sight.now result.reply }
+    {
         let now = match Moment::now(rt) {
             Ok(at) => at.millis(),
             Err(_) => 0,
@@ -152,16 +165,19 @@ pub(crate) struct Showing<R: Wait, L: Ledger, T: Trace> {
 impl<R: Wait + Clock + Drop, L: Ledger, T: Trace> Future for Showing<R, L, T> {
     type Output = Shown;
 
+    ghost use Rattle.long_poll.specs.Watching.{withheld_in};
+    ghost use Rattle.http_front.specs.Watching.{TellsOfWithheld};
+
+    ghost gives = { λ showing shown. TellsOfWithheld showing.lookout.value.front.value.facts showing.asked
+        (withheld_in showing.watching.glimpse) shown.reply };
+
     fn poll(&mut self, cx: &mut Context<'_>) -> Poll<Shown> {
         match self.watching.poll(cx) {
             Poll::Pending => Poll::Pending,
             Poll::Ready(Some(sight)) => {
                 Poll::Ready(self.lookout.tell(&self.rt, &self.asked, &sight))
             }
-            Poll::Ready(None) => {
-                let reply = Reply::line(self.lookout.front.alloc, 503, "device fault");
-                Poll::Ready(Shown { reply: reply.ok() })
-            }
+            Poll::Ready(None) => Poll::Ready(device_fault(self.lookout.front.alloc)),
         }
     }
 }
