@@ -1,6 +1,5 @@
 // A whole front, until its last thread has ended.
-ghost use Rattle.std.specs.Prelude.{◌≡◌, ◌⊎◌, ◌≤◌, ◌<◌, ◌+◌, [], vec_len, IsErrOf, OnOk, IfOk, IfErr, if◌then◌else◌};
-ghost use Rattle.commit_loop.specs.declared.gate.Turn.TheVariants as turn;
+ghost use Rattle.std.specs.Prelude.{◌≡◌, ◌≤◌, ◌<◌, ◌+◌, [], vec_len, IsErrOf, OnOk, IfOk};
 ghost use Rattle.group_commit.specs.Broker.{pending_of, settings_of};
 ghost use Rattle.group_commit.specs.Splitting.{broker_of};
 ghost use Rattle.hall_core.specs.Fresh.{IsFresh};
@@ -8,14 +7,14 @@ ghost use Rattle.receipts.specs.Desks.{desk_count};
 ghost use Rattle.receipts.specs.Serving.{HasServed};
 
 use crate::committing::Committer;
-use crate::ending::{Ended, LookAtEnding};
+use crate::ending::{UntilEnding, UntilOver};
 use crate::error::ServeError;
 use crate::front::Front;
 use crate::opening::{Opened, open};
 use crate::port_application::PortApplication;
 use crate::ticking::tick_all;
 use crate::watching::{Admin, AdminPort, Lookout};
-use commit_loop::{Gate, Turn};
+use commit_loop::Gate;
 use group_commit::{Broker, DiskHalf};
 use hall_core::Hall;
 use http_port::Limits;
@@ -58,55 +57,6 @@ pub struct Served<D: Disk> {
     pub ending: Ending,
     /// The half of the broker over the disk.
     pub half: DiskHalf<D>,
-}
-
-// The gate of a front's committer: its owner's, until all is done.
-#[derive(Drop)]
-struct UntilOver<'a, R, L: Ledger, T: Trace, G> {
-    rt: &'a R,
-    front: &'a Front<L, T>,
-    inner: &'a G,
-}
-
-impl<R: Wait, L: Ledger, T: Trace, G: Gate> Gate for UntilOver<'_, R, L, T, G> {
-    type Seen = Result<G::Seen, Ended<L, T>>;
-
-    ghost says = { λ gate pending said. (said ≡ turn.End) ⊎ G.says gate.inner.now pending said };
-
-    ghost leads_to = { λ seen said. IfOk seen (λ inner. G.leads_to inner said) × IfErr seen (λ _. said ≡ turn.End) };
-
-    fn turn(&self, pending: usize) -> (Turn, Result<G::Seen, Ended<L, T>>) {
-        match self.front.ended(self.rt) {
-            Some(ended) => (Turn::End, Err(ended)),
-            None => {
-                let (said, seen) = self.inner.turn(pending);
-                (said, Ok(seen))
-            }
-        }
-    }
-}
-
-// The gate of a front's ticker: it ticks until the front ends.
-#[derive(Drop)]
-struct UntilEnding<'a, L: Ledger, T: Trace> {
-    front: &'a Front<L, T>,
-}
-
-impl<L: Ledger, T: Trace> Gate for UntilEnding<'_, L, T> {
-    type Seen = LookAtEnding;
-
-    ghost says = { λ _ _ said. (said ≡ turn.End) ⊎ (said ≡ turn.Commit) };
-
-    ghost leads_to = { λ look said. said ≡ (if look.ends then turn.End else turn.Commit) };
-
-    fn turn(&self, _pending: usize) -> (Turn, LookAtEnding) {
-        let look = self.front.look_at_ending();
-        if look.ends() {
-            (Turn::End, look)
-        } else {
-            (Turn::Commit, look)
-        }
-    }
 }
 
 // Serves a port to its end. Where it fails, the front ends.

@@ -16,6 +16,7 @@ mod error;
 mod finishing;
 mod kept;
 pub mod laws;
+mod looking;
 mod mark;
 mod marks;
 mod office;

@@ -1,5 +1,5 @@
 // The office: the hall under its lock.
-ghost use Rattle.std.specs.Prelude.{◌≡◌, ◌≤◌, [], map, All, Err, vec_len, vec_capacity, IfOk, IfErr, OnOk, OnErr, IfSome, OnSome, IfNone, length};
+ghost use Rattle.std.specs.Prelude.{◌≡◌, ◌≤◌, [], map, All, Err, vec_capacity, IfOk, IfErr, OnOk, OnErr, IfSome, OnSome, IfNone};
 ghost use Rattle.std.specs.List.{range_with_len};
 ghost use Rattle.invoke_records.specs.Spelling.{greatest_moment};
 ghost use Rattle.group_commit.specs.Broker.{pending_of, settings_of, table_in};
@@ -8,10 +8,9 @@ ghost use Rattle.group_commit.specs.Refusals.{FaultsHaveRisen};
 ghost use Rattle.group_commit.specs.Splitting.{broker_of, IsSplitReason};
 ghost use Rattle.hall_core.specs.declared.error.HallError.TheVariants as HallError;
 ghost use Rattle.hall_core.specs.Hall.{view_of, slot_told, request, Gives, GivesFor, IsDone, IsSameHall, IsAsDurable, AnswersPolls, ForEachPast, StandsFor};
-ghost use Rattle.hall_core.specs.Hall.{pending_in, open_slot_count};
 ghost use Rattle.hall_core.specs.OpenSlots.{ForEachKept};
 ghost use Rattle.hall_core.specs.Past.{tick, take_slot, forget_slot};
-ghost use Rattle.hall_core.specs.Slots.{open_slots, point_in, point_of};
+ghost use Rattle.hall_core.specs.Slots.{point_in, point_of};
 ghost use Rattle.hall_core.specs.Fresh.{IsFresh};
 ghost use Rattle.hall_core.specs.Halves.{HasSameParts, IsNotDurable};
 ghost use Rattle.receipts.specs.Desks.{desk_count};
@@ -20,7 +19,6 @@ ghost use Rattle.receipts.specs.Answers.{AddsAsked, IsArrivalRefusal, IsTickRefu
 ghost use Rattle.receipts.specs.Kept.{hall_in, issuer_in, IsToldByLoan, IsNotLentTo};
 ghost use Rattle.receipts.specs.Marks.{KeepsHistories};
 ghost use Rattle.receipts.specs.Serving.{CommitsTo, IsToldOf};
-ghost use Rattle.receipts.specs.Sights.{Withholds};
 ghost use Rattle.receipts.specs.UnderLock.{DoesAt, AnswersItsNumber, AddBoth, LendsAs, Counts, IsNotMade, IsNotMoved, IsSameUnderLock, IsNoFault};
 ghost use Rattle.receipts.specs.UnderLock.{IsCommitted, IsNotCommitted};
 ghost use Rattle.group_commit.specs.Issuer.{issued_in};
@@ -36,7 +34,6 @@ use crate::kept::{Kept, Loan};
 use crate::mark::{Mark, Trace};
 use crate::marks::Marks;
 use crate::opening::OpeningTrace;
-use crate::sight::Withheld;
 use crate::witness::Witnessed;
 use api_core::Call;
 use group_commit::{Broker, DiskHalf, Durable, Failed, SplitError, Ticket, Written};
@@ -446,61 +443,5 @@ impl<L: Ledger, T: Trace> Office<L, T> {
         let met = Seen::of(&*kept);
         kept.forget(slot);
         Witnessed::new((), met, &kept)
-    }
-
-    /// How many commands are issued and not durable: at most 256.
-    pub fn pending<R: Wait>(&self, rt: &R) -> Witnessed<usize, L, T>
-        ensures is { result.answer ≡ pending_in (issuer_in result.met.value.hall) }
-        ensures few { result.answer ≤ 256 }
-        ensures same { result.left.value ≡ result.met.value }
-    {
-        let kept = self.kept.lock(rt);
-        let met = Seen::of(&*kept);
-        Witnessed::new(kept.pending(), met, &kept)
-    }
-
-    /// How many slots are open.
-    pub fn open_slots<R: Wait>(&self, rt: &R) -> Witnessed<usize, L, T>
-        ensures by_parts { result.answer ≡ open_slot_count (hall_in result.met.value.hall) }
-        ensures by_past { ForEachPast (hall_in result.met.value.hall)
-            (λ past. result.answer ≡ length (open_slots (issuer_in result.met.value.hall).broken past)) }
-        ensures same { result.left.value ≡ result.met.value }
-    {
-        let kept = self.kept.lock(rt);
-        let met = Seen::of(&*kept);
-        Witnessed::new(kept.open_slots(), met, &kept)
-    }
-
-    /// What an operator is shown of the office, withheld until all of it is durable, with a ticket of that. It changes nothing,
-    /// copies no byte of a payload, and is refused only for want of memory.
-    pub fn look<R: Wait>(&self, rt: &R) -> Witnessed<Result<(Withheld, Ticket), AllocError>, L, T>
-        ensures shows { IfOk result.answer (λ r.
-            Withholds (hall_in result.met.value.hall) (map T.mark result.met.value.marks.all.items) r.0) }
-        ensures ticket { IfOk result.answer (λ r. r.1 ≡ issued_in (issuer_in result.met.value.hall)) }
-        ensures same { result.left.value ≡ result.met.value }
-    {
-        let kept = self.kept.lock(rt);
-        let met = Seen::of(&*kept);
-        Witnessed::new(kept.look_with_ticket(), met, &kept)
-    }
-
-    /// Whether a request asked the broker to stop.
-    pub fn is_stopping<R: Wait>(&self, rt: &R) -> Witnessed<bool, L, T>
-        ensures is { result.answer ≡ (hall_in result.met.value.hall).stops }
-        ensures same { result.left.value ≡ result.met.value }
-    {
-        let kept = self.kept.lock(rt);
-        let met = Seen::of(&*kept);
-        Witnessed::new(kept.is_stopping(), met, &kept)
-    }
-
-    /// Whether the device failed: the disk has to be opened again.
-    pub fn is_broken<R: Wait>(&self, rt: &R) -> Witnessed<bool, L, T>
-        ensures is { result.answer ≡ (issuer_in result.met.value.hall).broken }
-        ensures same { result.left.value ≡ result.met.value }
-    {
-        let kept = self.kept.lock(rt);
-        let met = Seen::of(&*kept);
-        Witnessed::new(kept.is_broken(), met, &kept)
     }
 }
