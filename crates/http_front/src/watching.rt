@@ -174,10 +174,10 @@ impl<R: Wait + Clock + Drop, L: Ledger, T: Trace> Future for Showing<R, L, T> {
     fn poll(&mut self, cx: &mut Context<'_>) -> Poll<Shown> {
         match self.watching.poll(cx) {
             Poll::Pending => Poll::Pending,
-            Poll::Ready(Some(sight)) => {
+            Poll::Ready(Ok(sight)) => {
                 Poll::Ready(self.lookout.tell(&self.rt, &self.asked, &sight))
             }
-            Poll::Ready(None) => Poll::Ready(device_fault(self.lookout.front.alloc)),
+            Poll::Ready(Err(_)) => Poll::Ready(device_fault(self.lookout.front.alloc)),
         }
     }
 }

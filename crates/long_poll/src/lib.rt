@@ -15,5 +15,5 @@ mod window;
 pub use bell::{Bell, Rung, RungForAll, SaidBroken};
 pub use port::{Arrived, Port};
 pub use waiting::Waiting;
-pub use watching::Watching;
+pub use watching::{NotShown, Watching};
 pub use window::{Glimpse, Window};

@@ -1,9 +1,9 @@
 // The future of what an operator is shown.
-ghost use Rattle.std.specs.Prelude.{◌≡◌, Some};
+ghost use Rattle.std.specs.Prelude.{◌≡◌, ◌≤◌};
 ghost use Rattle.futures.specs.Task.{Covers, Keeps};
 ghost use Rattle.futures.specs.Poll.{IfReady, OnPending};
-ghost use Rattle.long_poll.specs.Watching.{IsOf};
 
+use crate::bell::SaidBroken;
 use crate::window::{Glimpse, Window};
 use futures::Future;
 use futures::task::{Context, Poll};
@@ -12,14 +12,27 @@ use receipts::{Mark, Sight, Trace, Withheld};
 use std::sync::ledger::Ledger;
 use std::sync::{Arc, Wait};
 
-// What was withheld, where this is the receipt of all that it shows.
-fn open(withheld: Withheld, receipt: Receipt) -> Option<Sight>
-    ensures { IsOf (Some withheld) result }
-{
-    withheld.open(receipt)
+/// Why nothing is shown.
+#[derive(Drop)]
+pub enum NotShown {
+    /// The hall broke before all that was seen was durable.
+    HallBroke(SaidBroken),
+    /// It was shown before.
+    Given,
 }
 
-/// Waits until what was seen of an office is durable, and then gives it. None where the hall broke before, and where it was given.
+// What was withheld, by a receipt of all that it shows.
+fn open(withheld: Withheld, receipt: Receipt) -> Sight
+    requires { withheld.number ≤ receipt }
+    ensures { result ≡ withheld.sight }
+{
+    match withheld.open(receipt) {
+        Some(sight) => sight,
+        None => unreachable!(),
+    }
+}
+
+/// Waits until what was seen of an office is durable, and then gives it once; or tells that the hall broke before.
 #[derive(Drop)]
 pub struct Watching<R: Wait, L: Ledger, T: Trace = Mark> {
     rt: R,
@@ -47,21 +60,21 @@ impl<R: Wait, L: Ledger, T: Trace> Watching<R, L, T> {
         }
     }
 
-    // Looks at the board: what was seen where all of it is durable.
-    fn check(&mut self) -> Poll<Option<Sight>>
+    // Looks at the board: what was seen, where all of it is durable.
+    fn check(&mut self) -> Poll<Result<Sight, NotShown>>
         ensures same { self.new.window ≡ self.old.window }
         ensures shown { IfReady result (IsOf (withheld_in self.old.glimpse)) }
         ensures waits { OnPending result (withheld_in self.new.glimpse ≡ withheld_in self.old.glimpse) }
     {
         let Some(glimpse) = self.glimpse.take() else {
-            return Poll::Ready(None);
+            return Poll::Ready(Err(NotShown::Given));
         };
         let (withheld, ticket) = glimpse.into_parts();
         match self.window.check(&self.rt, ticket) {
-            Ok(receipt) => Poll::Ready(open(withheld, receipt)),
+            Ok(receipt) => Poll::Ready(Ok(open(withheld, receipt))),
             Err(ticket) => {
-                if self.window.bell().has_broken() {
-                    return Poll::Ready(None);
+                if let Some(said) = self.window.bell().said_broken() {
+                    return Poll::Ready(Err(NotShown::HallBroke(said)));
                 }
                 self.glimpse = Some(Glimpse::of(withheld, ticket));
                 Poll::Pending
@@ -92,7 +105,7 @@ impl<R: Wait, L: Ledger, T: Trace> Watching<R, L, T> {
 }
 
 impl<R: Wait + Drop, L: Ledger, T: Trace> Future for Watching<R, L, T> {
-    type Output = Option<Sight>;
+    type Output = Result<Sight, NotShown>;
 
     ghost use Rattle.long_poll.specs.Bell.{source_of};
     ghost use Rattle.long_poll.specs.Watching.{withheld_in, IsOf};
@@ -101,7 +114,7 @@ impl<R: Wait + Drop, L: Ledger, T: Trace> Future for Watching<R, L, T> {
 
     ghost gives = { λ watching told. IsOf (withheld_in watching.glimpse) told };
 
-    fn poll(&mut self, cx: &mut Context<'_>) -> Poll<Option<Sight>> {
+    fn poll(&mut self, cx: &mut Context<'_>) -> Poll<Result<Sight, NotShown>> {
         if let Poll::Ready(told) = self.check() {
             return Poll::Ready(told);
         }
