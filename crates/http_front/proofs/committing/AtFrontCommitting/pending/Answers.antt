@@ -3,5 +3,5 @@ use Rattle.group_commit.specs.Splitting.{broker_of}
 use Rattle.receipts.specs.laws.Serving.{served_at_first}
 use Rattle.http_front.proofs.committing.AtFrontCommitting.pending.Goals as goal
 
-pub returns : goal.returns
-returns g c = (search rules, served_at_first g.D.Disk.view g.met.D.Disk.laws g.D.Disk.fault_count (broker_of c.args.self.now.committer.half))
+pub returns-clause-steps : goal.returns-clause-steps
+returns-clause-steps g c = (search rules, served_at_first g.D.Disk.view g.met.D.Disk.laws g.D.Disk.fault_count (broker_of c.args.self.now.committer.half))
