@@ -57,11 +57,24 @@ pub(crate) struct Over<L: Ledger, T: Trace> {
     ghost none: { open_slot_count (hall_in answered.met.value.hall) ≡ 0 },
 }
 
-/// Why the committer's loop ends, whatever its gate says.
+/// That the committer's loop ends, whatever its gate says. Only what shows why gives it.
 #[derive(Drop)]
-pub(crate) enum Ended<L: Ledger, T: Trace> {
-    Told(ToldToEnd),
-    Over(Over<L, T>),
+pub(crate) struct Ended {
+    ended: (),
+}
+
+impl Ended {
+    // Its threads were told to end.
+    fn told(why: ToldToEnd) -> Ended {
+        drop(why);
+        Ended { ended: () }
+    }
+
+    // All is done.
+    fn over<L: Ledger, T: Trace>(why: Over<L, T>) -> Ended {
+        drop(why);
+        Ended { ended: () }
+    }
 }
 
 impl<L: Ledger, T: Trace> Front<L, T> {
@@ -116,11 +129,11 @@ impl<L: Ledger, T: Trace> Front<L, T> {
         }
     }
 
-    /// Why the committer's loop ends now, if it does: the threads were told to end, or all is done.
-    pub(crate) fn ended<R: Wait>(&self, rt: &R) -> Option<Ended<L, T>> {
+    /// That the committer's loop ends now, if it does: the threads were told to end, or all is done.
+    pub(crate) fn ended<R: Wait>(&self, rt: &R) -> Option<Ended> {
         match self.told_to_end() {
-            Some(told) => Some(Ended::Told(told)),
-            None => Some(Ended::Over(self.over(rt)?)),
+            Some(why) => Some(Ended::told(why)),
+            None => Some(Ended::over(self.over(rt)?)),
         }
     }
 }
@@ -134,13 +147,13 @@ pub(crate) struct UntilOver<'a, R, L: Ledger, T: Trace, G> {
 }
 
 impl<R: Wait, L: Ledger, T: Trace, G: Gate> Gate for UntilOver<'_, R, L, T, G> {
-    type Seen = Result<G::Seen, Ended<L, T>>;
+    type Seen = Result<G::Seen, Ended>;
 
     ghost says = { λ gate pending said. (said ≡ turn.End) ⊎ G.says gate.inner.now pending said };
 
     ghost leads_to = { λ seen said. IfOk seen (λ inner. G.leads_to inner said) × IfErr seen (λ _. said ≡ turn.End) };
 
-    fn turn(&self, pending: usize) -> (Turn, Result<G::Seen, Ended<L, T>>) {
+    fn turn(&self, pending: usize) -> (Turn, Result<G::Seen, Ended>) {
         match self.front.ended(self.rt) {
             Some(ended) => (Turn::End, Err(ended)),
             None => {
