@@ -153,11 +153,6 @@ impl<R: Wait + Clock + RandomSource + Drop + Copy, L: Ledger, T: Trace> Applicat
             (Err(why), _) => why,
         };
         self.front.meters.note_status(&self.rt, why.status());
-        Err(refuse(
-            alloc,
-            &self.front.facts.settings,
-            self.manner(id),
-            why,
-        ))
+        Err(refuse(alloc, &self.front.facts.settings, self.manner(id), why))
     }
 }

@@ -1,8 +1,7 @@
 // What the committer and the ticker sleep on.
-use std::mem;
 use std::sync::{Condvar, Mutex, Wait};
-use std::thread;
 use std::time::{Clock, Duration};
+use std::{mem, thread};
 
 /// That the committer was called. Only a call gives it.
 #[derive(Drop)]
