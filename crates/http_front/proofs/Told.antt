@@ -1,5 +1,5 @@
 -- What is told of what is still withheld is told of what was.
-use Rattle.std.proofs.Common.{◌≡◌, refl, Option, Some, None, Result, Ok, Err, inl, inr, subst}
+use Rattle.std.proofs.Common.{refl, Option, Some, None, Result, Ok, Err, inl, inr, subst}
 use Rattle.admin_replies.specs.declared.reply.Reply.{Reply}
 use Rattle.admin_replies.specs.declared.telling.Facts.{Facts}
 use Rattle.admin_words.specs.declared.asked.Asked.{Asked}

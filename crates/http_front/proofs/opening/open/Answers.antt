@@ -1,5 +1,5 @@
 -- There are as many desks as parts, which are eight at least, and as many seats as desks.
-use Rattle.std.proofs.Common.{arith, ◌≡◌, ◌∙◌, ap, sym, length, vec_len}
+use Rattle.std.proofs.Common.{arith, ◌∙◌, ap, sym, length}
 use Rattle.std.proofs.lemmas.List.{length-map}
 use Rattle.std.proofs.lemmas.List.FromFn.{length-range_with_len}
 use Rattle.http_front.proofs.opening.open.Goals as goal
