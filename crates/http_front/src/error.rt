@@ -41,6 +41,25 @@ impl From<io::Error> for ServeError {
     }
 }
 
+/// Why there is no moment: the clock could not be read. Only a look at the clock gives it.
+#[derive(Debug, Drop)]
+pub struct NoClock {
+    why: io::Error,
+}
+
+impl NoClock {
+    pub(crate) fn of(why: io::Error) -> NoClock {
+        NoClock { why }
+    }
+}
+
+impl From<NoClock> for io::Error {
+    fn from(none: NoClock) -> io::Error {
+        let NoClock { why } = none;
+        why
+    }
+}
+
 /// Why a request did not come to the hall, which is as it was.
 #[derive(Debug, Drop, Error)]
 pub(crate) enum ArrivalError {
@@ -57,6 +76,15 @@ impl From<HallError> for ArrivalError {
 
     fn from(why: HallError) -> ArrivalError {
         ArrivalError::Hall(why)
+    }
+}
+
+impl From<NoClock> for ArrivalError {
+    ghost from_gives = { λ none error. error ≡ System none.why };
+
+    fn from(none: NoClock) -> ArrivalError {
+        let NoClock { why } = none;
+        ArrivalError::System(why)
     }
 }
 

@@ -1,7 +1,9 @@
 // The clock and the source of random words.
-ghost use Rattle.std.specs.Prelude.{◌≡◌, ◌≤◌};
+ghost use Rattle.std.specs.Prelude.{◌≡◌, ◌≤◌, IfOk};
+ghost use Rattle.std.specs.Time.{system_time_nanos, FitsClock};
 ghost use Rattle.http_front.specs.Moments.{millis_in};
 
+use crate::error::NoClock;
 use hall_core::drawn_id;
 use invoke_records::GREATEST_MOMENT;
 use rand::TryRng;
@@ -17,11 +19,14 @@ pub struct Moment {
 }
 
 impl Moment {
-    /// The moment now. It is refused where the clock cannot be read, or shows a time before 1970.
-    pub fn now<C: Clock>(rt: &C) -> io::Result<Moment> {
-        Ok(Moment {
-            shown: SystemTime::now(rt)?,
-        })
+    /// The moment now. There is none where the clock cannot be read, or shows a time before 1970.
+    pub fn now<C: Clock>(rt: &C) -> Result<Moment, NoClock>
+        ensures { IfOk result (λ moment. FitsClock (system_time_nanos moment.shown)) }
+    {
+        match SystemTime::now(rt) {
+            Ok(shown) => Ok(Moment { shown }),
+            Err(why) => Err(NoClock::of(why)),
+        }
     }
 
     /// In milliseconds since 1970. A clock that shows a year after 9999 counts as its end.

@@ -1,5 +1,5 @@
 // A whole front, until its last thread has ended.
-ghost use Rattle.std.specs.Prelude.{◌≡◌, ◌≤◌, ◌<◌, ◌+◌, [], vec_len, IsErrOf, OnOk, IfOk};
+ghost use Rattle.std.specs.Prelude.{◌≡◌, ◌≤◌, ◌<◌, ◌+◌, [], vec_len, IsErrOf, OnOk, IfOk, is_some};
 ghost use Rattle.group_commit.specs.Broker.{pending_of, settings_of};
 ghost use Rattle.group_commit.specs.Splitting.{broker_of};
 ghost use Rattle.hall_core.specs.Fresh.{IsFresh};
@@ -7,9 +7,9 @@ ghost use Rattle.receipts.specs.Desks.{desk_count};
 ghost use Rattle.receipts.specs.Serving.{HasServed};
 
 use crate::committing::Committer;
-use crate::ending::{UntilEnding, UntilOver};
 use crate::error::ServeError;
 use crate::front::Front;
+use crate::gates::{UntilEnding, UntilOver};
 use crate::opening::{Opened, open};
 use crate::port_application::PortApplication;
 use crate::ticking::tick_all;
@@ -57,6 +57,14 @@ pub struct Served<D: Disk> {
     pub ending: Ending,
     /// The half of the broker over the disk.
     pub half: DiskHalf<D>,
+    /// That the operator's port was served, where there was one.
+    pub watched: Option<Watched>,
+}
+
+/// That an operator's port was served to its end. Only serving it gives that.
+#[derive(Drop)]
+pub struct Watched {
+    served: (),
 }
 
 // Serves a port to its end. Where it fails, the front ends.
@@ -150,7 +158,11 @@ where
 }
 
 // Serves the operator's port to its end. Where it fails, the front goes on.
-fn serve_admin<R, L, T>(rt: R, port: AdminPort<R, L, T>, listener: TcpListener) -> io::Result<()>
+fn serve_admin<R, L, T>(
+    rt: R,
+    port: AdminPort<R, L, T>,
+    listener: TcpListener,
+) -> io::Result<Watched>
 where
     R: Wait
         + Clock
@@ -163,7 +175,8 @@ where
     T: Trace,
 {
     let front = Arc::try_clone(&port.lookout.front)?;
-    http_port::serve(rt, port, listener, Limits::default(), &front.ending)
+    http_port::serve(rt, port, listener, Limits::default(), &front.ending)?;
+    Ok(Watched { served: () })
 }
 
 // Starts the thread of the operator's port, where there is one.
@@ -172,8 +185,7 @@ fn start_admin<R, L, T>(
     front: &Arc<Front<L, T>>,
     window: Window<L, T>,
     admin: Option<Admin>,
-    threads: &mut Vec<JoinHandle<io::Result<()>>>,
-) -> io::Result<()>
+) -> io::Result<Option<JoinHandle<io::Result<Watched>>>>
 where
     R: Threads
         + Wait
@@ -188,6 +200,7 @@ where
     L: Ledger + Send + Sync + 'static,
     T: SharedTrace + 'static,
     T::Opening: SharedOpening + 'static,
+    ensures { IfOk result (λ thread. is_some thread ≡ is_some admin) }
 {
     let Some(
         Admin {
@@ -197,7 +210,7 @@ where
         },
     ) = admin
     else {
-        return Ok(());
+        return Ok(None);
     };
     let lookout = Lookout {
         front: Arc::try_clone(front)?,
@@ -209,8 +222,21 @@ where
         rt,
         lookout: Arc::new(rt.alloc(), lookout)?,
     };
-    threads.push(thread::spawn(&rt, move || serve_admin(rt, port, listener))?)?;
-    Ok(())
+    let thread = thread::spawn(&rt, move || serve_admin(rt, port, listener))?;
+    Ok(Some(thread))
+}
+
+// Waits until the thread of the operator's port has ended, where there is one.
+fn join_admin<R: Threads>(
+    rt: &R,
+    thread: Option<JoinHandle<io::Result<Watched>>>,
+) -> io::Result<Option<Watched>>
+    ensures { IfOk result (λ watched. is_some watched ≡ is_some thread) }
+{
+    match thread {
+        Some(thread) => Ok(Some(thread.join(rt)?)),
+        None => Ok(None),
+    }
 }
 
 // Waits until all threads have ended: the first error that one ended with.
@@ -259,35 +285,6 @@ where
     Ok(half)
 }
 
-// Starts all threads that serve ports.
-fn start_all<R, L, T>(
-    rt: R,
-    front: &Arc<Front<L, T>>,
-    ports: Vec<Port<L, T>>,
-    listeners: Vec<TcpListener>,
-    window: Window<L, T>,
-    admin: Option<Admin>,
-    threads: &mut Vec<JoinHandle<io::Result<()>>>,
-) -> io::Result<()>
-where
-    R: Threads
-        + Wait
-        + Clock
-        + Net<Listener = TcpListener, Stream = TcpStream>
-        + RandomSource
-        + AllocGlobal
-        + Copy
-        + Drop
-        + Send
-        + 'static,
-    L: Ledger + Send + Sync + 'static,
-    T: SharedTrace + 'static,
-    T::Opening: SharedOpening + 'static,
-{
-    start_admin(rt, front, window, admin, threads)?;
-    start(rt, front, ports, listeners, threads)
-}
-
 // Serves an opened front to its end, and waits for its threads.
 fn run<R, L, T, D, G>(
     rt: R,
@@ -312,7 +309,8 @@ where
     T::Opening: SharedOpening + 'static,
     D: Disk + Drop,
     G: Gate,
-    ensures { IfOk result (λ served. HasServed D.view D.fault_count (broker_of opened.committer.half) (broker_of served.half)) }
+    ensures served { IfOk result (λ served. HasServed D.view D.fault_count (broker_of opened.committer.half) (broker_of served.half)) }
+    ensures watched { IfOk result (λ served. is_some served.watched ≡ is_some admin) }
 {
     let Opened {
         front,
@@ -322,17 +320,24 @@ where
         window,
     } = opened;
     front.meters.note_opening(&rt, committer.half());
+    let watching = start_admin(rt, &front, window, admin)?;
     let mut threads = Vec::new(rt.alloc());
-    let outcome = match start_all(rt, &front, ports, listeners, window, admin, &mut threads) {
+    let outcome = match start(rt, &front, ports, listeners, &mut threads) {
         Ok(()) => commit_and_tick(rt, &front, committer, ticker, gate),
         Err(why) => Err(why),
     };
     front.ending.cancel();
     let joined = join_all(&rt, threads);
+    let watched = join_admin(&rt, watching);
     let half = outcome?;
     joined?;
+    let watched = watched?;
     let ending = Ending::of(&front);
-    Ok(Served { ending, half })
+    Ok(Served {
+        ending,
+        half,
+        watched,
+    })
 }
 
 // How many ports there are: the committer and the ticker have a desk too.
@@ -385,6 +390,7 @@ where
     ensures ports { OnOk result (vec_len listeners + 2 ≤ desk_count (settings_of hall.issuer)) }
     ensures many { IsErrOf result ServeError.TooManyPorts → desk_count (settings_of hall.issuer) < vec_len listeners + 2 }
     ensures served { IfOk result (λ served. HasServed D.view D.fault_count hall.issuer (broker_of served.half)) }
+    ensures watched { IfOk result (λ served. is_some served.watched ≡ is_some admin) }
 {
     if listeners.len() as u64 > port_count(hall.table().settings()) {
         return Err(ServeError::TooManyPorts);

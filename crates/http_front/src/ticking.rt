@@ -7,12 +7,12 @@ ghost use Rattle.http_front.specs.Marking.{HasMarked, FindsNothing, FindsNothing
 ghost use Rattle.http_front.specs.Moments.{millis_in};
 ghost use Rattle.http_front.specs.laws.Marked.{marked_nothing, marked_more};
 
+use crate::error::NoClock;
 use crate::front::Front;
 use crate::moment::Moment;
 use crate::wake::{Called, Slept, pause};
 use commit_loop::{Gate, Ticking};
 use receipts::{Desk, Trace, Witnessed};
-use std::io;
 use std::sync::Wait;
 use std::sync::ledger::Ledger;
 use std::time::Clock;
@@ -63,7 +63,7 @@ fn tick<R: Wait + Clock, L: Ledger, T: Trace>(
     rt: &R,
     front: &Front<L, T>,
     desk: &mut Desk<L, T>,
-) -> (bool, io::Result<Looked<L, T>>)
+) -> (bool, Result<Looked<L, T>, NoClock>)
     ensures marked { HasMarked (length (map T.mark desk.old.own.items)) (ticked result.0 ∷ [])
         (length (map T.mark desk.new.own.items)) }
     ensures nothing { result.0 ≡ false → IfOk result.1 (λ looked.
@@ -74,14 +74,14 @@ fn tick<R: Wait + Clock, L: Ledger, T: Trace>(
             let (moved, seen) = make_move(rt, front, desk, at).split();
             (moved, Ok(Looked { seen, at }))
         }
-        Err(why) => (false, Err(why)),
+        Err(none) => (false, Err(none)),
     }
 }
 
 impl<R: Wait + Clock, L: Ledger, T: Trace> Ticking for AtFront<'_, R, L, T> {
     type Counted = Witnessed<(), L, T>;
 
-    type Looked = io::Result<Looked<L, T>>;
+    type Looked = Result<Looked<L, T>, NoClock>;
 
     type Called = Called;
 
@@ -99,7 +99,7 @@ impl<R: Wait + Clock, L: Ledger, T: Trace> Ticking for AtFront<'_, R, L, T> {
         self.front.office.pending(self.rt).split()
     }
 
-    fn tick(&mut self) -> (bool, io::Result<Looked<L, T>>) {
+    fn tick(&mut self) -> (bool, Result<Looked<L, T>, NoClock>) {
         tick(self.rt, self.front, &mut self.desk)
     }
 

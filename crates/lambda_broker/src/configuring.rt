@@ -6,9 +6,9 @@ ghost use Rattle.group_commit.specs.Promises.{ForEachHistory};
 ghost use Rattle.lambda_broker.specs.Configuring.{bad_option, policy_for, configure_at, IsConfigured, IsRefusal, IsAsked, refused_for, is_device_fault};
 ghost use Rattle.retry_rules.specs.declared.settings.Field.{Field};
 
+use crate::clock::now;
 use async_core::Table;
 use group_commit::{Broker, CommitError, IssueError, OpenError, without_disk};
-use http_front::Moment;
 use invoke_records::{Bytes, Command, Kind};
 use retry_rules::{BadSettings, Field, RetryPolicy};
 use sector_disk::{Disk, FileDisk, FileError};
@@ -151,7 +151,7 @@ pub fn configure_disk<R: Files<File = File> + Clock + AllocGlobal>(
         return Err(ConfiguringError::Settings(BadSettings { field }));
     }
     let disk = FileDisk::open(rt, new.path)?;
-    let now = Moment::now(rt)?.millis();
+    let now = now(rt)?;
     let mut broker = open(rt.alloc(), disk)?;
     configure(&mut broker, new, now)
 }

@@ -4,6 +4,7 @@
 #![tactic(auto)]
 
 mod auditing;
+mod clock;
 mod command_line;
 mod configuring;
 mod formatting;

@@ -5,11 +5,12 @@ ghost use Rattle.group_commit.specs.Promises.{ForEachHistory};
 ghost use Rattle.lambda_broker.specs.Serving.{ComesToRest};
 ghost use Rattle.hall_core.specs.Fresh.{IsFresh};
 
+use crate::clock::now;
 use api_core::Dialect;
 use disk_meter::{CountingDisk, Written};
 use group_commit::{Broker, CommitError, IssueError, OpenError, without_disk};
 use hall_core::{Hall, HallFailure};
-use http_front::{Admin, Ending, Moment, ServeError, WhenPending, serve};
+use http_front::{Admin, Ending, ServeError, WhenPending, serve};
 use receipts::{Gone, SharedOpening, SharedTrace, desks};
 use sector_disk::{Disk, FileDisk, FileError};
 use std::alloc::{AllocError, AllocGlobal, Global};
@@ -108,7 +109,7 @@ fn interrupt_attempts<R: Clock + Wait, D: Disk>(
     ensures settings { settings_of broker.new ≡ settings_of broker.old }
     ensures rest { ForEachHistory D.view broker.old (λ history. OnOk result (ComesToRest D.view history broker.new)) }
 {
-    let now = Moment::now(rt)?.millis();
+    let now = now(rt)?;
     for _ in rt.forever() {
         if broker.resume(now)?.is_none() {
             break;
