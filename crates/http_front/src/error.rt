@@ -54,6 +54,8 @@ impl NoClock {
 }
 
 impl From<NoClock> for io::Error {
+    ghost from_gives = { λ none error. error ≡ none.why };
+
     fn from(none: NoClock) -> io::Error {
         let NoClock { why } = none;
         why
