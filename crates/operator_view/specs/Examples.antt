@@ -9,8 +9,8 @@ use Rattle.destination_json.specs.Examples.{id}
 use Rattle.operator_view.specs.declared.numbers.Census.{Census}
 
 -- the n-th event, accepted n seconds after 1970, which command number `last` named last
-abbrev pub row : ℕ → ℕ → Standing → EventRow
-row n last standing = record {
+abbrev pub event_row : ℕ → ℕ → Standing → EventRow
+event_row n last standing = record {
   id = id n;
   accepted = 1000 * n;
   number = n;
@@ -27,12 +27,12 @@ row n last standing = record {
 -- in the order of acceptance; those that ended did so in the order 4, 1, 6
 abbrev pub rows : List EventRow
 rows =
-    row 1 9 (Ended Success 6500)
-    ∷ row 2 6 (Running 1 5000)
-    ∷ row 3 3 (Waiting 3000)
-    ∷ row 4 7 (Ended EventAgeExceeded 5500)
-    ∷ row 5 8 (DueAgain 8000)
-    ∷ row 6 10 (Ended RetriesExhausted 7000)
+    event_row 1 9 (Ended Success 6500)
+    ∷ event_row 2 6 (Running 1 5000)
+    ∷ event_row 3 3 (Waiting 3000)
+    ∷ event_row 4 7 (Ended EventAgeExceeded 5500)
+    ∷ event_row 5 8 (DueAgain 8000)
+    ∷ event_row 6 10 (Ended RetriesExhausted 7000)
     ∷ []
 
 abbrev pub numbers : Census

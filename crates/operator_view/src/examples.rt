@@ -10,7 +10,7 @@ ghost use Rattle.operator_view.specs.Census.{IsCensus, oldest_waiting, ends};
 ghost use Rattle.operator_view.specs.EventText.{event_text, detail_text, whole_characters, record_json};
 ghost use Rattle.operator_view.specs.ListText.{list_text};
 ghost use Rattle.operator_view.specs.Page.{start_behind, event_places, number_behind, record_places, last_id};
-ghost use Rattle.operator_view.specs.Examples.{row, rows, numbers, running_text, page_text, grown_old, grown_old_text};
+ghost use Rattle.operator_view.specs.Examples.{event_row, rows, numbers, running_text, page_text, grown_old, grown_old_text};
 
 /// Known numbers.
 pub fn numbers()
@@ -44,14 +44,14 @@ pub fn records()
 
 /// Known texts.
 pub fn texts()
-    ensures running { event_text (row 2 6 (Running 1 5000)) ≡ running_text }
+    ensures running { event_text (event_row 2 6 (Running 1 5000)) ≡ running_text }
     ensures page { list_text rows (1 ∷ 4 ∷ []) (Some (id 5)) ≡ page_text }
     ensures page_is_json { IsTrue (is_json page_text) }
     ensures empty { list_text rows [] None ≡ codes "{\"events\":[],\"next\":null}" }
     ensures grown_old { detail_text usual grown_old ≡ grown_old_text }
     ensures grown_old_is_json { IsTrue (is_json grown_old_text) }
-    ensures no_record { record_json usual (row 3 3 (Waiting 3000)) ≡ codes "null" }
-    ensures no_stamp { record_json usual (row 3 3 (Ended Success 253402300800000)) ≡ codes "null" }
+    ensures no_record { record_json usual (event_row 3 3 (Waiting 3000)) ≡ codes "null" }
+    ensures no_stamp { record_json usual (event_row 3 3 (Ended Success 253402300800000)) ≡ codes "null" }
     ensures cut { whole_characters (97 ∷ 195 ∷ []) ≡ codes "a" }
     ensures whole { whole_characters (97 ∷ 195 ∷ 169 ∷ []) ≡ 97 ∷ 195 ∷ 169 ∷ [] }
 {}
