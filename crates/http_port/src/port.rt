@@ -1,13 +1,13 @@
 // A port, served on a thread of its own.
 use crate::application::Application;
-use crate::connections::Connections;
+use crate::connections::{Connections, Door};
 use crate::door::HttpDoor;
 use crate::limits::Limits;
 use crate::lingering::Alarm;
 use crate::permits::Permits;
 use hyper::rt::TokioTimer;
 use hyper::server::conn::http1::Builder;
-use std::alloc::AllocGlobal;
+use std::alloc::{AllocGlobal, Global};
 use std::hash::RandomState;
 use std::io;
 use std::net::Net;
@@ -17,20 +17,92 @@ use std::sync::{Arc, Wait};
 use std::time::{Clock, Duration};
 use tokio::net::TcpListener;
 use tokio::runtime::LocalRuntime;
+use tokio::time;
 use tokio_util::sync::CancellationToken;
 
 /// How long the connections of a port that ends are waited for, in seconds.
 const LAST_REPLIES: u64 = 5;
 
-// Serves the connections until the port ends.
-fn run<R, A>(
-    rt: &R,
-    runtime: &mut LocalRuntime,
-    connections: Connections<R, HttpDoor<R, A>>,
-) -> io::Result<()>
+// The alarm of a port's connections.
+fn alarm_of<R: Copy + Drop>(
+    rt: R,
+    alloc: Global,
+    timers: &time::Handle,
+) -> io::Result<Rc<Alarm<R>>> {
+    let timers = timers.clone()?;
+    Ok(Rc::new(alloc, Alarm { rt, timers })?)
+}
+
+// What reads and writes HTTP/1.1. It has no limit of its own.
+fn http_of<R>(rt: R, alloc: Global, timers: &time::Handle) -> io::Result<Builder<TokioTimer<R>>>
 where
-    R: Wait + Clock + RandomSource + AllocGlobal + Copy + Drop,
+    R: Clock + RandomSource + Copy + Drop,
+{
+    let clock = TokioTimer::new(rt, timers.clone()?);
+    let mut http = Builder::new(alloc, RandomState::new(&rt)?).timer(clock);
+    http.header_read_timeout(None);
+    Ok(http)
+}
+
+// The door of a port.
+fn door_of<R, A>(
+    rt: R,
+    application: Arc<A>,
+    timers: &time::Handle,
+    limits: Limits,
+    ending: &CancellationToken,
+) -> io::Result<HttpDoor<R, A>>
+where
+    R: Clock + RandomSource + AllocGlobal + Copy + Drop,
     A: Application,
+{
+    let alloc = rt.alloc();
+    let ending = ending.clone()?;
+    let alarm = alarm_of(rt, alloc, timers)?;
+    let http = http_of(rt, alloc, timers)?;
+    Ok(HttpDoor {
+        rt,
+        alloc,
+        http,
+        application,
+        timers: timers.clone()?,
+        alarm,
+        limits,
+        ending,
+    })
+}
+
+// The connections that come to a port through its door.
+fn connections_of<R, A>(
+    rt: R,
+    door: HttpDoor<R, A>,
+    timers: &time::Handle,
+    listener: TcpListener,
+    ending: &CancellationToken,
+) -> io::Result<Connections<R, HttpDoor<R, A>>>
+where
+    R: Clock + AllocGlobal + Copy + Drop,
+    A: Application,
+{
+    let permits = Permits::new(rt.alloc(), door.limits.connections)?;
+    let timers = timers.clone()?;
+    let ending = ending.cancelled()?;
+    Ok(Connections {
+        rt,
+        door,
+        timers,
+        incoming: listener.incoming(),
+        ending,
+        pause: None,
+        permits,
+    })
+}
+
+// Serves the connections that come through a door until the port ends.
+fn run<R, D>(rt: &R, runtime: &mut LocalRuntime, connections: Connections<R, D>) -> io::Result<()>
+where
+    R: Wait + Clock + RandomSource + AllocGlobal + Drop,
+    D: Door,
 {
     runtime.run_all(rt, connections)
 }
@@ -66,32 +138,8 @@ where
     runtime.set_shutdown_timeout(Some(Duration::from_secs(LAST_REPLIES)));
     let listener = TcpListener::from_std(listener, runtime.handle().reactor())?;
     let timers = runtime.handle().time();
-    let alloc = rt.alloc();
-    let clock = TokioTimer::new(rt, timers.clone()?);
-    let mut http = Builder::new(alloc, RandomState::new(&rt)?).timer(clock);
-    http.header_read_timeout(None);
-    let alarm = Alarm {
-        rt,
-        timers: timers.clone()?,
-    };
-    let door = HttpDoor {
-        rt,
-        alloc,
-        http,
-        application: Arc::new(alloc, application)?,
-        timers: timers.clone()?,
-        alarm: Rc::new(alloc, alarm)?,
-        limits,
-        ending: ending.clone()?,
-    };
-    let connections = Connections {
-        rt,
-        door,
-        timers: timers.clone()?,
-        incoming: listener.incoming(),
-        ending: ending.cancelled()?,
-        pause: None,
-        permits: Permits::new(alloc, limits.connections)?,
-    };
+    let application = Arc::new(rt.alloc(), application)?;
+    let door = door_of(rt, application, timers, limits, ending)?;
+    let connections = connections_of(rt, door, timers, listener, ending)?;
     run(&rt, &mut runtime, connections)
 }
