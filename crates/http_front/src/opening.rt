@@ -1,5 +1,5 @@
 // Opening a front over a hall.
-ghost use Rattle.std.specs.Prelude.{◌≡◌, ◌≤◌, [], vec_len, IsErrOf, IfOk};
+ghost use Rattle.std.specs.Prelude.{◌≡◌, ◌≤◌, [], vec_len, IsErrOf, IfOk, IsSome};
 ghost use Rattle.group_commit.specs.Broker.{pending_of, settings_of};
 ghost use Rattle.group_commit.specs.Splitting.{broker_of};
 ghost use Rattle.hall_core.specs.Fresh.{IsFresh};
@@ -86,6 +86,28 @@ fn shared<L: Ledger, T: Trace>(
     Ok(Arc::new(alloc, front)?)
 }
 
+// The last two of a list that has two.
+fn pop_two<A: Drop>(list: &mut Vec<A>) -> Option<(A, A)>
+    ensures { 2 ≤ vec_len list.old → IsSome result }
+{
+    let last = list.pop()?;
+    let before = list.pop()?;
+    Some((last, before))
+}
+
+// Where requests and an operator come to a front: a window with this seat, and a port for each desk, as far as there are seats.
+fn places<L: Ledger, T: Trace>(
+    alloc: Global,
+    front: &Front<L, T>,
+    seat: Seated,
+    desks: Vec<Desk<L, T>>,
+    seats: Vec<Seated>,
+) -> Result<(Window<L, T>, Vec<Port<L, T>>), AllocError> {
+    let window = window(front, seat)?;
+    let ports = ports(alloc, front, desks, seats)?;
+    Ok((window, ports))
+}
+
 // A front with these desks and seats.
 fn furnish<L: Ledger, T: Trace, D: Disk + Drop>(
     alloc: Global,
@@ -102,14 +124,13 @@ fn furnish<L: Ledger, T: Trace, D: Disk + Drop>(
 {
     let mut desks = desks;
     let mut seats = seats;
-    let (Some(desk), Some(ticker)) = (desks.pop(), desks.pop()) else {
+    let Some((desk, ticker)) = pop_two(&mut desks) else {
         unreachable!();
     };
-    let (Some(seated), Some(seat)) = (seats.pop(), seats.pop()) else {
+    let Some((seated, seat)) = pop_two(&mut seats) else {
         unreachable!();
     };
-    let window = window(&front, seat)?;
-    let ports = ports(alloc, &front, desks, seats)?;
+    let (window, ports) = places(alloc, &front, seat, desks, seats)?;
     Ok(Opened {
         front,
         ports,
@@ -117,6 +138,27 @@ fn furnish<L: Ledger, T: Trace, D: Disk + Drop>(
         ticker,
         window,
     })
+}
+
+// A front over an office, with its desks and as many seats, and one for an operator.
+fn seat_all<L: Ledger, T: Trace, D: Disk + Drop>(
+    alloc: Global,
+    office: Office<L, T>,
+    desks: Vec<Desk<L, T>>,
+    half: DiskHalf<D>,
+    dialect: Dialect,
+    facts: Facts,
+) -> Result<Opened<L, T, D>, ServeError>
+    requires desks { 2 ≤ vec_len desks }
+    ensures ports { IsErrOf result ServeError.TooManyPorts → ⊥ }
+    ensures half { IfOk result (λ opened. opened.committer.half ≡ half) }
+    ensures dialect { IfOk result (λ opened. opened.front.value.dialect ≡ dialect) }
+    ensures facts { IfOk result (λ opened. opened.front.value.facts ≡ facts) }
+{
+    let durable = half.durable();
+    let seats = Seated::open(alloc, durable, desks.len() + 1)?;
+    let front = shared(alloc, office, dialect, durable, facts)?;
+    furnish(alloc, front, desks, seats, half)
 }
 
 /// Opens a front over a hall: its office, its board, and the ports. The committer has the half of the hall's broker. Requests
@@ -137,14 +179,9 @@ pub(crate) fn open<L: Ledger, T: Trace, D: Disk + Drop>(
     ensures settings { IfOk result (λ opened. opened.front.value.facts.settings ≡ settings_of hall.issuer) }
 {
     let dialect = hall.dialect();
-    let durable = hall.durable();
     let facts = Facts::of(hall.table())?;
     match Office::<L, T>::new(alloc, hall, blank) {
-        Ok((office, desks, half)) => {
-            let seats = Seated::open(alloc, durable, desks.len() + 1)?;
-            let front = shared(alloc, office, dialect, durable, facts)?;
-            furnish(alloc, front, desks, seats, half)
-        }
+        Ok((office, desks, half)) => seat_all(alloc, office, desks, half, dialect, facts),
         Err(failure) => Err(ServeError::Office(failure.cause)),
     }
 }

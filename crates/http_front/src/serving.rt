@@ -1,5 +1,5 @@
 // A whole front, until its last thread has ended.
-ghost use Rattle.std.specs.Prelude.{◌≡◌, ◌≤◌, ◌<◌, ◌+◌, [], vec_len, IsErrOf, OnOk, IfOk, is_some};
+ghost use Rattle.std.specs.Prelude.{◌≡◌, ◌≤◌, ◌<◌, ◌+◌, [], vec_len, IsErrOf, OnOk, IfOk, is_some, Ok};
 ghost use Rattle.group_commit.specs.Broker.{pending_of, settings_of};
 ghost use Rattle.group_commit.specs.Splitting.{broker_of};
 ghost use Rattle.hall_core.specs.Fresh.{IsFresh};
@@ -285,6 +285,66 @@ where
     Ok(half)
 }
 
+// Starts the threads of all ports, those of the listeners first: that of the operator's port, where there is one.
+fn start_all<R, L, T>(
+    rt: R,
+    front: &Arc<Front<L, T>>,
+    ports: Vec<Port<L, T>>,
+    listeners: Vec<TcpListener>,
+    window: Window<L, T>,
+    admin: Option<Admin>,
+    threads: &mut Vec<JoinHandle<io::Result<()>>>,
+) -> io::Result<Option<JoinHandle<io::Result<Watched>>>>
+where
+    R: Threads
+        + Wait
+        + Clock
+        + Net<Listener = TcpListener, Stream = TcpStream>
+        + RandomSource
+        + AllocGlobal
+        + Copy
+        + Drop
+        + Send
+        + 'static,
+    L: Ledger + Send + Sync + 'static,
+    T: SharedTrace + 'static,
+    T::Opening: SharedOpening + 'static,
+    ensures { IfOk result (λ thread. is_some thread ≡ is_some admin) }
+{
+    start(rt, front, ports, listeners, threads)?;
+    start_admin(rt, front, window, admin)
+}
+
+// Ends a front, and waits for the threads of its ports: what it leaves, where this is what came of the committer.
+fn end<R, L, T, D>(
+    rt: &R,
+    front: &Front<L, T>,
+    threads: Vec<JoinHandle<io::Result<()>>>,
+    watching: Option<JoinHandle<io::Result<Watched>>>,
+    outcome: io::Result<DiskHalf<D>>,
+) -> io::Result<Served<D>>
+where
+    R: Threads,
+    L: Ledger,
+    T: Trace,
+    D: Disk + Drop,
+    ensures half { IfOk result (λ served. outcome ≡ Ok served.half) }
+    ensures watched { IfOk result (λ served. is_some served.watched ≡ is_some watching) }
+{
+    front.ending.cancel();
+    let joined = join_all(rt, threads);
+    let watched = join_admin(rt, watching);
+    let half = outcome?;
+    joined?;
+    let watched = watched?;
+    let ending = Ending::of(front);
+    Ok(Served {
+        ending,
+        half,
+        watched,
+    })
+}
+
 // Serves an opened front to its end, and waits for its threads.
 fn run<R, L, T, D, G>(
     rt: R,
@@ -320,24 +380,14 @@ where
         window,
     } = opened;
     front.meters.note_opening(&rt, committer.half());
-    let watching = start_admin(rt, &front, window, admin)?;
     let mut threads = Vec::new(rt.alloc());
-    let outcome = match start(rt, &front, ports, listeners, &mut threads) {
-        Ok(()) => commit_and_tick(rt, &front, committer, ticker, gate),
-        Err(why) => Err(why),
-    };
-    front.ending.cancel();
-    let joined = join_all(&rt, threads);
-    let watched = join_admin(&rt, watching);
-    let half = outcome?;
-    joined?;
-    let watched = watched?;
-    let ending = Ending::of(&front);
-    Ok(Served {
-        ending,
-        half,
-        watched,
-    })
+    match start_all(rt, &front, ports, listeners, window, admin, &mut threads) {
+        Ok(watching) => {
+            let outcome = commit_and_tick(rt, &front, committer, ticker, gate);
+            end(&rt, &front, threads, watching, outcome)
+        }
+        Err(why) => end(&rt, &front, threads, None, Err(why)),
+    }
 }
 
 // How many ports there are: the committer and the ticker have a desk too.
