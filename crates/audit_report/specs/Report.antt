@@ -1,10 +1,17 @@
 -- What a report tells of an image: what its live segment holds, and what the older one folds to.
-use Rattle.std.specs.Prelude.{◌≡◌, ℕ, List, ◌++◌, length, count_by, option_map, Ok, codes, decimal}
+use Rattle.std.specs.Prelude.{◌≡◌, ℕ, List, ◌++◌, length, count_by, option_map, Some, Ok, codes, decimal}
 use Rattle.sector_disk.specs.Disk.{DiskView, IsSameDisk, HasRisen}
+use Rattle.invoke_records.specs.declared.command.Command.{Command}
+use Rattle.invoke_records.specs.declared.snapshot.Snapshot.{Snapshot}
 use Rattle.async_core.specs.State.{State}
 use Rattle.async_core.specs.Standings.{is_running}
 use Rattle.async_core.specs.Policies.{pair_of}
+use Rattle.async_core.specs.Rules.{replay}
+use Rattle.checkpoint.specs.declared.opened.Opened.{Opened}
 use Rattle.checkpoint.specs.Image.{DiskImage, parts_of, read_image}
+use Rattle.checkpoint.specs.Live.{IsLive, settings_of}
+use Rattle.checkpoint.specs.Opening.{AreLiveParts}
+use Rattle.audit_report.specs.declared.counting.Counts.{Counts}
 use Rattle.audit_report.specs.Counts.{is_waiting, is_success, is_failure, stands}
 use Rattle.audit_report.specs.Comparison.{TellsOlder}
 use Rattle.audit_report.specs.declared.report.Report.{Report}
@@ -50,6 +57,27 @@ pub record HasFailed {D : Type 0} (view : D → DiskView) (fault_count : D → �
   pub after : D
   pub same : IsSameDisk (view disk) (view after)
   pub risen : HasRisen (fault_count disk) (fault_count after)
+
+-- ## Its steps
+
+-- the counts that a report tells
+abbrev pub counts_in : Report → Counts
+counts_in report = record {
+  held = report.held;
+  waiting = report.waiting;
+  running = report.running;
+  success = report.success;
+  failure = report.failure;
+}
+
+-- the disk holds these bytes, whose live segment was opened: it has this table as its snapshot, and these commands lead on from there
+pub record LeadsFrom (first : State) (commands : List Command) (opened : Opened) (disk : DiskView) (bytes : List ℕ) : Type 0 where
+  pub table : Snapshot
+  pub live : IsLive disk opened table
+  pub content : disk.content ≡ bytes
+  pub parts : AreLiveParts bytes first.table commands
+  pub settings : first.settings ≡ settings_of opened
+  pub replayed : replay (settings_of opened) first.table commands ≡ Some table
 
 -- ## Its lines
 
