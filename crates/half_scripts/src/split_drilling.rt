@@ -165,6 +165,36 @@ fn is_within(steps: &[SplitStep], answers: &[SplitAnswer]) -> bool {
     true
 }
 
+// A disk that was formatted, or what is answered where there is none.
+fn own_disk(alloc: Global, settings: &Settings, answer: &mut Text) -> Result<MemDisk, Reply> {
+    let Ok(mut disk) = MemDisk::new(alloc, 64) else {
+        return Err(Reply::NoMemory);
+    };
+    match format_disk(alloc, &mut disk, settings, answer) {
+        Reply::Done => Ok(disk),
+        reply => Err(reply),
+    }
+}
+
+// Runs the steps of an order on a disk.
+fn run_steps(alloc: Global, disk: MemDisk, steps: &[SplitStep], answer: &mut Text) -> Reply {
+    match drill_split(alloc, disk, steps) {
+        Ok(SplitDrill { answers, disk, .. }) => {
+            disk.close();
+            if is_within(steps, &answers) {
+                Reply::Done
+            } else {
+                tell_answers(&answers, answer);
+                Reply::Told
+            }
+        }
+        Err(failure) => {
+            tell_failure(failure, answer);
+            Reply::RefusalTold
+        }
+    }
+}
+
 // Runs one order on a disk of its own.
 fn run_order(
     alloc: Global,
@@ -176,23 +206,9 @@ fn run_order(
     let Some(steps) = steps_of_order(alloc, order, length) else {
         return Reply::NoMemory;
     };
-    let Ok(mut disk) = MemDisk::new(alloc, 64) else {
-        return Reply::NoMemory;
-    };
-    match format_disk(alloc, &mut disk, settings, answer) {
-        Reply::Done => {}
-        reply => return reply,
-    }
-    match drill_split(alloc, disk, &steps) {
-        Ok(done) if is_within(&steps, &done.answers) => Reply::Done,
-        Ok(done) => {
-            tell_answers(&done.answers, answer);
-            Reply::Told
-        }
-        Err(failure) => {
-            tell_failure(failure, answer);
-            Reply::RefusalTold
-        }
+    match own_disk(alloc, settings, answer) {
+        Ok(disk) => run_steps(alloc, disk, &steps, answer),
+        Err(reply) => reply,
     }
 }
 

@@ -99,9 +99,9 @@ fn step_on<D: Disk>(
     }
 }
 
-// Takes a disk in place of what was there.
-fn put<D: Disk + Drop>(place: &mut OpenHalves<D>, disk: D) {
-    *place = OpenHalves::Closed(disk);
+// Takes this in place of what was there. No other function drops what was there, since that is dear to prove.
+fn set<D: Disk + Drop>(place: &mut OpenHalves<D>, now: OpenHalves<D>) {
+    *place = now;
 }
 
 // Gives up what was there, and closes it.
@@ -119,11 +119,11 @@ fn open<D: Disk + Drop>(
     match open_broker(alloc, disk, answer) {
         Ok(broker) => {
             let number = broker.issued();
-            *place = OpenHalves::Open(broker);
+            set(place, OpenHalves::Open(broker));
             Ok(number)
         }
         Err((disk, reply)) => {
-            *place = OpenHalves::Closed(disk);
+            set(place, OpenHalves::Closed(disk));
             Err(reply)
         }
     }
@@ -140,23 +140,18 @@ fn split<D: Disk + Drop>(
         return Reply::Unreadable;
     };
     let (now, reply) = opened_halves(alloc, disk, answer);
-    *place = now;
+    set(place, now);
     reply
 }
 
 // Joins the halves to a broker that is open.
 fn join<D: Disk + Drop>(place: &mut OpenHalves<D>) -> Reply {
-    match mem::replace(place, OpenHalves::Nothing) {
-        OpenHalves::Split(halves) => {
-            let (now, reply) = joined(halves);
-            *place = now;
-            reply
-        }
-        other => {
-            *place = other;
-            Reply::Unreadable
-        }
-    }
+    let (now, reply) = match mem::replace(place, OpenHalves::Nothing) {
+        OpenHalves::Split(halves) => joined(halves),
+        other => (other, Reply::Unreadable),
+    };
+    set(place, now);
+    reply
 }
 
 impl Stage for HalvesStage {
@@ -168,7 +163,7 @@ impl Stage for HalvesStage {
     }
 
     fn put(&mut self, disk: CaseDisk) {
-        put(&mut self.place, disk);
+        set(&mut self.place, OpenHalves::Closed(disk));
     }
 
     fn take(&mut self, base: &mut Base) -> Option<CaseDisk> {

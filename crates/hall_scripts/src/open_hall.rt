@@ -89,9 +89,9 @@ fn closed<D: Disk>(place: OpenHall<Broker<D>, D>, base: &mut Base) -> Option<D> 
     }
 }
 
-/// Takes a disk in place of what was there.
-pub fn put<D: Disk + Drop>(place: &mut OpenHall<Broker<D>, D>, disk: D) {
-    *place = OpenHall::Closed(disk);
+/// Takes this in place of what was there. No other function drops what was there, since that is dear to prove.
+pub fn set<D: Disk + Drop>(place: &mut OpenHall<Broker<D>, D>, now: OpenHall<Broker<D>, D>) {
+    *place = now;
 }
 
 /// Gives up what was there, and closes it.
@@ -109,11 +109,11 @@ pub fn open<D: Disk + Drop>(
     match open_broker(alloc, disk, answer) {
         Ok(broker) => {
             let number = broker.issued();
-            *place = OpenHall::Open(broker);
+            set(place, OpenHall::Open(broker));
             Ok(number)
         }
         Err((disk, reply)) => {
-            *place = OpenHall::Closed(disk);
+            set(place, OpenHall::Closed(disk));
             Err(reply)
         }
     }
@@ -137,7 +137,7 @@ pub fn ask<D: Disk + Drop>(
         return Reply::Unreadable;
     };
     let (now, reply) = opened_hall(alloc, disk, dialect, extensions, answer);
-    *place = now;
+    set(place, now);
     reply
 }
 
@@ -149,7 +149,7 @@ pub fn split_or_join<D: Disk + Drop>(place: &mut OpenHall<Broker<D>, D>, is_spli
     } else {
         joined(before)
     };
-    *place = now;
+    set(place, now);
     reply
 }
 

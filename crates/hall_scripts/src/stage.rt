@@ -1,5 +1,5 @@
 // What a case of this program has of a disk: the disk, or a broker or a hall that is open on it.
-use crate::open_hall::{OpenHall, ask, open, put, split_or_join, step_on, take};
+use crate::open_hall::{OpenHall, ask, open, set, split_or_join, step_on, take};
 use case_runner::{Reply, Text, Words};
 use disk_steps::{Base, CaseDisk, Stage};
 use group_commit::{Broker, Ticket};
@@ -23,7 +23,7 @@ impl Stage for HallStage {
     }
 
     fn put(&mut self, disk: CaseDisk) {
-        put(&mut self.place, disk);
+        set(&mut self.place, OpenHall::Closed(disk));
     }
 
     fn take(&mut self, base: &mut Base) -> Option<CaseDisk> {

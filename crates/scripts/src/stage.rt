@@ -31,6 +31,11 @@ pub struct BrokerStage {
     environment: Option<Env>,
 }
 
+// Takes this in place of what was there. No other function drops what was there, since that is dear to prove.
+fn set(place: &mut OpenBroker, now: OpenBroker) {
+    *place = now;
+}
+
 impl BrokerStage {
     // `ID`: the record of an event that has ended.
     fn tell_record(&mut self, alloc: Global, words: &mut Words, answer: &mut Text) -> Reply {
@@ -71,7 +76,7 @@ impl Stage for BrokerStage {
     }
 
     fn put(&mut self, disk: CaseDisk) {
-        self.place = OpenBroker::Closed(disk);
+        set(&mut self.place, OpenBroker::Closed(disk));
     }
 
     fn take(&mut self, base: &mut Base) -> Option<CaseDisk> {
@@ -91,11 +96,11 @@ impl Stage for BrokerStage {
         match open_broker(alloc, disk, answer) {
             Ok(broker) => {
                 let number = broker.issued();
-                self.place = OpenBroker::Open(broker);
+                set(&mut self.place, OpenBroker::Open(broker));
                 base.recovered(number)
             }
             Err((disk, reply)) => {
-                self.place = OpenBroker::Closed(disk);
+                set(&mut self.place, OpenBroker::Closed(disk));
                 reply
             }
         }
