@@ -5,8 +5,6 @@
 #![tactic(auto)]
 
 mod counting;
-#[cfg(test)]
-mod tests;
 mod written;
 
 pub use counting::CountingDisk;

@@ -3,6 +3,7 @@ mod disks;
 mod files;
 mod gate;
 mod house;
+mod meters;
 mod polls;
 mod ports;
 mod threads;

@@ -13,19 +13,26 @@ pub fn path_of(rt: &HostRuntime, test: &str) -> Result<String, Fail> {
     Ok(format!(in rt.alloc(); "{}/sector_disk_{test}_{id}", folder.as_str())?)
 }
 
+// What each of these bytes is, if all are the same.
+fn byte_of(bytes: &[u8]) -> Option<u8> {
+    let first = *bytes.first()?;
+    if bytes.iter().all(|byte| *byte == first) {
+        Some(first)
+    } else {
+        None
+    }
+}
+
 // What a sector of the disk reads as, if each of its bytes is the same.
 fn byte_at<D: Disk>(disk: &mut D, sector: u64) -> Option<u8> {
     if sector >= disk.sectors() {
         return None;
     }
     let mut bytes = [1; SECTOR_SIZE];
-    disk.read(sector, &mut bytes).ok()?;
-    let first = bytes[0];
-    if bytes == [first; SECTOR_SIZE] {
-        Some(first)
-    } else {
-        None
+    if disk.read(sector, &mut bytes).is_err() {
+        return None;
     }
+    byte_of(&bytes)
 }
 
 // Whether a sector of the disk was filled with this byte.
