@@ -99,20 +99,22 @@ fn with_more<D: Disk>(alloc: Global, disk: &mut D, asked: Asked) -> Result<Audit
     Ok(Audit { report, told })
 }
 
+// What is asked of a disk, which is given up.
+fn audit_on<D: Disk + Drop>(alloc: Global, disk: D, asked: Asked) -> Result<Audit, AuditError> {
+    let mut disk = disk;
+    if let Asked::Report = asked {
+        let report = audit(alloc, disk)?;
+        let told = Told::Report;
+        return Ok(Audit { report, told });
+    }
+    with_more(alloc, &mut disk, asked)
+}
+
 /// Reads what a disk holds, which is opened for reading alone.
 pub fn audit_disk<R: Files<File = File> + AllocGlobal>(
     rt: &R,
     old: &OldDisk<'_>,
 ) -> Result<Audit, AuditError> {
-    let mut disk = FileDisk::open_read_only(rt, old.path)?;
-    match old.asked {
-        Asked::Report => {
-            let report = audit(rt.alloc(), disk)?;
-            Ok(Audit {
-                report,
-                told: Told::Report,
-            })
-        }
-        asked => with_more(rt.alloc(), &mut disk, asked),
-    }
+    let disk = FileDisk::open_read_only(rt, old.path)?;
+    audit_on(rt.alloc(), disk, old.asked)
 }

@@ -137,6 +137,19 @@ fn open<D: Disk + Drop>(alloc: Global, disk: D) -> Result<Broker<D>, OpenError> 
     without_disk(Broker::open(alloc, disk))
 }
 
+// Opens the disk, and brings a retry policy in force on it.
+fn configure_on<D: Disk + Drop>(
+    alloc: Global,
+    disk: D,
+    new: &NewPolicy<'_>,
+    now: u64,
+) -> Result<(u8, u32), ConfiguringError>
+    ensures asked { IfOk result (IsAsked new.now) }
+{
+    let mut broker = open(alloc, disk)?;
+    configure(&mut broker, new, now)
+}
+
 /// Brings a retry policy in force on a disk, for the events that are accepted from then on: what is in force after it, the
 /// retries and the age in seconds. The values are judged first, then the file, and then what is on it. Nobody else has the
 /// disk meanwhile.
@@ -152,6 +165,5 @@ pub fn configure_disk<R: Files<File = File> + Clock + AllocGlobal>(
     }
     let disk = FileDisk::open(rt, new.path)?;
     let now = now(rt)?;
-    let mut broker = open(rt.alloc(), disk)?;
-    configure(&mut broker, new, now)
+    configure_on(rt.alloc(), disk, new, now)
 }

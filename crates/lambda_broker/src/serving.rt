@@ -176,6 +176,30 @@ where
     }
 }
 
+// What a front listens on.
+#[derive(Drop)]
+struct Ports {
+    // The callers' port, and one for each environment behind it.
+    listeners: Vec<TcpListener>,
+    // The operator's port.
+    admin: Option<Admin>,
+}
+
+// Listens on all ports.
+fn listen_on_all<R>(
+    rt: &R,
+    at: &Address<'_>,
+    environments: u8,
+    written: Written,
+) -> Result<Ports, ServingError>
+where
+    R: Files<File = File> + Net<Listener = TcpListener, Stream = TcpStream> + AllocGlobal,
+{
+    let listeners = listen(rt, at, environments)?;
+    let admin = listen_admin(rt, at, written)?;
+    Ok(Ports { listeners, admin })
+}
+
 // A hall over a broker, which tells its replies and waits for extensions as it is asked to.
 fn hall_over<D: Disk + Drop>(
     alloc: Global,
@@ -193,6 +217,20 @@ fn hall_over<D: Disk + Drop>(
         Ok(hall) => Ok(hall),
         Err(_) => Err(ServingError::OutOfMemory(AllocError)),
     }
+}
+
+// The hall over a broker of which nothing runs any more: attempts that the last stop cut off are interrupted.
+fn hall_at_rest<R: Clock + Wait + AllocGlobal, D: Disk + Drop>(
+    rt: &R,
+    broker: Broker<D>,
+    at: &Address<'_>,
+) -> Result<Hall<Broker<D>>, ServingError>
+    ensures nothing { IfOk result (λ hall. pending_of hall.issuer ≡ []) }
+    ensures fresh { IfOk result (λ hall. IsFresh (settings_of hall.issuer) hall) }
+{
+    let mut broker = broker;
+    resume(rt, &mut broker)?;
+    hall_over(rt.alloc(), broker, at)
 }
 
 // Prints the line from which on callers are served, and one of the operator's port.
@@ -217,12 +255,7 @@ fn warn<R: Eprint>(rt: &R, at: &Address<'_>) -> io::Result<()> {
 }
 
 // Serves a hall until the broker is stopped.
-fn serve_hall<R, T, D>(
-    rt: R,
-    hall: Hall<Broker<D>>,
-    listeners: Vec<TcpListener>,
-    admin: Option<Admin>,
-) -> Result<(), ServingError>
+fn serve_hall<R, T, D>(rt: R, hall: Hall<Broker<D>>, ports: Ports) -> Result<(), ServingError>
 where
     R: Threads
         + Wait
@@ -241,6 +274,7 @@ where
     requires fresh { IsFresh (settings_of hall.issuer) hall }
 {
     let blank = Blank::new(desks(hall.table().settings()));
+    let Ports { listeners, admin } = ports;
     let served = serve::<R, Brand, T, D, WhenPending>(
         rt,
         hall,
@@ -280,14 +314,12 @@ where
     D: Disk + Drop,
     W: Write,
 {
-    let mut broker = open(rt.alloc(), disk)?;
+    let broker = open(rt.alloc(), disk)?;
     let environments = broker.table().settings().environments;
-    let listeners = listen(&rt, at, environments)?;
-    let admin = listen_admin(&rt, at, written)?;
-    resume(&rt, &mut broker)?;
-    let hall = hall_over(rt.alloc(), broker, at)?;
+    let ports = listen_on_all(&rt, at, environments, written)?;
+    let hall = hall_at_rest(&rt, broker, at)?;
     announce(at, out)?;
-    serve_hall::<R, T, D>(rt, hall, listeners, admin)
+    serve_hall::<R, T, D>(rt, hall, ports)
 }
 
 /// Serves a disk: callers on a port of this machine and environment n on the port n behind it, from the line that is

@@ -187,19 +187,27 @@ fn serve_command<'a>(alloc: Global) -> Result<Command<'a>, AllocError> {
         .arg(option(alloc, "admin", admin).value_parser(value_parser!(u16).range(1024..65536)))
 }
 
+// A command with one more below it.
+fn with_command<'a>(
+    command: Command<'a>,
+    below: Result<Command<'a>, AllocError>,
+) -> Result<Command<'a>, AllocError> {
+    command.subcommand(below?)
+}
+
 fn commands<'a>(alloc: Global) -> Result<Command<'a>, AllocError> {
     let trial = Command::new(alloc, "trial").about(
         "Accept, commit and recover one event on a disk in memory",
     );
-    Command::new(alloc, "lambda_broker")
+    let all = Command::new(alloc, "lambda_broker")
         .about("A broker for asynchronous invocations of one function")
         .subcommand_required(true)
-        .subcommand(trial)?
-        .subcommand(format_command(alloc)?)?
-        .subcommand(audit_command(alloc)?)?
-        .subcommand(configure_command(alloc)?)?
-        .subcommand(migrate_command(alloc)?)?
-        .subcommand(serve_command(alloc)?)
+        .subcommand(trial)?;
+    let all = with_command(all, format_command(alloc))?;
+    let all = with_command(all, audit_command(alloc))?;
+    let all = with_command(all, configure_command(alloc))?;
+    let all = with_command(all, migrate_command(alloc))?;
+    with_command(all, serve_command(alloc))
 }
 
 fn function<'a>(matches: &ArgMatches<'a>) -> Option<Function<'a>> {
