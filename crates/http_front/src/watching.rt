@@ -9,7 +9,7 @@ use admin_replies::{Facts, Measures, Reply, tell};
 use admin_words::{Asked, read};
 use bytes::Bytes;
 use destination_json::id_text;
-use disk_meter::Written;
+use sector_disk::Written;
 use futures::Future;
 use futures::task::{Context, Poll};
 use http::request::Parts;

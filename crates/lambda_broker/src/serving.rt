@@ -7,12 +7,11 @@ ghost use Rattle.hall_core.specs.Fresh.{IsFresh};
 
 use crate::clock::now;
 use api_core::Dialect;
-use disk_meter::{CountingDisk, Written};
 use group_commit::{Broker, CommitError, IssueError, OpenError, without_disk};
 use hall_core::{Hall, HallFailure};
 use http_front::{Admin, Ending, ServeError, WhenPending, serve};
 use receipts::{Gone, SharedOpening, SharedTrace, desks};
-use sector_disk::{Disk, FileDisk, FileError};
+use sector_disk::{CountingDisk, Disk, FileDisk, FileError, Written};
 use std::alloc::{AllocError, AllocGlobal, Global};
 use std::fs::File;
 use std::io;

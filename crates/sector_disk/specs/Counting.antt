@@ -1,7 +1,7 @@
 -- A disk that counts the bytes that were written to the disk within.
 use Rattle.std.specs.Prelude.{ℕ, ◌+◌, ◌-◌, ◌^◌, min}
 use Rattle.sector_disk.specs.Disk.{DiskView}
-use Rattle.disk_meter.specs.declared.counting.CountingDisk.{CountingDisk}
+use Rattle.sector_disk.specs.declared.counting.CountingDisk.{CountingDisk}
 
 -- the disk within
 abbrev pub inner_of : {D : Type 0} → CountingDisk D → D

@@ -1,10 +1,9 @@
 // A disk that counts what is written to it.
 ghost use Rattle.std.specs.Prelude.{◌≡◌, ◌*◌, length};
 ghost use Rattle.sector_disk.specs.Disk.{IsOnDisk, IsSameDisk, HasCause, ReadsHonestly, WritesHonestly, SettlesHonestly};
-ghost use Rattle.disk_meter.specs.Meter.{counted};
+ghost use Rattle.sector_disk.specs.Counting.{counted};
 
-use crate::Written;
-use sector_disk::{Disk, Fault};
+use crate::{Disk, Fault, Written};
 
 /// A disk that counts the bytes that were handed to its writes, those of a write that failed too. It does what the disk
 /// within does.
@@ -23,7 +22,7 @@ fn count(count: &mut u64, bytes: usize)
 }
 
 impl<D: Disk> CountingDisk<D> {
-    ghost use Rattle.disk_meter.specs.Meter.{inner_of, written_to};
+    ghost use Rattle.sector_disk.specs.Counting.{inner_of, written_to};
 
     /// A disk of which no byte was counted. What it counts is shown by `written`.
     pub fn over(inner: D, written: Written) -> Self
@@ -54,7 +53,7 @@ impl<D: Disk> CountingDisk<D> {
 }
 
 impl<D: Disk> Disk for CountingDisk<D> {
-    ghost use Rattle.disk_meter.specs.Meter.{inner_of, view_of, faults_of, written_to, counted};
+    ghost use Rattle.sector_disk.specs.Counting.{inner_of, view_of, faults_of, written_to, counted};
 
     ghost view = { view_of D.view };
 
