@@ -4,13 +4,11 @@
 //! was seen, by the definitions of `operator_view`, and that nothing here changes anything.
 #![tactic(auto)]
 
-mod counters;
 mod lists;
 mod measuring;
 mod reply;
 mod telling;
 
-pub use counters::Counters;
 pub use lists::{event_reply, events_reply, records_reply};
 pub use measuring::{Measures, figures};
 pub use reply::{Media, Reply};

@@ -22,7 +22,7 @@ mod telling;
 mod value;
 
 pub use asked::Asked;
-pub use figures::{Figures, Phases, Process, Refusals, Tally};
+pub use figures::{Figures, Phases, Process, Tally};
 pub use page::PAGE;
 pub use reading::read;
 pub use refused::Refused;

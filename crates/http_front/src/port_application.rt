@@ -2,8 +2,8 @@
 ghost use Rattle.std.specs.Prelude.{◌≡◌};
 ghost use Rattle.hall_core.specs.Hall.{slot_told};
 
+use crate::drawing::new_id;
 use crate::front::Front;
-use crate::moment::new_id;
 use crate::replying::{Manner, Telling, refuse};
 use api_core::{Audience, Dialect, Refusal, RequestError, read_request};
 use futures::Future;
@@ -93,7 +93,7 @@ impl<R: Wait + Clock + RandomSource + Copy, L: Ledger, T: Trace> PortApplication
         let call = match read_request(
             front.alloc,
             front.dialect,
-            &front.facts.settings,
+            &front.settings,
             self.number,
             &head.method,
             target,
@@ -153,6 +153,6 @@ impl<R: Wait + Clock + RandomSource + Drop + Copy, L: Ledger, T: Trace> Applicat
             (Err(why), _) => why,
         };
         self.front.meters.note_status(&self.rt, why.status());
-        Err(refuse(alloc, &self.front.facts.settings, self.manner(id), why))
+        Err(refuse(alloc, &self.front.settings, self.manner(id), why))
     }
 }

@@ -6,6 +6,7 @@ ghost use Rattle.receipts.specs.Desks.{desk_count};
 
 use crate::tests::disks::{NO_TROUBLE, TestDisk, Watch, hall};
 use crate::tests::ports::clients::listen;
+use admin_port::AdminPort;
 use group_commit::Broker;
 use hall_core::Hall;
 use http_front::{ServeError, WhenPending, serve};
@@ -64,7 +65,14 @@ where
     let Ok(listeners) = crowd(&rt, rt.alloc()) else {
         return false;
     };
-    let ending = serve::<R, L, T, D, WhenPending>(rt, hall, blank, listeners, None, &WhenPending);
+    let ending = serve::<R, L, T, D, WhenPending, AdminPort>(
+        rt,
+        hall,
+        blank,
+        listeners,
+        None,
+        &WhenPending,
+    );
     matches!(ending, Err(ServeError::TooManyPorts))
 }
 
