@@ -1,4 +1,4 @@
-use Rattle.edge_tests.proofs.tests.ports.serve_hall.Given as goal
+use Rattle.port_tests.proofs.tests.ports.serve_hall.Given as goal
 
 -- the ledger is that of the blank
 abbrev pub ghosts-serve_talk : goal.ghosts-serve_talk

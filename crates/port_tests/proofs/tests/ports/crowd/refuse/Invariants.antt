@@ -1,4 +1,4 @@
-use Rattle.edge_tests.proofs.tests.ports.crowd.refuse.Given as goal
+use Rattle.port_tests.proofs.tests.ports.crowd.refuse.Given as goal
 
 -- the ledger is that of the blank
 abbrev pub ghosts-is_refused : goal.ghosts-is_refused

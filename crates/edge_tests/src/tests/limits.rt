@@ -2,8 +2,7 @@
 mod application;
 
 use crate::tests::house::expect;
-use crate::tests::ports::clients::{Told, ask, hear, listen, send};
-use crate::tests::ports::limits::application::Patient;
+use crate::tests::limits::application::Patient;
 use http_port::{Limits, serve};
 use std::alloc::AllocGlobal;
 use std::io::{Read, Write};
@@ -15,6 +14,7 @@ use std::test::Fail;
 use std::thread;
 use std::thread::Threads;
 use std::time::{Clock, Duration, Instant};
+use test_parts::{Told, ask, hear, listen, send};
 use tokio_util::sync::CancellationToken;
 
 // A limit that passes, in milliseconds.

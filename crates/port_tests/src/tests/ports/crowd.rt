@@ -4,8 +4,6 @@ ghost use Rattle.group_commit.specs.Broker.{pending_of, settings_of};
 ghost use Rattle.hall_core.specs.Fresh.{IsFresh};
 ghost use Rattle.receipts.specs.Desks.{desk_count};
 
-use crate::tests::disks::{NO_TROUBLE, TestDisk, Watch, hall};
-use crate::tests::ports::clients::listen;
 use group_commit::Broker;
 use hall_core::Hall;
 use http_front::{ServeError, WhenPending, serve};
@@ -21,6 +19,7 @@ use std::sync::{Arc, Wait};
 use std::test::Fail;
 use std::thread::Threads;
 use std::time::Clock;
+use test_parts::{NO_TROUBLE, TestDisk, Watch, hall, listen};
 
 // One more than the ports of an office with eight desks.
 const TOO_MANY: usize = 7;

@@ -1,7 +1,5 @@
 // What clients ask of a front, and what they are told.
-use crate::tests::disks::Watch;
-use crate::tests::house::expect;
-use crate::tests::ports::clients::{Doors, Told, ask, hear, send};
+use crate::tests::expecting::expect;
 use crate::tests::ports::watching::{a_watched_life, refused_looks, withheld_events};
 use http_front::Ending;
 use std::alloc::{AllocGlobal, Global};
@@ -10,6 +8,7 @@ use std::process::Abort;
 use std::thread;
 use std::thread::Threads;
 use std::time::{Clock, Duration, Instant};
+use test_parts::{Doors, Told, Watch, ask, hear, send};
 
 /// Who waits for a reply.
 #[derive(Clone, Copy)]
@@ -101,6 +100,8 @@ const MOST_ANSWERS: u64 = 100_000;
 
 pub const NOWHERE: &str = "GET /x HTTP/1.1\r\nhost: h\r\nconnection: close\r\n\r\n";
 
+const METRICS: &str = "GET /metrics HTTP/1.1\r\nhost: localhost\r\nconnection: close\r\n\r\n";
+
 const STOP: &str =
     "POST /broker/stop HTTP/1.1\r\nhost: h\r\nconnection: close\r\ncontent-length: 0\r\n\r\n";
 
@@ -155,6 +156,21 @@ fn is_record(told: &Told, id: &str) -> bool {
     told.has("200") && told.all.contains(id)
 }
 
+// Whether a poll is parked, as the operator is shown it, before long.
+fn is_parked_soon<R>(rt: &R, doors: Doors) -> bool
+where
+    R: AllocGlobal + Net<Listener = TcpListener, Stream = TcpStream>,
+{
+    for _turn in 0..MOST_ANSWERS {
+        let told = ask(rt, rt.alloc(), doors.admin, [METRICS, "", ""]);
+        if told.all.contains("lambda_broker_parked_polls 1\n") {
+            return true;
+        }
+        thread::yield_now();
+    }
+    false
+}
+
 // The record that the event leaves.
 fn a_life<R>(rt: &R, doors: Doors) -> Told
 where
@@ -171,6 +187,7 @@ where
         "its answer is taken",
     );
     let parked = send(rt, doors.environment, [NEXT, "", ""]);
+    expect(rt, is_parked_soon(rt, doors), "the next poll is parked");
     let record = oldest_record(rt, doors);
     expect(rt, is_record(&record, id), "the record has its id");
     expect(rt, call(rt, doors, STOP, "202"), "the broker stops");

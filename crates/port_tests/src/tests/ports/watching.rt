@@ -1,7 +1,5 @@
 // What an operator is shown, who looks at a front beside its clients.
-use crate::tests::disks::Watch;
-use crate::tests::house::expect;
-use crate::tests::ports::clients::{Doors, Told, ask, hear, send};
+use crate::tests::expecting::expect;
 use crate::tests::ports::talks::{
     INVOKE, NEXT, NOWHERE, RESPONSE, call, invoke, is_run, let_others_run, run,
 };
@@ -12,6 +10,7 @@ use std::process::Abort;
 use std::thread;
 use std::thread::Threads;
 use std::time::{Clock, Duration};
+use test_parts::{Doors, Told, Watch, ask, hear, send};
 
 const HEALTH: &str = "GET /healthz HTTP/1.1\r\nhost: localhost\r\nconnection: close\r\n\r\n";
 

@@ -4,19 +4,12 @@ ghost use Rattle.group_commit.specs.Broker.{pending_of, settings_of};
 ghost use Rattle.hall_core.specs.Fresh.{IsFresh};
 ghost use Rattle.receipts.specs.Desks.{desk_count};
 
-mod clients;
 mod crowd;
-mod limits;
 mod talks;
 mod watching;
 
-use crate::tests::disks::{
-    NO_TROUBLE, SECTORS, TestDisk, Trouble, Watch, format_disk, hall, hall_over,
-};
-use crate::tests::files::path_of;
+use crate::tests::expecting::expect;
 use crate::tests::gate::AtLeast;
-use crate::tests::house::expect;
-use crate::tests::ports::clients::{Doors, Told, listen};
 use crate::tests::ports::talks::{Leaving, Party, Talk, talk_at};
 use group_commit::Broker;
 use hall_core::Hall;
@@ -36,6 +29,10 @@ use std::test::Fail;
 use std::thread::Threads;
 use std::time::Clock;
 use std::{fs, io, thread};
+use test_parts::{
+    Doors, NO_TROUBLE, SECTORS, TestDisk, Told, Trouble, Watch, format_disk, hall, hall_over,
+    listen, path_of,
+};
 
 // A listener for callers and one for the environment, one for an operator, and where they listen.
 fn doors<N>(rt: &N, alloc: Global) -> io::Result<(Vec<TcpListener>, TcpListener, Doors)>
