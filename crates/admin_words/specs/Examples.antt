@@ -127,7 +127,7 @@ commits_text =
 -- the settings
 abbrev pub usual_text : List ℕ
 usual_text =
-    codes "# HELP lambda_broker_settings_info The settings of the function.\n"
+    codes "# HELP lambda_broker_settings_info The settings of the function, with the retries and the age in force.\n"
     ++ (codes "# TYPE lambda_broker_settings_info gauge\n"
     ++ (codes "lambda_broker_settings_info{function=\"my-function\","
     ++ (codes "arn=\"arn:aws:lambda:us-east-2:123456789012:function:my-function\",handler=\"index.handler\","

@@ -54,7 +54,7 @@ abbrev pub labels : List Field
 labels = Name ∷ Arn ∷ Handler ∷ Retries ∷ Age ∷ Timeout ∷ Concurrency ∷ Environments ∷ Events ∷ Payload ∷ Response ∷ []
 
 unfoldable pub settings_begin : List ℕ
-settings_begin = family "settings_info" "gauge" "The settings of the function." ++ codes "lambda_broker_settings_info{"
+settings_begin = family "settings_info" "gauge" "The settings of the function, with the retries and the age in force." ++ codes "lambda_broker_settings_info{"
 
 unfoldable pub settings_text : Settings → List ℕ
 settings_text s = settings_begin ++ (labels_text s labels ++ codes "} 1\n")

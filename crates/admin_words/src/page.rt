@@ -124,6 +124,9 @@ function sum(families, family, ...labels) {
   return total;
 }
 
+// The settings, with the retries and the age that are in force.
+function labels(families) { return families.settings_info?.[0].labels || {}; }
+
 // What is plotted: a count, by the milliseconds or by another count, or a level.
 const PLOTS = [
   ["accepted a second", "running", (f) => sum(f, "events_accepted_total"), Date.now],
@@ -196,9 +199,10 @@ function each(families, family, label) {
   return some.map((v) => `${v.labels[label].replaceAll("_", " ")} ${whole.format(v.value)}`).join(", ") || "none";
 }
 function showBroker(f) {
-  const count = (family) => whole.format(sum(f, family));
+  const count = (family) => whole.format(sum(f, family)), settings = labels(f);
   tell("oldest wait", span(sum(f, "oldest_wait_age_seconds")));
   tell("oldest record", span(sum(f, "oldest_record_age_seconds")));
+  tell("in force for new events", `${settings.retries} retries, ${span(settings.age_seconds)}`);
   tell("environments", each(f, "environments", "phase"));
   tell("parked polls, of open requests", `${count("parked_polls")} of ${count("open_slots")}`);
   tell("commands not durable yet", count("pending_commands"));
@@ -282,10 +286,10 @@ function health(text, kind) {
 let answered = 0;
 async function readNumbers(at) {
   const reply = await ask("metrics"), families = read(await reply.text()), said = await ask("healthz");
-  const labels = families.settings_info?.[0].labels || {};
-  put($("name"), labels.function || "Lambda broker");
+  const settings = labels(families);
+  put($("name"), settings.function || "Lambda broker");
   for (const plot of PLOTS) step(plot, families, at);
-  showStandings(families, Number(labels.events));
+  showStandings(families, Number(settings.events));
   showBroker(families);
   if (said.ok) health("The broker is well.", "good");
   else health(`The broker says: ${await said.text()}.`, "bad");

@@ -27,7 +27,7 @@ fn labels() -> &'static [Field]
 }
 
 const BEGIN: &[u8] =
-    b"# HELP lambda_broker_settings_info The settings of the function.\n# TYPE lambda_broker_settings_info gauge\nlambda_broker_settings_info{";
+    b"# HELP lambda_broker_settings_info The settings of the function, with the retries and the age in force.\n# TYPE lambda_broker_settings_info gauge\nlambda_broker_settings_info{";
 
 #[tactic(auto, unfolding(crate::specs::Metrics::settings_begin))]
 fn begin() -> &'static [u8]

@@ -1,4 +1,4 @@
--- One event in one line, by where it stands, when it was accepted, what its life counts and what it is judged by.
+-- One event in one line, by where it stands, when it was accepted, and what its life counts.
 use Rattle.std.specs.Prelude.{ℕ, List, ◌++◌, Option, Some, codes, decimal}
 use Rattle.uuid.specs.Text.{hyphenated_text, lower}
 use Rattle.invoke_records.specs.declared.row.Outcome.TheVariants.{Success, RetriesExhausted, EventAgeExceeded}
@@ -31,16 +31,11 @@ abbrev pub counts_text : ℕ × ℕ × ℕ → List ℕ
 counts_text counts =
     codes " starts " ++ (decimal counts.0 ++ (codes " failures " ++ (decimal counts.1 ++ (codes " pushbacks " ++ decimal counts.2))))
 
--- the retries and the age, in seconds, that it is judged by
-abbrev pub policy_text : ℕ × ℕ → List ℕ
-policy_text judge = codes " retries " ++ (decimal judge.0 ++ (codes " age " ++ decimal judge.1))
-
 -- what is known of an event that is held, and of another one
-abbrev pub life_text : Standing → Option ℕ → Option (ℕ × ℕ × ℕ) → Option (ℕ × ℕ) → List ℕ
-life_text standing (Some accepted) (Some counts) (Some judge) =
-    event_text standing accepted ++ (counts_text counts ++ policy_text judge)
-life_text standing accepted counts judge = codes " unknown"
+abbrev pub life_text : Standing → Option ℕ → Option (ℕ × ℕ × ℕ) → List ℕ
+life_text standing (Some accepted) (Some counts) = event_text standing accepted ++ counts_text counts
+life_text standing accepted counts = codes " unknown"
 
 -- the line of an event
-abbrev pub explanation : List ℕ → Standing → Option ℕ → Option (ℕ × ℕ × ℕ) → Option (ℕ × ℕ) → List ℕ
-explanation id standing accepted counts judge = id_text id ++ life_text standing accepted counts judge
+abbrev pub explanation : List ℕ → Standing → Option ℕ → Option (ℕ × ℕ × ℕ) → List ℕ
+explanation id standing accepted counts = id_text id ++ life_text standing accepted counts

@@ -2,10 +2,10 @@
 ghost use Rattle.std.specs.Prelude.{◌≡◌, ◌++◌, IfOk, OnOk, string_bytes};
 ghost use Rattle.invoke_records.specs.Spelling.{moment_in};
 ghost use Rattle.async_core.specs.Rules.{row_at, standing_at};
-ghost use Rattle.async_core.specs.Readers.{accepted_at, accepted_after, counts_at, counts_after, judge_at, judge_after};
+ghost use Rattle.async_core.specs.Readers.{accepted_at, accepted_after, counts_at, counts_after};
 ghost use Rattle.async_core.specs.History.{standing_in};
 ghost use Rattle.async_core.specs.Histories.{ForEachLegalHistory};
-ghost use Rattle.audit_report.specs.Explanation.{id_text, standing_text, event_text, counts_text, policy_text, life_text, explanation};
+ghost use Rattle.audit_report.specs.Explanation.{id_text, standing_text, event_text, counts_text, life_text, explanation};
 
 use async_core::Table;
 use invoke_records::{Outcome, Standing};
@@ -69,43 +69,31 @@ fn put_counts(out: &mut String, counts: (u32, u32, u32)) -> Result<(), AllocErro
     )
 }
 
-fn put_policy(out: &mut String, judge: (u8, u32)) -> Result<(), AllocError>
-    ensures { OnOk result (string_bytes out.new ≡ string_bytes out.old ++ policy_text judge) }
-{
-    let (retries, age) = judge;
-    write!(out, " retries {retries} age {age}")
-}
-
 // Puts what is known of an event behind its id.
 fn put_life(
     out: &mut String,
     standing: Standing,
     accepted: Option<u64>,
     counts: Option<(u32, u32, u32)>,
-    judge: Option<(u8, u32)>,
 ) -> Result<(), AllocError>
-    ensures { OnOk result (string_bytes out.new ≡ string_bytes out.old ++ life_text standing accepted counts judge) }
+    ensures { OnOk result (string_bytes out.new ≡ string_bytes out.old ++ life_text standing accepted counts) }
 {
-    match (accepted, counts, judge) {
-        (Some(accepted), Some(counts), Some(judge)) => {
+    match (accepted, counts) {
+        (Some(accepted), Some(counts)) => {
             put_event(out, standing, accepted)?;
-            put_counts(out, counts)?;
-            put_policy(out, judge)
+            put_counts(out, counts)
         }
         _ => out.push_str(" unknown"),
     }
 }
 
 /// Where an event stands and what its life counts, in one line without an end: `ID STANDING accepted MS moment MS starts N
-/// failures N pushbacks N retries R age A`, or `ID unknown` where it is not held. The moment is when it is due, times out, or
-/// ended; retries and age are those by which it is judged.
+/// failures N pushbacks N`, or `ID unknown` where it is not held. The moment is when it is due, times out, or ended.
 pub fn explain(alloc: Global, table: &Table, id: &[u8; 16]) -> Result<String, AllocError>
     ensures by_row { IfOk result (λ text. string_bytes text ≡ explanation id.now (standing_at table.now.table id.now)
-        (accepted_at (row_at table.now.table id.now)) (counts_at (row_at table.now.table id.now))
-        (judge_at (row_at table.now.table id.now))) }
+        (accepted_at (row_at table.now.table id.now)) (counts_at (row_at table.now.table id.now))) }
     ensures by_history { ForEachLegalHistory table.now (λ s history. IfOk result (λ text. string_bytes text
-        ≡ explanation id.now (standing_in s history id.now) (accepted_after id.now history) (counts_after id.now history)
-        (judge_after s id.now history))) }
+        ≡ explanation id.now (standing_in s history id.now) (accepted_after id.now history) (counts_after id.now history))) }
 {
     let mut text = id_text(alloc, id)?;
     put_life(
@@ -113,7 +101,6 @@ pub fn explain(alloc: Global, table: &Table, id: &[u8; 16]) -> Result<String, Al
         table.standing(id),
         table.accepted(id),
         table.counts(id),
-        table.judged_by(id),
     )?;
     Ok(text)
 }
