@@ -6,10 +6,10 @@ use Rattle.invoke_records.specs.declared.row.EventRow.{EventRow}
 use Rattle.operator_view.specs.declared.numbers.Census.{Census}
 use Rattle.operator_view.specs.Census.{IsCensus}
 use Rattle.receipts.specs.declared.sight.Sight.{Sight}
-use Rattle.admin_words.specs.declared.asked.Asked.{Asked}
-use Rattle.admin_words.specs.declared.asked.Asked.TheVariants as asked
-use Rattle.admin_words.specs.declared.figures.Figures.{Figures}
-use Rattle.admin_words.specs.Metrics.{metrics_text}
+use Rattle.admin_replies.specs.declared.asked.Asked.{Asked}
+use Rattle.admin_replies.specs.declared.asked.Asked.TheVariants as asked
+use Rattle.admin_replies.specs.declared.figures.Figures.{Figures}
+use Rattle.admin_replies.specs.Metrics.{metrics_text}
 use Rattle.admin_replies.specs.declared.telling.Facts.{Facts}
 use Rattle.admin_replies.specs.declared.measuring.Measures.{Measures}
 use Rattle.admin_replies.specs.declared.reply.Reply.{Reply}

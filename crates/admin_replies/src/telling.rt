@@ -2,10 +2,12 @@
 ghost use Rattle.std.specs.Prelude.{◌≡◌, IfOk};
 ghost use Rattle.admin_replies.specs.Telling.{TellsOf, TellsNumbers, CountsEnded, health_status, under};
 
+use crate::asked::Asked;
 use crate::lists::{event_reply, events_reply, records_reply};
 use crate::measuring::{Measures, ended_in, figures};
+use crate::metrics::metrics;
+use crate::page::PAGE;
 use crate::reply::{Media, Reply};
-use admin_words::{Asked, PAGE, metrics};
 use async_core::Table;
 use operator_view::census;
 use receipts::Sight;

@@ -1,23 +1,9 @@
 -- One event in one line, by where it stands, when it was accepted, and what its life counts.
 use Rattle.std.specs.Prelude.{ℕ, List, ◌++◌, Option, Some, codes, decimal}
-use Rattle.uuid.specs.Text.{hyphenated_text, lower}
-use Rattle.invoke_records.specs.declared.row.Outcome.TheVariants.{Success, RetriesExhausted, EventAgeExceeded}
 use Rattle.invoke_records.specs.declared.row.Standing.{Standing}
-use Rattle.invoke_records.specs.declared.row.Standing.TheVariants.{Unknown, Waiting, DueAgain, Running, Ended}
 use Rattle.invoke_records.specs.Spelling.{moment_in}
-
--- an id with its hyphens, in lower case
-unfoldable pub id_text : List ℕ → List ℕ
-id_text id = hyphenated_text lower id
-
-abbrev pub standing_text : Standing → List ℕ
-standing_text Unknown = codes "unknown"
-standing_text (Waiting due) = codes "waiting"
-standing_text (DueAgain due) = codes "due again"
-standing_text (Running environment deadline) = codes "running"
-standing_text (Ended Success at) = codes "ended Success"
-standing_text (Ended RetriesExhausted at) = codes "ended RetriesExhausted"
-standing_text (Ended EventAgeExceeded at) = codes "ended EventAgeExceeded"
+use Rattle.destination_json.specs.Record.{id_text}
+use Rattle.operator_view.specs.EventText.{standing_text}
 
 -- where it stands, when it was accepted, and the moment of its standing: when it is due, times out, or ended
 abbrev pub event_text : Standing → ℕ → List ℕ

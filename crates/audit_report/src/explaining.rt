@@ -1,55 +1,16 @@
 // One event in one line.
 ghost use Rattle.std.specs.Prelude.{◌≡◌, ◌++◌, IfOk, OnOk, string_bytes};
-ghost use Rattle.invoke_records.specs.Spelling.{moment_in};
 ghost use Rattle.async_core.specs.Rules.{row_at, standing_at};
 ghost use Rattle.async_core.specs.Readers.{accepted_at, accepted_after, counts_at, counts_after};
 ghost use Rattle.async_core.specs.History.{standing_in};
 ghost use Rattle.async_core.specs.Histories.{ForEachLegalHistory};
-ghost use Rattle.audit_report.specs.Explanation.{id_text, standing_text, event_text, counts_text, life_text, explanation};
+ghost use Rattle.audit_report.specs.Explanation.{event_text, counts_text, life_text, explanation};
 
 use async_core::Table;
-use invoke_records::{Outcome, Standing};
+use destination_json::id_text;
+use invoke_records::Standing;
+use operator_view::{moment_of, standing_text};
 use std::alloc::{AllocError, Global};
-use uuid::Uuid;
-
-// The text of an id: with its hyphens, in lower case.
-#[tactic(auto, unfolding(crate::specs::Explanation::id_text))]
-fn id_text(alloc: Global, id: &[u8; 16]) -> Result<String, AllocError>
-    ensures { IfOk result (λ text. string_bytes text ≡ id_text id.now) }
-{
-    let mut buffer = Uuid::encode_buffer();
-    let id = Uuid::from_bytes(*id);
-    String::from_str(alloc, id.hyphenated().encode_lower(&mut buffer))
-}
-
-fn standing_text(standing: Standing) -> &'static str
-    ensures { result.now ≡ standing_text standing }
-{
-    match standing {
-        Standing::Unknown => "unknown",
-        Standing::Waiting { .. } => "waiting",
-        Standing::DueAgain { .. } => "due again",
-        Standing::Running { .. } => "running",
-        Standing::Ended { outcome, .. } => match outcome {
-            Outcome::Success => "ended Success",
-            Outcome::RetriesExhausted => "ended RetriesExhausted",
-            Outcome::EventAgeExceeded => "ended EventAgeExceeded",
-        },
-    }
-}
-
-// When it is due, times out, or ended.
-fn moment_of(standing: Standing) -> u64
-    ensures { result ≡ moment_in standing }
-{
-    match standing {
-        Standing::Unknown => 0,
-        Standing::Waiting { due } => due,
-        Standing::DueAgain { due } => due,
-        Standing::Running { deadline, .. } => deadline,
-        Standing::Ended { at, .. } => at,
-    }
-}
 
 fn put_event(out: &mut String, standing: Standing, accepted: u64) -> Result<(), AllocError>
     ensures { OnOk result (string_bytes out.new ≡ string_bytes out.old ++ event_text standing accepted) }
