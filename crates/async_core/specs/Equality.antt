@@ -1,4 +1,4 @@
--- When two tables are equal, as a test: field by field.
+-- When two tables have the same snapshot, and when they have the same settings too, as tests: field by field.
 use Rattle.std.specs.Prelude.{Bool, true, false, ◌&&◌, ◌==◌}
 use Rattle.std.specs.Str.{bytes_eq}
 use Rattle.std.specs.Cmp.Lexicographic.{pointwise}
@@ -61,5 +61,10 @@ abbrev pub same_table : Snapshot → Snapshot → Bool
 same_table a b =
     (a.number == b.number) && (a.last_moment == b.last_moment) && same_policy a.policy b.policy && pointwise same_row a.rows b.rows
 
+-- two tables are equal where their snapshots are
+unfoldable pub same_snapshot : State → State → Bool
+same_snapshot a b = same_table a.table b.table
+
+-- and the same where their settings are equal too
 unfoldable pub same_state : State → State → Bool
 same_state a b = same_settings a.settings b.settings && same_table a.table b.table

@@ -1,7 +1,7 @@
 // Whether two tables are equal. It takes no memory.
 ghost use Rattle.std.specs.Prelude.{◌≡◌, IsTrue, ◌↔◌};
 ghost use Rattle.async_core.specs.Equality as meant;
-ghost use Rattle.async_core.specs.laws.Equality.{same_state-laws};
+ghost use Rattle.async_core.specs.laws.Equality.{same_snapshot-laws};
 
 use crate::Table;
 use invoke_records::{Answer, EventRow, Standing};
@@ -93,23 +93,37 @@ impl Table {
     }
 
     #[tactic(auto, unfolding(crate::specs::Equality::same_state))]
-    fn is_same(&self, other: &Table) -> bool
+    fn tests_same(&self, other: &Table) -> bool
         ensures { result ≡ meant.same_state self.now other.now }
     {
         same_settings(self.settings(), other.settings()) && self.has_same_table(other)
     }
+
+    /// Whether both have the same settings and the same snapshot. `==` compares the snapshots alone.
+    pub fn is_same(&self, other: &Table) -> bool
+        ensures { IsTrue result ↔ (self.now ≡ other.now) }
+    {
+        self.tests_same(other)
+    }
+
+    #[tactic(auto, unfolding(crate::specs::Equality::same_snapshot))]
+    fn tests_same_snapshot(&self, other: &Table) -> bool
+        ensures { result ≡ meant.same_snapshot self.now other.now }
+    {
+        self.has_same_table(other)
+    }
 }
 
 impl PartialEq for Table {
-    ghost eq = { meant.same_state };
+    ghost eq = { meant.same_snapshot };
 
-    ghost laws = { same_state-laws };
+    ghost laws = { same_snapshot-laws };
 
-    /// Whether both have the same settings and the same snapshot.
+    /// Whether both have the same snapshot. Their settings may differ; `is_same` compares them too.
     fn eq(&self, other: &Table) -> bool
-        ensures same { result ≡ meant.same_state self.now other.now }
-        ensures exact { IsTrue result ↔ (self.now ≡ other.now) }
+        ensures same { result ≡ meant.same_snapshot self.now other.now }
+        ensures exact { IsTrue result ↔ (self.now.table ≡ other.now.table) }
     {
-        self.is_same(other)
+        self.tests_same_snapshot(other)
     }
 }

@@ -25,9 +25,9 @@ ComparesTo table live older.Agrees = table ≡ live
 ComparesTo table live (older.Ahead more) = IsAhead more table live
 ComparesTo table live older.Differs = (table ≡ live → ⊥) × ((more : ℕ) → IsAhead more table live → ⊥)
 
--- the same of two tables under the same settings
+-- the same of two tables, whose settings do not count
 abbrev pub Compares : State → State → Older → Type 0
-Compares table live told = table.settings ≡ live.settings → ComparesTo table.table live.table told
+Compares table live told = ComparesTo table.table live.table told
 
 -- what is told of a table to which a segment folds, or of a segment of which a command is not legal
 abbrev pub TellsFolded : Snapshot → Option Snapshot → Older → Type 0

@@ -7,13 +7,11 @@ use std::process::ExitCode;
 use std::rt::{Env, Files};
 use std::{env, fs, io};
 
-// How many cases were run, how many of them differ from what they say, and how many commands two bodies of one thing were
-// given that said the same.
+// How many cases were run, and how many of them differ from what they say.
 #[derive(Drop)]
 struct Tally {
     cases: u64,
     differ: u64,
-    agreed: u64,
 }
 
 // Runs a script of these lines.
@@ -45,14 +43,12 @@ fn run_script<S: Scene>(
     let mut report = Report {
         name,
         text: Text::new(alloc),
-        agreed: 0,
     };
     run_lines::<S>(alloc, &lines, &mut report, tally);
-    let Report { text, agreed, .. } = report;
+    let Report { text, .. } = report;
     if text.is_cut() {
         return Err(AllocError);
     }
-    tally.agreed = tally.agreed.saturating_add(agreed);
     Ok(text)
 }
 
@@ -62,7 +58,6 @@ fn run_named<S: Scene, R: Env + Files + Print + AllocGlobal>(rt: &R) -> io::Resu
     let mut tally = Tally {
         cases: 0,
         differ: 0,
-        agreed: 0,
     };
     let mut names = env::args(rt)?;
     let _ = names.next();
@@ -77,16 +72,7 @@ fn run_named<S: Scene, R: Env + Files + Print + AllocGlobal>(rt: &R) -> io::Resu
 /// Runs the scripts that the command line names, each case on a scene of its own. It prints a line for each answer that is
 /// not what the script says, and then how many cases there are and how many differ: the status is 0 where none does.
 pub fn run_files<S: Scene, R: Env + Files + Print + AllocGlobal>(rt: &R) -> io::Result<ExitCode> {
-    let Tally { cases, differ, .. } = run_named::<S, R>(rt)?;
+    let Tally { cases, differ } = run_named::<S, R>(rt)?;
     println!(rt; "{cases} cases, {differ} differ")?;
     Ok(ExitCode::from(if differ == 0 { 0 } else { 1 }))
-}
-
-/// Gives the commands of the scripts that the command line names to two bodies of one thing, which each scene has. It prints
-/// a line for each step at which they differ, and then how many commands there are and how many cases differ: whether none
-/// does.
-pub fn race_files<S: Scene, R: Env + Files + Print + AllocGlobal>(rt: &R) -> io::Result<bool> {
-    let Tally { differ, agreed, .. } = run_named::<S, R>(rt)?;
-    println!(rt; "{agreed} commands given to both, {differ} cases differ")?;
-    Ok(differ == 0)
 }

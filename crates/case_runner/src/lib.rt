@@ -16,7 +16,7 @@ mod text;
 mod words;
 
 pub use bytes::{body, hex_bytes};
-pub use files::{race_files, run_files};
+pub use files::run_files;
 pub use orders::{Order, is_kind, kind_word, read_command, read_environment, read_order};
 pub use reply::Reply;
 pub use running::Scene;

@@ -27,10 +27,6 @@ pub enum Reply {
         durable: u64,
         issued: u64,
     },
-    /// So many commands were given to two bodies of one thing, which said the same. What the script says is not asked.
-    Agreed(u64),
-    /// Two bodies of one thing said different things, whatever the script says.
-    Differs,
 }
 
 impl Reply {
@@ -86,8 +82,6 @@ impl Reply {
             Reply::Word(word) | Reply::Refused(word) => answer.add(word),
             Reply::NoStep | Reply::Unreadable => answer.add("no answer, since it cannot be read,"),
             Reply::NoMemory => answer.cut(),
-            Reply::Agreed(_) => answer.add("agreed"),
-            Reply::Differs => answer.add("two answers"),
             Reply::Told | Reply::RefusalTold => {}
         }
     }
@@ -98,25 +92,13 @@ impl Reply {
     }
 
     fn is_told(self) -> bool {
-        !matches!(
-            self,
-            Reply::NoStep | Reply::Unreadable | Reply::NoMemory | Reply::Differs
-        )
-    }
-
-    /// How many commands two bodies of one thing were given that said the same.
-    pub fn agreed(self) -> u64 {
-        match self {
-            Reply::Agreed(commands) => commands,
-            _ => 0,
-        }
+        !matches!(self, Reply::NoStep | Reply::Unreadable | Reply::NoMemory)
     }
 
     /// Whether it is one of the answers between `|` that the script says. Where the script says nothing, it must not be a
     /// refusal.
     pub fn is_as_said(self, answer: &str, is_answered: bool, said: &str) -> bool {
-        let is_compared = is_answered && !matches!(self, Reply::Agreed(_));
-        if !is_compared || !self.is_told() {
+        if !is_answered || !self.is_told() {
             return self.is_told() && !self.is_refused();
         }
         for one in said.split(" | ") {

@@ -20,8 +20,6 @@ pub struct Report<'a> {
     /// The script's name.
     pub name: &'a str,
     pub text: Text,
-    /// How many commands two bodies of one thing were given that said the same.
-    pub agreed: u64,
 }
 
 impl Report<'_> {
@@ -173,7 +171,6 @@ fn run_line<S: Scene>(
     }
     let is_cut = step.is_cut() || said.is_cut() || answer.is_cut();
     let is_as_said = reply.is_as_said(answer.as_str(), line.said.is_some(), said.as_str());
-    report.agreed = report.agreed.saturating_add(reply.agreed());
     if is_cut {
         report.text.cut();
     } else if !is_as_said {

@@ -34,7 +34,7 @@ fn hand_over<D: Disk>(issue: &IssueHalf, broker: &mut Broker<D>) -> Result<(), J
         return Err(JoinError::OutOfMemory);
     };
     match take_all(broker, commands) {
-        Ok(()) if broker.table == issue.table => Ok(()),
+        Ok(()) if broker.table.is_same(&issue.table) => Ok(()),
         Ok(()) => Err(JoinError::Mismatch),
         Err(TakeError::Illegal) => Err(JoinError::Mismatch),
         Err(TakeError::Backlog) => Err(JoinError::Backlog),

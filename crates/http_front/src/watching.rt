@@ -8,7 +8,7 @@ use crate::moment::Moment;
 use admin_replies::{Asked, Facts, Measures, Reply, read, tell};
 use bytes::Bytes;
 use destination_json::id_text;
-use disk_meter::Written;
+use sector_disk::Written;
 use futures::Future;
 use futures::task::{Context, Poll};
 use http::request::Parts;

@@ -1,3 +1,4 @@
+pub mod Counting
 pub mod Disk
 pub mod FaultOnce
 pub mod File

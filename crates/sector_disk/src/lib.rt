@@ -2,10 +2,11 @@
 //!
 //! A disk is seen as a `DiskView`: its content, the images that a stop may leave now and at each moment since an earlier
 //! one, and whether it is honest. The crates above rest on `Disk` alone, with honesty as the premise of each clause on
-//! bytes, and state their promises on stops as `LeavesOnly`. `MemDisk` is honest, and can tear; the two wrappers fail.
+//! bytes, and state their promises on stops as `LeavesOnly`. `MemDisk` is honest, and can tear. Of three wrappers two fail, and `CountingDisk` counts what is written.
 //! `FileDisk` is honest where its `RandomAccessFile` is: `MemFile` is, and of a file of the system nothing proves it.
 #![tactic(auto)]
 
+mod counting;
 mod disk;
 mod fault_once;
 mod file;
@@ -15,7 +16,9 @@ mod memory_file;
 mod random_access;
 mod replay;
 mod std_file;
+mod written;
 
+pub use counting::CountingDisk;
 pub use disk::{Disk, Fault, SECTOR_SIZE};
 pub use fault_once::{CallKind, FaultOnceDisk};
 pub use file::{FileDisk, FileError};
@@ -23,3 +26,4 @@ pub use fuse::FuseDisk;
 pub use memory::MemDisk;
 pub use memory_file::MemFile;
 pub use random_access::RandomAccessFile;
+pub use written::Written;

@@ -1,7 +1,7 @@
--- Laws: the test of equality is true exactly where two tables are equal.
+-- Laws: the test of equality is true exactly where two snapshots are equal, the other one where the settings are equal too.
 use Rattle.std.proofs.Common.{◌≡◌, ℕ, List, Bool, true, ◌==◌, refl, sym, ap, subst}
 use Rattle.std.specs.Bool.{Decides}
-use Rattle.std.specs.Cmp.{IsPartialEquivalence, partial_equiv_from_equiv, decided}
+use Rattle.std.specs.Cmp.{IsPartialEquivalence, partial_equiv_from_equiv, decided, on_per}
 use Rattle.std.specs.Cmp.Lexicographic.{pointwise}
 use Rattle.std.specs.Str.{bytes_eq}
 use Rattle.std.proofs.lemmas.Bool.{true≢false, and_parts, and_from, eqb-true, eq-eqb}
@@ -13,10 +13,11 @@ use Rattle.invoke_records.specs.declared.row.Outcome.TheVariants.{Success, Retri
 use Rattle.invoke_records.specs.declared.row.Answer.{Answer}
 use Rattle.invoke_records.specs.declared.row.Answer.TheVariants as answer
 use Rattle.invoke_records.specs.declared.row.EventRow.{EventRow}
+use Rattle.invoke_records.specs.declared.snapshot.Snapshot.{Snapshot}
 use Rattle.invoke_records.specs.declared.row.Standing.{Standing}
 use Rattle.invoke_records.specs.declared.row.Standing.TheVariants as standing
 use Rattle.async_core.specs.State.{State}
-use Rattle.async_core.specs.Equality.{same_outcome, same_standing, same_answer, same_policy, same_numbers, same_row, same_rules, same_settings, same_state}
+use Rattle.async_core.specs.Equality.{same_outcome, same_standing, same_answer, same_policy, same_numbers, same_row, same_rules, same_settings, same_table, same_snapshot, same_state}
 
 number : (a b : ℕ) → (a == b) ≡ true → a ≡ b
 number a b h = eqb-true a b h
@@ -181,26 +182,42 @@ same_settings-itself a = rw (same_rules-itself a, bytes-itself a.name, bytes-its
 
 -- ## Tables
 
-table_from : (a b : State) → a.settings ≡ b.settings → a.table.number ≡ b.table.number → a.table.last_moment ≡ b.table.last_moment → a.table.policy ≡ b.table.policy → a.table.rows ≡ b.table.rows
-    → record { settings = a.settings; table = record { number = a.table.number; last_moment = a.table.last_moment; policy = a.table.policy; rows = a.table.rows } } ≡ b
-table_from a b s n m p r = rw (s, n, m, p, r) refl
+table_from : (a b : Snapshot) → a.number ≡ b.number → a.last_moment ≡ b.last_moment → a.policy ≡ b.policy → a.rows ≡ b.rows
+    → record { number = a.number; last_moment = a.last_moment; policy = a.policy; rows = a.rows } ≡ b
+table_from a b n m p r = rw (n, m, p, r) refl
+
+same_table-equal : (a b : Snapshot) → same_table a b ≡ true → a ≡ b
+same_table-equal a b h =
+    let rows = and_parts _ _ h in
+    let policies = and_parts _ _ rows.0 in
+    let numbers = and_parts _ _ policies.0 in
+    table_from a b (number _ _ numbers.0) (number _ _ numbers.1) (same_policy-equal _ _ policies.1) ((same_rows-Decides _ _).0 rows.1)
+
+same_table-itself : (a : Snapshot) → same_table a a ≡ true
+same_table-itself a = rw (number-itself a.number, number-itself a.last_moment, same_policy-itself a.policy, (same_rows-Decides a.rows a.rows).1 refl) refl
+
+-- the test is true exactly where both snapshots are equal
+pub same_snapshot-Decides : (a b : State) → Decides (same_snapshot a b) (a.table ≡ b.table)
+unfolding same_snapshot
+same_snapshot-Decides a b = decides same_table same_table-equal same_table-itself a.table b.table
+
+pub same_snapshot-laws : IsPartialEquivalence same_snapshot
+unfolding same_snapshot
+same_snapshot-laws = on_per (λ (s : State). s.table) (partial_equiv_from_equiv (decided same_table (decides same_table same_table-equal same_table-itself)))
+
+state_from : (a b : State) → a.settings ≡ b.settings → a.table ≡ b.table → record { settings = a.settings; table = a.table } ≡ b
+state_from a b s t = rw (s, t) refl
 
 same_state-equal : (a b : State) → same_state a b ≡ true → a ≡ b
 unfolding same_state
 same_state-equal a b h =
     let states = and_parts _ _ h in
-    let rows = and_parts _ _ states.1 in
-    let policies = and_parts _ _ rows.0 in
-    let numbers = and_parts _ _ policies.0 in
-    table_from a b (same_settings-equal _ _ states.0) (number _ _ numbers.0) (number _ _ numbers.1) (same_policy-equal _ _ policies.1) ((same_rows-Decides _ _).0 rows.1)
+    state_from a b (same_settings-equal _ _ states.0) (same_table-equal _ _ states.1)
 
 same_state-itself : (a : State) → same_state a a ≡ true
 unfolding same_state
-same_state-itself a = rw (same_settings-itself a.settings, number-itself a.table.number, number-itself a.table.last_moment, same_policy-itself a.table.policy, (same_rows-Decides a.table.rows a.table.rows).1 refl) refl
+same_state-itself a = rw (same_settings-itself a.settings, same_table-itself a.table) refl
 
--- the test is true exactly where both are equal
+-- the other test is true exactly where both are equal, settings and all
 pub same_state-Decides : (a b : State) → Decides (same_state a b) (a ≡ b)
 same_state-Decides = decides same_state same_state-equal same_state-itself
-
-pub same_state-laws : IsPartialEquivalence same_state
-same_state-laws = partial_equiv_from_equiv (decided same_state same_state-Decides)

@@ -1,7 +1,6 @@
 // What another reader of a disk's count is shown, of which no clause speaks.
 use crate::tests::house::expect;
-use disk_meter::{CountingDisk, Written};
-use sector_disk::{Disk, FuseDisk, MemDisk, SECTOR_SIZE};
+use sector_disk::{CountingDisk, Disk, FuseDisk, MemDisk, SECTOR_SIZE, Written};
 use std::test::Fail;
 
 // Whether a write of two sectors is shown.
