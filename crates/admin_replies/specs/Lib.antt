@@ -1,5 +1,11 @@
-pub mod Media
-pub mod Lists
 pub mod Counting
+pub mod Examples
+pub mod Lines
+pub mod Lists
+pub mod Media
+pub mod Metrics
 pub mod Numbers
+pub mod Requests
+pub mod Table
 pub mod Telling
+pub mod Values

@@ -2,7 +2,7 @@
 ghost use Rattle.std.specs.Prelude.{◌≡◌, ◌-◌};
 ghost use Rattle.admin_replies.specs.Counting.{sum_up_to, raised, raised_buckets, refused_more, HasSameDisk, HasSameCounts};
 
-use admin_words::Refusals;
+use crate::figures::Refusals;
 
 /// What the threads of a broker count for its operator since it was opened. Each number stays at its greatest once it is there.
 #[derive(Clone, Copy, Debug, PartialEq, Eq)]

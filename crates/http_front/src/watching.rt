@@ -5,8 +5,7 @@ ghost use Rattle.http_front.specs.Watching.{status_told, TellsOfFault};
 
 use crate::front::Front;
 use crate::moment::Moment;
-use admin_replies::{Facts, Measures, Reply, tell};
-use admin_words::{Asked, read};
+use admin_replies::{Asked, Facts, Measures, Reply, read, tell};
 use bytes::Bytes;
 use destination_json::id_text;
 use sector_disk::Written;
@@ -204,7 +203,7 @@ fn refuse(alloc: Global, status: u16, words: &str) -> Refused
 }
 
 // Why a request is refused, in words.
-fn refuse_words(alloc: Global, why: admin_words::Refused) -> Refused {
+fn refuse_words(alloc: Global, why: admin_replies::Refused) -> Refused {
     match format!(in alloc; "{why}") {
         Ok(words) => refuse(alloc, why.status(), words.as_str()),
         Err(_) => Refused::bare(alloc, StatusCode::SERVICE_UNAVAILABLE),
