@@ -2,7 +2,7 @@
 use Rattle.std.proofs.Common.{refl, Option, Some, None, Result, Ok, Err, inl, inr, subst}
 use Rattle.admin_replies.specs.declared.reply.Reply.{Reply}
 use Rattle.admin_replies.specs.declared.telling.Facts.{Facts}
-use Rattle.admin_words.specs.declared.asked.Asked.{Asked}
+use Rattle.admin_replies.specs.declared.asked.Asked.{Asked}
 use Rattle.receipts.specs.declared.sight.Sight.{Sight}
 use Rattle.receipts.specs.declared.sight.Withheld.{Withheld}
 use Rattle.long_poll.specs.declared.watching.NotShown.{NotShown}

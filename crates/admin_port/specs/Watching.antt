@@ -5,7 +5,7 @@ use Rattle.admin_replies.specs.declared.measuring.Measures.{Measures}
 use Rattle.admin_replies.specs.declared.reply.Reply.{Reply}
 use Rattle.admin_replies.specs.declared.telling.Facts.{Facts}
 use Rattle.admin_replies.specs.Telling.{TellsOf}
-use Rattle.admin_words.specs.declared.asked.Asked.{Asked}
+use Rattle.admin_replies.specs.declared.asked.Asked.{Asked}
 use Rattle.receipts.specs.declared.sight.Sight.{Sight}
 use Rattle.receipts.specs.declared.sight.Withheld.{Withheld}
 

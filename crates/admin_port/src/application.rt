@@ -4,7 +4,7 @@ use crate::lookout::Lookout;
 use crate::refusing::{refuse, refuse_words};
 use crate::showing::Showing;
 use crate::shown::Shown;
-use admin_words::{Asked, read};
+use admin_replies::{Asked, read};
 use http::request::Parts;
 use http_port::{Application, ReadError, Refused};
 use hyper::StatusCode;

@@ -3,8 +3,7 @@ ghost use Rattle.std.specs.Prelude.{◌≡◌};
 
 use crate::memory::resident_bytes;
 use crate::shown::Shown;
-use admin_replies::{Facts, Measures, tell};
-use admin_words::Asked;
+use admin_replies::{Asked, Facts, Measures, tell};
 use long_poll::Window;
 use port_meters::{Meters, Moment};
 use receipts::{Sight, Trace};

@@ -22,7 +22,7 @@ pub(crate) fn refuse(alloc: Global, status: u16, words: &str) -> Refused
 }
 
 /// Why a request is refused, in words.
-pub(crate) fn refuse_words(alloc: Global, why: admin_words::Refused) -> Refused {
+pub(crate) fn refuse_words(alloc: Global, why: admin_replies::Refused) -> Refused {
     match format!(in alloc; "{why}") {
         Ok(words) => refuse(alloc, why.status(), words.as_str()),
         Err(_) => Refused::bare(alloc, StatusCode::SERVICE_UNAVAILABLE),

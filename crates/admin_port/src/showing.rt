@@ -1,7 +1,7 @@
 // The reply to an operator.
 use crate::lookout::Lookout;
 use crate::shown::{Shown, device_fault};
-use admin_words::Asked;
+use admin_replies::Asked;
 use futures::Future;
 use futures::task::{Context, Poll};
 use long_poll::Watching;

@@ -1,4 +1,10 @@
-pub mod Media
+pub mod Examples
+pub mod Lines
 pub mod Lists
+pub mod Media
+pub mod Metrics
 pub mod Numbers
+pub mod Requests
+pub mod Table
 pub mod Telling
+pub mod Values

@@ -8,10 +8,10 @@ use Rattle.operator_view.specs.declared.numbers.Census.{Census}
 use Rattle.operator_view.specs.Census.{IsCensus, oldest_waiting, ends}
 use Rattle.receipts.specs.declared.sight.Sight.{Sight}
 use Rattle.receipts.specs.declared.tally.Tally.{Tally}
-use Rattle.admin_words.specs.declared.figures.Figures.{Figures}
-use Rattle.admin_words.specs.declared.figures.Phases.{Phases}
-use Rattle.admin_words.specs.declared.figures.Process.{Process}
-use Rattle.admin_words.specs.declared.figures.Tally.{Tally as Told}
+use Rattle.admin_replies.specs.declared.figures.Figures.{Figures}
+use Rattle.admin_replies.specs.declared.figures.Phases.{Phases}
+use Rattle.admin_replies.specs.declared.figures.Process.{Process}
+use Rattle.admin_replies.specs.declared.figures.Tally.{Tally as Told}
 use Rattle.admin_replies.specs.declared.measuring.Measures.{Measures}
 use Rattle.port_meters.specs.Counting.{sum_up_to}
 

@@ -1,13 +1,15 @@
 -- What is told to an operator of what was seen of a broker.
 use Rattle.std.specs.Prelude.{◌≡◌, ℕ, ◌-◌, ◌^◌, Bool, List, min, if◌then◌else◌}
+use Rattle.retry_rules.specs.declared.policy.RetryPolicy.{RetryPolicy}
+use Rattle.retry_rules.specs.declared.settings.Settings.{Settings}
 use Rattle.invoke_records.specs.declared.row.EventRow.{EventRow}
 use Rattle.operator_view.specs.declared.numbers.Census.{Census}
 use Rattle.operator_view.specs.Census.{IsCensus}
 use Rattle.receipts.specs.declared.sight.Sight.{Sight}
-use Rattle.admin_words.specs.declared.asked.Asked.{Asked}
-use Rattle.admin_words.specs.declared.asked.Asked.TheVariants as asked
-use Rattle.admin_words.specs.declared.figures.Figures.{Figures}
-use Rattle.admin_words.specs.Metrics.{metrics_text}
+use Rattle.admin_replies.specs.declared.asked.Asked.{Asked}
+use Rattle.admin_replies.specs.declared.asked.Asked.TheVariants as asked
+use Rattle.admin_replies.specs.declared.figures.Figures.{Figures}
+use Rattle.admin_replies.specs.Metrics.{metrics_text}
 use Rattle.admin_replies.specs.declared.telling.Facts.{Facts}
 use Rattle.admin_replies.specs.declared.measuring.Measures.{Measures}
 use Rattle.admin_replies.specs.declared.reply.Reply.{Reply}
@@ -22,11 +24,15 @@ CountsEnded rows count = (census : Census) × IsCensus rows census × (count ≡
 abbrev pub health_status : Bool → Bool → ℕ
 health_status has_fault is_stopping = if has_fault then 503 else if is_stopping then 503 else 200
 
--- the text of the numbers of what was seen
+-- the settings as they are told: with the retries and the age that are in force
+abbrev pub under : RetryPolicy → Settings → Settings
+under policy s = record s { retries = policy.retries; age = policy.age }
+
+-- the text of the numbers of what was seen, and of the settings under what was in force
 abbrev pub TellsNumbers : Facts → Sight → Measures → ℕ → Reply → Type 0
 TellsNumbers facts sight measures now reply =
     (figures : Figures) × AreFigures facts.ended_before sight measures now figures
-    × (reply.status ≡ 200) × (reply.body.items ≡ metrics_text figures facts.settings)
+    × (reply.status ≡ 200) × (reply.body.items ≡ metrics_text figures (under sight.look.table.policy facts.settings))
 
 -- each list, event and number is that of the table that was seen
 abbrev pub TellsOf : Facts → Sight → Measures → ℕ → Asked → Reply → Type 0

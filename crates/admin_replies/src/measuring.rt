@@ -3,7 +3,7 @@ ghost use Rattle.std.specs.Prelude.{◌≡◌, ◌^◌, ◌-◌, min, count_by};
 ghost use Rattle.operator_view.specs.Census.{ends};
 ghost use Rattle.admin_replies.specs.Numbers.{age_of, is_in_phase, phases_of, parked_in, ended_in, tally_told, process_told, IsOldestAge, AreFigures};
 
-use admin_words::{Figures, Phases, Process, Tally};
+use crate::figures::{Figures, Phases, Process, Tally};
 use env_phase::Phase;
 use hall_core::EnvironmentLook;
 use invoke_records::EventRow;
@@ -124,7 +124,7 @@ fn process_told(measures: &Measures, is_stopping: bool) -> Process
 
 /// The numbers of a broker that was seen so, of which so much was counted and measured, now, in milliseconds since 1970. At the
 /// opening so many events had ended.
-pub fn figures(before: u64, sight: &Sight, measures: &Measures, now: u64) -> Figures
+pub(crate) fn figures(before: u64, sight: &Sight, measures: &Measures, now: u64) -> Figures
     ensures { AreFigures before sight.now measures.now now result }
 {
     let look = &sight.look;

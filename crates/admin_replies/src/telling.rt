@@ -1,15 +1,17 @@
 // What is told of what was seen.
 ghost use Rattle.std.specs.Prelude.{◌≡◌, IfOk};
-ghost use Rattle.admin_replies.specs.Telling.{TellsOf, TellsNumbers, CountsEnded, health_status};
+ghost use Rattle.admin_replies.specs.Telling.{TellsOf, TellsNumbers, CountsEnded, health_status, under};
 
+use crate::asked::Asked;
 use crate::lists::{event_reply, events_reply, records_reply};
 use crate::measuring::{Measures, ended_in, figures};
+use crate::metrics::metrics;
+use crate::page::PAGE;
 use crate::reply::{Media, Reply};
-use admin_words::{Asked, PAGE, metrics};
 use async_core::Table;
 use operator_view::census;
 use receipts::Sight;
-use retry_rules::Settings;
+use retry_rules::{RetryPolicy, Settings};
 use std::alloc::{AllocError, Global};
 
 /// What is known of a broker from its opening on.
@@ -49,7 +51,17 @@ fn health_reply(alloc: Global, measures: &Measures, is_stopping: bool) -> Result
     }
 }
 
-// All numbers, as text.
+// The settings, with what is in force in place of the retries and the age that the disk was formatted with.
+fn settings_under(settings: &Settings, policy: &RetryPolicy) -> Result<Settings, AllocError>
+    ensures { IfOk result (λ shown. shown ≡ under policy.now settings.now) }
+{
+    let mut shown = settings.copy()?;
+    shown.retries = policy.retries;
+    shown.age = policy.age;
+    Ok(shown)
+}
+
+// All numbers and the settings, as text.
 fn metrics_reply(
     alloc: Global,
     facts: &Facts,
@@ -60,7 +72,8 @@ fn metrics_reply(
     ensures { IfOk result (TellsNumbers facts.now sight.now measures.now now) }
 {
     let figures = figures(facts.ended_before, sight, measures, now);
-    let text = metrics(alloc, &figures, &facts.settings)?;
+    let settings = settings_under(&facts.settings, &sight.look.table.policy)?;
+    let text = metrics(alloc, &figures, &settings)?;
     Ok(Reply::shown(Media::Metrics, text))
 }
 

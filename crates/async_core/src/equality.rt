@@ -101,7 +101,7 @@ impl Table {
 
     /// Whether both have the same settings and the same snapshot. `==` compares the snapshots alone.
     pub fn is_same(&self, other: &Table) -> bool
-        ensures exact { IsTrue result ↔ (self.now ≡ other.now) }
+        ensures { IsTrue result ↔ (self.now ≡ other.now) }
     {
         self.tests_same(other)
     }

@@ -1,23 +1,9 @@
--- One event in one line, by where it stands, when it was accepted, what its life counts and what it is judged by.
+-- One event in one line, by where it stands, when it was accepted, and what its life counts.
 use Rattle.std.specs.Prelude.{ℕ, List, ◌++◌, Option, Some, codes, decimal}
-use Rattle.uuid.specs.Text.{hyphenated_text, lower}
-use Rattle.invoke_records.specs.declared.row.Outcome.TheVariants.{Success, RetriesExhausted, EventAgeExceeded}
 use Rattle.invoke_records.specs.declared.row.Standing.{Standing}
-use Rattle.invoke_records.specs.declared.row.Standing.TheVariants.{Unknown, Waiting, DueAgain, Running, Ended}
 use Rattle.invoke_records.specs.Spelling.{moment_in}
-
--- an id with its hyphens, in lower case
-unfoldable pub id_text : List ℕ → List ℕ
-id_text id = hyphenated_text lower id
-
-abbrev pub standing_text : Standing → List ℕ
-standing_text Unknown = codes "unknown"
-standing_text (Waiting due) = codes "waiting"
-standing_text (DueAgain due) = codes "due again"
-standing_text (Running environment deadline) = codes "running"
-standing_text (Ended Success at) = codes "ended Success"
-standing_text (Ended RetriesExhausted at) = codes "ended RetriesExhausted"
-standing_text (Ended EventAgeExceeded at) = codes "ended EventAgeExceeded"
+use Rattle.destination_json.specs.Record.{id_text}
+use Rattle.operator_view.specs.EventText.{standing_text}
 
 -- where it stands, when it was accepted, and the moment of its standing: when it is due, times out, or ended
 abbrev pub event_text : Standing → ℕ → List ℕ
@@ -31,16 +17,11 @@ abbrev pub counts_text : ℕ × ℕ × ℕ → List ℕ
 counts_text counts =
     codes " starts " ++ (decimal counts.0 ++ (codes " failures " ++ (decimal counts.1 ++ (codes " pushbacks " ++ decimal counts.2))))
 
--- the retries and the age, in seconds, that it is judged by
-abbrev pub policy_text : ℕ × ℕ → List ℕ
-policy_text judge = codes " retries " ++ (decimal judge.0 ++ (codes " age " ++ decimal judge.1))
-
 -- what is known of an event that is held, and of another one
-abbrev pub life_text : Standing → Option ℕ → Option (ℕ × ℕ × ℕ) → Option (ℕ × ℕ) → List ℕ
-life_text standing (Some accepted) (Some counts) (Some judge) =
-    event_text standing accepted ++ (counts_text counts ++ policy_text judge)
-life_text standing accepted counts judge = codes " unknown"
+abbrev pub life_text : Standing → Option ℕ → Option (ℕ × ℕ × ℕ) → List ℕ
+life_text standing (Some accepted) (Some counts) = event_text standing accepted ++ counts_text counts
+life_text standing accepted counts = codes " unknown"
 
 -- the line of an event
-abbrev pub explanation : List ℕ → Standing → Option ℕ → Option (ℕ × ℕ × ℕ) → Option (ℕ × ℕ) → List ℕ
-explanation id standing accepted counts judge = id_text id ++ life_text standing accepted counts judge
+abbrev pub explanation : List ℕ → Standing → Option ℕ → Option (ℕ × ℕ × ℕ) → List ℕ
+explanation id standing accepted counts = id_text id ++ life_text standing accepted counts

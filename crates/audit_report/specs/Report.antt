@@ -99,11 +99,10 @@ standing_text report =
 abbrev pub ended_line : Report → List ℕ
 ended_line report = codes " success " ++ (decimal report.success ++ (codes " failure " ++ (decimal report.failure ++ codes "\n")))
 
-abbrev pub policy_line : Report → List ℕ
-policy_line report = codes "in force retries " ++ (decimal report.retries ++ (codes " age " ++ decimal report.age))
-
--- four lines, of which the last has no end
+-- three lines, of which the last has no end
 abbrev pub report_text : Report → List ℕ
-report_text report =
-    number_line report
-    ++ (standing_text report ++ (ended_line report ++ (older_text report.older ++ (codes "\n" ++ policy_line report))))
+report_text report = number_line report ++ (standing_text report ++ (ended_line report ++ older_text report.older))
+
+-- the line that tells what is in force, without an end
+abbrev pub in_force_text : Report → List ℕ
+in_force_text report = codes "in force retries " ++ (decimal report.retries ++ (codes " age " ++ decimal report.age))

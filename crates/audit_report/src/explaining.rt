@@ -1,55 +1,16 @@
 // One event in one line.
 ghost use Rattle.std.specs.Prelude.{◌≡◌, ◌++◌, IfOk, OnOk, string_bytes};
-ghost use Rattle.invoke_records.specs.Spelling.{moment_in};
 ghost use Rattle.async_core.specs.Rules.{row_at, standing_at};
-ghost use Rattle.async_core.specs.Readers.{accepted_at, accepted_after, counts_at, counts_after, judge_at, judge_after};
+ghost use Rattle.async_core.specs.Readers.{accepted_at, accepted_after, counts_at, counts_after};
 ghost use Rattle.async_core.specs.History.{standing_in};
 ghost use Rattle.async_core.specs.Histories.{ForEachLegalHistory};
-ghost use Rattle.audit_report.specs.Explanation.{id_text, standing_text, event_text, counts_text, policy_text, life_text, explanation};
+ghost use Rattle.audit_report.specs.Explanation.{event_text, counts_text, life_text, explanation};
 
 use async_core::Table;
-use invoke_records::{Outcome, Standing};
+use destination_json::id_text;
+use invoke_records::Standing;
+use operator_view::{moment_of, standing_text};
 use std::alloc::{AllocError, Global};
-use uuid::Uuid;
-
-// The text of an id: with its hyphens, in lower case.
-#[tactic(auto, unfolding(crate::specs::Explanation::id_text))]
-fn id_text(alloc: Global, id: &[u8; 16]) -> Result<String, AllocError>
-    ensures { IfOk result (λ text. string_bytes text ≡ id_text id.now) }
-{
-    let mut buffer = Uuid::encode_buffer();
-    let id = Uuid::from_bytes(*id);
-    String::from_str(alloc, id.hyphenated().encode_lower(&mut buffer))
-}
-
-fn standing_text(standing: Standing) -> &'static str
-    ensures { result.now ≡ standing_text standing }
-{
-    match standing {
-        Standing::Unknown => "unknown",
-        Standing::Waiting { .. } => "waiting",
-        Standing::DueAgain { .. } => "due again",
-        Standing::Running { .. } => "running",
-        Standing::Ended { outcome, .. } => match outcome {
-            Outcome::Success => "ended Success",
-            Outcome::RetriesExhausted => "ended RetriesExhausted",
-            Outcome::EventAgeExceeded => "ended EventAgeExceeded",
-        },
-    }
-}
-
-// When it is due, times out, or ended.
-fn moment_of(standing: Standing) -> u64
-    ensures { result ≡ moment_in standing }
-{
-    match standing {
-        Standing::Unknown => 0,
-        Standing::Waiting { due } => due,
-        Standing::DueAgain { due } => due,
-        Standing::Running { deadline, .. } => deadline,
-        Standing::Ended { at, .. } => at,
-    }
-}
 
 fn put_event(out: &mut String, standing: Standing, accepted: u64) -> Result<(), AllocError>
     ensures { OnOk result (string_bytes out.new ≡ string_bytes out.old ++ event_text standing accepted) }
@@ -69,43 +30,31 @@ fn put_counts(out: &mut String, counts: (u32, u32, u32)) -> Result<(), AllocErro
     )
 }
 
-fn put_policy(out: &mut String, judge: (u8, u32)) -> Result<(), AllocError>
-    ensures { OnOk result (string_bytes out.new ≡ string_bytes out.old ++ policy_text judge) }
-{
-    let (retries, age) = judge;
-    write!(out, " retries {retries} age {age}")
-}
-
 // Puts what is known of an event behind its id.
 fn put_life(
     out: &mut String,
     standing: Standing,
     accepted: Option<u64>,
     counts: Option<(u32, u32, u32)>,
-    judge: Option<(u8, u32)>,
 ) -> Result<(), AllocError>
-    ensures { OnOk result (string_bytes out.new ≡ string_bytes out.old ++ life_text standing accepted counts judge) }
+    ensures { OnOk result (string_bytes out.new ≡ string_bytes out.old ++ life_text standing accepted counts) }
 {
-    match (accepted, counts, judge) {
-        (Some(accepted), Some(counts), Some(judge)) => {
+    match (accepted, counts) {
+        (Some(accepted), Some(counts)) => {
             put_event(out, standing, accepted)?;
-            put_counts(out, counts)?;
-            put_policy(out, judge)
+            put_counts(out, counts)
         }
         _ => out.push_str(" unknown"),
     }
 }
 
 /// Where an event stands and what its life counts, in one line without an end: `ID STANDING accepted MS moment MS starts N
-/// failures N pushbacks N retries R age A`, or `ID unknown` where it is not held. The moment is when it is due, times out, or
-/// ended; retries and age are those by which it is judged.
+/// failures N pushbacks N`, or `ID unknown` where it is not held. The moment is when it is due, times out, or ended.
 pub fn explain(alloc: Global, table: &Table, id: &[u8; 16]) -> Result<String, AllocError>
     ensures by_row { IfOk result (λ text. string_bytes text ≡ explanation id.now (standing_at table.now.table id.now)
-        (accepted_at (row_at table.now.table id.now)) (counts_at (row_at table.now.table id.now))
-        (judge_at (row_at table.now.table id.now))) }
+        (accepted_at (row_at table.now.table id.now)) (counts_at (row_at table.now.table id.now))) }
     ensures by_history { ForEachLegalHistory table.now (λ s history. IfOk result (λ text. string_bytes text
-        ≡ explanation id.now (standing_in s history id.now) (accepted_after id.now history) (counts_after id.now history)
-        (judge_after s id.now history))) }
+        ≡ explanation id.now (standing_in s history id.now) (accepted_after id.now history) (counts_after id.now history))) }
 {
     let mut text = id_text(alloc, id)?;
     put_life(
@@ -113,7 +62,6 @@ pub fn explain(alloc: Global, table: &Table, id: &[u8; 16]) -> Result<String, Al
         table.standing(id),
         table.accepted(id),
         table.counts(id),
-        table.judged_by(id),
     )?;
     Ok(text)
 }

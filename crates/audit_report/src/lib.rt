@@ -22,4 +22,4 @@ pub use figures_json::json_line;
 pub use figuring::figures;
 pub use numbers::Figures;
 pub use records::all_records;
-pub use report::{Older, Report};
+pub use report::{Older, Report, in_force_line};

@@ -1,4 +1,8 @@
 // What an audit tells, and its lines.
+ghost use Rattle.std.specs.Prelude.{◌≡◌, IfOk, string_bytes};
+ghost use Rattle.audit_report.specs.Report.{in_force_text};
+
+use std::alloc::{AllocError, Global};
 use std::fmt;
 
 /// What the older segment tells beside the live one, once its commands are applied to its snapshot.
@@ -60,7 +64,7 @@ impl fmt::Display for Report {
 
     ghost output = { λ report. Some (report_text report) };
 
-    /// Four lines, of which the last has no end.
+    /// Three lines, of which the last has no end.
     fn fmt<W: fmt::Write>(&self, f: &mut fmt::Formatter<W>) -> fmt::Result {
         let generation = self.generation;
         let number = self.number;
@@ -73,9 +77,16 @@ impl fmt::Display for Report {
         let failure = self.failure;
         writeln!(f, " success {success} failure {failure}")?;
         let older = self.older;
-        writeln!(f, "{older}")?;
-        let retries = self.retries;
-        let age = self.age;
-        write!(f, "in force retries {retries} age {age}")
+        write!(f, "{older}")
     }
+}
+
+/// What is in force on a disk for the events that are accepted next, in one line without an end: `in force retries R age A`.
+/// Only want of memory is refused.
+pub fn in_force_line(alloc: Global, report: &Report) -> Result<String, AllocError>
+    ensures { IfOk result (λ text. string_bytes text ≡ in_force_text report.now) }
+{
+    let retries = report.retries;
+    let age = report.age;
+    format!(in alloc; "in force retries {retries} age {age}")
 }

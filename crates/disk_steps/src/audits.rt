@@ -1,7 +1,7 @@
 // The step that tells what a disk holds.
 use crate::refusals;
-use audit_report::{Report, inspect};
-use case_runner::{Reply, Text};
+use audit_report::{Report, in_force_line, inspect};
+use case_runner::{Reply, Text, Words};
 use sector_disk::Disk;
 use std::alloc::Global;
 
@@ -19,9 +19,25 @@ fn tell_lines(alloc: Global, report: &Report, answer: &mut Text) -> Reply {
     Reply::Told
 }
 
-/// What a formatted disk holds.
-pub fn tell_audit<D: Disk>(alloc: Global, disk: &mut D, answer: &mut Text) -> Reply {
+// The line of what is in force.
+fn tell_in_force(alloc: Global, report: &Report, answer: &mut Text) -> Reply {
+    let Ok(line) = in_force_line(alloc, report) else {
+        return NO_MEMORY;
+    };
+    answer.add(line.as_str());
+    Reply::Told
+}
+
+/// `[in-force]`: what a formatted disk holds, or what is in force on it.
+pub fn tell_audit<D: Disk>(
+    alloc: Global,
+    disk: &mut D,
+    words: &mut Words,
+    answer: &mut Text,
+) -> Reply {
+    let in_force = words.takes("in-force");
     match inspect(alloc, disk) {
+        Ok((_, report)) if in_force => tell_in_force(alloc, &report, answer),
         Ok((_, report)) => tell_lines(alloc, &report, answer),
         Err(why) => refusals::open(why, answer),
     }

@@ -186,7 +186,7 @@ pub fn disk_step<D: Disk>(
         "barrier" => done_or_fault(disk.barrier().is_ok()),
         "faults" => Reply::Number(disk.faults()),
         "recover" => recover(alloc, disk, answer),
-        "audit" => tell_audit(alloc, disk, answer),
+        "audit" => tell_audit(alloc, disk, words, answer),
         "frames" => frames(alloc, disk, words, answer),
         "fits" => fits(alloc, disk, words),
         "append" => append(alloc, disk, words),

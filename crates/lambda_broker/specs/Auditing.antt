@@ -1,10 +1,10 @@
 -- What the command `audit` tells, which of its faults are the device's, and the program's status for what it tells.
-use Rattle.std.specs.Prelude.{◌≡◌, ℕ, List, Bool, true, false, string_bytes}
+use Rattle.std.specs.Prelude.{◌≡◌, ℕ, List, [], ◌++◌, Bool, true, false, Option, Some, None, codes, string_bytes}
 use Rattle.sector_disk.specs.declared.file.FileError.TheVariants as file_error
 use Rattle.checkpoint.specs.declared.error.OpenError.TheVariants as open_error
 use Rattle.async_core.specs.State.{State}
 use Rattle.async_core.specs.Rules.{row_at, standing_at}
-use Rattle.async_core.specs.Readers.{accepted_at, counts_at, judge_at}
+use Rattle.async_core.specs.Readers.{accepted_at, counts_at}
 use Rattle.audit_report.specs.declared.numbers.Figures.{Figures}
 use Rattle.audit_report.specs.declared.report.Older.{Older}
 use Rattle.audit_report.specs.declared.report.Older.TheVariants as older
@@ -12,12 +12,13 @@ use Rattle.audit_report.specs.declared.report.Report.{Report}
 use Rattle.audit_report.specs.Explanation.{explanation}
 use Rattle.audit_report.specs.Figures.{AreFigures, figures_text}
 use Rattle.audit_report.specs.Records.{AreRecords}
-use Rattle.audit_report.specs.Report.{IsAudit}
+use Rattle.audit_report.specs.Report.{IsAudit, in_force_text}
 use Rattle.lambda_broker.specs.declared.auditing.Asked.{Asked}
 use Rattle.lambda_broker.specs.declared.auditing.Asked.TheVariants as asked
 use Rattle.lambda_broker.specs.declared.auditing.Audit.{Audit}
 use Rattle.lambda_broker.specs.declared.auditing.AuditError.{AuditError}
 use Rattle.lambda_broker.specs.declared.auditing.AuditError.TheVariants.{File, Open}
+use Rattle.lambda_broker.specs.declared.auditing.More.{More}
 use Rattle.lambda_broker.specs.declared.auditing.Told.{Told}
 use Rattle.lambda_broker.specs.declared.auditing.Told.TheVariants as told
 
@@ -25,7 +26,23 @@ use Rattle.lambda_broker.specs.declared.auditing.Told.TheVariants as told
 abbrev pub line_of : State → List ℕ → List ℕ
 line_of state id =
     let row = row_at state.table id in
-    explanation id (standing_at state.table id) (accepted_at row) (counts_at row) (judge_at row)
+    explanation id (standing_at state.table id) (accepted_at row) (counts_at row)
+
+-- ## The lines behind a report, each with its end
+
+abbrev pub lines_of_policy : Report → Bool → List ℕ
+lines_of_policy report true = in_force_text report ++ codes "\n"
+lines_of_policy report false = []
+
+abbrev pub lines_of_event : State → Option (List ℕ) → List ℕ
+lines_of_event state (Some id) = line_of state id ++ codes "\n"
+lines_of_event state None = []
+
+-- what is in force, and behind it the event
+abbrev pub lines_of : State → Report → More → List ℕ
+lines_of state report more = lines_of_policy report more.in_force ++ lines_of_event state more.event
+
+-- ## What is told
 
 -- the line of the numbers of this table's events, with this report
 pub record IsFiguresLine (state : State) (report : Report) (line : List ℕ) : Type 0 where
@@ -35,8 +52,7 @@ pub record IsFiguresLine (state : State) (report : Report) (line : List ℕ) : T
 
 -- what is told of a table and of the report on its disk where this is asked for
 abbrev pub IsTold : State → Report → Asked → Told → Type 0
-IsTold state report asked.Report told.Report = Unit {0}
-IsTold state report (asked.Event id) (told.Event line) = string_bytes line ≡ line_of state id
+IsTold state report (asked.Report more) (told.Report lines) = string_bytes lines ≡ lines_of state report more
 IsTold state report asked.Figures (told.Figures line) = IsFiguresLine state report (string_bytes line)
 IsTold state report asked.Records (told.Records lines) = AreRecords state.settings state.table.rows lines.items
 IsTold state report asking telling = ⊥

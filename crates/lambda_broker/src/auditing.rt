@@ -1,9 +1,11 @@
 // Auditing a disk in a file.
-ghost use Rattle.std.specs.Prelude.{◌≡◌, IfOk};
-ghost use Rattle.lambda_broker.specs.Auditing.{is_device_fault, IsTold, Answers};
+ghost use Rattle.std.specs.Prelude.{◌≡◌, ◌++◌, IfOk, OnOk, string_bytes};
+ghost use Rattle.lambda_broker.specs.Auditing.{is_device_fault, lines_of_policy, lines_of_event, lines_of, IsTold, Answers};
 
 use async_core::Table;
-use audit_report::{Report, all_records, audit, explain, figures, inspect, json_line};
+use audit_report::{
+    Report, all_records, audit, explain, figures, in_force_line, inspect, json_line,
+};
 use group_commit::OpenError;
 use sector_disk::{Disk, FileDisk, FileError};
 use std::alloc::{AllocError, Global};
@@ -23,13 +25,20 @@ pub struct OldDisk<'a> {
 #[derive(Clone, Copy, Debug)]
 pub enum Asked {
     /// A report, for a person to read.
-    Report,
-    /// A report, and the event with this id.
-    Event([u8; 16]),
+    Report(More),
     /// The numbers, as JSON.
     Figures,
     /// The destination records.
     Records,
+}
+
+/// What is asked for behind a report.
+#[derive(Clone, Copy, Debug)]
+pub struct More {
+    /// What is in force for the events that are accepted next.
+    pub in_force: bool,
+    /// The event with this id.
+    pub event: Option<[u8; 16]>,
 }
 
 /// What an audit tells.
@@ -42,10 +51,8 @@ pub struct Audit {
 /// What is printed of an audit.
 #[derive(Debug, Drop)]
 pub enum Told {
-    /// The report alone.
-    Report,
-    /// The report, and behind it the line of an event.
-    Event(String),
+    /// The report, and these lines behind it.
+    Report(String),
     /// The line of the numbers alone.
     Figures(String),
     /// The lines of the destination records alone.
@@ -75,13 +82,58 @@ impl AuditError {
     }
 }
 
+// Puts the line of what is in force behind a text, where it is asked for.
+fn put_in_force(
+    alloc: Global,
+    out: &mut String,
+    report: &Report,
+    is_asked: bool,
+) -> Result<(), AllocError>
+    ensures { OnOk result (string_bytes out.new ≡ string_bytes out.old ++ lines_of_policy report.now is_asked) }
+{
+    if !is_asked {
+        return Ok(());
+    }
+    let line = in_force_line(alloc, report)?;
+    out.push_str(line.as_str())?;
+    out.push_str("\n")
+}
+
+// Puts the line of an event behind a text, where one is asked for.
+fn put_event(
+    alloc: Global,
+    out: &mut String,
+    table: &Table,
+    event: Option<[u8; 16]>,
+) -> Result<(), AllocError>
+    ensures { OnOk result (string_bytes out.new ≡ string_bytes out.old ++ lines_of_event table.now event) }
+{
+    match event {
+        None => Ok(()),
+        Some(id) => {
+            let line = explain(alloc, table, &id)?;
+            out.push_str(line.as_str())?;
+            out.push_str("\n")
+        }
+    }
+}
+
+// The lines behind a report that are asked for.
+fn lines_of(alloc: Global, table: &Table, report: &Report, more: More) -> Result<String, AllocError>
+    ensures { IfOk result (λ lines. string_bytes lines ≡ lines_of table.now report.now more) }
+{
+    let mut lines = String::new(alloc);
+    put_in_force(alloc, &mut lines, report, more.in_force)?;
+    put_event(alloc, &mut lines, table, more.event)?;
+    Ok(lines)
+}
+
 // What is told of a table where this is asked for.
 fn told_of(alloc: Global, table: &Table, report: &Report, asked: Asked) -> Result<Told, AllocError>
     ensures { IfOk result (IsTold table.now report.now asked) }
 {
     match asked {
-        Asked::Report => Ok(Told::Report),
-        Asked::Event(id) => Ok(Told::Event(explain(alloc, table, &id)?)),
+        Asked::Report(more) => Ok(Told::Report(lines_of(alloc, table, report, more)?)),
         Asked::Figures => {
             let numbers = figures(table, report)?;
             Ok(Told::Figures(json_line(alloc, &numbers)?))
@@ -102,9 +154,15 @@ fn with_more<D: Disk>(alloc: Global, disk: &mut D, asked: Asked) -> Result<Audit
 // What is asked of a disk, which is given up.
 fn audit_on<D: Disk + Drop>(alloc: Global, disk: D, asked: Asked) -> Result<Audit, AuditError> {
     let mut disk = disk;
-    if let Asked::Report = asked {
+    if let Asked::Report(
+        More {
+            in_force: false,
+            event: None,
+        },
+    ) = asked
+    {
         let report = audit(alloc, disk)?;
-        let told = Told::Report;
+        let told = Told::Report(String::new(alloc));
         return Ok(Audit { report, told });
     }
     with_more(alloc, &mut disk, asked)

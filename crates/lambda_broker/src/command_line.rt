@@ -194,10 +194,9 @@ where
 fn print_told<W: Write>(audit: &Audit, out: &mut W) -> io::Result<()> {
     let report = audit.report;
     match &audit.told {
-        Told::Report => writeln!(out, "{report}"),
-        Told::Event(event) => {
+        Told::Report(lines) => {
             writeln!(out, "{report}")?;
-            writeln!(out, "{event}")
+            out.write_all(lines.as_bytes())
         }
         Told::Figures(line) => writeln!(out, "{line}"),
         Told::Records(lines) => out.write_all(lines.as_slice()),

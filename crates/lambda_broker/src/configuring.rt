@@ -7,8 +7,9 @@ ghost use Rattle.lambda_broker.specs.Configuring.{bad_option, policy_for, config
 ghost use Rattle.retry_rules.specs.declared.settings.Field.{Field};
 
 use crate::clock::now;
+use crate::opening::open;
 use async_core::Table;
-use group_commit::{Broker, CommitError, IssueError, OpenError, without_disk};
+use group_commit::{Broker, CommitError, IssueError, OpenError};
 use invoke_records::{Bytes, Command, Kind};
 use retry_rules::{BadSettings, Field, RetryPolicy};
 use sector_disk::{Disk, FileDisk, FileError};
@@ -130,11 +131,6 @@ fn configure<D: Disk>(
         Ok(_) => Ok(broker.table().in_force()),
         Err(why) => Err(ConfiguringError::Commit(why)),
     }
-}
-
-// The broker on a disk, which is given up where it is not opened.
-fn open<D: Disk + Drop>(alloc: Global, disk: D) -> Result<Broker<D>, OpenError> {
-    without_disk(Broker::open(alloc, disk))
 }
 
 // Opens the disk, and brings a retry policy in force on it.

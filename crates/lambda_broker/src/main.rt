@@ -9,6 +9,7 @@ mod command_line;
 mod configuring;
 mod formatting;
 mod migrating;
+mod opening;
 mod serving;
 mod words;
 

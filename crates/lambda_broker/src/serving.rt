@@ -6,9 +6,10 @@ ghost use Rattle.lambda_broker.specs.Serving.{ComesToRest};
 ghost use Rattle.hall_core.specs.Fresh.{IsFresh};
 
 use crate::clock::now;
+use crate::opening::open;
 use admin_port::{Admin, AdminPort};
 use api_core::Dialect;
-use group_commit::{Broker, CommitError, IssueError, OpenError, without_disk};
+use group_commit::{Broker, CommitError, IssueError, OpenError};
 use hall_core::{Hall, HallFailure};
 use http_front::{Ending, ServeError, WhenPending, serve};
 use port_meters::Machine;
@@ -80,11 +81,6 @@ impl ServingError {
                 | ServingError::Broken
         )
     }
-}
-
-// The broker on a disk, which is given up where it is not opened.
-fn open<D: Disk + Drop>(alloc: Global, disk: D) -> Result<Broker<D>, OpenError> {
-    without_disk(Broker::open(alloc, disk))
 }
 
 // Binds the port of the callers and one for each environment behind it.

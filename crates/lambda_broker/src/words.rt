@@ -1,5 +1,5 @@
 // The words of the command line: which command they are, and what it is told.
-use crate::auditing::{Asked, OldDisk};
+use crate::auditing::{Asked, More, OldDisk};
 use crate::configuring::NewPolicy;
 use crate::formatting::{Function, NewDisk, Numbers};
 use crate::migrating::OldVersion;
@@ -118,8 +118,15 @@ fn flag<'a>(alloc: Global, name: &'a str, help: &'a str) -> Arg<'a> {
         .help(help)
 }
 
+// An option that tells something else than a report.
+fn apart<'a>(option: Arg<'a>) -> Result<Arg<'a>, AllocError> {
+    option.conflicts_with("in-force")?.conflicts_with("event")
+}
+
 fn audit_command<'a>(alloc: Global) -> Result<Command<'a>, AllocError> {
     let event = option(alloc, "event", "Tell of the event with this id, too");
+    let in_force = "Tell the retries and the age that are in force, too";
+    let in_force = flag(alloc, "in-force", in_force);
     let json = flag(
         alloc,
         "json",
@@ -130,9 +137,10 @@ fn audit_command<'a>(alloc: Global) -> Result<Command<'a>, AllocError> {
     Command::new(alloc, "audit")
         .about("Tell what a disk holds, and whether its two segments tell one story")
         .arg(disk(alloc))?
+        .arg(in_force)?
         .arg(event.value_name("ID"))?
-        .arg(json.conflicts_with("event")?.conflicts_with("records")?)?
-        .arg(records.conflicts_with("event")?)
+        .arg(apart(json)?.conflicts_with("records")?)?
+        .arg(apart(records)?)
 }
 
 fn configure_command<'a>(alloc: Global) -> Result<Command<'a>, AllocError> {
@@ -246,6 +254,24 @@ fn bad_id(alloc: Global, id: &str) -> Result<Error, AllocError> {
     audit_command(alloc)?.error(ErrorKind::ValueValidation, message.as_str())
 }
 
+// What is asked for behind a report.
+fn more(alloc: Global, matches: &ArgMatches<'_>) -> Result<More, Error> {
+    let in_force = matches.get_flag("in-force");
+    let Some(id) = matches.get_str("event") else {
+        return Ok(More {
+            in_force,
+            event: None,
+        });
+    };
+    match Uuid::parse_str(id) {
+        Ok(id) => Ok(More {
+            in_force,
+            event: Some(id.into_bytes()),
+        }),
+        Err(_) => Err(bad_id(alloc, id)?),
+    }
+}
+
 // What is asked of a disk that is audited.
 fn asked(alloc: Global, matches: &ArgMatches<'_>) -> Result<Asked, Error> {
     if matches.get_flag("json") {
@@ -254,13 +280,7 @@ fn asked(alloc: Global, matches: &ArgMatches<'_>) -> Result<Asked, Error> {
     if matches.get_flag("records") {
         return Ok(Asked::Records);
     }
-    let Some(id) = matches.get_str("event") else {
-        return Ok(Asked::Report);
-    };
-    match Uuid::parse_str(id) {
-        Ok(id) => Ok(Asked::Event(id.into_bytes())),
-        Err(_) => Err(bad_id(alloc, id)?),
-    }
+    Ok(Asked::Report(more(alloc, matches)?))
 }
 
 fn old_disk<'a>(alloc: Global, matches: &ArgMatches<'a>) -> Result<Option<Task<'a>>, Error> {

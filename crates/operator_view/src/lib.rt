@@ -28,6 +28,7 @@ pub use ending::records_page;
 pub use error::PageError;
 pub use finding::find;
 pub use lines::record_lines;
+pub use members::{moment_of, standing_text};
 pub use list_json::events_json;
 pub use numbers::Census;
 pub use oldest::{oldest_record, oldest_waiting};

@@ -7,7 +7,8 @@ use destination_json::id_text;
 use invoke_records::{Answer, EventRow, Outcome, Standing};
 use std::alloc::{AllocError, Global};
 
-fn standing_text(standing: Standing) -> &'static str
+/// The words for where an event stands, as an audit and the lists have them.
+pub fn standing_text(standing: Standing) -> &'static str
     ensures { result.now ≡ standing_text standing }
 {
     match standing {
@@ -23,8 +24,8 @@ fn standing_text(standing: Standing) -> &'static str
     }
 }
 
-// When it is due, times out, or ended.
-fn moment_of(standing: Standing) -> u64
+/// When an event that stands so is due, times out, or ended; 0 of one that is not held.
+pub fn moment_of(standing: Standing) -> u64
     ensures { result ≡ moment_in standing }
 {
     match standing {

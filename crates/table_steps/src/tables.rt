@@ -74,6 +74,16 @@ fn tell_counts(counts: Option<(u32, u32, u32)>, answer: &mut Text) -> Reply {
     Reply::Told
 }
 
+// Retries and an age.
+fn tell_policy(policy: Option<(u8, u32)>, answer: &mut Text) -> Reply {
+    let Some((retries, age)) = policy else {
+        return Reply::NONE;
+    };
+    answer.add_with("retries ", retries as u64);
+    answer.add_with(" age ", age as u64);
+    Reply::Told
+}
+
 fn tell_payload(bytes: Option<&[u8]>, answer: &mut Text) -> Reply {
     let Some(bytes) = bytes else {
         return Reply::NONE;
@@ -94,6 +104,7 @@ fn event_step(table: &Table, word: &str, id: &[u8; 16], answer: &mut Text) -> Re
     match word {
         "standing" => tell_standing(table.standing(id), answer),
         "counts" => tell_counts(table.counts(id), answer),
+        "judged-by" => tell_policy(table.judged_by(id), answer),
         "payload" => tell_payload(table.payload(id), answer),
         "ended" => tell_ended(table.ended(id), answer),
         "accepted" => Reply::number_or_none(table.accepted(id)),
@@ -137,14 +148,6 @@ fn next_move(table: &Table, words: &mut Words, answer: &mut Text) -> Reply {
     if next.environment != 0 {
         answer.add_with(" in ", next.environment as u64);
     }
-    Reply::Told
-}
-
-// The retries and the age that are in force.
-fn in_force(table: &Table, answer: &mut Text) -> Reply {
-    let (retries, age) = table.in_force();
-    answer.add_with("retries ", retries as u64);
-    answer.add_with(" age ", age as u64);
     Reply::Told
 }
 
@@ -194,7 +197,7 @@ pub fn table_step(
         "judge" => judge(alloc, table, words),
         "number" => Reply::Number(table.number()),
         "moment" => Reply::Number(table.last_moment()),
-        "in-force" => in_force(table, answer),
+        "in-force" => tell_policy(Some(table.in_force()), answer),
         "snapshot" => spell_part(alloc, table, None, answer),
         "row" => spell_part(alloc, table, Some(words.number()), answer),
         _ => {

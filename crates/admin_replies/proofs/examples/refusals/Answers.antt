@@ -1,0 +1,28 @@
+-- Each one computes.
+use Rattle.std.proofs.Common.{refl}
+use Rattle.std.specs.Char.{encode_utf8}
+use Rattle.std.specs.Str.{is_utf8, chars}
+use Rattle.uuid.proofs.OnLiterals.{uuid_on_literals}
+use Rattle.admin_replies.specs.Requests.{named_by, asked_at, fits, given}
+use Rattle.admin_replies.proofs.examples.refusals.Goals as goal
+
+pub returns : goal.returns
+unfolding encode_utf8 is_utf8 chars uuid_on_literals named_by asked_at fits given
+returns c = record {
+  method = refl;
+  lower_case = refl;
+  path = refl;
+  slash = refl;
+  id = refl;
+  no_id = refl;
+  unknown = refl;
+  twice = refl;
+  no_standing = refl;
+  no_query = refl;
+  standing = refl;
+  after = refl;
+  zero = refl;
+  thousand = refl;
+  sign = refl;
+  empty = refl;
+}

@@ -1,0 +1,135 @@
+-- Worked examples: requests, and numbers with some of the lines that tell them.
+use Rattle.std.specs.Prelude.{ℕ, List, [], ◌∷◌, ◌++◌, false, true, Result, Some, None, codes}
+use Prim.Native.String.{String}
+use Rattle.retry_rules.specs.declared.settings.Settings.{Settings}
+use Rattle.admin_replies.specs.declared.asked.Asked.{Asked}
+use Rattle.admin_replies.specs.declared.refused.Refused.{Refused}
+use Rattle.admin_replies.specs.declared.figures.Figures.{Figures}
+use Rattle.admin_replies.specs.Requests.{asked_of}
+
+abbrev pub asks : String → String → Result Asked Refused
+asks method target = asked_of (codes method) (codes target)
+
+abbrev pub gets : String → Result Asked Refused
+gets target = asks "GET" target
+
+-- 00000000-0000-4000-8000-000000000003
+abbrev pub third : List ℕ
+third = 0 ∷ 0 ∷ 0 ∷ 0 ∷ 0 ∷ 0 ∷ 64 ∷ 0 ∷ 128 ∷ 0 ∷ 0 ∷ 0 ∷ 0 ∷ 0 ∷ 0 ∷ 3 ∷ []
+
+-- each number is another one
+abbrev pub numbers : Figures
+numbers = record {
+  census = record { held = 21; waiting = 1; due_again = 2; running = 3; success = 4; retries_exhausted = 5; event_age_exceeded = 6 };
+  oldest_wait_age = Some 61007;
+  oldest_record_age = None;
+  issued = 1000001;
+  durable = 1000000;
+  pending = 7;
+  open_slots = 8;
+  parked_polls = 9;
+  environments = record { init = 10; ready = 11; busy = 12; closing = 13 };
+  tally = record {
+    accepted = 14;
+    success = 15;
+    retries_exhausted = 16;
+    event_age_exceeded = 17;
+    collected = 18;
+    started = 19;
+    throttled = 20;
+    interrupted = 22;
+  };
+  process = record {
+    commits = 31;
+    switches = 32;
+    written_bytes = 18446744073709551615;
+    commit_microseconds = 4500042;
+    buckets = 23 ∷ 24 ∷ 25 ∷ 26 ∷ 27 ∷ 28 ∷ 29 ∷ 30 ∷ [];
+    generation = 34;
+    sectors = 35;
+    free_sectors = 36;
+    resident_bytes = 37;
+    is_stopping = true;
+    has_fault = false;
+    refused = record {
+      bad_request = 38;
+      not_found = 39;
+      conflict = 40;
+      too_large = 41;
+      head_too_large = 42;
+      too_many = 43;
+      unavailable = 44;
+      other = 45;
+    };
+  };
+}
+
+abbrev pub usual : Settings
+usual = record {
+  retries = 2;
+  age = 21600;
+  timeout = 3;
+  concurrency = 4;
+  environments = 5;
+  events = 64;
+  payload = 262144;
+  response = 1024;
+  name = codes "my-function";
+  handler = codes "index.handler";
+  arn = codes "arn:aws:lambda:us-east-2:123456789012:function:my-function";
+}
+
+-- where the events stand
+abbrev pub held_text : List ℕ
+held_text =
+    codes "# HELP lambda_broker_events Events that are held, by where they stand.\n"
+    ++ (codes "# TYPE lambda_broker_events gauge\n"
+    ++ (codes "lambda_broker_events{standing=\"waiting\"} 1\n"
+    ++ (codes "lambda_broker_events{standing=\"due_again\"} 2\n"
+    ++ (codes "lambda_broker_events{standing=\"running\"} 3\n"
+    ++ (codes "lambda_broker_events{standing=\"success\"} 4\n"
+    ++ (codes "lambda_broker_events{standing=\"retries_exhausted\"} 5\n" ++ codes "lambda_broker_events{standing=\"event_age_exceeded\"} 6\n"))))))
+
+-- what waits
+abbrev pub waits_text : List ℕ
+waits_text =
+    codes "# HELP lambda_broker_oldest_wait_age_seconds Age of the oldest event that waits, 0 where none does.\n"
+    ++ (codes "# TYPE lambda_broker_oldest_wait_age_seconds gauge\n"
+    ++ (codes "lambda_broker_oldest_wait_age_seconds 61.007\n"
+    ++ (codes "# HELP lambda_broker_oldest_record_age_seconds Time since the oldest record that is held was made, 0 where none is.\n"
+    ++ (codes "# TYPE lambda_broker_oldest_record_age_seconds gauge\n"
+    ++ (codes "lambda_broker_oldest_record_age_seconds 0.000\n"
+    ++ (codes "# HELP lambda_broker_pending_commands Commands that are issued and not yet durable.\n"
+    ++ (codes "# TYPE lambda_broker_pending_commands gauge\n"
+    ++ (codes "lambda_broker_pending_commands 7\n"
+    ++ (codes "# HELP lambda_broker_open_slots Requests that wait for their reply.\n"
+    ++ (codes "# TYPE lambda_broker_open_slots gauge\n"
+    ++ (codes "lambda_broker_open_slots 8\n"
+    ++ (codes "# HELP lambda_broker_parked_polls Long polls that wait for something to tell.\n"
+    ++ (codes "# TYPE lambda_broker_parked_polls gauge\n" ++ codes "lambda_broker_parked_polls 9\n")))))))))))))
+
+-- how long commits took
+abbrev pub commits_text : List ℕ
+commits_text =
+    codes "# HELP lambda_broker_commit_seconds Time that a commit took.\n"
+    ++ (codes "# TYPE lambda_broker_commit_seconds histogram\n"
+    ++ (codes "lambda_broker_commit_seconds_bucket{le=\"0.001\"} 23\n"
+    ++ (codes "lambda_broker_commit_seconds_bucket{le=\"0.0025\"} 24\n"
+    ++ (codes "lambda_broker_commit_seconds_bucket{le=\"0.005\"} 25\n"
+    ++ (codes "lambda_broker_commit_seconds_bucket{le=\"0.01\"} 26\n"
+    ++ (codes "lambda_broker_commit_seconds_bucket{le=\"0.025\"} 27\n"
+    ++ (codes "lambda_broker_commit_seconds_bucket{le=\"0.1\"} 28\n"
+    ++ (codes "lambda_broker_commit_seconds_bucket{le=\"0.5\"} 29\n"
+    ++ (codes "lambda_broker_commit_seconds_bucket{le=\"2.5\"} 30\n"
+    ++ (codes "lambda_broker_commit_seconds_bucket{le=\"+Inf\"} 31\n"
+    ++ (codes "lambda_broker_commit_seconds_sum 4.500042\n" ++ codes "lambda_broker_commit_seconds_count 31\n")))))))))))
+
+-- the settings
+abbrev pub usual_text : List ℕ
+usual_text =
+    codes "# HELP lambda_broker_settings_info The settings of the function, with the retries and the age in force.\n"
+    ++ (codes "# TYPE lambda_broker_settings_info gauge\n"
+    ++ (codes "lambda_broker_settings_info{function=\"my-function\","
+    ++ (codes "arn=\"arn:aws:lambda:us-east-2:123456789012:function:my-function\",handler=\"index.handler\","
+    ++ (codes "retries=\"2\",age_seconds=\"21600\",timeout_seconds=\"3\",concurrency=\"4\",environments=\"5\","
+    ++ codes "events=\"64\",payload_bytes=\"262144\",response_bytes=\"1024\",} 1\n"))))

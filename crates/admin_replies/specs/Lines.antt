@@ -1,0 +1,33 @@
+-- One number in Prometheus' text form: its name and labels, a space, and the number; two lines before it where a family begins.
+use Rattle.std.specs.Prelude.{ℕ, zero, suc, ◌/◌, ◌%◌, List, [], ◌++◌, codes, decimal}
+use Rattle.admin_replies.specs.declared.figure.Figure.{Figure}
+use Rattle.admin_replies.specs.declared.figures.Figures.{Figures}
+use Rattle.admin_replies.specs.declared.table.Row.{Row}
+use Rattle.admin_replies.specs.declared.value.Value.{Value}
+use Rattle.admin_replies.specs.declared.value.Value.TheVariants.{Whole, Milliseconds, Microseconds}
+use Rattle.admin_replies.specs.Values.{value_of}
+
+-- the last so many digits of a number
+unfoldable pub last_digits : ℕ → ℕ → List ℕ
+last_digits zero n = []
+last_digits (suc k) n = last_digits k (n / 10) ++ decimal (n % 10)
+
+-- the number, in seconds where it is a time
+abbrev pub value_text : Value → List ℕ
+value_text (Whole n) = decimal n
+value_text (Milliseconds n) = decimal (n / 1000) ++ (codes "." ++ last_digits 3 n)
+value_text (Microseconds n) = decimal (n / 1000000) ++ (codes "." ++ last_digits 6 n)
+
+pub record Line : Type 0 where
+  -- the lines that begin its family, if it is the first of one
+  pub head : List ℕ
+  -- its name and its labels
+  pub name : List ℕ
+  pub figure : Figure
+
+unfoldable pub line_text : Figures → Line → List ℕ
+line_text f line = line.head ++ (line.name ++ (codes " " ++ (value_text (value_of f line.figure) ++ codes "\n")))
+
+-- the line that a row of the program's table is
+abbrev pub line_of : Row → Line
+line_of r = record { head = r.head.now; name = r.name.now; figure = r.figure }

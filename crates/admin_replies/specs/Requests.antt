@@ -1,0 +1,178 @@
+-- What a request to the operator's port asks for, by its method and its target, or the first check that refuses it.
+use Rattle.std.specs.Prelude.{ℕ, ◌+◌, ◌*◌, ◌-◌, nat_le, ◌==◌, ◌&&◌, ◌||◌, List, [], ◌∷◌, length, drop, Bool, Option, Some, None, Result, Ok, Err, find, count_by, option_map, if◌then◌else◌, codes, bytes_eq, take}
+use Rattle.std.specs.List.{before_first, after_first, slice_split, list_all, list_any}
+use Rattle.std.specs.Str.{byte, is_utf8, all_ascii_digits}
+use Rattle.uuid.specs.Text.{parsed}
+use Rattle.async_core.specs.declared.choice.Side.{Side}
+use Rattle.async_core.specs.declared.choice.Side.TheVariants as side
+use Rattle.operator_view.specs.declared.standings.Which.{Which}
+use Rattle.operator_view.specs.declared.standings.Which.TheVariants as which
+use Rattle.admin_replies.specs.declared.asked.Asked.{Asked}
+use Rattle.admin_replies.specs.declared.asked.Asked.TheVariants as asked
+use Rattle.admin_replies.specs.declared.name.Name.{Name}
+use Rattle.admin_replies.specs.declared.name.Name.TheVariants as name
+use Rattle.admin_replies.specs.declared.place.Place.{Place}
+use Rattle.admin_replies.specs.declared.place.Place.TheVariants as place
+use Rattle.admin_replies.specs.declared.refused.Refused.{Refused}
+use Rattle.admin_replies.specs.declared.refused.Refused.TheVariants as why
+
+-- ## The parts of a target
+
+-- a target is a path, and behind its first `?` a query
+abbrev pub path_of : List ℕ → List ℕ
+path_of target = before_first (λ b. b == byte "?") target
+
+abbrev pub query_of : List ℕ → List ℕ
+query_of target = after_first (λ b. b == byte "?") target
+
+-- the parts of a query, each a name and behind its first `=` a value. Nothing is decoded
+abbrev pub parts_of : List ℕ → List (List ℕ)
+parts_of query = slice_split (λ b. b == byte "&") query
+
+abbrev pub name_in : List ℕ → List ℕ
+name_in part = before_first (λ b. b == byte "=") part
+
+abbrev pub value_in : List ℕ → List ℕ
+value_in part = after_first (λ b. b == byte "=") part
+
+abbrev pub is_empty : List ℕ → Bool
+is_empty part = length part == 0
+
+-- ## The path
+
+-- the id that a text is
+abbrev pub id_of : List ℕ → Option (List ℕ)
+id_of bytes = if is_utf8 bytes then parsed bytes else None
+
+-- what a path that begins with `/events/` names
+abbrev pub event_at : Option (List ℕ) → Result Place Refused
+event_at None = Err why.Id
+event_at (Some id) = Ok (place.Event id)
+
+-- what a path names that is no fixed one
+unfoldable pub named_by : List ℕ → Result Place Refused
+named_by path = if bytes_eq (take 8 path) (codes "/events/") then event_at (id_of (drop 8 path)) else Err why.Path
+
+-- what is at a path
+abbrev pub place_of : List ℕ → Result Place Refused
+place_of path =
+    if bytes_eq path (codes "/") then Ok place.Page
+    else if bytes_eq path (codes "/metrics") then Ok place.Metrics
+    else if bytes_eq path (codes "/healthz") then Ok place.Health
+    else if bytes_eq path (codes "/events") then Ok place.Events
+    else if bytes_eq path (codes "/records/success") then Ok (place.Records side.Success)
+    else if bytes_eq path (codes "/records/failure") then Ok (place.Records side.Failure)
+    else named_by path
+
+-- ## The query
+
+abbrev pub text_of : Name → List ℕ
+text_of name.Standing = codes "standing"
+text_of name.After = codes "after"
+text_of name.Limit = codes "limit"
+
+abbrev pub is_named : Name → List ℕ → Bool
+is_named name part = bytes_eq (name_in part) (text_of name)
+
+-- a part says nothing, or gives one of these
+abbrev pub is_understood : List Name → List ℕ → Bool
+is_understood names part = is_empty part || list_any (λ name. is_named name part) names
+
+abbrev pub is_given_once_at_most : List (List ℕ) → Name → Bool
+is_given_once_at_most parts name = nat_le (count_by (is_named name) parts) 1
+
+-- each part is understood, and no name is given twice
+unfoldable pub fits : List Name → List (List ℕ) → Bool
+fits names parts = list_all (is_understood names) parts && list_all (is_given_once_at_most parts) names
+
+-- what is given under a name
+unfoldable pub given : Name → List (List ℕ) → Option (List ℕ)
+given name parts = option_map value_in (find (is_named name) parts)
+
+-- ### Its values
+
+abbrev pub standing_of : Option (List ℕ) → Result Which Refused
+standing_of None = Ok which.All
+standing_of (Some text) =
+    if bytes_eq text (codes "all") then Ok which.All
+    else if bytes_eq text (codes "waiting") then Ok which.Waiting
+    else if bytes_eq text (codes "running") then Ok which.Running
+    else if bytes_eq text (codes "success") then Ok which.Success
+    else if bytes_eq text (codes "failure") then Ok which.Failure
+    else Err why.Standing
+
+-- an id that was read
+abbrev pub behind : Option (List ℕ) → Result (Option (List ℕ)) Refused
+behind None = Err why.After
+behind (Some id) = Ok (Some id)
+
+abbrev pub after_of : Option (List ℕ) → Result (Option (List ℕ)) Refused
+after_of None = Ok None
+after_of (Some text) = behind (id_of text)
+
+-- the number behind these digits
+abbrev pub number_after : ℕ → List ℕ → ℕ
+number_after n [] = n
+number_after n (c ∷ cs) = number_after (10 * n + (c - 48)) cs
+
+-- the number, if these are digits and it is at most a thousand
+abbrev pub number_of : ℕ → List ℕ → Option ℕ
+number_of n text = if all_ascii_digits text && nat_le (number_after n text) 1000 then Some (number_after n text) else None
+
+-- a number from 1 on
+abbrev pub positive : Option ℕ → Result ℕ Refused
+positive None = Err why.Limit
+positive (Some n) = if nat_le 1 n then Ok n else Err why.Limit
+
+abbrev pub limit_of : Option (List ℕ) → Result ℕ Refused
+limit_of None = Ok 100
+limit_of (Some text) = if is_empty text then Err why.Limit else positive (number_of 0 text)
+
+-- ## The request
+
+-- the names that a request has
+abbrev pub names_at : Place → List Name
+names_at place.Events = name.Standing ∷ name.After ∷ name.Limit ∷ []
+names_at (place.Records s) = name.After ∷ name.Limit ∷ []
+names_at other = []
+
+abbrev pub events_asked : Result Which Refused → Result (Option (List ℕ)) Refused → Result ℕ Refused → Result Asked Refused
+events_asked (Err w) after limit = Err w
+events_asked (Ok which) (Err w) limit = Err w
+events_asked (Ok which) (Ok after) (Err w) = Err w
+events_asked (Ok which) (Ok after) (Ok limit) = Ok (asked.Events which after limit)
+
+abbrev pub records_asked : Side → Result (Option (List ℕ)) Refused → Result ℕ Refused → Result Asked Refused
+records_asked s (Err w) limit = Err w
+records_asked s (Ok after) (Err w) = Err w
+records_asked s (Ok after) (Ok limit) = Ok (asked.Records s after limit)
+
+-- what is asked of a place, by what is given under each name
+abbrev pub told_at : Place → List (List ℕ) → Result Asked Refused
+told_at place.Page parts = Ok asked.Page
+told_at place.Metrics parts = Ok asked.Metrics
+told_at place.Health parts = Ok asked.Health
+told_at (place.Event id) parts = Ok (asked.Event id)
+told_at place.Events parts =
+    events_asked (standing_of (given name.Standing parts)) (after_of (given name.After parts)) (limit_of (given name.Limit parts))
+told_at (place.Records s) parts =
+    records_asked s (after_of (given name.After parts)) (limit_of (given name.Limit parts))
+
+-- what is asked of a place, with this query
+unfoldable pub asked_at : Place → List ℕ → Result Asked Refused
+asked_at place query = if fits (names_at place) (parts_of query) then told_at place (parts_of query) else Err why.Query
+
+abbrev pub asked_of_place : Result Place Refused → List ℕ → Result Asked Refused
+asked_of_place (Err w) query = Err w
+asked_of_place (Ok place) query = asked_at place query
+
+-- what a request asks for
+abbrev pub asked_of : List ℕ → List ℕ → Result Asked Refused
+asked_of method target =
+    if bytes_eq method (codes "GET") then asked_of_place (place_of (path_of target)) (query_of target) else Err why.Method
+
+-- the status of a refusal
+abbrev pub status_of : Refused → ℕ
+status_of why.Method = 405
+status_of why.Path = 404
+status_of other = 400

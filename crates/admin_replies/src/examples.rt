@@ -1,0 +1,50 @@
+// Worked examples of what is meant, computed by the check: a definition that changes one is refused.
+ghost use Rattle.std.specs.Prelude.{◌≡◌, Ok, Err, Some, None};
+ghost use Rattle.async_core.specs.declared.choice.Side.TheVariants as side;
+ghost use Rattle.operator_view.specs.declared.standings.Which.TheVariants as which;
+ghost use Rattle.admin_replies.specs.declared.asked.Asked.TheVariants as asked;
+ghost use Rattle.admin_replies.specs.declared.refused.Refused.TheVariants as why;
+ghost use Rattle.admin_replies.specs.declared.table.Section.TheVariants as section;
+ghost use Rattle.admin_replies.specs.Metrics.{section_text, settings_text};
+ghost use Rattle.admin_replies.specs.Examples.{asks, gets, third, numbers, usual, held_text, waits_text, commits_text, usual_text};
+
+/// Requests that are understood.
+pub fn requests()
+    ensures page { gets "/" ≡ Ok asked.Page }
+    ensures metrics { gets "/metrics" ≡ Ok asked.Metrics }
+    ensures health { gets "/healthz?" ≡ Ok asked.Health }
+    ensures events { gets "/events" ≡ Ok (asked.Events which.All None 100) }
+    ensures some_events { gets "/events?limit=1000&standing=waiting" ≡ Ok (asked.Events which.Waiting None 1000) }
+    ensures behind { gets "/events?after=00000000-0000-4000-8000-000000000003&standing=failure" ≡ Ok (asked.Events which.Failure (Some third) 100) }
+    ensures event { gets "/events/00000000-0000-4000-8000-000000000003" ≡ Ok (asked.Event third) }
+    ensures success { gets "/records/success?limit=1" ≡ Ok (asked.Records side.Success None 1) }
+    ensures failure { gets "/records/failure?&after=00000000-0000-4000-8000-000000000003" ≡ Ok (asked.Records side.Failure (Some third) 100) }
+{}
+
+/// Requests that are refused, by the first check that fails.
+pub fn refusals()
+    ensures method { asks "POST" "/nowhere" ≡ Err why.Method }
+    ensures lower_case { asks "get" "/" ≡ Err why.Method }
+    ensures path { gets "/nowhere?x=1" ≡ Err why.Path }
+    ensures slash { gets "/events?limit=1/" ≡ Err why.Limit }
+    ensures id { gets "/events/x?x=1" ≡ Err why.Id }
+    ensures no_id { gets "/events/" ≡ Err why.Id }
+    ensures unknown { gets "/events?limit=0&colour=red" ≡ Err why.Query }
+    ensures twice { gets "/events?limit=5&limit=5" ≡ Err why.Query }
+    ensures no_standing { gets "/records/success?standing=success" ≡ Err why.Query }
+    ensures no_query { gets "/metrics?limit=5" ≡ Err why.Query }
+    ensures standing { gets "/events?limit=0&after=x&standing=ended" ≡ Err why.Standing }
+    ensures after { gets "/events?limit=0&after=x" ≡ Err why.After }
+    ensures zero { gets "/events?limit=0" ≡ Err why.Limit }
+    ensures thousand { gets "/events?limit=1001" ≡ Err why.Limit }
+    ensures sign { gets "/events?limit=+5" ≡ Err why.Limit }
+    ensures empty { gets "/events?limit" ≡ Err why.Limit }
+{}
+
+/// Numbers as they are told.
+pub fn lines()
+    ensures held { section_text numbers section.Held ≡ held_text }
+    ensures waits { section_text numbers section.Waits ≡ waits_text }
+    ensures commits { section_text numbers section.Commits ≡ commits_text }
+    ensures settings { settings_text usual ≡ usual_text }
+{}

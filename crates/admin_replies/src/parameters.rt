@@ -1,0 +1,73 @@
+// The values of a query.
+ghost use Rattle.std.specs.Prelude.{◌≡◌, ◌≤◌};
+ghost use Rattle.std.specs.Option.{option_copied};
+ghost use Rattle.admin_replies.specs.Requests.{standing_of, after_of, limit_of, number_of};
+
+use crate::ids::read_id;
+use crate::refused::Refused;
+use operator_view::Which;
+
+/// Which events are asked for: all, where nothing is said.
+pub(crate) fn read_standing(text: Option<&str>) -> Result<Which, Refused>
+    ensures { result ≡ standing_of (option_copied text.entry) }
+{
+    match text {
+        None => Ok(Which::All),
+        Some("all") => Ok(Which::All),
+        Some("waiting") => Ok(Which::Waiting),
+        Some("running") => Ok(Which::Running),
+        Some("success") => Ok(Which::Success),
+        Some("failure") => Ok(Which::Failure),
+        Some(_) => Err(Refused::Standing),
+    }
+}
+
+/// The event behind which a list begins, where one is named.
+pub(crate) fn read_after(text: Option<&str>) -> Result<Option<[u8; 16]>, Refused>
+    ensures { result ≡ after_of (option_copied text.entry) }
+{
+    let Some(text) = text else { return Ok(None) };
+    match read_id(text.as_bytes()) {
+        Some(id) => Ok(Some(id)),
+        None => Err(Refused::After),
+    }
+}
+
+// The greatest limit.
+const MOST: usize = 1000;
+
+// The number that these digits are behind others, as far as they are digits and it is not too great.
+#[tactic(auto, using(crate::proofs::Numbers::at_least))]
+fn read_number(digits: &[u8], so_far: usize) -> Option<usize>
+    requires { so_far ≤ 1000 }
+    ensures { result ≡ number_of so_far digits.now }
+{
+    match digits {
+        [] => Some(so_far),
+        [digit, more @ ..] => {
+            if !digit.is_ascii_digit() {
+                return None;
+            }
+            let number = 10 * so_far + (*digit - b'0') as usize;
+            if MOST < number {
+                None
+            } else {
+                read_number(more, number)
+            }
+        }
+    }
+}
+
+/// How many are asked for at most: a hundred, where nothing is said.
+pub(crate) fn read_limit(text: Option<&str>) -> Result<usize, Refused>
+    ensures { result ≡ limit_of (option_copied text.entry) }
+{
+    let Some(text) = text else { return Ok(100) };
+    if text.is_empty() {
+        return Err(Refused::Limit);
+    }
+    match read_number(text.as_bytes(), 0) {
+        Some(limit) if limit >= 1 => Ok(limit),
+        _ => Err(Refused::Limit),
+    }
+}

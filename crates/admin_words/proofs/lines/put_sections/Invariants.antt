@@ -1,7 +1,0 @@
-use Rattle.std.proofs.Common.{◌≡◌, ◌++◌, take}
-use Rattle.std.specs.List.{flat_map}
-use Rattle.admin_words.specs.Metrics.{section_text}
-use Rattle.admin_words.proofs.lines.put_sections.Given as goal
-
-abbrev pub invariant-loop-section : goal.invariant-loop-section
-invariant-loop-section l = l.out.items ≡ l.initial.out.items ++ flat_map (section_text l.figures) (take l.section-index l.sections)
