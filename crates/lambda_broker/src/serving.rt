@@ -5,10 +5,8 @@ ghost use Rattle.group_commit.specs.Promises.{ForEachHistory};
 ghost use Rattle.lambda_broker.specs.Serving.{ComesToRest};
 ghost use Rattle.hall_core.specs.Fresh.{IsFresh};
 
-use crate::clock::now;
-use crate::opening::open;
 use admin_port::{Admin, AdminPort};
-use api_core::Dialect;
+use broker_commands::{Address, now, open};
 use group_commit::{Broker, CommitError, IssueError, OpenError};
 use hall_core::{Hall, HallFailure};
 use http_front::{Ending, ServeError, WhenPending, serve};
@@ -26,22 +24,6 @@ use std::sync::Wait;
 use std::sync::ledger::Blank;
 use std::time::Clock;
 use thiserror::Error;
-
-/// A disk that is to be served, where, in which words requests are answered, and for how many extensions an environment waits, 10
-/// at most.
-#[derive(Clone, Copy, Debug)]
-pub struct Address<'a> {
-    /// A file or a block device.
-    pub path: &'a str,
-    /// Where the callers' port and those of the environments are.
-    pub reach: IpAddr,
-    /// The port of the callers.
-    pub port: u16,
-    /// The operator's port, which is on the loopback address.
-    pub admin: Option<u16>,
-    pub dialect: Dialect,
-    pub extensions: u8,
-}
 
 /// Why a disk was not served, or not to its end.
 #[derive(Debug, Drop, Error)]

@@ -16,9 +16,9 @@ use Rattle.checkpoint.specs.declared.error.OpenError.TheVariants as open_error
 use Rattle.group_commit.specs.declared.broker.Broker.{Broker}
 use Rattle.group_commit.specs.declared.error.CommitError.TheVariants as commit_error
 use Rattle.group_commit.specs.Broker.{settings_of, IsReason, Stands}
-use Rattle.lambda_broker.specs.declared.configuring.ConfiguringError.{ConfiguringError}
-use Rattle.lambda_broker.specs.declared.configuring.ConfiguringError.TheVariants as error
-use Rattle.lambda_broker.specs.declared.configuring.NewPolicy.{NewPolicy}
+use Rattle.broker_commands.specs.declared.configuring.ConfiguringError.{ConfiguringError}
+use Rattle.broker_commands.specs.declared.configuring.ConfiguringError.TheVariants as error
+use Rattle.broker_commands.specs.declared.configuring.NewPolicy.{NewPolicy}
 
 -- the number that is told, or else this one
 abbrev pub told_or : Option ℕ → ℕ → ℕ

@@ -3,7 +3,7 @@ ghost use Rattle.std.specs.Prelude.{◌≡◌, [], Some, Err, IfErr, IfOk, OnOk}
 ghost use Rattle.async_core.specs.Policies.{pair_of};
 ghost use Rattle.group_commit.specs.Broker.{pending_of, table_in, IsReason};
 ghost use Rattle.group_commit.specs.Promises.{ForEachHistory};
-ghost use Rattle.lambda_broker.specs.Configuring.{bad_option, policy_for, configure_at, IsConfigured, IsRefusal, IsAsked, refused_for, is_device_fault};
+ghost use Rattle.broker_commands.specs.Configuring.{bad_option, policy_for, configure_at, IsConfigured, IsRefusal, IsAsked, refused_for, is_device_fault};
 ghost use Rattle.retry_rules.specs.declared.settings.Field.{Field};
 
 use crate::clock::now;

@@ -5,12 +5,12 @@ use Rattle.retry_rules.specs.declared.settings.Settings.{Settings}
 use Rattle.invoke_records.specs.declared.snapshot.Snapshot.{Snapshot}
 use Rattle.checkpoint.specs.declared.error.OpenError.{OpenError}
 use Rattle.group_commit.specs.Migrating.{IsOldDisk, IsMigrateReason}
-use Rattle.lambda_broker.specs.declared.migrating.Migrated.{Migrated}
+use Rattle.broker_commands.specs.declared.migrating.Migrated.{Migrated}
 use Rattle.sector_disk.specs.declared.file.FileError.TheVariants as file_error
 use Rattle.checkpoint.specs.declared.error.OpenError.TheVariants as open_error
 use Rattle.group_commit.specs.declared.error.MigrateError.TheVariants as migrate_error
-use Rattle.lambda_broker.specs.declared.migrating.MigratingError.{MigratingError}
-use Rattle.lambda_broker.specs.declared.migrating.MigratingError.TheVariants.{File, Migrate, Open}
+use Rattle.broker_commands.specs.declared.migrating.MigratingError.{MigratingError}
+use Rattle.broker_commands.specs.declared.migrating.MigratingError.TheVariants.{File, Migrate, Open}
 
 -- the disk was of version 1; its number is told, and the generation behind its own
 pub record IsMigrated (disk : DiskView) (told : Migrated) : Type 0 where

@@ -4,6 +4,6 @@ use sector_disk::Disk;
 use std::alloc::Global;
 
 /// The broker on a disk, which is given up where it is not opened.
-pub(crate) fn open<D: Disk + Drop>(alloc: Global, disk: D) -> Result<Broker<D>, OpenError> {
+pub fn open<D: Disk + Drop>(alloc: Global, disk: D) -> Result<Broker<D>, OpenError> {
     without_disk(Broker::open(alloc, disk))
 }

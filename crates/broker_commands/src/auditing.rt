@@ -1,6 +1,6 @@
 // Auditing a disk in a file.
 ghost use Rattle.std.specs.Prelude.{◌≡◌, ◌++◌, IfOk, OnOk, string_bytes};
-ghost use Rattle.lambda_broker.specs.Auditing.{is_device_fault, lines_of_policy, lines_of_event, lines_of, IsTold, Answers};
+ghost use Rattle.broker_commands.specs.Auditing.{is_device_fault, lines_of_policy, lines_of_event, lines_of, IsTold, Answers};
 
 use async_core::Table;
 use audit_report::{

@@ -3,10 +3,10 @@ use Rattle.std.specs.Prelude.{Bool, true, false}
 use Rattle.sector_disk.specs.declared.file.FileError.TheVariants as file_error
 use Rattle.retry_rules.specs.declared.settings.Settings.{Settings}
 use Rattle.checkpoint.specs.declared.error.FormatError.TheVariants as format_error
-use Rattle.lambda_broker.specs.declared.formatting.Function.{Function}
-use Rattle.lambda_broker.specs.declared.formatting.Numbers.{Numbers}
-use Rattle.lambda_broker.specs.declared.formatting.NewDiskError.{NewDiskError}
-use Rattle.lambda_broker.specs.declared.formatting.NewDiskError.TheVariants.{File, Format}
+use Rattle.broker_commands.specs.declared.formatting.Function.{Function}
+use Rattle.broker_commands.specs.declared.formatting.Numbers.{Numbers}
+use Rattle.broker_commands.specs.declared.formatting.NewDiskError.{NewDiskError}
+use Rattle.broker_commands.specs.declared.formatting.NewDiskError.TheVariants.{File, Format}
 
 -- the settings of the function that was told, with these numbers
 abbrev pub settings_for : Function → Numbers → Settings

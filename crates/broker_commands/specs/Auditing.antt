@@ -13,14 +13,14 @@ use Rattle.audit_report.specs.Explanation.{explanation}
 use Rattle.audit_report.specs.Figures.{AreFigures, figures_text}
 use Rattle.audit_report.specs.Records.{AreRecords}
 use Rattle.audit_report.specs.Report.{IsAudit, in_force_text}
-use Rattle.lambda_broker.specs.declared.auditing.Asked.{Asked}
-use Rattle.lambda_broker.specs.declared.auditing.Asked.TheVariants as asked
-use Rattle.lambda_broker.specs.declared.auditing.Audit.{Audit}
-use Rattle.lambda_broker.specs.declared.auditing.AuditError.{AuditError}
-use Rattle.lambda_broker.specs.declared.auditing.AuditError.TheVariants.{File, Open}
-use Rattle.lambda_broker.specs.declared.auditing.More.{More}
-use Rattle.lambda_broker.specs.declared.auditing.Told.{Told}
-use Rattle.lambda_broker.specs.declared.auditing.Told.TheVariants as told
+use Rattle.broker_commands.specs.declared.auditing.Asked.{Asked}
+use Rattle.broker_commands.specs.declared.auditing.Asked.TheVariants as asked
+use Rattle.broker_commands.specs.declared.auditing.Audit.{Audit}
+use Rattle.broker_commands.specs.declared.auditing.AuditError.{AuditError}
+use Rattle.broker_commands.specs.declared.auditing.AuditError.TheVariants.{File, Open}
+use Rattle.broker_commands.specs.declared.auditing.More.{More}
+use Rattle.broker_commands.specs.declared.auditing.Told.{Told}
+use Rattle.broker_commands.specs.declared.auditing.Told.TheVariants as told
 
 -- the line of an event of this table
 abbrev pub line_of : State → List ℕ → List ℕ

@@ -1,9 +1,9 @@
 // The words of the command line: which command they are, and what it is told.
+use crate::address::Address;
 use crate::auditing::{Asked, More, OldDisk};
 use crate::configuring::NewPolicy;
 use crate::formatting::{Function, NewDisk, Numbers};
 use crate::migrating::OldVersion;
-use crate::serving::Address;
 use api_core::Dialect;
 use clap::builder::ValueParser;
 use clap::error::ErrorKind;

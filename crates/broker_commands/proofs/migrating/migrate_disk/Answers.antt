@@ -1,6 +1,6 @@
 -- What is read back is what all images recover to.
-use Rattle.lambda_broker.proofs.ReadBack.{migrated}
-use Rattle.lambda_broker.proofs.migrating.migrate_disk.Goals as goal
+use Rattle.broker_commands.proofs.ReadBack.{migrated}
+use Rattle.broker_commands.proofs.migrating.migrate_disk.Goals as goal
 
 pub returns-in-Ok-audit-clause-told : goal.returns-in-Ok-audit-clause-told
 returns-in-Ok-audit-clause-told g c honest =

@@ -1,6 +1,6 @@
 // Formatting a disk in a file.
 ghost use Rattle.std.specs.Prelude.{◌≡◌, IfOk};
-ghost use Rattle.lambda_broker.specs.Formatting.{settings_for, is_device_fault};
+ghost use Rattle.broker_commands.specs.Formatting.{settings_for, is_device_fault};
 
 use group_commit::{FormatError, format};
 use retry_rules::{BadSettings, Settings, Text};

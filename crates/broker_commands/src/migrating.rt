@@ -1,6 +1,6 @@
 // Migrating a disk in a file.
 ghost use Rattle.std.specs.Prelude.{◌≡◌, IfOk, IfErr};
-ghost use Rattle.lambda_broker.specs.Migrating.{is_device_fault, IsMigrated, IsMigratingReason};
+ghost use Rattle.broker_commands.specs.Migrating.{is_device_fault, IsMigrated, IsMigratingReason};
 
 use audit_report::audit;
 use group_commit::{MigrateError, MigrateFailure, OpenError, migrate};

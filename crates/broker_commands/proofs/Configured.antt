@@ -12,9 +12,9 @@ use Rattle.async_core.specs.Rules.{table_after}
 use Rattle.group_commit.specs.declared.broker.Broker.{Broker}
 use Rattle.group_commit.specs.declared.error.IssueError.{IssueError}
 use Rattle.group_commit.specs.Broker.{settings_of, table_in, Stands, Issues, IsReason}
-use Rattle.lambda_broker.specs.declared.configuring.ConfiguringError.{ConfiguringError}
-use Rattle.lambda_broker.specs.declared.configuring.NewPolicy.{NewPolicy}
-use Rattle.lambda_broker.specs.Configuring.{told_or, policy_for, configure_after, configure_at, IsConfigured, IsAsked}
+use Rattle.broker_commands.specs.declared.configuring.ConfiguringError.{ConfiguringError}
+use Rattle.broker_commands.specs.declared.configuring.NewPolicy.{NewPolicy}
+use Rattle.broker_commands.specs.Configuring.{told_or, policy_for, configure_after, configure_at, IsConfigured, IsAsked}
 
 -- where the table's command was issued, the history's was
 pub configured : {D : Type 0} {g : Ghosts D} (view : D → DiskView) (old new : Broker D g) (wanted : NewPolicy) (now : ℕ)

@@ -12,7 +12,7 @@ use Rattle.checkpoint.specs.Live.{RecoversTo, is_new}
 use Rattle.group_commit.specs.Migrating.{Migrates}
 use Rattle.audit_report.specs.declared.report.Report.{Report}
 use Rattle.audit_report.specs.Report.{IsReportOn}
-use Rattle.lambda_broker.specs.Migrating.{IsMigrated}
+use Rattle.broker_commands.specs.Migrating.{IsMigrated}
 
 table_read : Snapshot → Result (Version × State) OpenError → Snapshot
 table_read other (Ok (version, state)) = state.table
