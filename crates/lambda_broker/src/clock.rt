@@ -1,7 +1,7 @@
 // The moment now.
 ghost use Rattle.std.specs.Prelude.{◌≤◌, IfOk};
 
-use http_front::Moment;
+use port_meters::Moment;
 use std::io;
 use std::time::Clock;
 

@@ -11,9 +11,10 @@ mod watching;
 use crate::tests::expecting::expect;
 use crate::tests::gate::AtLeast;
 use crate::tests::ports::talks::{Leaving, Party, Talk, talk_at};
+use admin_port::{Admin, AdminPort};
 use group_commit::Broker;
 use hall_core::Hall;
-use http_front::{Admin, serve};
+use http_front::serve;
 use receipts::{Gone, SharedOpening, SharedTrace, desks};
 use sector_disk::{Disk, FileDisk, Written};
 use std::alloc::{AllocGlobal, Global};
@@ -86,14 +87,22 @@ where
 {
     let (listeners, listener, doors) = doors(&rt, rt.alloc()).ok()?;
     let written = Written::new(rt.alloc()).ok()?;
-    let admin = Some(Admin {
+    let admin = Admin {
         listener,
         written,
         memory: None,
-    });
+    };
+    let admin = admin.over(hall.table()).ok()?;
     let clients = thread::spawn(&rt, move || talk_at(&rt, doors, &watch, talk)).ok()?;
     let gate = AtLeast::new(talk.pending());
-    let served = serve::<R, L, T, D, AtLeast>(rt, hall, blank, listeners, admin, &gate).ok();
+    let served = serve::<R, L, T, D, AtLeast, AdminPort>(
+        rt,
+        hall,
+        blank,
+        listeners,
+        Some(admin),
+        &gate,
+    ).ok();
     let told = clients.join(&rt);
     if served?.ending == talk.ending() {
         Some(told)

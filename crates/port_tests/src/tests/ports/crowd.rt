@@ -4,6 +4,7 @@ ghost use Rattle.group_commit.specs.Broker.{pending_of, settings_of};
 ghost use Rattle.hall_core.specs.Fresh.{IsFresh};
 ghost use Rattle.receipts.specs.Desks.{desk_count};
 
+use admin_port::AdminPort;
 use group_commit::Broker;
 use hall_core::Hall;
 use http_front::{ServeError, WhenPending, serve};
@@ -63,7 +64,14 @@ where
     let Ok(listeners) = crowd(&rt, rt.alloc()) else {
         return false;
     };
-    let ending = serve::<R, L, T, D, WhenPending>(rt, hall, blank, listeners, None, &WhenPending);
+    let ending = serve::<R, L, T, D, WhenPending, AdminPort>(
+        rt,
+        hall,
+        blank,
+        listeners,
+        None,
+        &WhenPending,
+    );
     matches!(ending, Err(ServeError::TooManyPorts))
 }
 

@@ -1,16 +1,26 @@
-// The clock and the source of random words.
+// A moment as the clock shows it.
 ghost use Rattle.std.specs.Prelude.{◌≡◌, ◌≤◌, IfOk};
 ghost use Rattle.std.specs.Time.{system_time_nanos, FitsClock};
-ghost use Rattle.http_front.specs.Moments.{millis_in};
+ghost use Rattle.port_meters.specs.Moments.{millis_in};
 
-use crate::error::NoClock;
-use hall_core::drawn_id;
 use invoke_records::GREATEST_MOMENT;
-use rand::TryRng;
-use rand::rngs::SysRng;
 use std::io;
-use std::random::RandomSource;
 use std::time::{Clock, SystemTime};
+
+/// Why there is no moment: the clock could not be read. Only a look at the clock gives it.
+#[derive(Debug, Drop)]
+pub struct NoClock {
+    why: io::Error,
+}
+
+impl From<NoClock> for io::Error {
+    ghost from_gives = { λ none error. error ≡ none.why };
+
+    fn from(none: NoClock) -> io::Error {
+        let NoClock { why } = none;
+        why
+    }
+}
 
 /// A moment as the clock showed it. Only a look at the clock gives one.
 #[derive(Clone, Copy)]
@@ -25,7 +35,7 @@ impl Moment {
     {
         match SystemTime::now(rt) {
             Ok(shown) => Ok(Moment { shown }),
-            Err(why) => Err(NoClock::of(why)),
+            Err(why) => Err(NoClock { why }),
         }
     }
 
@@ -39,17 +49,4 @@ impl Moment {
             Err(_) => 0,
         }
     }
-}
-
-/// Two random words, of which new ids are made.
-pub(crate) fn words<R: RandomSource>(rt: &R) -> io::Result<[u64; 2]> {
-    let mut source = SysRng::new(rt);
-    let first = source.try_next_u64()?;
-    let second = source.try_next_u64()?;
-    Ok([first, second])
-}
-
-/// A new id of version 4.
-pub(crate) fn new_id<R: RandomSource>(rt: &R) -> io::Result<[u8; 16]> {
-    Ok(drawn_id(words(rt)?))
 }

@@ -1,38 +1,44 @@
-// What a front counts for its operator.
-use admin_replies::Counters;
-use group_commit::DiskHalf;
-use sector_disk::Disk;
+// What the threads of a broker's ports count for its operator.
+use crate::counters::Counters;
 use std::io;
 use std::sync::{Mutex, Wait};
 use std::time::{Clock, Instant};
 
-/// What the threads of a front count for its operator, behind a lock that is held for no longer than an addition.
+/// How a disk stands: the generation of its live segment, how many sectors it has, and how many that segment has left.
+#[derive(Clone, Copy, Debug)]
+pub struct DiskState {
+    pub generation: u64,
+    pub sectors: u64,
+    pub free_sectors: u64,
+}
+
+/// What the threads of a broker's ports count for its operator, behind a lock that is held for no longer than an addition.
 #[derive(Drop)]
-pub(crate) struct Meters {
+pub struct Meters {
     counters: Mutex<Counters>,
 }
 
 impl Meters {
     /// Nothing was counted.
-    pub(crate) fn new() -> Meters {
+    pub fn new() -> Meters {
         Meters {
             counters: Mutex::new(Counters::new()),
         }
     }
 
     /// What was counted.
-    pub(crate) fn read<R: Wait>(&self, rt: &R) -> Counters {
+    pub fn read<R: Wait>(&self, rt: &R) -> Counters {
         *self.counters.lock(rt)
     }
 
-    /// A commit that began then was made, or was not, and left the half so. One that was not is not counted. Where the clock
+    /// A commit that began then was made, or was not, and left the disk so. One that was not is not counted. Where the clock
     /// cannot be read, it took no time.
-    pub(crate) fn note_commit<R: Wait + Clock, D: Disk>(
+    pub fn note_commit<R: Wait + Clock>(
         &self,
         rt: &R,
         begun: io::Result<Instant>,
         is_made: bool,
-        half: &DiskHalf<D>,
+        disk: DiskState,
     ) {
         let took = micros_since(rt, begun);
         if !is_made {
@@ -40,17 +46,17 @@ impl Meters {
         }
         let mut counters = self.counters.lock(rt);
         counters.note_commit(took);
-        counters.note_disk(half.generation(), half.sectors(), half.free_sectors());
+        counters.note_disk(disk.generation, disk.sectors, disk.free_sectors);
     }
 
-    /// The half of a front that is opened.
-    pub(crate) fn note_opening<R: Wait, D: Disk>(&self, rt: &R, half: &DiskHalf<D>) {
+    /// How the disk of a broker stands that is opened.
+    pub fn note_opening<R: Wait>(&self, rt: &R, disk: DiskState) {
         let mut counters = self.counters.lock(rt);
-        counters.note_opening(half.generation(), half.sectors(), half.free_sectors());
+        counters.note_opening(disk.generation, disk.sectors, disk.free_sectors);
     }
 
     /// A reply had this status.
-    pub(crate) fn note_status<R: Wait>(&self, rt: &R, status: u16) {
+    pub fn note_status<R: Wait>(&self, rt: &R, status: u16) {
         if status >= 400 {
             self.counters.lock(rt).note_refusal(status);
         }

@@ -8,7 +8,7 @@ use Rattle.receipts.specs.declared.sight.Withheld.{Withheld}
 use Rattle.long_poll.specs.declared.watching.NotShown.{NotShown}
 use Rattle.long_poll.specs.declared.watching.NotShown.TheVariants.{Given}
 use Rattle.long_poll.specs.Watching.{IsOf}
-use Rattle.http_front.specs.Watching.{TellsOfSight, TellsOfWithheld}
+use Rattle.admin_port.specs.Watching.{TellsOfSight, TellsOfWithheld}
 
 pub told_later : (facts : Facts) (asked : Asked) (old new : Option Withheld) (reply : Option Reply)
     → ((told : Result Sight NotShown) → IsOf new told → IsOf old told)

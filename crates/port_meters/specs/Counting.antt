@@ -1,7 +1,7 @@
 -- What is counted for an operator: each number up to the greatest of 64 bits.
 use Rattle.std.specs.Prelude.{◌≡◌, ℕ, ◌+◌, ◌-◌, ◌^◌, ◌==◌, nat_le, min, List, [], ◌∷◌, slice_index, if◌then◌else◌}
-use Rattle.admin_replies.specs.declared.figures.Refusals.{Refusals}
-use Rattle.admin_replies.specs.declared.counters.Counters.{Counters}
+use Rattle.port_meters.specs.declared.counters.Refusals.{Refusals}
+use Rattle.port_meters.specs.declared.counters.Counters.{Counters}
 
 abbrev pub sum_up_to : ℕ → ℕ → ℕ
 sum_up_to n more = min (n + more) (2 ^ 64 - 1)

@@ -1,8 +1,26 @@
 // What the threads of a broker count for its operator.
 ghost use Rattle.std.specs.Prelude.{◌≡◌, ◌-◌};
-ghost use Rattle.admin_replies.specs.Counting.{sum_up_to, raised, raised_buckets, refused_more, HasSameDisk, HasSameCounts};
+ghost use Rattle.port_meters.specs.Counting.{sum_up_to, raised, raised_buckets, refused_more, HasSameDisk, HasSameCounts};
 
-use crate::figures::Refusals;
+/// How many requests were refused, by their status.
+#[derive(Clone, Copy, Debug, PartialEq, Eq)]
+pub struct Refusals {
+    /// 400.
+    pub bad_request: u64,
+    /// 404.
+    pub not_found: u64,
+    /// 409.
+    pub conflict: u64,
+    /// 413.
+    pub too_large: u64,
+    /// 431.
+    pub head_too_large: u64,
+    /// 429.
+    pub too_many: u64,
+    /// 503.
+    pub unavailable: u64,
+    pub other: u64,
+}
 
 /// What the threads of a broker count for its operator since it was opened. Each number stays at its greatest once it is there.
 #[derive(Clone, Copy, Debug, PartialEq, Eq)]
