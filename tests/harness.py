@@ -214,6 +214,17 @@ class Asked:
         self.connection.close()
 
 
+def statuses(asked):
+    """The statuses of the replies to these requests, for which it waits, or what came in the place of one."""
+    told = []
+    for one in asked:
+        try:
+            told.append(one.done().status)
+        except (OSError, http.client.HTTPException) as why:
+            told.append(type(why).__name__)
+    return told
+
+
 class Beside(threading.Thread):
     """A call in a thread of its own."""
 
@@ -490,6 +501,11 @@ class Broker:
         """Waits until what was sent to a port before was read: each port has one thread, and two requests behind it were answered."""
         for _ in range(2):
             same(self.ask("GET", "/x", environment=environment).status, 404)
+
+    def until_looked(self):
+        """The same of the operator's port."""
+        for _ in range(2):
+            same(self.look("/x").status, 404)
 
 
 @contextlib.contextmanager
