@@ -104,7 +104,7 @@ class Ports:
     def __init__(self):
         with open("/proc/sys/net/ipv4/ip_local_port_range") as told:
             end = min(int(told.read().split()[0]), 65500)
-        self.folder = os.path.join(tempfile.gettempdir(), f"lambda_broker_ports.{os.getuid()}")
+        self.folder = f"/tmp/lambda_broker_ports.{os.getuid()}"
         os.makedirs(self.folder, exist_ok=True)
         places = list(range(10000 if end > 12000 else 2000, end - self.COUNT, self.COUNT))
         random.shuffle(places)
