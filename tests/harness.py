@@ -104,7 +104,7 @@ class Ports:
     def __init__(self):
         with open("/proc/sys/net/ipv4/ip_local_port_range") as told:
             end = min(int(told.read().split()[0]), 65500)
-        self.folder = os.path.join(tempfile.gettempdir(), f"lambda_broker_ports.{os.getuid()}")
+        self.folder = f"/tmp/lambda_broker_ports.{os.getuid()}"
         os.makedirs(self.folder, exist_ok=True)
         places = list(range(10000 if end > 12000 else 2000, end - self.COUNT, self.COUNT))
         random.shuffle(places)
@@ -212,6 +212,17 @@ class Asked:
     def leave(self):
         """Its client goes away."""
         self.connection.close()
+
+
+def statuses(asked):
+    """The statuses of the replies to these requests, for which it waits, or what came in the place of one."""
+    told = []
+    for one in asked:
+        try:
+            told.append(one.done().status)
+        except (OSError, http.client.HTTPException) as why:
+            told.append(type(why).__name__)
+    return told
 
 
 class Beside(threading.Thread):
@@ -490,6 +501,11 @@ class Broker:
         """Waits until what was sent to a port before was read: each port has one thread, and two requests behind it were answered."""
         for _ in range(2):
             same(self.ask("GET", "/x", environment=environment).status, 404)
+
+    def until_looked(self):
+        """The same of the operator's port."""
+        for _ in range(2):
+            same(self.look("/x").status, 404)
 
 
 @contextlib.contextmanager

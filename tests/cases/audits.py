@@ -83,16 +83,16 @@ def an_audit_tells_each_standing_of_an_event(broker):
 @case({"sectors": 64, "events": 2, "payload": 64, "response": 64})
 def an_audit_tells_of_both_segments_that_a_broker_left(broker):
     broker.serve()
-    for _ in range(40):
+    for _ in range(15):
         same(broker.delete(broker.live("{}", "{}")).status, 204)
     switches = broker.number("switches_total")
     same(broker.stop(), (202, 0, ""))
     lines = broker.audit()
-    same((lines[0], switches > 0), (f"generation {int(switches) + 1} number 160", True))
+    same((lines[0], switches > 0), (f"generation {int(switches) + 1} number 60", True))
     same(lines[1], "held 0 waiting 0 running 0 success 0 failure 0")
     assert re.fullmatch("older agrees|older ahead [0-9]+", lines[2]), lines
     figures = json.loads(broker.audit("--json")[0])
-    same((figures["generation"], figures["number"], figures["held"]), (int(switches) + 1, 160, 0))
+    same((figures["generation"], figures["number"], figures["held"]), (int(switches) + 1, 60, 0))
     same("older " + figures["older"], lines[2])
 
 

@@ -97,7 +97,7 @@ def a_configure_that_is_killed_leaves_what_was_or_what_was_asked_for(broker):
 def a_configure_outlives_the_switches_behind_it(broker):
     same(broker.configure("--retries", 0, "--age", 61), (0, "configured retries 0 age 61\n"))
     broker.serve()
-    for _ in range(40):
+    for _ in range(15):
         same(broker.delete(broker.live("{}", "{}")).status, 204)
     assert broker.number("generation") > 2
     same(broker.stop(), (202, 0, ""))

@@ -1,8 +1,9 @@
 """Files and flushes: what is written and flushed before anything is told, and what a device does that fails or is slow."""
 import os
 import shutil
+import time
 
-from harness import EXTENSION, RUNTIME, case, matches, same, until
+from harness import case, same, statuses, until
 
 
 @case()
@@ -49,14 +50,16 @@ def nothing_is_told_before_its_flush(broker):
     until("a flush", lambda: watch.flushes == 2)
     events, record, numbers = broker.send_look("/events"), broker.send("GET", "/broker/destinations/success"), broker.send_look("/metrics")
     broker.until_read()
+    broker.until_looked()
     asked = [invoke, events, record, numbers]
     same([one.is_answered() for one in asked], 4 * [False])
     watch.release = 2
     until("the next flush", lambda: watch.flushes == 3)
     broker.until_read()
+    broker.until_looked()
     same([one.is_answered() for one in asked], 4 * [False])
     watch.let_go()
-    same([one.done().status for one in asked], [202, 200, 204, 200])
+    same(statuses(asked), [202, 200, 204, 200])
     same([event["id"] for event in events.done().json["events"]], [invoke.done().id])
     same(broker.stop(), (202, 0, ""))
 
@@ -120,11 +123,12 @@ def those_who_wait_for_a_flush_take_no_processor(broker):
     invokes = [broker.send_invoke("{}") for _ in range(2)]
     until("a flush", lambda: watch.flushes == watch.hold_flush)
     looks = [broker.send_look(path) for path in ("/events", "/metrics", "/events")]
-    broker.until_read()
+    broker.until_looked()
     before = broker.processor_seconds()
-    until("two seconds", lambda began=os.times().elapsed: os.times().elapsed > began + 2)
+    # Who is woken for nothing takes a processor all the time, or its share of a busy one.
+    time.sleep(4)
     took = broker.processor_seconds() - before
-    assert took < 0.5, f"it took {took} s of a processor"
+    assert took < 0.3, f"it took {took} s of a processor"
     same([one.is_answered() for one in (*invokes, *looks, parked)], 6 * [False])
     watch.let_go()
     same([one.done().status for one in (*invokes, *looks, parked)], [202, 202, 200, 200, 200, 200])
@@ -144,7 +148,7 @@ def a_stop_waits_for_what_is_not_durable(broker):
     same((late.status, late.type), (503, "Unavailable"))
     same([invoke.is_answered(), stop.is_answered(), broker.served.poll()], [False, False, None])
     watch.let_go()
-    same([invoke.done().status, stop.done().status], [202, 202])
+    same(statuses([invoke, stop]), [202, 202])
     same(broker.ended(), (0, ""))
     same(broker.audit()[:2], ["generation 1 number 1", "held 1 waiting 1 running 0 success 0 failure 0"])
 
@@ -160,12 +164,13 @@ def a_stop_answers_all_who_wait_though_a_flush_is_held(broker):
     delete = broker.send("DELETE", f"/broker/destinations/{runs}")
     until("a flush", lambda: watch.flushes == watch.hold_flush)
     looks = [broker.send_look("/events") for _ in range(2)]
+    broker.until_looked()
     stop = broker.send("POST", "/broker/stop")
     broker.until_read()
     asked = (delete, stop, parked, *looks)
     same([one.is_answered() for one in asked], 5 * [False])
     watch.let_go()
-    same([one.done().status for one in asked], [204, 202, 500, 200, 200])
+    same(statuses(asked), [204, 202, 500, 200, 200])
     same(broker.ended(), (0, ""))
     same(broker.held(), 0)
 
@@ -216,10 +221,11 @@ def a_device_fault_is_told_to_those_who_wait(broker):
     invokes = [broker.send_invoke("{}") for _ in range(2)]
     until("a flush", lambda: watch.flushes == 2)
     looks = [broker.send_look(path) for path in ("/events", "/metrics", "/healthz")]
+    broker.until_looked()
     broker.until_read()
     watch.let_go()
     asked = (*invokes, runtime, extension, *looks)
-    same([one.done().status for one in asked], 7 * [503])
+    same(statuses(asked), 7 * [503])
     same([look.done().body for look in looks], 3 * [b"device fault\n"])
     same(broker.ended(), (3, "device fault\n"))
 

@@ -7,7 +7,7 @@ import subprocess
 import time
 
 from harness import (
-    DEADLINE, EVENT, FEW_FILES, IDLE, INVOKE, REQUEST, RUNTIME, Skipped, case, crowd, matches, needs, same, until
+    DEADLINE, EVENT, FEW_FILES, IDLE, INVOKE, REQUEST, RUNTIME, Ports, Skipped, case, crowd, needs, same, until
 )
 
 
@@ -76,13 +76,17 @@ def a_payload_of_1_mib_lives_to_its_record(broker):
 @case({"payload": 262144, "sectors": 20000})
 def a_body_in_too_many_chunks_is_refused_by_size(broker):
     broker.serve()
+    began = time.monotonic()
     with broker.socket() as client:
         head = f"POST {INVOKE} HTTP/1.1\r\nhost: h\r\nx-amz-invocation-type: Event\r\ntransfer-encoding: chunked\r\n\r\n"
         client.sendall(head.encode())
         with contextlib.suppress(OSError):
             for _ in range(700):
                 client.sendall(b"1\r\n1\r\n" * 100)
-        assert b" 413 " in client.recv(4096)
+        said = client.recv(4096)
+    # The limit of time comes first where the machine is so busy that so many chunks are not read within it.
+    assert b" 413 " in said or time.monotonic() > began + REQUEST and b" 202 " not in said, said
+    same(broker.number("events_accepted_total"), 0)
 
 
 @case()
@@ -403,10 +407,11 @@ def an_open_file_limit_does_not_end_it(broker):
 
 @case()
 def too_few_open_files_to_begin_with_are_refused_in_words_of_the_system(broker):
+    ports = Ports()
     few = ["bash", "-c", 'ulimit -n 9; exec "$@"', "bash"]
-    status, told = broker.said("serve", broker.disk, "--port", 20000, under=few)
-    same(status, 1)
-    matches("refused: .*Too many open files.*\n", told)
+    status, told = broker.said("serve", broker.disk, "--port", ports.first, under=few)
+    ports.close()
+    same((status, told.splitlines()[-1]), (1, "refused: Too many open files (os error 24)"))
 
 
 @case({"events": 64}, slow=True)

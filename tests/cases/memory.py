@@ -15,7 +15,8 @@ LOADER.exec_module(refuse_memory)
 
 def each_request_is_refused(broker, *words, made=None):
     """How the runs of a command ended, each of which was refused one request."""
-    runs = refuse_memory.Runs(Built.refuse_memory, broker.folder, [Built.program, *words], made=made)
+    words = [Built.program, *words]
+    runs = refuse_memory.Runs(Built.refuse_memory, broker.folder, words, says="refused: out of memory", made=made)
     if not runs.run(0)[2]:
         raise Skipped("the program was built with a memory of its own, as `rt try` does it")
     reached, counts, found = runs.all()
@@ -46,7 +47,7 @@ def a_trial_that_is_refused_memory_ends_and_says_so(broker):
 def an_audit_that_is_refused_memory_ends_and_says_so(broker):
     disk_with_records(broker)
     before = broker.content()
-    for words in ((), ("--records",), ("--json",), ("--event", id_of(2))):
+    for words in (("--records",), ("--in-force", "--event", id_of(2))):
         counts = each_request_is_refused(broker, "audit", broker.disk, *words)
         same(set(counts), {1})
     assert broker.content() == before, "the audit changed the disk"

@@ -230,6 +230,7 @@ def a_health_check_tells_that_it_ends(broker):
     stop = broker.send("POST", "/broker/stop")
     broker.until_read()
     health = broker.send_look("/healthz")
+    broker.until_looked()
     same(health.is_answered(), False)
     watch.let_go()
     same((health.done().status, health.done().body), (503, b"stopping\n"))
