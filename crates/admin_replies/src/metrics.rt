@@ -27,7 +27,11 @@ fn sections() -> &'static [Section]
 }
 
 /// The text that a monitor collects, in Prometheus' text form, version 0.0.4. Only want of memory is refused.
-pub(crate) fn metrics(alloc: Global, figures: &Figures, settings: &Settings) -> Result<Vec<u8>, AllocError>
+pub(crate) fn metrics(
+    alloc: Global,
+    figures: &Figures,
+    settings: &Settings,
+) -> Result<Vec<u8>, AllocError>
     ensures { IfOk result (λ text. text.items ≡ metrics_text figures.now settings.now) }
 {
     let mut out = Vec::new(alloc);
