@@ -1,5 +1,4 @@
 use Rattle.std.proofs.Common.{sym, subst}
-use Rattle.async_core.specs.State.{State}
 use Rattle.audit_report.specs.declared.counting.Counts.{Counts}
 use Rattle.audit_report.specs.declared.report.Older.{Older}
 use Rattle.std.proofs.Common.{option_map}
