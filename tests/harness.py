@@ -38,6 +38,9 @@ DEADLINE = 60
 # The limits of a port, in seconds: for a head and for a body, and for an idle connection.
 REQUEST, IDLE = 30, 120
 
+# How long a port reads on behind a refusal, in seconds. Who sends the rest later sees a connection that breaks.
+LINGER = 2
+
 # Runs the command behind it with so few open files.
 FEW_FILES = ["bash", "-c", 'ulimit -n 100; exec "$@"', "bash"]
 
@@ -223,6 +226,19 @@ def statuses(asked):
         except (OSError, http.client.HTTPException) as why:
             told.append(type(why).__name__)
     return told
+
+
+def sends_much(ask, *words, **more):
+    """What a request with a large head or body is told. It is made again where the machine is so busy that its refusal came before
+    the rest was sent, and a port reads no longer on.
+    """
+    for _ in range(DEADLINE):
+        began = time.monotonic()
+        try:
+            return ask(*words, **more)
+        except (OSError, http.client.HTTPException) as why:
+            assert time.monotonic() >= began + LINGER, f"the connection broke at once: {why!r}"
+    raise AssertionError("the rest was never sent in time")
 
 
 class Beside(threading.Thread):

@@ -7,7 +7,7 @@ import subprocess
 import time
 
 from harness import (
-    DEADLINE, EVENT, FEW_FILES, IDLE, INVOKE, REQUEST, RUNTIME, Ports, Skipped, case, crowd, needs, same, until
+    DEADLINE, EVENT, FEW_FILES, IDLE, INVOKE, LINGER, REQUEST, RUNTIME, Ports, Skipped, case, crowd, needs, same, sends_much, until
 )
 
 
@@ -36,12 +36,12 @@ def bodies_that_are_too_large_are_refused_by_size(broker):
     broker.serve()
     same(broker.invoke('"' + 1022 * "x" + '"').status, 202)
     for size in (1025, 100000, 3000000):
-        answer = broker.invoke(size * "1")
+        answer = sends_much(broker.invoke, size * "1")
         same((answer.status, answer.type), (413, "TooLarge"))
-    answer = broker.ask("POST", INVOKE, 100000 * "1")
+    answer = sends_much(broker.ask, "POST", INVOKE, 100000 * "1")
     same((answer.status, answer.type), (400, "UnsupportedInvocationType"))
-    same(broker.ask("POST", "/x", 100000 * "1").status, 404)
-    same(broker.ask("PUT", INVOKE, 100000 * "1").status, 405)
+    same(sends_much(broker.ask, "POST", "/x", 100000 * "1").status, 404)
+    same(sends_much(broker.ask, "PUT", INVOKE, 100000 * "1").status, 405)
 
 
 @case()
@@ -148,7 +148,7 @@ def each_reply_has_a_date(broker):
     began = int(time.time())
     accepted, event = broker.invoke("{}"), broker.next()
     replies = [accepted, event, broker.respond(event.id, "ok"), broker.record(), broker.delete(event.id), broker.record()]
-    replies += [broker.ask("GET", "/x"), broker.invoke("x"), broker.invoke(3000000 * "1"), broker.ask("PUT", INVOKE)]
+    replies += [broker.ask("GET", "/x"), broker.invoke("x"), sends_much(broker.invoke, 3000000 * "1"), broker.ask("PUT", INVOKE)]
     same([reply.status for reply in replies], [202, 200, 202, 200, 204, 204, 404, 400, 413, 405])
     for reply in replies:
         dated = email.utils.parsedate_to_datetime(reply.headers["Date"]).timestamp()
@@ -184,9 +184,9 @@ def a_head_that_is_too_long_is_told_so(broker):
     broker.serve()
     for environment in 0, 1:
         for size in (70000, 5000000):
-            answer = broker.ask("GET", "/x", None, {"x": size * "y"}, environment)
+            answer = sends_much(broker.ask, "GET", "/x", None, {"x": size * "y"}, environment)
             same((answer.status, answer.headers["Connection"]), (431, "close"))
-    same(broker.ask("GET", "/x", None, {CAUSE: 70000 * "y"}).status, 431)
+    same(sends_much(broker.ask, "GET", "/x", None, {CAUSE: 70000 * "y"}).status, 431)
     same(broker.ask("GET", "/x", None, {CAUSE: 70000 * "y"}, 1).status, 404)
 
 
@@ -196,7 +196,7 @@ def an_early_refusal_behind_a_large_body_arrives(broker):
     for environment, path in (0, "/x"), (1, "/x"), (1, f"{RUNTIME}/invocation/x/response"):
         for size in (1 << 20, 7 << 20):
             status = 404 if path == "/x" else 413
-            answer = broker.ask("POST", path, size * b"1", environment=environment)
+            answer = sends_much(broker.ask, "POST", path, size * b"1", environment=environment)
             same((answer.status, answer.headers["Connection"]), (status, "close"))
 
 
@@ -210,16 +210,21 @@ def nothing_is_lost(broker, ask):
     """Each large body is told 413, and each good one behind it on the same client is accepted and held."""
     broker.serve()
     for mebibytes in LARGE:
-        same(ask(mebibytes << 20), TURNS * [413, 202])
+        told = ask(mebibytes << 20)
+        same([status for status, _ in told[1::2]], TURNS * [202])
+        # A connection may break where the machine is so busy that a port reads no longer on.
+        same([told for told in told[::2] if told[0] != 413 and told[1] < LINGER], [])
+        same(len(told), 2 * TURNS)
     same(broker.stop(), (202, 0, ""))
     same(broker.held(), len(LARGE) * TURNS)
 
 
-def numbers_told(words):
-    """The numbers that a program prints, each in a line of its own."""
+def told_by_program(words):
+    """The statuses that a program prints, or what came in the place of one, and how many seconds each took, in a line of its own."""
     needs(words[0])
-    done = subprocess.run(words, capture_output=True, text=True, timeout=4 * DEADLINE)
-    return [int(line) if line.isdigit() else line for line in done.stdout.splitlines()]
+    done = subprocess.run(words, capture_output=True, text=True, timeout=8 * DEADLINE)
+    lines = [line.rsplit(" ", 1) for line in done.stdout.splitlines()]
+    return [(int(status) if status.isdigit() else status, float(seconds)) for status, seconds in lines]
 
 
 @case({"events": 64})
@@ -227,11 +232,17 @@ def a_client_that_goes_on_after_a_large_body_loses_nothing(broker):
     def ask(size):
         client, told = http.client.HTTPConnection("127.0.0.1", broker.port, timeout=DEADLINE), []
         for body in TURNS * (size * b"1", b"{}"):
-            client.request("POST", INVOKE, body, EVENT)
-            reply = client.getresponse()
-            reply.read()
-            told.append(reply.status)
-            same(reply.headers["Connection"], "close" if len(body) == size else None)
+            began = time.monotonic()
+            try:
+                client.request("POST", INVOKE, body, EVENT)
+                reply = client.getresponse()
+                reply.read()
+                status = reply.status
+                same(reply.headers["Connection"], "close" if len(body) == size else None)
+            except (OSError, http.client.HTTPException) as why:
+                client.close()
+                status = repr(why)
+            told.append((status, time.monotonic() - began))
         client.close()
         return told
 
@@ -245,27 +256,35 @@ def curl_that_goes_on_after_a_large_body_loses_nothing(broker):
         with open(large, "wb") as body:
             body.write(size * b"1")
         url = f"http://127.0.0.1:{broker.port}{INVOKE}"
-        each = ["-s", "-o", "/dev/null", "-w", "%{http_code}\\n", "-H", "X-Amz-Invocation-Type: Event", url]
+        each = ["-s", "-o", "/dev/null", "-w", "%{http_code} %{time_total}\\n", "-H", "X-Amz-Invocation-Type: Event", url]
         words = []
         for body in TURNS * (f"@{large}", "{}"):
             words += ["--next", *each, "--data-binary", body]
-        return numbers_told(["curl", *words[1:]])
+        return told_by_program(["curl", *words[1:]])
 
     nothing_is_lost(broker, ask)
 
 
-# Asks by turns with a body of so many bytes and with a good one, on one agent, and prints each status.
+# Asks by turns with a body of so many bytes and with a good one, on one agent, and prints each status and how long it took.
 BY_NODE = """
 const http = require("http");
 const [port, path, size, turns] = process.argv.slice(1);
 const agent = new http.Agent({ keepAlive: true, maxSockets: 1 });
 const headers = { "X-Amz-Invocation-Type": "Event" };
 function ask(body, then) {
+  const began = Date.now();
+  let isTold = false;
+  function tell(what) {
+    if (isTold) return;
+    isTold = true;
+    console.log(what, (Date.now() - began) / 1000);
+    then();
+  }
   const request = http.request({ agent, port, path, method: "POST", host: "127.0.0.1", headers }, (reply) => {
     reply.resume();
-    reply.on("end", () => { console.log(reply.statusCode); then(); });
+    reply.on("end", () => tell(reply.statusCode));
   });
-  request.on("error", (why) => { console.log(why.code); then(); });
+  request.on("error", (why) => tell(why.code));
   request.end(body);
 }
 function turn(left) {
@@ -279,7 +298,7 @@ turn(Number(turns));
 @case({"events": 64})
 def node_that_goes_on_after_a_large_body_loses_nothing(broker):
     nothing_is_lost(
-        broker, lambda size: numbers_told(["node", "-e", BY_NODE, "--", str(broker.port), INVOKE, str(size), str(TURNS)])
+        broker, lambda size: told_by_program(["node", "-e", BY_NODE, "--", str(broker.port), INVOKE, str(size), str(TURNS)])
     )
 
 
@@ -303,11 +322,14 @@ public class Ask {
             .header("X-Amz-Invocation-Type", "Event")
             .POST(HttpRequest.BodyPublishers.ofByteArray(body))
             .build();
+        long began = System.nanoTime();
+        String told;
         try {
-          System.out.println(client.send(request, HttpResponse.BodyHandlers.discarding()).statusCode());
+          told = "" + client.send(request, HttpResponse.BodyHandlers.discarding()).statusCode();
         } catch (java.io.IOException why) {
-          System.out.println(why);
+          told = why.toString();
         }
+        System.out.println(told + " " + (System.nanoTime() - began) / 1e9);
       }
     }
   }
@@ -326,7 +348,7 @@ def java_that_goes_on_after_a_large_body_loses_nothing(broker):
     if "jdk.compiler" not in found:
         raise Skipped("there is no java with a compiler")
     nothing_is_lost(
-        broker, lambda size: numbers_told(["java", program, str(broker.port), INVOKE, str(size), str(TURNS)])
+        broker, lambda size: told_by_program(["java", program, str(broker.port), INVOKE, str(size), str(TURNS)])
     )
 
 

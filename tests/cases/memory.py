@@ -1,8 +1,8 @@
 """Memory that is refused: each request of a command in turn."""
+import ast
 import importlib.machinery
 import importlib.util
 import os
-import shutil
 
 import disks
 from disks import ACCEPT, START, SUCCEED, Settings, command, id_of
@@ -13,11 +13,13 @@ refuse_memory = importlib.util.module_from_spec(importlib.util.spec_from_loader(
 LOADER.exec_module(refuse_memory)
 
 
-def each_request_is_refused(broker, *words, made=None):
+def each_request_is_refused(broker, *words, **more):
     """How the runs of a command ended, each of which was refused one request."""
     words = [Built.program, *words]
-    runs = refuse_memory.Runs(Built.refuse_memory, broker.folder, words, says="refused: out of memory", made=made)
-    if not runs.run(0)[2]:
+    runs = refuse_memory.Runs(Built.refuse_memory, broker.folder, words, says="refused: out of memory", **more)
+    status, _, asked = runs.run(0)
+    same(status, 0)
+    if not asked:
         raise Skipped("the program was built with a memory of its own, as `rt try` does it")
     reached, counts, found = runs.all()
     same((found, reached), ([], sum(counts.values())))
@@ -25,12 +27,12 @@ def each_request_is_refused(broker, *words, made=None):
 
 
 def disk_with_records(broker):
-    """Its disk holds an event that ended in both of its segments, and one that waits."""
+    """Its disk holds two events that ended, and one that waits."""
     settings, lives = Settings(), []
     for n in 1, 2:
-        lives += [command(ACCEPT, id_of(n), 1000, b'{"a":1}'), command(START, id_of(n), 1000, environment=1)]
-        lives += [command(SUCCEED, id_of(n), 1001, b"ok")]
-    lives += [command(ACCEPT, id_of(3), 1002, b"3")]
+        lives += [command(ACCEPT, id_of(n), 1000 * n, b'{"a":1}'), command(START, id_of(n), 1000 * n, environment=1)]
+        lives += [command(SUCCEED, id_of(n), 1000 * n + 1, b"ok")]
+    lives += [command(ACCEPT, id_of(3), 3000, b"3")]
     frames = [(n + 1, [one]) for n, one in enumerate(lives)]
     with open(broker.disk, "wb") as disk:
         disk.write(disks.disk(64, disks.segment(2, settings, 1, disks.snapshot(2, settings), frames)))
@@ -40,16 +42,17 @@ def disk_with_records(broker):
 def a_trial_that_is_refused_memory_ends_and_says_so(broker):
     counts = each_request_is_refused(broker, "trial")
     # Its disk is in memory, and a request of that is a fault of the device.
-    assert counts[1] > 0 and set(counts) <= {1, 3}, counts
+    assert counts[1] > 0 and set(counts) <= {0, 1, 3}, counts
 
 
 @case()
 def an_audit_that_is_refused_memory_ends_and_says_so(broker):
     disk_with_records(broker)
     before = broker.content()
-    for words in (("--records",), ("--in-force", "--event", id_of(2))):
+    for words in ((), ("--records",), ("--json",), ("--in-force", "--event", id_of(2))):
         counts = each_request_is_refused(broker, "audit", broker.disk, *words)
-        same(set(counts), {1})
+        # Where a request can be done without, it prints what it prints with it.
+        assert counts[1] > 100 and set(counts) <= {0, 1}, counts
     assert broker.content() == before, "the audit changed the disk"
 
 
@@ -57,11 +60,37 @@ def an_audit_that_is_refused_memory_ends_and_says_so(broker):
 def a_format_that_is_refused_memory_ends_and_says_so(broker):
     words = ["--sectors", "64", "--name", "f", "--handler", "h", "--arn", "a", "--events", "4", "--payload", "16", "--response", "16"]
     counts = each_request_is_refused(broker, "format", "DISK", *words, made="DISK")
-    same(set(counts), {1})
+    assert counts[1] > 100 and set(counts) <= {0, 1}, counts
 
 
 @case()
-def a_configure_that_is_refused_memory_changes_nothing(broker):
+def a_configure_that_is_refused_memory_leaves_what_was_in_force(broker):
     disk_with_records(broker)
-    counts = each_request_is_refused(broker, "configure", broker.disk, "--retries", "1")
-    same(set(counts), {1})
+    was = []
+
+    def look(disk):
+        was.append(broker.said("audit", disk, "--in-force")[1].splitlines()[0:4:3])
+
+    counts = each_request_is_refused(broker, "configure", broker.disk, "--retries", "1", made=broker.disk, behind=look)
+    assert counts[1] > 100 and set(counts) <= {0, 1}, counts
+    old, new = ["generation 1 number 7", "in force retries 2 age 21600"], ["generation 1 number 8", "in force retries 1 age 21600"]
+    # Twice it had all of its memory: where its requests were counted, and where they were looked for.
+    same((was.count(old), was.count(new)), (counts[1], counts.get(0, 0) + 2))
+
+
+@case()
+def a_migration_that_is_refused_memory_is_done_by_the_next_one(broker):
+    with open(os.path.join(HERE, "old_disks", "audits.txt")) as audits:
+        for name, told in (line.split(" ", 1) for line in audits):
+            held = ast.literal_eval(told)[1]
+            wrong = []
+
+            def go_on(disk):
+                broker.said("migrate", disk)
+                status, told = broker.said("audit", disk)
+                if (status, told.splitlines()[1:]) != (0, [held, "older agrees"]):
+                    wrong.append(told)
+
+            disk = os.path.join(HERE, "old_disks", name)
+            counts = each_request_is_refused(broker, "migrate", disk, made=disk, behind=go_on)
+            same((name, wrong, set(counts) <= {0, 1}), (name, [], True))
