@@ -31,28 +31,28 @@ pub(crate) struct ToldToEnd {
     ghost ends: { look.ends ≡ true },
 }
 
-/// That a request had stopped the broker, and that nothing was pending after that.
+/// That a request had stopped the broker, that nothing was pending and that no slot was open, all at one moment.
 #[derive(Drop)]
 pub(crate) struct Stopped<L: Ledger, T: Trace> {
-    asked: Witnessed<(), L, T>,
-    committed: Witnessed<(), L, T>,
-    ghost stops: { (hall_in asked.met.value.hall).stops ≡ true },
-    ghost nothing: { pending_in (issuer_in committed.met.value.hall) ≡ 0 },
+    seen: Witnessed<(), L, T>,
+    ghost stops: { (hall_in seen.met.value.hall).stops ≡ true },
+    ghost nothing: { pending_in (issuer_in seen.met.value.hall) ≡ 0 },
+    ghost none: { open_slot_count (hall_in seen.met.value.hall) ≡ 0 },
 }
 
-/// That nothing more becomes durable.
+/// That the disk failed, and that no slot was open after that was said.
 #[derive(Drop)]
-pub(crate) enum Settled<L: Ledger, T: Trace> {
-    Broken(SaidBroken),
-    Stopped(Stopped<L, T>),
+pub(crate) struct Failed<L: Ledger, T: Trace> {
+    said: SaidBroken,
+    seen: Witnessed<(), L, T>,
+    ghost none: { open_slot_count (hall_in seen.met.value.hall) ≡ 0 },
 }
 
 /// That nothing more becomes durable, and that every open slot was answered or forgotten.
 #[derive(Drop)]
-pub(crate) struct Over<L: Ledger, T: Trace> {
-    settled: Settled<L, T>,
-    answered: Witnessed<(), L, T>,
-    ghost none: { open_slot_count (hall_in answered.met.value.hall) ≡ 0 },
+pub(crate) enum Over<L: Ledger, T: Trace> {
+    Failed(Failed<L, T>),
+    Stopped(Stopped<L, T>),
 }
 
 /// That the committer's loop ends, whatever its gate says. Only what shows why gives it.
@@ -93,37 +93,32 @@ impl<L: Ledger, T: Trace> Front<L, T> {
         }
     }
 
-    // That a request stopped the broker and nothing is pending, once that is so.
+    // That a request stopped the broker, nothing is pending and no slot is open, once one look shows all of it.
     fn stopped<R: Wait>(&self, rt: &R) -> Option<Stopped<L, T>> {
-        let (stops, asked) = self.office.is_stopping(rt).split();
-        if !stops {
-            return None;
-        }
-        let (pending, committed) = self.office.pending(rt).split();
-        if pending == 0 {
-            Some(Stopped { asked, committed })
+        let (rest, seen) = self.office.rest(rt).split();
+        if rest.stops && rest.pending == 0 && rest.open_slots == 0 {
+            Some(Stopped { seen })
         } else {
             None
         }
     }
 
-    // That nothing more becomes durable, once that is so.
-    fn settled<R: Wait>(&self, rt: &R) -> Option<Settled<L, T>> {
-        match self.bell.said_broken() {
-            Some(said) => Some(Settled::Broken(said)),
-            None => Some(Settled::Stopped(self.stopped(rt)?)),
+    // That no slot is open any more after it was said that the disk failed, once that is so.
+    fn failed<R: Wait>(&self, rt: &R, said: SaidBroken) -> Option<Failed<L, T>> {
+        let (open, seen) = self.office.open_slots(rt).split();
+        if open == 0 {
+            Some(Failed { said, seen })
+        } else {
+            None
         }
     }
 
     // That all is done, once it is: the broker was stopped and nothing is pending, or its disk failed, and every open slot was
     // answered or forgotten.
     fn over<R: Wait>(&self, rt: &R) -> Option<Over<L, T>> {
-        let settled = self.settled(rt)?;
-        let (open, answered) = self.office.open_slots(rt).split();
-        if open == 0 {
-            Some(Over { settled, answered })
-        } else {
-            None
+        match self.bell.said_broken() {
+            Some(said) => Some(Over::Failed(self.failed(rt, said)?)),
+            None => Some(Over::Stopped(self.stopped(rt)?)),
         }
     }
 

@@ -29,6 +29,7 @@ mod witness;
 pub use desk::{Desk, desks};
 pub use drill::{Ask, Step};
 pub use error::{FinishError, FinishFailure, OfficeFailure, UnlockedFailure};
+pub use looking::Rest;
 pub use mark::{Gone, Mark, SharedTrace, Trace};
 pub use office::Office;
 pub use opening::{GoneTable, OpeningTrace, SharedOpening};

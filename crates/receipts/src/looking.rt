@@ -16,6 +16,17 @@ use std::snapshot::Snapshot as Seen;
 use std::sync::Wait;
 use std::sync::ledger::Ledger;
 
+/// What is left for an office to do.
+#[derive(Clone, Copy, Debug)]
+pub struct Rest {
+    /// Whether a request asked the broker to stop.
+    pub stops: bool,
+    /// How many commands are issued and not durable.
+    pub pending: usize,
+    /// How many slots are open.
+    pub open_slots: usize,
+}
+
 impl<L: Ledger, T: Trace> Office<L, T> {
     /// How many commands are issued and not durable: at most 256.
     pub fn pending<R: Wait>(&self, rt: &R) -> Witnessed<usize, L, T>
@@ -53,14 +64,21 @@ impl<L: Ledger, T: Trace> Office<L, T> {
         Witnessed::new(kept.look_with_ticket(), met, &kept)
     }
 
-    /// Whether a request asked the broker to stop.
-    pub fn is_stopping<R: Wait>(&self, rt: &R) -> Witnessed<bool, L, T>
-        ensures is { result.answer ≡ (hall_in result.met.value.hall).stops }
+    /// Whether a request asked the broker to stop, how many commands are pending and how many slots are open, all at one moment.
+    pub fn rest<R: Wait>(&self, rt: &R) -> Witnessed<Rest, L, T>
+        ensures stops { result.answer.stops ≡ (hall_in result.met.value.hall).stops }
+        ensures pending { result.answer.pending ≡ pending_in (issuer_in result.met.value.hall) }
+        ensures open { result.answer.open_slots ≡ open_slot_count (hall_in result.met.value.hall) }
         ensures same { result.left.value ≡ result.met.value }
     {
         let kept = self.kept.lock(rt);
         let met = Seen::of(&*kept);
-        Witnessed::new(kept.is_stopping(), met, &kept)
+        let rest = Rest {
+            stops: kept.is_stopping(),
+            pending: kept.pending(),
+            open_slots: kept.open_slots(),
+        };
+        Witnessed::new(rest, met, &kept)
     }
 
     /// Whether the device failed: the disk has to be opened again.
