@@ -44,7 +44,7 @@ def what_an_audit_is_asked_twice_is_a_usage_fault(broker):
 @case()
 def an_audit_tells_of_a_life_and_changes_nothing(broker):
     broker.serve()
-    waits, event = None, broker.live('{"a":1}', "ok")
+    event = broker.live('{"a":1}', "ok")
     same(broker.said("audit", broker.disk), (1, "refused: in use by another program\n"))
     same(broker.stop(), (202, 0, ""))
     before = broker.content()
@@ -140,7 +140,8 @@ def an_audit_tells_how_the_segments_of_a_spelled_disk_fit(broker):
 @case()
 def an_audit_reads_the_frames_of_a_spelled_disk(broker):
     settings, moment = Settings(), 1573755365568
-    lives = [command(ACCEPT, FIRST, moment, b"{}"), command(START, FIRST, moment + 1, environment=1), command(SUCCEED, FIRST, moment + 2, b"ok")]
+    lives = [command(ACCEPT, FIRST, moment, b"{}"), command(START, FIRST, moment + 1, environment=1)]
+    lives += [command(SUCCEED, FIRST, moment + 2, b"ok")]
     for count, standing in (
         (0, "unknown"),
         (1, f"waiting accepted {moment} moment {moment} starts 0 failures 0 pushbacks 0"),

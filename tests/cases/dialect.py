@@ -2,7 +2,7 @@
 import json
 import uuid
 
-from harness import ARN, EVENT, EXTENSION, INVOKE, Beside, Skipped, case, same
+from harness import ARN, EVENT, INVOKE, Beside, Skipped, case, same
 
 
 def in_dialect(broker, *words):

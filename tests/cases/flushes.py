@@ -1,5 +1,4 @@
 """Files and flushes: what is written and flushed before anything is told, and what a device does that fails or is slow."""
-import os
 import shutil
 import time
 
@@ -232,7 +231,8 @@ def a_device_fault_is_told_to_those_who_wait(broker):
 
 @case()
 def what_was_accepted_before_a_device_fault_is_there_behind_it(broker):
-    for number, (words, held) in enumerate((({"fail_write": 3}, 1), ({"fail_write": 4}, 1), ({"fail_flush": 4}, 1), ({"fail_flush": 5}, 2))):
+    places = ({"fail_write": 3}, 1), ({"fail_write": 4}, 1), ({"fail_flush": 4}, 1), ({"fail_flush": 5}, 2)
+    for number, (words, held) in enumerate(places):
         disk = f"{broker.disk}.{number}"
         shutil.copy(broker.disk, disk)
         kept, broker.disk = broker.disk, disk

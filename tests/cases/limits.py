@@ -441,15 +441,15 @@ def idle_connections_at_the_limit_of_open_files_make_room(broker):
     broker.serve(under=FEW_FILES)
     # The files are enough for some 85 of them, so that the caller comes behind three times as many at most.
     with crowd(broker.port, 300):
-        same(served_at_last(broker, 5 * REQUEST + DEADLINE), 202)
+        same(served_at_last(broker, 5 * REQUEST + 2 * DEADLINE), 202)
 
 
 def served_at_last(broker, seconds):
-    """The status of a caller who comes again until it is served, for so long."""
+    """The status of a caller who comes again until it is served, for so long. What the system drops from a full queue is not told."""
     end = time.monotonic() + seconds
     while time.monotonic() < end:
         try:
-            return broker.send_invoke("{}").done(max(1, end - time.monotonic())).status
-        except OSError:
+            return broker.send_invoke("{}").done(1.5 * REQUEST).status
+        except (OSError, http.client.HTTPException):
             time.sleep(1)
     return None

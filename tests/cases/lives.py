@@ -397,7 +397,7 @@ def what_is_asked_wrongly_is_refused_by_name(broker):
     same(broker.ask("POST", f"{RUNTIME}/init/error", "{}", environment=1).type, "WrongPhase")
 
 
-@case({"events": 64, "environments": 4, "concurrency": 4})
+@case({"events": 64, "environments": 4})
 def many_callers_and_runtimes_lose_and_double_nothing(broker):
     broker.serve()
     accepted, answered, failed = [], [], []

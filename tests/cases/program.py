@@ -6,10 +6,9 @@ import subprocess
 
 import disks
 from disks import ACCEPT, Settings, command, id_of
-from harness import ARN, HERE, Built, Ports, Skipped, case, needs, same
+from harness import HERE, Built, Ports, case, needs, same
 
 FUNCTION = ["--name", "f", "--handler", "h", "--arn", "a"]
-SMALL = ["--events", 4, "--payload", 1024, "--response", 1024]
 
 
 @case()
@@ -27,10 +26,10 @@ def words_that_are_no_command_are_usage_faults(broker):
         ("format", made, "--sectors", "x", *FUNCTION), ("format", made, "--sectors", -1, *FUNCTION),
         ("format", made, "--sectors", 1 << 64, *FUNCTION), ("format", made, "--sectors", "0x40", *FUNCTION),
         ("format", made, "--sectors", 64, "--sectors", 64, *FUNCTION),
-        ("format", made, "--sectors", 64, *FUNCTION, "--retries", 256), ("format", made, "--sectors", 64, *FUNCTION, "--age", 1 << 32),
-        ("format", made, "--sectors", 64, *FUNCTION, "--timeout", 1 << 16), ("format", made, "--sectors", 64, *FUNCTION, "--concurrency", 256),
-        ("format", made, "--sectors", 64, *FUNCTION, "--environments", 256), ("format", made, "--sectors", 64, *FUNCTION, "--events", 1 << 16),
-        ("format", made, "--sectors", 64, *FUNCTION, "--payload", 1 << 32), ("format", made, "--sectors", 64, *FUNCTION, "--response", 1 << 32),
+        *(("format", made, "--sectors", 64, *FUNCTION, f"--{name}", value) for name, value in (
+            ("retries", 256), ("age", 1 << 32), ("timeout", 1 << 16), ("concurrency", 256), ("environments", 256),
+            ("events", 1 << 16), ("payload", 1 << 32), ("response", 1 << 32), ("retries", "x"), ("age", -1),
+        )),
         ("serve", disk), ("serve", disk, "--port"), ("serve", disk, "--port", 1023), ("serve", disk, "--port", 65520),
         ("serve", disk, "--port", "x"), ("serve", disk, "--port", 20000, "--admin", 80), ("serve", disk, "--port", 20000, "--admin", 65536),
         ("serve", disk, "--port", 20000, "--address", "here"), ("serve", disk, "--port", 20000, "--dialect", "azure"),
