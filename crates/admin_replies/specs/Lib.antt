@@ -1,4 +1,3 @@
-pub mod Counting
 pub mod Examples
 pub mod Lines
 pub mod Lists

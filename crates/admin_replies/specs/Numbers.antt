@@ -13,7 +13,7 @@ use Rattle.admin_replies.specs.declared.figures.Phases.{Phases}
 use Rattle.admin_replies.specs.declared.figures.Process.{Process}
 use Rattle.admin_replies.specs.declared.figures.Tally.{Tally as Told}
 use Rattle.admin_replies.specs.declared.measuring.Measures.{Measures}
-use Rattle.admin_replies.specs.Counting.{sum_up_to}
+use Rattle.port_meters.specs.Counting.{sum_up_to}
 
 -- how long ago that was, in milliseconds, if it was: 0 where it will be
 abbrev pub age_of : ℕ → Option ℕ → Option ℕ

@@ -4,7 +4,7 @@ use Rattle.operator_view.specs.declared.numbers.Census.{Census}
 use Rattle.admin_replies.specs.declared.figures.Figures.{Figures}
 use Rattle.admin_replies.specs.declared.figures.Phases.{Phases}
 use Rattle.admin_replies.specs.declared.figures.Process.{Process}
-use Rattle.admin_replies.specs.declared.figures.Refusals.{Refusals}
+use Rattle.port_meters.specs.declared.counters.Refusals.{Refusals}
 use Rattle.admin_replies.specs.declared.figure.Figure.{Figure}
 use Rattle.admin_replies.specs.declared.figure.Figure.TheVariants as figure
 use Rattle.admin_replies.specs.declared.figure.Commit.{Commit}

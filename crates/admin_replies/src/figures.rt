@@ -1,6 +1,7 @@
 // The numbers that a monitor collects.
 
 use operator_view::Census;
+use port_meters::Refusals;
 
 /// The numbers that a monitor collects, as they are at one moment.
 #[derive(Clone, Copy, Debug, PartialEq, Eq)]
@@ -71,24 +72,4 @@ pub struct Process {
     /// The disk has failed.
     pub has_fault: bool,
     pub refused: Refusals,
-}
-
-/// How many requests were refused, by their status.
-#[derive(Clone, Copy, Debug, PartialEq, Eq)]
-pub struct Refusals {
-    /// 400.
-    pub bad_request: u64,
-    /// 404.
-    pub not_found: u64,
-    /// 409.
-    pub conflict: u64,
-    /// 413.
-    pub too_large: u64,
-    /// 431.
-    pub head_too_large: u64,
-    /// 429.
-    pub too_many: u64,
-    /// 503.
-    pub unavailable: u64,
-    pub other: u64,
 }

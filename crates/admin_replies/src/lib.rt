@@ -6,7 +6,6 @@
 #![tactic(auto)]
 
 mod asked;
-mod counters;
 pub mod examples;
 mod figure;
 mod figures;
@@ -29,8 +28,6 @@ mod telling;
 mod value;
 
 pub use asked::Asked;
-pub use counters::Counters;
-pub use figures::Refusals;
 pub use lists::{event_reply, events_reply, records_reply};
 pub use measuring::Measures;
 pub use reading::read;

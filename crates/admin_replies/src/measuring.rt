@@ -3,12 +3,12 @@ ghost use Rattle.std.specs.Prelude.{◌≡◌, ◌^◌, ◌-◌, min, count_by};
 ghost use Rattle.operator_view.specs.Census.{ends};
 ghost use Rattle.admin_replies.specs.Numbers.{age_of, is_in_phase, phases_of, parked_in, ended_in, tally_told, process_told, IsOldestAge, AreFigures};
 
-use crate::counters::Counters;
 use crate::figures::{Figures, Phases, Process, Tally};
 use env_phase::Phase;
 use hall_core::EnvironmentLook;
 use invoke_records::EventRow;
 use operator_view::{Census, census, oldest_record, oldest_waiting};
+use port_meters::Counters;
 use receipts::Sight;
 
 /// What was counted and measured of a process.

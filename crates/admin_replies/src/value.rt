@@ -3,8 +3,9 @@ ghost use Rattle.std.specs.Prelude.{◌≡◌, slice_index};
 ghost use Rattle.admin_replies.specs.Values.{or_zero, indicator, held_value, wait_value, phase_value, life_value, refusal_value, commit_value, state_value, value_of};
 
 use crate::figure::{Commit, Figure, Held, Life, Phase, Refusal, State, Wait};
-use crate::figures::{Figures, Phases, Process, Refusals};
+use crate::figures::{Figures, Phases, Process};
 use operator_view::Census;
+use port_meters::Refusals;
 
 /// A number, and how it is told.
 #[derive(Clone, Copy)]

@@ -4,11 +4,12 @@ ghost use Rattle.invoke_records.specs.Spelling.{greatest_moment};
 ghost use Rattle.long_poll.specs.Port.{IsSlot, IsRequestRefusal};
 ghost use Rattle.http_front.specs.Refusals.{IsArrivalError};
 
+use crate::drawing::words;
 use crate::error::ArrivalError;
-use crate::moment::{Moment, words};
 use api_core::Call;
 use hall_core::HallError;
 use long_poll::{Arrived, Port};
+use port_meters::Moment;
 use receipts::Trace;
 use std::io;
 use std::random::RandomSource;

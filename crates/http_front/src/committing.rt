@@ -18,6 +18,7 @@ use commit_loop::{Committing, Gate, commit_all};
 use front_board::Seated;
 use group_commit::{DiskHalf, Durable};
 use long_poll::{Rung, RungForAll, SaidBroken};
+use port_meters::DiskState;
 use receipts::{Desk, Trace, Witnessed};
 use sector_disk::Disk;
 use std::sync::Wait;
@@ -30,6 +31,15 @@ pub struct Committer<L: Ledger, T: Trace, D: Disk> {
     desk: Desk<L, T>,
     half: DiskHalf<D>,
     seated: Seated,
+}
+
+/// How the disk of this half stands.
+pub(crate) fn state_of<D: Disk>(half: &DiskHalf<D>) -> DiskState {
+    DiskState {
+        generation: half.generation(),
+        sectors: half.sectors(),
+        free_sectors: half.free_sectors(),
+    }
 }
 
 // A committer at a front.
@@ -82,9 +92,10 @@ impl<R: Wait + Clock, L: Ledger, T: Trace, D: Disk> Committing for AtFront<'_, R
             &mut self.committer.half,
         )
         .answer;
+        let disk = state_of(&self.committer.half);
         self.front
             .meters
-            .note_commit(self.rt, begun, committed.is_ok(), &self.committer.half);
+            .note_commit(self.rt, begun, committed.is_ok(), disk);
         committed
     }
 

@@ -5,6 +5,7 @@ ghost use Rattle.http_front.specs.declared.error.ServeError.TheVariants as serve
 
 use group_commit::SplitError;
 use hall_core::HallError;
+use port_meters::NoClock;
 use std::alloc::AllocError;
 use std::io;
 use thiserror::Error;
@@ -41,27 +42,6 @@ impl From<io::Error> for ServeError {
     }
 }
 
-/// Why there is no moment: the clock could not be read. Only a look at the clock gives it.
-#[derive(Debug, Drop)]
-pub struct NoClock {
-    why: io::Error,
-}
-
-impl NoClock {
-    pub(crate) fn of(why: io::Error) -> NoClock {
-        NoClock { why }
-    }
-}
-
-impl From<NoClock> for io::Error {
-    ghost from_gives = { λ none error. error ≡ none.why };
-
-    fn from(none: NoClock) -> io::Error {
-        let NoClock { why } = none;
-        why
-    }
-}
-
 /// Why a request did not come to the hall, which is as it was.
 #[derive(Debug, Drop, Error)]
 pub(crate) enum ArrivalError {
@@ -85,8 +65,7 @@ impl From<NoClock> for ArrivalError {
     ghost from_gives = { λ none error. error ≡ System none.why };
 
     fn from(none: NoClock) -> ArrivalError {
-        let NoClock { why } = none;
-        ArrivalError::System(why)
+        ArrivalError::System(io::Error::from(none))
     }
 }
 

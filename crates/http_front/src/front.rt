@@ -5,12 +5,11 @@ ghost use Rattle.http_front.specs.Refusals.{IsArrivalError};
 
 use crate::arriving::arrive;
 use crate::error::ArrivalError;
-use crate::meters::Meters;
 use crate::wake::Wake;
-use admin_replies::Facts;
 use api_core::{Call, Dialect};
 use group_commit::Durable;
 use long_poll::{Arrived, Bell, Port};
+use port_meters::Meters;
 use receipts::{Office, Trace};
 use retry_rules::Settings;
 use std::alloc::{AllocError, Global};
@@ -39,9 +38,9 @@ pub struct Front<L: Ledger, T: Trace> {
     pub(crate) wake: Wake,
     pub(crate) ending: CancellationToken,
     /// What is counted for an operator.
-    pub(crate) meters: Meters,
-    /// What is known of the broker from its opening on: its settings, and what an operator is told beside what is seen.
-    pub(crate) facts: Facts,
+    pub(crate) meters: Arc<Meters>,
+    /// The settings of the broker.
+    pub(crate) settings: Settings,
     /// In which words requests are read and refused.
     pub(crate) dialect: Dialect,
     /// How many bytes of a body are read.
@@ -49,28 +48,28 @@ pub struct Front<L: Ledger, T: Trace> {
 }
 
 impl<L: Ledger, T: Trace> Front<L, T> {
-    /// A front over an office of which these facts are known and so much is durable, which no thread serves yet. It reads
+    /// A front over an office of a broker with these settings, of which so much is durable, which no thread serves yet. It reads
     /// requests in this dialect.
     pub fn new(
         alloc: Global,
         office: Arc<Office<L, T>>,
         dialect: Dialect,
         durable: Durable,
-        facts: Facts,
+        settings: Settings,
     ) -> Result<Front<L, T>, AllocError>
         ensures office { IfOk result (λ front. front.office ≡ office) }
-        ensures facts { IfOk result (λ front. front.facts ≡ facts) }
+        ensures settings { IfOk result (λ front. front.settings ≡ settings) }
         ensures dialect { IfOk result (λ front. front.dialect ≡ dialect) }
     {
-        let most = most_read(&facts.settings);
+        let most = most_read(&settings);
         Ok(Front {
             alloc,
             office,
             bell: Arc::new(alloc, Bell::new(alloc, durable))?,
             wake: Wake::new(),
             ending: CancellationToken::new(alloc)?,
-            meters: Meters::new(),
-            facts,
+            meters: Arc::new(alloc, Meters::new())?,
+            settings,
             dialect,
             most,
         })

@@ -8,13 +8,13 @@ ghost use Rattle.receipts.specs.Desks.{desk_count};
 use crate::committing::Committer;
 use crate::error::ServeError;
 use crate::front::Front;
-use admin_replies::Facts;
 use api_core::Dialect;
 use front_board::Seated;
 use group_commit::{Broker, DiskHalf, Durable};
 use hall_core::Hall;
 use long_poll::{Port, Window};
 use receipts::{Desk, Office, Trace};
+use retry_rules::Settings;
 use sector_disk::Disk;
 use std::alloc::{AllocError, Global};
 use std::sync::Arc;
@@ -27,7 +27,7 @@ pub(crate) struct Opened<L: Ledger, T: Trace, D: Disk> {
     pub(crate) ports: Vec<Port<L, T>>,
     pub(crate) committer: Committer<L, T, D>,
     pub(crate) ticker: Desk<L, T>,
-    /// Where an operator looks.
+    /// Where what is served beside it looks.
     pub(crate) window: Window<L, T>,
 }
 
@@ -76,13 +76,13 @@ fn shared<L: Ledger, T: Trace>(
     office: Office<L, T>,
     dialect: Dialect,
     durable: Durable,
-    facts: Facts,
+    settings: Settings,
 ) -> Result<Arc<Front<L, T>>, AllocError>
     ensures dialect { IfOk result (λ front. front.value.dialect ≡ dialect) }
-    ensures facts { IfOk result (λ front. front.value.facts ≡ facts) }
+    ensures settings { IfOk result (λ front. front.value.settings ≡ settings) }
 {
     let office = Arc::new(alloc, office)?;
-    let front = Front::new(alloc, office, dialect, durable, facts)?;
+    let front = Front::new(alloc, office, dialect, durable, settings)?;
     Ok(Arc::new(alloc, front)?)
 }
 
@@ -95,7 +95,7 @@ fn pop_two<A: Drop>(list: &mut Vec<A>) -> Option<(A, A)>
     Some((last, before))
 }
 
-// Where requests and an operator come to a front: a window with this seat, and a port for each desk, as far as there are seats.
+// Where requests come to a front, and where it is looked at: a window with this seat, and a port for each desk, as far as there are seats.
 fn places<L: Ledger, T: Trace>(
     alloc: Global,
     front: &Front<L, T>,
@@ -140,24 +140,24 @@ fn furnish<L: Ledger, T: Trace, D: Disk + Drop>(
     })
 }
 
-// A front over an office, with its desks and as many seats, and one for an operator.
+// A front over an office, with its desks and as many seats, and one more for a window.
 fn seat_all<L: Ledger, T: Trace, D: Disk + Drop>(
     alloc: Global,
     office: Office<L, T>,
     desks: Vec<Desk<L, T>>,
     half: DiskHalf<D>,
     dialect: Dialect,
-    facts: Facts,
+    settings: Settings,
 ) -> Result<Opened<L, T, D>, ServeError>
     requires desks { 2 ≤ vec_len desks }
     ensures ports { IsErrOf result ServeError.TooManyPorts → ⊥ }
     ensures half { IfOk result (λ opened. opened.committer.half ≡ half) }
     ensures dialect { IfOk result (λ opened. opened.front.value.dialect ≡ dialect) }
-    ensures facts { IfOk result (λ opened. opened.front.value.facts ≡ facts) }
+    ensures settings { IfOk result (λ opened. opened.front.value.settings ≡ settings) }
 {
     let durable = half.durable();
     let seats = Seated::open(alloc, durable, desks.len() + 1)?;
-    let front = shared(alloc, office, dialect, durable, facts)?;
+    let front = shared(alloc, office, dialect, durable, settings)?;
     furnish(alloc, front, desks, seats, half)
 }
 
@@ -176,12 +176,12 @@ pub(crate) fn open<L: Ledger, T: Trace, D: Disk + Drop>(
     ensures ports { IsErrOf result ServeError.TooManyPorts → ⊥ }
     ensures half { IfOk result (λ opened. broker_of opened.committer.half ≡ hall.issuer) }
     ensures dialect { IfOk result (λ opened. opened.front.value.dialect ≡ hall.dialect) }
-    ensures settings { IfOk result (λ opened. opened.front.value.facts.settings ≡ settings_of hall.issuer) }
+    ensures settings { IfOk result (λ opened. opened.front.value.settings ≡ settings_of hall.issuer) }
 {
     let dialect = hall.dialect();
-    let facts = Facts::of(hall.table())?;
+    let settings = hall.table().settings().copy()?;
     match Office::<L, T>::new(alloc, hall, blank) {
-        Ok((office, desks, half)) => seat_all(alloc, office, desks, half, dialect, facts),
+        Ok((office, desks, half)) => seat_all(alloc, office, desks, half, dialect, settings),
         Err(failure) => Err(ServeError::Office(failure.cause)),
     }
 }

@@ -2,17 +2,18 @@
 ghost use Rattle.std.specs.Prelude.{◌≡◌};
 ghost use Rattle.hall_core.specs.Hall.{slot_told};
 
+use crate::drawing::new_id;
 use crate::front::Front;
-use crate::moment::new_id;
 use crate::replying::{Manner, Telling, refuse};
-use api_core::{Audience, Dialect, Refusal, RequestError, read_request};
+use api_core::{Audience, Call, Dialect, Refusal, RequestError, read_request};
 use futures::Future;
 use futures::task::{Context, Poll};
 use http::request::Parts;
 use http_port::{Application, ReadError, Refused};
 use hyper::StatusCode;
-use long_poll::{Port, Waiting};
+use long_poll::{Arrived, Port, Waiting};
 use receipts::Trace;
+use std::alloc::Global;
 use std::random::RandomSource;
 use std::sync::ledger::Ledger;
 use std::sync::{Arc, Wait};
@@ -45,6 +46,19 @@ impl<R: Wait + Drop, L: Ledger, T: Trace> Future for Replying<R, L, T> {
             }
         }
     }
+}
+
+// The target of a request.
+fn target_of(head: &Parts) -> &str {
+    match head.uri.path_and_query() {
+        Some(target) => target.as_str(),
+        None => "/",
+    }
+}
+
+// That a body was cut off: there is mostly nobody to read it.
+fn cut_off(alloc: Global) -> Refused {
+    Refused::bare(alloc, StatusCode::BAD_REQUEST)
 }
 
 /// A port: its number, the desk and the seat of its requests, and what it shares with the others.
@@ -83,34 +97,67 @@ impl<R: Wait + Clock + RandomSource + Copy, L: Ledger, T: Trace> PortApplication
         }
     }
 
-    // The call of a request comes; its reply then waits. What is refused is answered at once.
-    fn arrive(&self, head: &Parts, body: Vec<u8>) -> Result<Waiting<R, L, T>, Refusal> {
+    // A refusal, which is counted.
+    fn refuse(&self, why: Refusal, id: Option<[u8; 16]>) -> Refused {
         let front = &self.front;
-        let target = match head.uri.path_and_query() {
-            Some(target) => target.as_str(),
-            None => "/",
-        };
-        let call = match read_request(
+        front.meters.note_status(&self.rt, why.status());
+        refuse(front.alloc, &front.settings, self.manner(id), why)
+    }
+
+    // The call of a request.
+    fn read(&self, head: &Parts, body: Vec<u8>) -> Result<Call, Refusal> {
+        let front = &self.front;
+        match read_request(
             front.alloc,
             front.dialect,
-            &front.facts.settings,
+            &front.settings,
             self.number,
             &head.method,
-            target,
+            target_of(head),
             &head.headers,
             body,
         ) {
-            Ok(call) => call,
-            Err(RequestError::Refused(why)) => return Err(why),
-            Err(RequestError::OutOfMemory) => return Err(Refusal::Unavailable),
-        };
+            Ok(call) => Ok(call),
+            Err(RequestError::Refused(why)) => Err(why),
+            Err(RequestError::OutOfMemory) => Err(Refusal::Unavailable),
+        }
+    }
+
+    // A call comes.
+    fn hand_over(&self, call: Call) -> Result<Arrived, Refusal> {
+        match self.front.arrive(&self.rt, &self.port, call) {
+            Ok(arrived) => Ok(arrived),
+            Err(_) => Err(Refusal::Unavailable),
+        }
+    }
+
+    // The call of a request comes; its reply then waits. What is refused is answered at once.
+    fn arrive(&self, head: &Parts, body: Vec<u8>) -> Result<Waiting<R, L, T>, Refusal> {
+        let call = self.read(head, body)?;
         let Ok(port) = Arc::try_clone(&self.port) else {
             return Err(Refusal::Unavailable);
         };
-        let Ok(arrived) = front.arrive(&self.rt, &port, call) else {
+        let arrived = self.hand_over(call)?;
+        Ok(Waiting::new(self.rt, port, arrived))
+    }
+
+    // A request comes with its body; its reply then waits, and tells this id where it is to tell one.
+    fn reply_to(
+        &self,
+        head: &Parts,
+        body: Vec<u8>,
+        id: Option<[u8; 16]>,
+    ) -> Result<Replying<R, L, T>, Refusal> {
+        let Ok(front) = Arc::try_clone(&self.front) else {
             return Err(Refusal::Unavailable);
         };
-        Ok(Waiting::new(self.rt, port, arrived))
+        let waiting = self.arrive(head, body)?;
+        Ok(Replying {
+            waiting,
+            id,
+            rt: self.rt,
+            front,
+        })
     }
 }
 
@@ -133,26 +180,14 @@ impl<R: Wait + Clock + RandomSource + Drop + Copy, L: Ledger, T: Trace> Applicat
         head: &Parts,
         body: Result<Vec<u8>, ReadError>,
     ) -> Result<Replying<R, L, T>, Refused> {
-        let alloc = self.front.alloc;
-        let arrived = match body {
-            Ok(body) => self.arrive(head, body),
-            Err(ReadError::OutOfMemory) => Err(Refusal::Unavailable),
-            Err(ReadError::CutOff) => return Err(Refused::bare(alloc, StatusCode::BAD_REQUEST)),
-        };
         let id = self.request_id();
-        let why = match (arrived, Arc::try_clone(&self.front)) {
-            (Ok(waiting), Ok(front)) => {
-                return Ok(Replying {
-                    waiting,
-                    id,
-                    rt: self.rt,
-                    front,
-                });
-            }
-            (Ok(_), Err(_)) => Refusal::Unavailable,
-            (Err(why), _) => why,
-        };
-        self.front.meters.note_status(&self.rt, why.status());
-        Err(refuse(alloc, &self.front.facts.settings, self.manner(id), why))
+        match body {
+            Ok(body) => match self.reply_to(head, body, id) {
+                Ok(replying) => Ok(replying),
+                Err(why) => Err(self.refuse(why, id)),
+            },
+            Err(ReadError::OutOfMemory) => Err(self.refuse(Refusal::Unavailable, id)),
+            Err(ReadError::CutOff) => Err(cut_off(self.front.alloc)),
+        }
     }
 }

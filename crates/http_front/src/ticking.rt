@@ -4,14 +4,13 @@ ghost use Rattle.hall_core.specs.Hall.{pending_in};
 ghost use Rattle.commit_loop.specs.Ticker.{Step, ticked, IsRun};
 ghost use Rattle.receipts.specs.Kept.{hall_in, issuer_in};
 ghost use Rattle.http_front.specs.Marking.{HasMarked, FindsNothing, FindsNothingFor};
-ghost use Rattle.http_front.specs.Moments.{millis_in};
+ghost use Rattle.port_meters.specs.Moments.{millis_in};
 ghost use Rattle.http_front.specs.laws.Marked.{marked_nothing, marked_more};
 
-use crate::error::NoClock;
 use crate::front::Front;
-use crate::moment::Moment;
 use crate::wake::{Called, Slept, pause};
 use commit_loop::{Gate, Ticking};
+use port_meters::{Moment, NoClock};
 use receipts::{Desk, Trace, Witnessed};
 use std::sync::Wait;
 use std::sync::ledger::Ledger;

@@ -1,3 +1,1 @@
-pub mod Configured
-pub mod ReadBack
 pub mod Resting

@@ -1,6 +1,1 @@
-pub mod Auditing
-pub mod Configuring
-pub mod Formatting
-pub mod Migrating
 pub mod Serving
-pub mod Trial

@@ -1,20 +1,8 @@
 // The words of the command line, and what is printed for them.
-ghost use Rattle.std.specs.Prelude.{◌≡◌, ◌≤◌, IfOk, if◌then◌else◌};
-ghost use Rattle.lambda_broker.specs.Auditing.{status_for};
-ghost use Rattle.lambda_broker.specs.Trial.{status_of};
+ghost use Rattle.std.specs.Prelude.{◌≤◌, IfOk};
 
-use crate::auditing::{Audit, OldDisk, Told, audit_disk};
-use crate::configuring::{NewPolicy, configure_disk};
-use crate::formatting::{NewDisk, make_disk};
-use crate::migrating::{Migrated, OldVersion, migrate_file};
-use crate::serving::{Address, serve_disk};
-use crate::words::{Job, Task, read_task};
-use audit_report::Older;
-use broker_trial::{Trial, TrialError, run_trial};
-use clap::Error;
-use clap::error::ErrorKind;
-use std::alloc::AllocGlobal;
-use std::fmt::Display;
+use crate::serving::serve_disk;
+use broker_commands::{Address, DONE, Task, USAGE, print_fault, print_job, print_usage, read_task};
 use std::fs::File;
 use std::io;
 use std::io::{Eprint, Write};
@@ -24,15 +12,6 @@ use std::rt::Files;
 use std::sync::Wait;
 use std::thread::Threads;
 use std::time::Clock;
-
-/// The command did what it was asked to.
-const DONE: u8 = 0;
-/// The disk is damaged, or the command was refused.
-const REFUSED: u8 = 1;
-/// The words are no command.
-const USAGE: u8 = 2;
-/// The device failed.
-const DEVICE: u8 = 3;
 
 /// Does what the words say, the first of which is the program's name, prints it to `out`, and answers the status: 0 done,
 /// 1 damaged or refused, 2 usage, 3 device.
@@ -61,111 +40,6 @@ where
     }
 }
 
-// Does a command that waits for nobody, and prints what came of it.
-fn print_job<R, W>(rt: &R, job: &Job<'_>, out: &mut W) -> io::Result<u8>
-where
-    R: Files<File = File> + Clock + AllocGlobal,
-    W: Write,
-    ensures { IfOk result (λ status. status ≤ 3) }
-{
-    match job {
-        Job::Trial => print_trial(run_trial(rt.alloc()), out),
-        Job::Format(new) => print_format(rt, new, out),
-        Job::Audit(old) => print_audit(rt, old, out),
-        Job::Configure(new) => print_configure(rt, new, out),
-        Job::Migrate(old) => print_migrate(rt, old, out),
-    }
-}
-
-// Prints why words are no command, or the help that they ask for.
-fn print_usage<W: Write>(fault: &Error, out: &mut W) -> io::Result<u8>
-    ensures { IfOk result (λ status. status ≤ 3) }
-{
-    if fault.kind() == ErrorKind::OutOfMemory {
-        return refuse_for_memory(out);
-    }
-    write!(out, "{fault}")?;
-    Ok(if fault.exit_code() == 0 { DONE } else { USAGE })
-}
-
-fn print_trial<W: Write>(outcome: Result<Trial, TrialError>, out: &mut W) -> io::Result<u8>
-    ensures { IfOk result (λ status. status ≡ status_of outcome) }
-{
-    match outcome {
-        Ok(done) => {
-            done.print(out)?;
-            Ok(DONE)
-        }
-        Err(fault) => print_fault(&fault, fault.is_device_fault(), out),
-    }
-}
-
-// Formats a disk, and prints its size.
-fn print_format<R: Files<File = File> + AllocGlobal, W: Write>(
-    rt: &R,
-    new: &NewDisk<'_>,
-    out: &mut W,
-) -> io::Result<u8>
-    ensures { IfOk result (λ status. status ≤ 3) }
-{
-    match make_disk(rt, new) {
-        Ok(()) => {
-            let sectors = new.sectors;
-            writeln!(out, "formatted {sectors} sectors")?;
-            Ok(DONE)
-        }
-        Err(fault) => print_fault(&fault, fault.is_device_fault(), out),
-    }
-}
-
-// Reads what a disk holds, and prints it.
-fn print_audit<R: Files<File = File> + AllocGlobal, W: Write>(
-    rt: &R,
-    old: &OldDisk<'_>,
-    out: &mut W,
-) -> io::Result<u8>
-    ensures { IfOk result (λ status. status ≤ 3) }
-{
-    match audit_disk(rt, old) {
-        Ok(audit) => print_lines(&audit, out),
-        Err(fault) => print_fault(&fault, fault.is_device_fault(), out),
-    }
-}
-
-// Brings a retry policy in force on a disk, and prints what is in force then.
-fn print_configure<R: Files<File = File> + Clock + AllocGlobal, W: Write>(
-    rt: &R,
-    new: &NewPolicy<'_>,
-    out: &mut W,
-) -> io::Result<u8>
-    ensures { IfOk result (λ status. status ≤ 3) }
-{
-    match configure_disk(rt, new) {
-        Ok((retries, age)) => {
-            writeln!(out, "configured retries {retries} age {age}")?;
-            Ok(DONE)
-        }
-        Err(fault) => print_fault(&fault, fault.is_device_fault(), out),
-    }
-}
-
-// Migrates a disk, and prints what it then holds.
-fn print_migrate<R: Files<File = File> + AllocGlobal, W: Write>(
-    rt: &R,
-    old: &OldVersion<'_>,
-    out: &mut W,
-) -> io::Result<u8>
-    ensures { IfOk result (λ status. status ≤ 3) }
-{
-    match migrate_file(rt, old) {
-        Ok(Migrated { generation, number }) => {
-            writeln!(out, "migrated generation {generation} number {number}")?;
-            Ok(DONE)
-        }
-        Err(fault) => print_fault(&fault, fault.is_device_fault(), out),
-    }
-}
-
 // Serves a disk. Its line is printed once it is served.
 fn print_serve<R, W>(rt: R, at: &Address<'_>, out: &mut W) -> io::Result<u8>
 where
@@ -188,51 +62,4 @@ where
         Ok(()) => Ok(DONE),
         Err(fault) => print_fault(&fault, fault.is_device_fault(), out),
     }
-}
-
-// Prints what is told of an audit.
-fn print_told<W: Write>(audit: &Audit, out: &mut W) -> io::Result<()> {
-    let report = audit.report;
-    match &audit.told {
-        Told::Report(lines) => {
-            writeln!(out, "{report}")?;
-            out.write_all(lines.as_bytes())
-        }
-        Told::Figures(line) => writeln!(out, "{line}"),
-        Told::Records(lines) => out.write_all(lines.as_slice()),
-    }
-}
-
-// Prints the lines of an audit.
-fn print_lines<W: Write>(audit: &Audit, out: &mut W) -> io::Result<u8>
-    ensures { IfOk result (λ status. status ≡ status_for audit.now.report.older) }
-{
-    print_told(audit, out)?;
-    Ok(match audit.report.older {
-        Older::Differs => REFUSED,
-        _ => DONE,
-    })
-}
-
-/// Prints that memory ran out.
-pub fn refuse_for_memory<W: Write>(out: &mut W) -> io::Result<u8>
-    ensures { IfOk result (λ status. status ≡ 1) }
-{
-    print_fault(&"out of memory", false, out)
-}
-
-// Prints why a command was not carried out.
-fn print_fault<E: Display, W: Write>(
-    fault: &E,
-    is_device_fault: bool,
-    out: &mut W,
-) -> io::Result<u8>
-    ensures { IfOk result (λ status. status ≡ (if is_device_fault then 3 else 1)) }
-{
-    if is_device_fault {
-        writeln!(out, "{fault}")?;
-        return Ok(DEVICE);
-    }
-    writeln!(out, "refused: {fault}")?;
-    Ok(REFUSED)
 }

@@ -1,18 +1,10 @@
-//! The program `lambda_broker`: one command line, read by `clap`, and the work of each of its commands.
-//!
-//! `trial` takes one event the whole way over a disk in memory, as `broker_trial` does it.
+//! The program `lambda_broker`: its command line, and serving a disk. The other commands stand in `broker_commands`.
 #![tactic(auto)]
 
-mod auditing;
-mod clock;
 mod command_line;
-mod configuring;
-mod formatting;
-mod migrating;
-mod opening;
 mod serving;
-mod words;
 
+use broker_commands::refuse_for_memory;
 use std::io::{ErrorKind, Write};
 use std::process::ExitCode;
 use std::rt::Env;
@@ -31,9 +23,7 @@ fn main(rt: HostRuntime) -> io::Result<ExitCode> {
     let mut out = io::writer(&rt);
     let status = match words_of(&rt) {
         Ok(words) => command_line::run(rt, &words, &mut out)?,
-        Err(fault) if fault.kind() == ErrorKind::OutOfMemory => {
-            command_line::refuse_for_memory(&mut out)?
-        }
+        Err(fault) if fault.kind() == ErrorKind::OutOfMemory => { refuse_for_memory(&mut out)? }
         Err(fault) => return Err(fault),
     };
     out.flush()?;

@@ -1,16 +1,16 @@
 // Serving a disk on the ports of this machine.
-ghost use Rattle.std.specs.Prelude.{◌≡◌, [], IfOk, OnOk};
+ghost use Rattle.std.specs.Prelude.{◌≡◌, [], IfOk, IfSome, OnOk, is_some};
 ghost use Rattle.group_commit.specs.Broker.{pending_of, settings_of};
 ghost use Rattle.group_commit.specs.Promises.{ForEachHistory};
 ghost use Rattle.lambda_broker.specs.Serving.{ComesToRest};
 ghost use Rattle.hall_core.specs.Fresh.{IsFresh};
 
-use crate::clock::now;
-use crate::opening::open;
-use api_core::Dialect;
+use admin_port::{Admin, AdminPort};
+use broker_commands::{Address, now, open};
 use group_commit::{Broker, CommitError, IssueError, OpenError};
 use hall_core::{Hall, HallFailure};
-use http_front::{Admin, Ending, ServeError, WhenPending, serve};
+use http_front::{Ending, ServeError, WhenPending, serve};
+use port_meters::Machine;
 use receipts::{Gone, SharedOpening, SharedTrace, desks};
 use sector_disk::{CountingDisk, Disk, FileDisk, FileError, Written};
 use std::alloc::{AllocError, AllocGlobal, Global};
@@ -19,29 +19,11 @@ use std::io;
 use std::io::{Eprint, Write};
 use std::marker::Brand;
 use std::net::{IpAddr, Ipv4Addr, Net, SocketAddr, TcpListener, TcpStream};
-use std::random::RandomSource;
 use std::rt::Files;
 use std::sync::Wait;
 use std::sync::ledger::Blank;
-use std::thread::Threads;
 use std::time::Clock;
 use thiserror::Error;
-
-/// A disk that is to be served, where, in which words requests are answered, and for how many extensions an environment waits, 10
-/// at most.
-#[derive(Clone, Copy, Debug)]
-pub struct Address<'a> {
-    /// A file or a block device.
-    pub path: &'a str,
-    /// Where the callers' port and those of the environments are.
-    pub reach: IpAddr,
-    /// The port of the callers.
-    pub port: u16,
-    /// The operator's port, which is on the loopback address.
-    pub admin: Option<u16>,
-    pub dialect: Dialect,
-    pub extensions: u8,
-}
 
 /// Why a disk was not served, or not to its end.
 #[derive(Debug, Drop, Error)]
@@ -249,19 +231,24 @@ fn warn<R: Eprint>(rt: &R, at: &Address<'_>) -> io::Result<()> {
     )
 }
 
+// The operator's port over a hall, where there is one.
+fn admin_over<D: Disk>(
+    hall: &Hall<Broker<D>>,
+    admin: Option<Admin>,
+) -> Result<Option<AdminPort>, AllocError>
+    ensures same { IfOk result (λ port. is_some port ≡ is_some admin) }
+    ensures settings { IfOk result (λ port. IfSome port (λ port. port.facts.settings ≡ settings_of hall.now.issuer)) }
+{
+    match admin {
+        Some(admin) => Ok(Some(admin.over(hall.table())?)),
+        None => Ok(None),
+    }
+}
+
 // Serves a hall until the broker is stopped.
 fn serve_hall<R, T, D>(rt: R, hall: Hall<Broker<D>>, ports: Ports) -> Result<(), ServingError>
 where
-    R: Threads
-        + Wait
-        + Clock
-        + Net<Listener = TcpListener, Stream = TcpStream>
-        + RandomSource
-        + AllocGlobal
-        + Copy
-        + Drop
-        + Send
-        + 'static,
+    R: Machine,
     T: SharedTrace + 'static,
     T::Opening: SharedOpening + 'static,
     D: Disk + Drop,
@@ -270,7 +257,8 @@ where
 {
     let blank = Blank::new(desks(hall.table().settings()));
     let Ports { listeners, admin } = ports;
-    let served = serve::<R, Brand, T, D, WhenPending>(
+    let admin = admin_over(&hall, admin)?;
+    let served = serve::<R, Brand, T, D, WhenPending, AdminPort>(
         rt,
         hall,
         blank,
@@ -293,17 +281,7 @@ fn serve_on<R, T, D, W>(
     out: &mut W,
 ) -> Result<(), ServingError>
 where
-    R: Threads
-        + Wait
-        + Clock
-        + Net<Listener = TcpListener, Stream = TcpStream>
-        + Files<File = File>
-        + RandomSource
-        + AllocGlobal
-        + Copy
-        + Drop
-        + Send
-        + 'static,
+    R: Files<File = File> + Machine,
     T: SharedTrace + 'static,
     T::Opening: SharedOpening + 'static,
     D: Disk + Drop,
@@ -321,18 +299,7 @@ where
 /// printed on until the broker is stopped. The file is looked at first, then what is on it, then the ports.
 pub fn serve_disk<R, W>(rt: R, at: &Address<'_>, out: &mut W) -> Result<(), ServingError>
 where
-    R: Files<File = File>
-        + Eprint
-        + Threads
-        + Wait
-        + Clock
-        + Net<Listener = TcpListener, Stream = TcpStream>
-        + RandomSource
-        + AllocGlobal
-        + Copy
-        + Drop
-        + Send
-        + 'static,
+    R: Files<File = File> + Eprint + Machine,
     W: Write,
 {
     let disk = FileDisk::open(&rt, at.path)?;

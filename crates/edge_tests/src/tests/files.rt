@@ -4,14 +4,8 @@ use sector_disk::{Disk, FileDisk, FileError, MemFile, SECTOR_SIZE};
 use std::fs::File;
 use std::rt::Files;
 use std::test::Fail;
-use std::{env, fs, process};
-
-/// The path of a file that no other test uses.
-pub fn path_of(rt: &HostRuntime, test: &str) -> Result<String, Fail> {
-    let folder = env::temp_dir(rt)?;
-    let id = process::id(rt.process());
-    Ok(format!(in rt.alloc(); "{}/sector_disk_{test}_{id}", folder.as_str())?)
-}
+use std::{env, fs};
+use test_parts::path_of;
 
 // What each of these bytes is, if all are the same.
 fn byte_of(bytes: &[u8]) -> Option<u8> {

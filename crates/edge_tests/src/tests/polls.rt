@@ -1,7 +1,6 @@
 // Futures of replies, polled on one thread over an office, a board and a bell, and once from another thread.
 mod scene;
 
-use crate::tests::disks::{NO_TROUBLE, Trouble, Watch};
 use crate::tests::house::{House, Story, expect, tell};
 use crate::tests::polls::scene::{Pool, Scene, scene_in, slot_of};
 use api_core::Call;
@@ -16,6 +15,7 @@ use std::sync::{Arc, Wait};
 use std::test::Fail;
 use std::thread;
 use std::thread::Threads;
+use test_parts::{NO_TROUBLE, Trouble, Watch};
 
 const RUNTIME_NEXT: Call = Call::RuntimeNext { environment: 1 };
 

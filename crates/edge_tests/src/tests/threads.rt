@@ -1,5 +1,4 @@
 // Threads that ask one office, with a committer on a thread of its own.
-use crate::tests::disks::{MOST_TURNS, NO_TROUBLE, Trouble, Watch};
 use crate::tests::house::{House, NOW, Story, expect, invoke, tell};
 use group_commit::DiskHalf;
 use receipts::{Desk, FinishError, Office};
@@ -11,6 +10,7 @@ use std::sync::{Arc, Wait};
 use std::test::Fail;
 use std::thread;
 use std::thread::Threads;
+use test_parts::{MOST_TURNS, NO_TROUBLE, Trouble, Watch};
 
 /// How threads ask.
 #[derive(Clone, Copy)]

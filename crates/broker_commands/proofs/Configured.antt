@@ -1,0 +1,54 @@
+-- The command that configures, behind a history.
+use Rattle.std.proofs.Common.{◌≡◌, ℕ, List, [], ◌∷◌, ◌++◌, Option, Some, None, Result, Ok, Err, IfOk, refl, sym, ap, subst, ◌∙◌}
+use Rattle.sector_disk.specs.Disk.{DiskView}
+use Rattle.sector_disk.specs.declared.disk.Disk.{Ghosts}
+use Rattle.retry_rules.specs.declared.policy.RetryPolicy.{RetryPolicy}
+use Rattle.retry_rules.specs.declared.settings.Settings.{Settings}
+use Rattle.invoke_records.specs.declared.command.Command.{Command}
+use Rattle.invoke_records.specs.declared.snapshot.Snapshot.{Snapshot}
+use Rattle.async_core.specs.History.{table_of}
+use Rattle.async_core.specs.Policies.{pair_of, policy_by}
+use Rattle.async_core.specs.Rules.{table_after}
+use Rattle.group_commit.specs.declared.broker.Broker.{Broker}
+use Rattle.group_commit.specs.declared.error.IssueError.{IssueError}
+use Rattle.group_commit.specs.Broker.{settings_of, table_in, Stands, Issues, IsReason}
+use Rattle.broker_commands.specs.declared.configuring.ConfiguringError.{ConfiguringError}
+use Rattle.broker_commands.specs.declared.configuring.NewPolicy.{NewPolicy}
+use Rattle.broker_commands.specs.Configuring.{told_or, policy_for, configure_after, configure_at, IsConfigured, IsAsked}
+
+-- where the table's command was issued, the history's was
+pub configured : {D : Type 0} {g : Ghosts D} (view : D → DiskView) (old new : Broker D g) (wanted : NewPolicy) (now : ℕ)
+    (history : List Command) (command : Command) → command ≡ configure_at (table_in old) wanted now → settings_of new ≡ settings_of old
+    → Stands view old history → Stands view new (history ++ command ∷ []) → IsConfigured view wanted now history new
+unfolding table_of
+configured view old new wanted now history command is same stands after =
+    subst (λ (c : Command). Stands view new (history ++ c ∷ []))
+    (is ∙ ap (λ (t : Snapshot). configure_at t wanted now) stands.table_is ∙ ap (λ (s : Settings). configure_after s history wanted now) (sym same))
+    after
+
+-- where the command is the table's, so is what it is refused for
+pub refused_at : {D : Type 0} {g : Ghosts D} (broker : Broker D g) (wanted : NewPolicy) (now : ℕ) (command : Command) (why : IssueError)
+    → command ≡ configure_at (table_in broker) wanted now → IsReason broker command why → IsReason broker (configure_at (table_in broker) wanted now) why
+refused_at broker wanted now command why is = subst (λ (c : Command). IsReason broker c why) is
+
+-- what is in force behind it
+pub in_force_behind : {D : Type 0} {g : Ghosts D} (old new : Broker D g) (wanted : NewPolicy) (now : ℕ) (command : Command) (ticket : ℕ)
+    → command ≡ configure_at (table_in old) wanted now → Issues old new command ticket
+    → (table_in new).policy ≡ policy_for (table_in old).policy wanted
+unfolding table_after
+in_force_behind old new wanted now command ticket is issued =
+    ap (λ (t : Snapshot). t.policy) issued.table ∙ ap (λ (c : Command). policy_by (table_in old).policy c.kind) is
+
+asked_once : (option : Option ℕ) (before : ℕ) → told_or option before ≡ told_or option (told_or option before)
+asked_once (Some n) before = refl
+asked_once None before = refl
+
+-- what is told then is what was asked for
+asked : (wanted : NewPolicy) (before : RetryPolicy) (pair : ℕ × ℕ) → pair ≡ pair_of (policy_for before wanted) → IsAsked wanted pair
+asked wanted before pair is =
+    subst (IsAsked wanted) (sym is) (asked_once wanted.retries before.retries, asked_once wanted.age before.age)
+
+pub asked_for : (wanted : NewPolicy) (before : RetryPolicy) (result : Result (ℕ × ℕ) ConfiguringError)
+    → IfOk result (λ pair. pair ≡ pair_of (policy_for before wanted)) → IfOk result (IsAsked wanted)
+asked_for wanted before (Ok pair) is = asked wanted before pair is
+asked_for wanted before (Err why) is = is

@@ -1,0 +1,5 @@
+pub mod Auditing
+pub mod Configuring
+pub mod Formatting
+pub mod Migrating
+pub mod Trial

@@ -1,0 +1,19 @@
+// Where a disk is served.
+use api_core::Dialect;
+use std::net::IpAddr;
+
+/// A disk that is to be served, where, in which words requests are answered, and for how many extensions an environment waits, 10
+/// at most.
+#[derive(Clone, Copy, Debug)]
+pub struct Address<'a> {
+    /// A file or a block device.
+    pub path: &'a str,
+    /// Where the callers' port and those of the environments are.
+    pub reach: IpAddr,
+    /// The port of the callers.
+    pub port: u16,
+    /// The operator's port, which is on the loopback address.
+    pub admin: Option<u16>,
+    pub dialect: Dialect,
+    pub extensions: u8,
+}

@@ -1,0 +1,178 @@
+// Auditing a disk in a file.
+ghost use Rattle.std.specs.Prelude.{◌≡◌, ◌++◌, IfOk, OnOk, string_bytes};
+ghost use Rattle.broker_commands.specs.Auditing.{is_device_fault, lines_of_policy, lines_of_event, lines_of, IsTold, Answers};
+
+use async_core::Table;
+use audit_report::{
+    Report, all_records, audit, explain, figures, in_force_line, inspect, json_line,
+};
+use group_commit::OpenError;
+use sector_disk::{Disk, FileDisk, FileError};
+use std::alloc::{AllocError, Global};
+use std::fs::File;
+use std::rt::Files;
+use thiserror::Error;
+
+/// A disk that is to be audited.
+#[derive(Clone, Copy, Debug)]
+pub struct OldDisk<'a> {
+    /// A file or a block device.
+    pub path: &'a str,
+    pub asked: Asked,
+}
+
+/// What is asked of a disk.
+#[derive(Clone, Copy, Debug)]
+pub enum Asked {
+    /// A report, for a person to read.
+    Report(More),
+    /// The numbers, as JSON.
+    Figures,
+    /// The destination records.
+    Records,
+}
+
+/// What is asked for behind a report.
+#[derive(Clone, Copy, Debug)]
+pub struct More {
+    /// What is in force for the events that are accepted next.
+    pub in_force: bool,
+    /// The event with this id.
+    pub event: Option<[u8; 16]>,
+}
+
+/// What an audit tells.
+#[derive(Debug, Drop)]
+pub struct Audit {
+    pub report: Report,
+    pub told: Told,
+}
+
+/// What is printed of an audit.
+#[derive(Debug, Drop)]
+pub enum Told {
+    /// The report, and these lines behind it.
+    Report(String),
+    /// The line of the numbers alone.
+    Figures(String),
+    /// The lines of the destination records alone.
+    Records(Vec<u8>),
+}
+
+/// Why a disk was not audited.
+#[derive(Clone, Copy, Debug, Error)]
+pub enum AuditError {
+    #[error("out of memory")]
+    OutOfMemory(#[from] AllocError),
+    #[error("{0}")]
+    File(#[from] FileError),
+    #[error("{0}")]
+    Open(#[from] OpenError),
+}
+
+impl AuditError {
+    /// Whether the device failed.
+    pub fn is_device_fault(&self) -> bool
+        ensures { result ≡ is_device_fault self.now }
+    {
+        matches!(
+            self,
+            AuditError::File(FileError::Fault) | AuditError::Open(OpenError::Fault)
+        )
+    }
+}
+
+// Puts the line of what is in force behind a text, where it is asked for.
+fn put_in_force(
+    alloc: Global,
+    out: &mut String,
+    report: &Report,
+    is_asked: bool,
+) -> Result<(), AllocError>
+    ensures { OnOk result (string_bytes out.new ≡ string_bytes out.old ++ lines_of_policy report.now is_asked) }
+{
+    if !is_asked {
+        return Ok(());
+    }
+    let line = in_force_line(alloc, report)?;
+    out.push_str(line.as_str())?;
+    out.push_str("\n")
+}
+
+// Puts the line of an event behind a text, where one is asked for.
+fn put_event(
+    alloc: Global,
+    out: &mut String,
+    table: &Table,
+    event: Option<[u8; 16]>,
+) -> Result<(), AllocError>
+    ensures { OnOk result (string_bytes out.new ≡ string_bytes out.old ++ lines_of_event table.now event) }
+{
+    match event {
+        None => Ok(()),
+        Some(id) => {
+            let line = explain(alloc, table, &id)?;
+            out.push_str(line.as_str())?;
+            out.push_str("\n")
+        }
+    }
+}
+
+// The lines behind a report that are asked for.
+fn lines_of(alloc: Global, table: &Table, report: &Report, more: More) -> Result<String, AllocError>
+    ensures { IfOk result (λ lines. string_bytes lines ≡ lines_of table.now report.now more) }
+{
+    let mut lines = String::new(alloc);
+    put_in_force(alloc, &mut lines, report, more.in_force)?;
+    put_event(alloc, &mut lines, table, more.event)?;
+    Ok(lines)
+}
+
+// What is told of a table where this is asked for.
+fn told_of(alloc: Global, table: &Table, report: &Report, asked: Asked) -> Result<Told, AllocError>
+    ensures { IfOk result (IsTold table.now report.now asked) }
+{
+    match asked {
+        Asked::Report(more) => Ok(Told::Report(lines_of(alloc, table, report, more)?)),
+        Asked::Figures => {
+            let numbers = figures(table, report)?;
+            Ok(Told::Figures(json_line(alloc, &numbers)?))
+        }
+        Asked::Records => Ok(Told::Records(all_records(alloc, table)?)),
+    }
+}
+
+// What a disk holds, and what else is asked for.
+fn with_more<D: Disk>(alloc: Global, disk: &mut D, asked: Asked) -> Result<Audit, AuditError>
+    ensures { (D.view disk.old).honest → IfOk result (Answers (D.view disk.old).content asked) }
+{
+    let (table, report) = inspect(alloc, disk)?;
+    let told = told_of(alloc, &table, &report, asked)?;
+    Ok(Audit { report, told })
+}
+
+// What is asked of a disk, which is given up.
+fn audit_on<D: Disk + Drop>(alloc: Global, disk: D, asked: Asked) -> Result<Audit, AuditError> {
+    let mut disk = disk;
+    if let Asked::Report(
+        More {
+            in_force: false,
+            event: None,
+        },
+    ) = asked
+    {
+        let report = audit(alloc, disk)?;
+        let told = Told::Report(String::new(alloc));
+        return Ok(Audit { report, told });
+    }
+    with_more(alloc, &mut disk, asked)
+}
+
+/// Reads what a disk holds, which is opened for reading alone.
+pub fn audit_disk<R: Files<File = File> + AllocGlobal>(
+    rt: &R,
+    old: &OldDisk<'_>,
+) -> Result<Audit, AuditError> {
+    let disk = FileDisk::open_read_only(rt, old.path)?;
+    audit_on(rt.alloc(), disk, old.asked)
+}

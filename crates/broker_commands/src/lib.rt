@@ -1,0 +1,25 @@
+//! The commands of the program that wait for nobody, `serve` aside: their words, what they do to a disk, and what is printed.
+//!
+//! It stands below the program and not above the front, which it need not wait for. The crate above reads a `Task` of the
+//! command line, and uses that what is printed of a job ends with a status of 0 to 3.
+#![tactic(auto)]
+
+mod address;
+mod auditing;
+mod clock;
+mod configuring;
+mod formatting;
+mod migrating;
+mod opening;
+mod printing;
+mod words;
+
+pub use address::Address;
+pub use auditing::{Asked, Audit, AuditError, More, OldDisk, Told, audit_disk};
+pub use clock::now;
+pub use configuring::{ConfiguringError, NewPolicy, configure_disk};
+pub use formatting::{Function, NewDisk, NewDiskError, Numbers, make_disk};
+pub use migrating::{Migrated, MigratingError, OldVersion, migrate_file};
+pub use opening::open;
+pub use printing::{DONE, USAGE, print_fault, print_job, print_usage, refuse_for_memory};
+pub use words::{Job, Task, read_task};

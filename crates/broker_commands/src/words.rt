@@ -1,0 +1,361 @@
+// The words of the command line: which command they are, and what it is told.
+use crate::address::Address;
+use crate::auditing::{Asked, More, OldDisk};
+use crate::configuring::NewPolicy;
+use crate::formatting::{Function, NewDisk, Numbers};
+use crate::migrating::OldVersion;
+use api_core::Dialect;
+use clap::builder::ValueParser;
+use clap::error::ErrorKind;
+use clap::{Arg, ArgAction, ArgMatches, Command, Error, value_parser};
+use std::alloc::{AllocError, Global};
+use std::net::IpAddr;
+use uuid::Uuid;
+
+/// A command of the program.
+#[derive(Drop)]
+pub enum Task<'a> {
+    Job(Job<'a>),
+    /// Serves a disk until it is told to stop.
+    Serve(Address<'a>),
+}
+
+/// A command that waits for nobody.
+#[derive(Drop)]
+pub enum Job<'a> {
+    Trial,
+    Format(NewDisk<'a>),
+    Audit(OldDisk<'a>),
+    Configure(NewPolicy<'a>),
+    Migrate(OldVersion<'a>),
+}
+
+// An option with a value.
+fn option<'a>(alloc: Global, name: &'a str, help: &'a str) -> Arg<'a> {
+    Arg::new(alloc, name)
+        .long(name)
+        .action(ArgAction::Set)
+        .help(help)
+}
+
+// An option that is a number and may be left out.
+fn number<'a>(
+    alloc: Global,
+    name: &'a str,
+    help: &'a str,
+    default: &'a str,
+    parser: ValueParser<'a>,
+) -> Arg<'a> {
+    option(alloc, name, help)
+        .default_value(default)
+        .value_parser(parser)
+}
+
+// The file or the device that a command is about.
+fn disk<'a>(alloc: Global) -> Arg<'a> {
+    Arg::new(alloc, "disk")
+        .value_name("DISK")
+        .help("A file or a block device")
+        .required(true)
+}
+
+// The function that a disk is formatted for.
+fn with_function<'a>(alloc: Global, command: Command<'a>) -> Result<Command<'a>, AllocError> {
+    let name = option(alloc, "name", "Name of the function");
+    let handler = option(alloc, "handler", "Handler of the function");
+    let arn = option(alloc, "arn", "ARN of the function");
+    command
+        .arg(name.required(true))?
+        .arg(handler.required(true))?
+        .arg(arn.required(true))
+}
+
+// How often and for how long an event is tried.
+const RETRIES: &str = "Retries after a function error, 0 to 2";
+
+const AGE: &str = "Greatest age of an event in seconds, 60 to 21600";
+
+// How its events are tried.
+fn with_rules<'a>(alloc: Global, command: Command<'a>) -> Result<Command<'a>, AllocError> {
+    let timeout = "Timeout of an attempt in seconds, 1 to 900";
+    let concurrency = "Attempts that may run at once, 1 to 64";
+    command
+        .arg(number(alloc, "retries", RETRIES, "2", value_parser!(u8)))?
+        .arg(number(alloc, "age", AGE, "21600", value_parser!(u32)))?
+        .arg(number(alloc, "timeout", timeout, "3", value_parser!(u16)))?
+        .arg(number(alloc, "concurrency", concurrency, "10", value_parser!(u8)))
+}
+
+// How much the broker holds.
+fn with_limits<'a>(alloc: Global, command: Command<'a>) -> Result<Command<'a>, AllocError> {
+    let environments = "Environments, 1 to 16";
+    let events = "Events that may be held at once, 1 to 1024";
+    let payload = "Greatest payload in bytes, 2 to 1048576";
+    let response = "Greatest response in bytes, 2 to 262144";
+    command
+        .arg(number(alloc, "environments", environments, "1", value_parser!(u8)))?
+        .arg(number(alloc, "events", events, "64", value_parser!(u16)))?
+        .arg(number(alloc, "payload", payload, "262144", value_parser!(u32)))?
+        .arg(number(alloc, "response", response, "262144", value_parser!(u32)))
+}
+
+fn format_command<'a>(alloc: Global) -> Result<Command<'a>, AllocError> {
+    let sectors = option(alloc, "sectors", "Size of the disk in sectors of 512 bytes");
+    let command = Command::new(alloc, "format")
+        .about("Make a disk of zeros and format it for a function; what it held is lost")
+        .arg(disk(alloc))?
+        .arg(sectors.value_parser(value_parser!(u64)).required(true))?;
+    let command = with_function(alloc, command)?;
+    let command = with_rules(alloc, command)?;
+    with_limits(alloc, command)
+}
+
+// An option without a value.
+fn flag<'a>(alloc: Global, name: &'a str, help: &'a str) -> Arg<'a> {
+    Arg::new(alloc, name)
+        .long(name)
+        .action(ArgAction::SetTrue)
+        .help(help)
+}
+
+// An option that tells something else than a report.
+fn apart<'a>(option: Arg<'a>) -> Result<Arg<'a>, AllocError> {
+    option.conflicts_with("in-force")?.conflicts_with("event")
+}
+
+fn audit_command<'a>(alloc: Global) -> Result<Command<'a>, AllocError> {
+    let event = option(alloc, "event", "Tell of the event with this id, too");
+    let in_force = "Tell the retries and the age that are in force, too";
+    let in_force = flag(alloc, "in-force", in_force);
+    let json = flag(
+        alloc,
+        "json",
+        "Tell the numbers as one line of JSON instead",
+    );
+    let records = "Tell the destination records instead, one a line";
+    let records = flag(alloc, "records", records);
+    Command::new(alloc, "audit")
+        .about("Tell what a disk holds, and whether its two segments tell one story")
+        .arg(disk(alloc))?
+        .arg(in_force)?
+        .arg(event.value_name("ID"))?
+        .arg(apart(json)?.conflicts_with("records")?)?
+        .arg(apart(records)?)
+}
+
+fn configure_command<'a>(alloc: Global) -> Result<Command<'a>, AllocError> {
+    let retries = option(alloc, "retries", RETRIES);
+    let age = option(alloc, "age", AGE);
+    Command::new(alloc, "configure")
+        .about(
+            "Set how the events that are accepted from now on are tried; what is left out stays as it is",
+        )
+        .arg(disk(alloc))?
+        .arg(retries.value_parser(value_parser!(u8)))?
+        .arg(age.value_parser(value_parser!(u32)))
+}
+
+fn migrate_command<'a>(alloc: Global) -> Result<Command<'a>, AllocError> {
+    Command::new(alloc, "migrate")
+        .about("Make a disk that an older version wrote one of this version; its events stay")
+        .arg(disk(alloc))
+}
+
+fn serve_command<'a>(alloc: Global) -> Result<Command<'a>, AllocError> {
+    let help = "Port of the callers, 1024 to 65519; environment n has the port n behind it";
+    let port = option(alloc, "port", help);
+    let dialect = option(alloc, "dialect", "Whose words errors and names are in");
+    let extensions = "Extensions for which an environment waits before its first event, 0 to 10";
+    let reach = "IP address of the callers' and the environments' ports";
+    let admin = "Port of the operator, who only looks, 1024 to 65535, on the loopback address";
+    Command::new(alloc, "serve")
+        .about("Serve a disk until POST /broker/stop")
+        .arg(disk(alloc))?
+        .arg(
+            port.value_parser(value_parser!(u16).range(1024..65520))
+                .required(true),
+        )?
+        .arg(
+            dialect
+                .default_value("profile")
+                .value_parser(["profile", "aws"].as_slice()),
+        )?
+        .arg(number(
+            alloc,
+            "extensions",
+            extensions,
+            "0",
+            value_parser!(u8).range(0..11),
+        ))?
+        .arg(
+            option(alloc, "address", reach)
+                .value_name("IP")
+                .default_value("127.0.0.1"),
+        )?
+        .arg(option(alloc, "admin", admin).value_parser(value_parser!(u16).range(1024..65536)))
+}
+
+// A command with one more below it.
+fn with_command<'a>(
+    command: Command<'a>,
+    below: Result<Command<'a>, AllocError>,
+) -> Result<Command<'a>, AllocError> {
+    command.subcommand(below?)
+}
+
+fn commands<'a>(alloc: Global) -> Result<Command<'a>, AllocError> {
+    let trial = Command::new(alloc, "trial").about(
+        "Accept, commit and recover one event on a disk in memory",
+    );
+    let all = Command::new(alloc, "lambda_broker")
+        .about("A broker for asynchronous invocations of one function")
+        .subcommand_required(true)
+        .subcommand(trial)?;
+    let all = with_command(all, format_command(alloc))?;
+    let all = with_command(all, audit_command(alloc))?;
+    let all = with_command(all, configure_command(alloc))?;
+    let all = with_command(all, migrate_command(alloc))?;
+    with_command(all, serve_command(alloc))
+}
+
+fn function<'a>(matches: &ArgMatches<'a>) -> Option<Function<'a>> {
+    Some(Function {
+        name: matches.get_str("name")?,
+        handler: matches.get_str("handler")?,
+        arn: matches.get_str("arn")?,
+    })
+}
+
+fn numbers(matches: &ArgMatches<'_>) -> Option<Numbers> {
+    Some(Numbers {
+        retries: matches.get_one("retries")?,
+        age: matches.get_one("age")?,
+        timeout: matches.get_one("timeout")?,
+        concurrency: matches.get_one("concurrency")?,
+        environments: matches.get_one("environments")?,
+        events: matches.get_one("events")?,
+        payload: matches.get_one("payload")?,
+        response: matches.get_one("response")?,
+    })
+}
+
+fn new_disk<'a>(matches: &ArgMatches<'a>) -> Option<NewDisk<'a>> {
+    Some(NewDisk {
+        path: matches.get_str("disk")?,
+        sectors: matches.get_one("sectors")?,
+        function: function(matches)?,
+        numbers: numbers(matches)?,
+    })
+}
+
+// The fault of an id that is none.
+fn bad_id(alloc: Global, id: &str) -> Result<Error, AllocError> {
+    let message = format!(in alloc; "invalid value '{id}' for '--event <ID>': no UUID")?;
+    audit_command(alloc)?.error(ErrorKind::ValueValidation, message.as_str())
+}
+
+// What is asked for behind a report.
+fn more(alloc: Global, matches: &ArgMatches<'_>) -> Result<More, Error> {
+    let in_force = matches.get_flag("in-force");
+    let Some(id) = matches.get_str("event") else {
+        return Ok(More {
+            in_force,
+            event: None,
+        });
+    };
+    match Uuid::parse_str(id) {
+        Ok(id) => Ok(More {
+            in_force,
+            event: Some(id.into_bytes()),
+        }),
+        Err(_) => Err(bad_id(alloc, id)?),
+    }
+}
+
+// What is asked of a disk that is audited.
+fn asked(alloc: Global, matches: &ArgMatches<'_>) -> Result<Asked, Error> {
+    if matches.get_flag("json") {
+        return Ok(Asked::Figures);
+    }
+    if matches.get_flag("records") {
+        return Ok(Asked::Records);
+    }
+    Ok(Asked::Report(more(alloc, matches)?))
+}
+
+fn old_disk<'a>(alloc: Global, matches: &ArgMatches<'a>) -> Result<Option<Task<'a>>, Error> {
+    let Some(path) = matches.get_str("disk") else {
+        return Ok(None);
+    };
+    let asked = asked(alloc, matches)?;
+    Ok(Some(Task::Job(Job::Audit(OldDisk { path, asked }))))
+}
+
+fn new_policy<'a>(matches: &ArgMatches<'a>) -> Option<NewPolicy<'a>> {
+    Some(NewPolicy {
+        path: matches.get_str("disk")?,
+        retries: matches.get_one("retries"),
+        age: matches.get_one("age"),
+    })
+}
+
+fn old_version<'a>(matches: &ArgMatches<'a>) -> Option<OldVersion<'a>> {
+    Some(OldVersion {
+        path: matches.get_str("disk")?,
+    })
+}
+
+// The dialect of this name.
+fn dialect(name: &str) -> Dialect {
+    if name == "aws" {
+        Dialect::Aws
+    } else {
+        Dialect::Profile
+    }
+}
+
+// The fault of an address that is none.
+fn bad_address(alloc: Global, address: &str) -> Result<Error, AllocError> {
+    let message = format!(in alloc;
+        "invalid value '{address}' for '--address <IP>': no IP address"
+    )?;
+    serve_command(alloc)?.error(ErrorKind::ValueValidation, message.as_str())
+}
+
+fn address_at<'a>(matches: &ArgMatches<'a>, reach: IpAddr) -> Option<Address<'a>> {
+    Some(Address {
+        path: matches.get_str("disk")?,
+        reach,
+        port: matches.get_one("port")?,
+        admin: matches.get_one("admin"),
+        dialect: dialect(matches.get_str("dialect")?),
+        extensions: matches.get_one("extensions")?,
+    })
+}
+
+fn address<'a>(alloc: Global, matches: &ArgMatches<'a>) -> Result<Option<Task<'a>>, Error> {
+    let Some(reach) = matches.get_str("address") else {
+        return Ok(None);
+    };
+    match reach.parse::<IpAddr>() {
+        Ok(ip) => Ok(address_at(matches, ip).map(Task::Serve)),
+        Err(_) => Err(bad_address(alloc, reach)?),
+    }
+}
+
+/// The command that the words are, the first of which is the program's name.
+pub fn read_task<'a>(alloc: Global, words: &'a [String]) -> Result<Option<Task<'a>>, Error> {
+    let matches = commands(alloc)?.try_get_matches_from(words)?;
+    let Some((name, told)) = matches.subcommand() else {
+        return Ok(None);
+    };
+    match name {
+        "trial" => Ok(Some(Task::Job(Job::Trial))),
+        "format" => Ok(new_disk(told).map(Job::Format).map(Task::Job)),
+        "serve" => address(alloc, told),
+        "audit" => old_disk(alloc, told),
+        "configure" => Ok(new_policy(told).map(Job::Configure).map(Task::Job)),
+        "migrate" => Ok(old_version(told).map(Job::Migrate).map(Task::Job)),
+        _ => Ok(None),
+    }
+}

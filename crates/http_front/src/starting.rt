@@ -1,0 +1,137 @@
+// The threads of a front's ports, and of what is served beside them.
+ghost use Rattle.std.specs.Prelude.{◌≡◌, IfOk, is_some};
+
+use crate::front::Front;
+use crate::port_application::PortApplication;
+use http_port::Limits;
+use long_poll::{Port, Window};
+use port_meters::{Beside, Machine};
+use receipts::{SharedOpening, SharedTrace, Trace};
+use std::net::TcpListener;
+use std::sync::Arc;
+use std::sync::ledger::Ledger;
+use std::thread::{JoinHandle, Threads};
+use std::{io, thread};
+
+/// The thread of a port.
+pub(crate) type PortThread = JoinHandle<io::Result<()>>;
+
+// Serves a port to its end. Where it fails, the front ends.
+fn serve_place<R: Machine, L: Ledger, T: Trace>(
+    rt: R,
+    place: PortApplication<R, L, T>,
+    listener: TcpListener,
+) -> io::Result<()> {
+    let front = Arc::try_clone(&place.front)?;
+    let served = http_port::serve(rt, place, listener, Limits::default(), &front.ending);
+    front.ending.cancel();
+    front.wake.call(&rt);
+    served
+}
+
+// Starts a thread that serves a port.
+fn start_port<R, L, T>(
+    rt: R,
+    front: &Arc<Front<L, T>>,
+    number: u16,
+    port: Port<L, T>,
+    listener: TcpListener,
+) -> io::Result<PortThread>
+where
+    R: Machine,
+    L: Ledger + Send + Sync + 'static,
+    T: SharedTrace + 'static,
+    T::Opening: SharedOpening + 'static,
+{
+    let port = Arc::new(rt.alloc(), port)?;
+    let front = Arc::try_clone(front)?;
+    let place = PortApplication {
+        rt,
+        number,
+        front,
+        port,
+    };
+    let thread = thread::spawn(&rt, move || serve_place(rt, place, listener))?;
+    Ok(thread)
+}
+
+/// Starts a thread for each listener, with the next port.
+pub(crate) fn start<R, L, T>(
+    rt: R,
+    front: &Arc<Front<L, T>>,
+    ports: Vec<Port<L, T>>,
+    listeners: Vec<TcpListener>,
+    threads: &mut Vec<PortThread>,
+) -> io::Result<()>
+where
+    R: Machine,
+    L: Ledger + Send + Sync + 'static,
+    T: SharedTrace + 'static,
+    T::Opening: SharedOpening + 'static,
+{
+    let mut number = 0u16;
+    for (port, listener) in ports.into_iter().zip(listeners) {
+        threads.push(start_port(rt, front, number, port, listener)?)?;
+        number = number.wrapping_add(1);
+    }
+    Ok(())
+}
+
+// Serves what is beside the ports of a front to its end. Where it fails, the front goes on.
+fn serve_beside<R: Machine, L: Ledger, T: Trace, B: Beside<R, Window<L, T>>>(
+    rt: R,
+    front: Arc<Front<L, T>>,
+    window: Window<L, T>,
+    beside: B,
+) -> io::Result<B::Served> {
+    let meters = Arc::try_clone(&front.meters)?;
+    beside.serve(rt, window, meters, &front.ending)
+}
+
+/// Starts a thread that serves what is beside the ports, where there is something.
+pub(crate) fn start_beside<R, L, T, B>(
+    rt: R,
+    front: &Arc<Front<L, T>>,
+    window: Window<L, T>,
+    beside: Option<B>,
+) -> io::Result<Option<JoinHandle<io::Result<B::Served>>>>
+where
+    R: Machine,
+    L: Ledger + Send + Sync + 'static,
+    T: SharedTrace + 'static,
+    T::Opening: SharedOpening + 'static,
+    B: Beside<R, Window<L, T>>,
+    ensures { IfOk result (λ thread. is_some thread ≡ is_some beside) }
+{
+    let Some(beside) = beside else {
+        return Ok(None);
+    };
+    let front = Arc::try_clone(front)?;
+    let thread = thread::spawn(&rt, move || serve_beside(rt, front, window, beside))?;
+    Ok(Some(thread))
+}
+
+/// Waits until the thread of what was served beside the ports has ended, where there is one.
+pub(crate) fn join_beside<R: Threads, S: Drop>(
+    rt: &R,
+    thread: Option<JoinHandle<io::Result<S>>>,
+) -> io::Result<Option<S>>
+    ensures { IfOk result (λ served. is_some served ≡ is_some thread) }
+{
+    match thread {
+        Some(thread) => Ok(Some(thread.join(rt)?)),
+        None => Ok(None),
+    }
+}
+
+/// Waits until the threads of all ports have ended: the first error that one ended with.
+pub(crate) fn join_all<R: Threads>(rt: &R, threads: Vec<PortThread>) -> io::Result<()> {
+    let mut outcome = Ok(());
+    for thread in threads {
+        let ended = thread.join(rt);
+        if outcome.is_ok() {
+            outcome = ended;
+        }
+    }
+    outcome
+}

@@ -1,7 +1,0 @@
--- What is told is the policy that was wanted.
-use Rattle.group_commit.specs.Broker.{table_in}
-use Rattle.lambda_broker.proofs.Configured.{asked_for}
-use Rattle.lambda_broker.proofs.configuring.configure_on.Goals as goal
-
-pub returns : goal.returns
-returns g c = record { asked = asked_for c.args.new.now (table_in c.in_ok-broker.broker).policy c.configure.result c.configure.ensures.told }

@@ -1,0 +1,20 @@
+// What is served beside the ports of a front.
+use crate::meters::Meters;
+use std::io;
+use std::sync::Arc;
+use tokio_util::sync::CancellationToken;
+
+/// What is served beside the ports of a front, on a thread of its own, with a window on what they serve.
+pub trait Beside<R, W>: Drop + Send + 'static {
+    /// What shows that it was served to its end. Only serving it gives that.
+    type Served: Drop + Send + 'static;
+
+    /// Serves it until the front ends.
+    fn serve(
+        self,
+        rt: R,
+        window: W,
+        meters: Arc<Meters>,
+        ending: &CancellationToken,
+    ) -> io::Result<Self::Served>;
+}

@@ -1,0 +1,19 @@
+//! What all ports of a broker have in common, whomever they serve: what they ask of the machine, the moment that its clock
+//! shows, and what their threads count for an operator.
+//!
+//! A counter is seen as the record of its numbers, a moment as the milliseconds that the clock showed. The crates above use
+//! that each thing is counted once, and that only a look at the clock makes a moment. A thing that is served beside a front
+//! implements `Beside`.
+#![tactic(auto)]
+
+mod beside;
+mod counters;
+mod machine;
+mod meters;
+mod moment;
+
+pub use beside::Beside;
+pub use counters::{Counters, Refusals};
+pub use machine::Machine;
+pub use meters::{DiskState, Meters};
+pub use moment::{Moment, NoClock};

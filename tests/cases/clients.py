@@ -1,0 +1,103 @@
+"""The runtimes, extensions and callers of `examples/`, as they are run by hand."""
+import http.server
+import json
+import os
+import subprocess
+
+from harness import DEADLINE, EXAMPLES, Beside, Skipped, case, needs, same, until
+
+
+def run(name, *words, **more):
+    """Starts one of the examples."""
+    # boto3 may be Debian's, also where another Python runs this.
+    path = os.pathsep.join(filter(None, [os.environ.get("PYTHONPATH"), "/usr/lib/python3/dist-packages"]))
+    env = {**os.environ, **more.pop("env", {}), "PYTHONPATH": path}
+    return subprocess.Popen([os.path.join(EXAMPLES, name), *map(str, words)], stdout=subprocess.PIPE, text=True, env=env, **more)
+
+
+def told_by_boto3(caller):
+    told = caller.communicate(timeout=2 * DEADLINE)[0]
+    if told.startswith("skipped: "):
+        raise Skipped("there is no boto3")
+    return told.split()
+
+
+@case()
+def the_shell_runtime_and_caller(broker):
+    needs("curl")
+    broker.serve()
+    runtime = run("runtime.sh", broker.port + 1, 1)
+    said = run("caller.sh", broker.port, "my-function", '{"say":"hi"}').communicate(timeout=2 * DEADLINE)[0].splitlines()
+    runtime.wait(DEADLINE)
+    same(said[0][:4], "202 ")
+    same(json.loads(said[1])["responsePayload"], {"SAY": "HI"})
+    same(said[2], "204")
+
+
+@case()
+def the_python_runtime_and_extension(broker):
+    broker.serve()
+    extension = run("extension.py", broker.port + 1)
+    broker.until_parked(1)
+    runtime = run("runtime.py", broker.port + 1, 2)
+    good, bad = broker.invoke('{"a":1,"b":2}'), broker.invoke("[]")
+    runtime.wait(DEADLINE)
+    record = broker.record().json
+    same((record["responsePayload"], record["requestContext"]["requestId"]), ({"members": 2}, good.id))
+    broker.until_parked(1)
+    same(broker.stop(), (202, 0, ""))
+    told = [line.split(" ", 1) for line in extension.communicate(timeout=DEADLINE)[0].splitlines()]
+    same([json.loads(body)["eventType"] for _, body in told], ["INVOKE", "INVOKE", "SHUTDOWN"])
+    same([json.loads(body).get("requestId") for _, body in told[:2]], [good.id, bad.id])
+
+
+class Taker(http.server.BaseHTTPRequestHandler):
+    """Takes what is posted to it, but for the first time."""
+
+    def do_POST(self):
+        self.server.posted.append(self.rfile.read(int(self.headers["Content-Length"])))
+        self.send_response(200 if len(self.server.posted) > 1 else 500)
+        self.send_header("Content-Length", "0")
+        self.end_headers()
+
+    def log_message(self, *words):
+        pass
+
+
+@case()
+def the_runtime_by_its_variable_and_the_forwarder(broker):
+    broker.serve()
+    event = broker.invoke('{"a":1}').id
+    runtime = run("runtime.py", env={"AWS_LAMBDA_RUNTIME_API": f"127.0.0.1:{broker.port + 1}"})
+    taker = http.server.HTTPServer(("127.0.0.1", 0), Taker)
+    taker.posted, taker.timeout = [], 2 * DEADLINE
+    forwarder = run("forward.py", broker.port, "success", f"http://127.0.0.1:{taker.server_port}/", stderr=subprocess.DEVNULL)
+    try:
+        for _ in range(2):
+            taker.handle_request()
+        until("the collection", lambda: broker.record().status == 204)
+        same([json.loads(record)["requestContext"]["requestId"] for record in taker.posted], [event, event])
+    finally:
+        forwarder.kill()
+        runtime.kill()
+        taker.server_close()
+
+
+@case()
+def the_caller_by_boto3(broker):
+    broker.serve()
+    status, id = told_by_boto3(run("caller.py", broker.port, "my-function", '{"a":1}'))
+    same((status, broker.next().id), ("202", id))
+
+
+@case({"events": 1})
+def the_caller_by_boto3_tries_a_full_broker_again(broker):
+    broker.serve()
+    held = broker.invoke("{}").id
+    caller = run("caller.py", broker.port, "my-function", "{}")
+    told = Beside(told_by_boto3, caller)
+    until("a refusal, or the end", lambda: broker.number('refused_total{reason="too_many"}') or not told.is_alive(), 2 * DEADLINE)
+    same(broker.next().id, held)
+    same(broker.respond(held, "1").status, 202)
+    same(broker.delete(held).status, 204)
+    same(told.done(2 * DEADLINE)[0], "202")

@@ -1,0 +1,155 @@
+"""The dialect of AWS: what its SDK for Python, its runtimes and its extensions are told."""
+import json
+import uuid
+
+from harness import ARN, EVENT, EXTENSION, INVOKE, Beside, Skipped, case, same
+
+
+def in_dialect(broker, *words):
+    """Serves the broker in the dialect of AWS."""
+    broker.words = ["--dialect", "aws", *words]
+    return broker.serve()
+
+
+def by_boto3(broker, mode="standard", tries=1):
+    """A client of a broker that answers in the dialect of AWS."""
+    try:
+        import boto3
+        from botocore.config import Config
+    except ImportError:
+        raise Skipped("there is no boto3")
+    return boto3.client(
+        "lambda",
+        endpoint_url=f"http://127.0.0.1:{broker.port}",
+        region_name="us-east-2",
+        aws_access_key_id="unused",
+        aws_secret_access_key="unused",
+        config=Config(retries={"mode": mode, "total_max_attempts": tries}, read_timeout=60),
+    )
+
+
+def called(client, name="my-function", kind="Event", payload=b"{}"):
+    """The status that an invocation is told, or the error that it raises, as its name, status and message."""
+    from botocore.exceptions import ClientError
+
+    try:
+        return client.invoke(FunctionName=name, InvocationType=kind, Payload=payload)["StatusCode"]
+    except ClientError as error:
+        assert isinstance(error, getattr(client.exceptions, type(error).__name__)), f"{error!r} is not typed"
+        told = error.response
+        uuid.UUID(told["ResponseMetadata"]["RequestId"])
+        return type(error).__name__, told["ResponseMetadata"]["HTTPStatusCode"], told["Error"]["Message"]
+
+
+@case({"events": 1})
+def each_refusal_has_the_type_that_an_sdk_knows(broker):
+    in_dialect(broker)
+    other = "/2015-03-31/functions/other/invocations"
+    for words, status, type in (
+        (("POST", other, "{}", EVENT), 404, "ResourceNotFoundException"),
+        (("POST", INVOKE, "{}"), 400, "InvalidParameterValueException"),
+        (("POST", INVOKE, "{", EVENT), 400, "InvalidRequestContentException"),
+        (("POST", INVOKE, 2000 * "1", EVENT), 413, "RequestTooLargeException"),
+        (("POST", INVOKE, "{}", EVENT), 202, None),
+        (("POST", INVOKE, "{}", EVENT), 429, "TooManyRequestsException"),
+    ):
+        told = broker.ask(*words)
+        same((words[:2], told.status, told.headers["X-Amzn-ErrorType"]), (words[:2], status, type))
+    refused = broker.delete(broker.next().id)
+    same((refused.status, refused.headers["X-Amzn-ErrorType"]), (409, "ResourceConflictException"))
+
+
+@case({"events": 1})
+def boto3_raises_a_typed_exception_for_each_refusal(broker):
+    client = by_boto3(in_dialect(broker))
+    same(called(client, name="other"), ("ResourceNotFoundException", 404, "no such path or function"))
+    same(called(client, kind="RequestResponse"), ("InvalidParameterValueException", 400, "only Event is supported"))
+    same(called(client, payload=b"{"), ("InvalidRequestContentException", 400, "payload is not JSON"))
+    same(called(client, payload=b'"' + 1024 * b"a" + b'"'), ("RequestTooLargeException", 413, "body is too large"))
+    same(called(client), 202)
+    same(called(client), ("TooManyRequestsException", 429, "table is full"))
+
+
+@case()
+def boto3_raises_a_service_exception_where_the_device_failed(broker):
+    broker.watches_disk().fail_flush = 2
+    same(called(by_boto3(in_dialect(broker))), ("ServiceException", 503, "broker is not available"))
+    same(broker.ended(), (3, "device fault\n"))
+
+
+@case({"events": 1})
+def boto3_in_standard_mode_tries_a_full_broker_again(broker):
+    client = by_boto3(in_dialect(broker), tries=10)
+    held = broker.invoke("{}").id
+    waiting = Beside(called, client)
+    broker.until_number('refused_total{reason="too_many"}', 1)
+    same(broker.next().id, held)
+    same(broker.respond(held, "1").status, 202)
+    same(broker.delete(held).status, 204)
+    same(waiting.done(), 202)
+
+
+@case()
+def boto3_invokes_by_name_arn_and_partial_arn(broker):
+    client = by_boto3(in_dialect(broker))
+    partial = ["123456789012:function:my-function", "123456789012:function:my-function:$LATEST"]
+    for n, name in enumerate(["my-function", "my-function:$LATEST", ARN, ARN + ":$LATEST", *partial]):
+        same(called(client, name=name, payload=json.dumps(n).encode()), 202)
+        event = broker.next()
+        same(event.json, n)
+        same(broker.respond(event.id, "1").status, 202)
+    same(broker.ask("POST", "/2015-03-31/functions/function:my-function/invocations", "{}", EVENT).status, 202)
+    same(called(client, name="123456789013:function:my-function")[0], "ResourceNotFoundException")
+
+
+@case()
+def each_reply_to_a_caller_has_an_id(broker):
+    in_dialect(broker)
+    told = [broker.invoke("{}"), broker.invoke("{"), broker.record(), broker.delete("x"), broker.ask("GET", "/")]
+    same([reply.status for reply in told], [202, 400, 204, 404, 404])
+    same(len({uuid.UUID(reply.headers["X-Amzn-RequestId"]) for reply in told}), len(told))
+    same([reply.json["Type"] for reply in told if reply.body], 3 * ["User"])
+    same(broker.next().headers["X-Amzn-RequestId"], None)
+    same(broker.ask("GET", "/", environment=1).type, "NotFound")
+
+
+@case()
+def in_the_profile_a_refusal_has_no_id_and_no_type_of_aws(broker):
+    broker.serve()
+    refused = broker.invoke("{")
+    same((refused.headers["X-Amzn-RequestId"], refused.headers["X-Amzn-ErrorType"]), (None, None))
+    same(refused.json, {"errorMessage": "payload is not JSON", "errorType": "InvalidRequestContent"})
+    partial = "/2015-03-31/functions/123456789012:function:my-function/invocations"
+    same(broker.ask("POST", partial, "{}", EVENT).status, 404)
+
+
+@case()
+def an_extension_is_told_that_there_are_no_streams(broker):
+    in_dialect(broker)
+    for path, name in [("/2022-07-01/telemetry", "Telemetry"), ("/2020-08-15/logs", "Logs")]:
+        told = broker.ask("PUT", path, "{}", environment=1)
+        same((told.status, told.type), (202, f"{name}.NotSupported"))
+    accepts = {"Lambda-Extension-Accept-Feature": "accountId"}
+    registered = broker.register(["SHUTDOWN"], **accepts)
+    same(registered.json["accountId"], "123456789012")
+    identifier = {"Lambda-Extension-Identifier": registered.headers["Lambda-Extension-Identifier"]}
+    parked = broker.send_extension_next(identifier)
+    broker.until_parked(1)
+    same(broker.stop(), (202, 0, ""))
+    same(parked.done().json["shutdownReason"], "spindown")
+
+
+@case()
+def a_runtime_comes_before_its_extension_after_each_start(broker):
+    for n in range(2):
+        in_dialect(broker, "--extensions", "1")
+        runtime = broker.send_next()
+        event = broker.invoke(json.dumps(n)).id
+        identifier = broker.extension()
+        broker.until_parked(1)
+        same((runtime.is_answered(), broker.number('environments{phase="init"}')), (False, 1))
+        extension = broker.send_extension_next(identifier)
+        same(runtime.done().id, event)
+        same(extension.done().json["requestId"], event)
+        same(broker.respond(event, "1").status, 202)
+        broker.kill()

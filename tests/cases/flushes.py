@@ -1,0 +1,260 @@
+"""Files and flushes: what is written and flushed before anything is told, and what a device does that fails or is slow."""
+import os
+import shutil
+
+from harness import EXTENSION, RUNTIME, case, matches, same, until
+
+
+@case()
+def a_format_flushes_the_file_its_folder_and_each_step(broker):
+    watch = broker.watches_disk()
+    watch.clear()
+    made = broker.disk + "1"
+    watch.env["WATCH_DISK"] = made
+    same(broker.format(made, 64, events=4, payload=1024, response=1024), (0, "formatted 64 sectors\n"))
+    # The zeros; closed gates, the segment and its gate, each with a flush behind it.
+    same((watch.flushed, watch.folder_flushes), (4, 1))
+    same(watch.written, 5)
+
+
+@case()
+def an_invoke_makes_two_flushes_and_two_writes_and_what_is_read_none(broker):
+    watch = broker.watches_disk()
+    broker.serve()
+    same((watch.flushed, watch.written), (1, 0))
+    for n in range(1, 4):
+        same(broker.invoke("{}").status, 202)
+        same((watch.flushed, watch.written), (1 + 2 * n, 2 * n))
+    same((broker.record().status, broker.ask("GET", "/x").status, broker.look("/events").status), (204, 404, 200))
+    same((watch.flushed, watch.written), (7, 6))
+    same(broker.number("written_bytes_total"), 3 * 3 * 512)
+    same(broker.stop(), (202, 0, ""))
+    same((watch.flushed, watch.written), (7, 6))
+
+
+@case()
+def an_audit_writes_and_flushes_nothing_but_its_opening(broker):
+    watch = broker.watches_disk()
+    broker.audit()
+    same((watch.flushes, watch.writes), (1, 0))
+
+
+@case()
+def nothing_is_told_before_its_flush(broker):
+    watch = broker.watches_disk()
+    # The opening's flush comes first. An invoke makes one behind the frame's body, and one behind its gate.
+    watch.hold_flush = 2
+    broker.serve()
+    invoke = broker.send_invoke("{}")
+    until("a flush", lambda: watch.flushes == 2)
+    events, record, numbers = broker.send_look("/events"), broker.send("GET", "/broker/destinations/success"), broker.send_look("/metrics")
+    broker.until_read()
+    asked = [invoke, events, record, numbers]
+    same([one.is_answered() for one in asked], 4 * [False])
+    watch.release = 2
+    until("the next flush", lambda: watch.flushes == 3)
+    broker.until_read()
+    same([one.is_answered() for one in asked], 4 * [False])
+    watch.let_go()
+    same([one.done().status for one in asked], [202, 200, 204, 200])
+    same([event["id"] for event in events.done().json["events"]], [invoke.done().id])
+    same(broker.stop(), (202, 0, ""))
+
+
+@case()
+def requests_are_answered_while_the_disk_makes_a_flush(broker):
+    watch = broker.watches_disk()
+    watch.hold_flush = 2
+    broker.serve()
+    first, second = broker.send_invoke("{}"), broker.send_invoke("{}")
+    until("a flush", lambda: watch.flushes == 2)
+    oldest = broker.send("GET", "/broker/destinations/success")
+    for environment in 0, 1:
+        same(broker.ask("GET", "/x", environment=environment).status, 404)
+    same([one.is_answered() for one in (first, second, oldest)], 3 * [False])
+    watch.let_go()
+    same([one.done().status for one in (first, second, oldest)], [202, 202, 204])
+    same(broker.stop(), (202, 0, ""))
+
+
+@case()
+def what_comes_during_a_flush_shares_the_next_commit(broker):
+    watch = broker.watches_disk()
+    watch.hold_flush = 2
+    broker.serve()
+    first = broker.send_invoke("{}")
+    until("a flush", lambda: watch.flushes == 2)
+    others = [broker.send_invoke("{}") for _ in range(8)]
+    broker.until_read()
+    watch.let_go()
+    same([invoke.done().status for invoke in (first, *others)], 9 * [202])
+    same(broker.stop(), (202, 0, ""))
+    # One is the opening's, two are those of the first invoke, and two those of the other eight.
+    same(watch.flushed, 5)
+
+
+@case({"events": 400, "sectors": 8192})
+def the_257th_command_that_is_not_durable_is_refused(broker):
+    watch = broker.watches_disk()
+    watch.hold_flush = 2
+    broker.serve()
+    first = [broker.send_invoke("{}")]
+    until("a flush", lambda: watch.flushes == 2)
+    first += [broker.send_invoke("{}") for _ in range(255)]
+    broker.until_read()
+    refused = broker.invoke("{}")
+    same((refused.status, refused.type), (503, "Unavailable"))
+    watch.let_go()
+    same({invoke.done().status for invoke in first}, {202})
+    same(broker.invoke("{}").status, 202)
+    same(broker.number("events_accepted_total"), 257)
+
+
+@case()
+def those_who_wait_for_a_flush_take_no_processor(broker):
+    watch = broker.watches_disk()
+    broker.serve()
+    parked = broker.send_next()
+    broker.until_parked(1)
+    watch.hold_flush = watch.flushes + 1
+    invokes = [broker.send_invoke("{}") for _ in range(2)]
+    until("a flush", lambda: watch.flushes == watch.hold_flush)
+    looks = [broker.send_look(path) for path in ("/events", "/metrics", "/events")]
+    broker.until_read()
+    before = broker.processor_seconds()
+    until("two seconds", lambda began=os.times().elapsed: os.times().elapsed > began + 2)
+    took = broker.processor_seconds() - before
+    assert took < 0.5, f"it took {took} s of a processor"
+    same([one.is_answered() for one in (*invokes, *looks, parked)], 6 * [False])
+    watch.let_go()
+    same([one.done().status for one in (*invokes, *looks, parked)], [202, 202, 200, 200, 200, 200])
+
+
+@case()
+def a_stop_waits_for_what_is_not_durable(broker):
+    watch = broker.watches_disk()
+    watch.hold_flush = 2
+    broker.serve()
+    invoke = broker.send_invoke("{}")
+    until("a flush", lambda: watch.flushes == 2)
+    broker.until_read()
+    stop, late = broker.send("POST", "/broker/stop"), None
+    broker.until_read()
+    late = broker.invoke("{}")
+    same((late.status, late.type), (503, "Unavailable"))
+    same([invoke.is_answered(), stop.is_answered(), broker.served.poll()], [False, False, None])
+    watch.let_go()
+    same([invoke.done().status, stop.done().status], [202, 202])
+    same(broker.ended(), (0, ""))
+    same(broker.audit()[:2], ["generation 1 number 1", "held 1 waiting 1 running 0 success 0 failure 0"])
+
+
+@case()
+def a_stop_answers_all_who_wait_though_a_flush_is_held(broker):
+    watch = broker.watches_disk()
+    broker.serve()
+    runs = broker.live("1", "1")
+    parked = broker.send_next()
+    broker.until_parked(1)
+    watch.hold_flush = watch.flushes + 1
+    delete = broker.send("DELETE", f"/broker/destinations/{runs}")
+    until("a flush", lambda: watch.flushes == watch.hold_flush)
+    looks = [broker.send_look("/events") for _ in range(2)]
+    stop = broker.send("POST", "/broker/stop")
+    broker.until_read()
+    asked = (delete, stop, parked, *looks)
+    same([one.is_answered() for one in asked], 5 * [False])
+    watch.let_go()
+    same([one.done().status for one in asked], [204, 202, 500, 200, 200])
+    same(broker.ended(), (0, ""))
+    same(broker.held(), 0)
+
+
+# A device that fails
+
+def fails(broker, **words):
+    """From this flush, write or read on each fails."""
+    watch = broker.watches_disk()
+    for word, number in words.items():
+        setattr(watch, word, number)
+    return broker
+
+
+def works_again(broker):
+    broker.watch.clear()
+    return broker
+
+
+@case()
+def a_device_fault_ends_the_program_though_an_extension_has_gone(broker):
+    # The opening's flush is the first, and a first invoke makes two more.
+    fails(broker, fail_flush=4).serve()
+    accepted = broker.invoke("{}")
+    same(accepted.status, 202)
+    broker.park_and_leave(broker.send_extension_next, broker.extension())
+    same(broker.invoke("{}").status, 503)
+    same(broker.ended(), (3, "device fault\n"))
+    works_again(broker).serve()
+    same(broker.next().id, accepted.id)
+
+
+@case()
+def a_device_fault_ends_the_program_though_a_runtime_has_gone(broker):
+    fails(broker, fail_flush=2).serve()
+    broker.park_and_leave(broker.send_next)
+    same(broker.invoke("{}").status, 503)
+    same(broker.ended(), (3, "device fault\n"))
+
+
+@case()
+def a_device_fault_is_told_to_those_who_wait(broker):
+    watch = fails(broker, fail_flush=2, hold_flush=2).watch
+    broker.serve()
+    extension = broker.send_extension_next(broker.extension())
+    runtime = broker.send_next()
+    broker.until_parked(2)
+    invokes = [broker.send_invoke("{}") for _ in range(2)]
+    until("a flush", lambda: watch.flushes == 2)
+    looks = [broker.send_look(path) for path in ("/events", "/metrics", "/healthz")]
+    broker.until_read()
+    watch.let_go()
+    asked = (*invokes, runtime, extension, *looks)
+    same([one.done().status for one in asked], 7 * [503])
+    same([look.done().body for look in looks], 3 * [b"device fault\n"])
+    same(broker.ended(), (3, "device fault\n"))
+
+
+@case()
+def what_was_accepted_before_a_device_fault_is_there_behind_it(broker):
+    for number, (words, held) in enumerate((({"fail_write": 3}, 1), ({"fail_write": 4}, 1), ({"fail_flush": 4}, 1), ({"fail_flush": 5}, 2))):
+        disk = f"{broker.disk}.{number}"
+        shutil.copy(broker.disk, disk)
+        kept, broker.disk = broker.disk, disk
+        fails(broker, **words).serve()
+        same([broker.invoke("{}").status for _ in range(2)], [202, 503])
+        same(broker.ended(), (3, "device fault\n"))
+        # The second event may be there: nobody was told that it is not.
+        told = works_again(broker).held()
+        assert told in (1, held), (words, told)
+        broker.disk = kept
+
+
+@case()
+def a_device_that_fails_is_told_by_each_command(broker):
+    event = "00000000-0000-4000-8000-000000000001"
+    for words in (["fail_read", 1], ["fail_flush", 1]):
+        fails(broker, **{words[0]: words[1]})
+        for command in (["audit"], ["audit", "--json"], ["audit", "--records"], ["audit", "--event", event], ["configure"], ["migrate"]):
+            same((words, command, broker.said(command[0], broker.disk, *command[1:])), (words, command, (3, "device fault\n")))
+            broker.watch.reads = broker.watch.flushes = 0
+        same(broker.said("serve", broker.disk, "--port", 20000), (3, "device fault\n"))
+    for word in "fail_write", "fail_flush":
+        for number in 1, 2:
+            fails(broker, **{word: number})
+            same((word, number, broker.said("configure", broker.disk)), (word, number, (3, "device fault\n")))
+    made = broker.disk + "1"
+    for word, most in ("fail_write", 5), ("fail_flush", 4):
+        for number in range(1, most + 1):
+            fails(broker, **{word: number}).watch.env["WATCH_DISK"] = made
+            told = broker.format(made, 64, events=4, payload=1024, response=1024)
+            same((word, number, told), (word, number, (3, "device fault\n")))

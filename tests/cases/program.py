@@ -1,0 +1,267 @@
+"""The words of the program, its lines and its statuses."""
+import os
+import shutil
+import socket
+import subprocess
+
+import disks
+from disks import ACCEPT, Settings, command, id_of
+from harness import ARN, HERE, Built, Ports, Skipped, case, needs, same
+
+FUNCTION = ["--name", "f", "--handler", "h", "--arn", "a"]
+SMALL = ["--events", 4, "--payload", 1024, "--response", 1024]
+
+
+@case()
+def the_trial_prints_what_became_of_an_event(broker):
+    told = "accepted 1 00000000-0000-4000-8000-000000000001\ndurable 1\nrecovered waiting due 1573755365568\n"
+    same(broker.said("trial"), (0, told))
+
+
+@case()
+def words_that_are_no_command_are_usage_faults(broker):
+    disk, made = broker.disk, broker.disk + "1"
+    for words in (
+        (), ("juggle",), ("",), ("trial", "x"), ("trial", "--x"), ("audit",), ("configure",), ("migrate",), ("serve",), ("format",),
+        ("format", made), ("format", made, "--sectors", 64), ("format", made, *FUNCTION), ("format", "--sectors", 64, *FUNCTION),
+        ("format", made, "--sectors", "x", *FUNCTION), ("format", made, "--sectors", -1, *FUNCTION),
+        ("format", made, "--sectors", 1 << 64, *FUNCTION), ("format", made, "--sectors", "0x40", *FUNCTION),
+        ("format", made, "--sectors", 64, "--sectors", 64, *FUNCTION),
+        ("format", made, "--sectors", 64, *FUNCTION, "--retries", 256), ("format", made, "--sectors", 64, *FUNCTION, "--age", 1 << 32),
+        ("format", made, "--sectors", 64, *FUNCTION, "--timeout", 1 << 16), ("format", made, "--sectors", 64, *FUNCTION, "--concurrency", 256),
+        ("format", made, "--sectors", 64, *FUNCTION, "--environments", 256), ("format", made, "--sectors", 64, *FUNCTION, "--events", 1 << 16),
+        ("format", made, "--sectors", 64, *FUNCTION, "--payload", 1 << 32), ("format", made, "--sectors", 64, *FUNCTION, "--response", 1 << 32),
+        ("serve", disk), ("serve", disk, "--port"), ("serve", disk, "--port", 1023), ("serve", disk, "--port", 65520),
+        ("serve", disk, "--port", "x"), ("serve", disk, "--port", 20000, "--admin", 80), ("serve", disk, "--port", 20000, "--admin", 65536),
+        ("serve", disk, "--port", 20000, "--address", "here"), ("serve", disk, "--port", 20000, "--dialect", "azure"),
+        ("serve", disk, "--port", 20000, "--extensions", 11), ("serve", disk, "--port", 20000, "--extensions", -1),
+    ):
+        done = broker.command(*words)
+        same((words, done.returncode), (words, 2))
+        assert "Usage:" in done.stdout or "For more information, try '--help'." in done.stdout, (words, done.stdout)
+    same(os.path.exists(made), False)
+
+
+@case()
+def help_is_told_where_it_is_asked_for(broker):
+    for words in ("--help",), ("-h",), ("help",), ("serve", "--help"), ("audit", "--help"):
+        status, told = broker.said(*words)
+        same((words, status, "Usage:" in told), (words, 0, True))
+
+
+@case()
+def each_setting_out_of_its_range_is_refused_by_name_the_first_one_first(broker):
+    made = broker.disk + "1"
+    bad = [
+        ("retries", [3, 255]), ("age", [0, 59, 21601]), ("timeout", [0, 901]), ("concurrency", [0, 65]), ("environments", [0, 17]),
+        ("events", [0, 1025]), ("payload", [0, 1, 1048577]), ("response", [0, 1, 262145]),
+        ("name", ["", 65 * "a", "a.b", "ä"]), ("handler", ["", 129 * "a", "a b", 'a"']), ("arn", ["", 201 * "a", "a\\b", "\x7f"]),
+    ]
+    for place, (field, values) in enumerate(bad):
+        for value in values:
+            same((field, value, broker.format(made, 64, **{field: value})), (field, value, (1, f"refused: bad settings: {field}\n")))
+        if place:
+            first = bad[place - 1][0]
+            told = broker.format(made, 64, **{field: values[0], first: bad[place - 1][1][0]})
+            same((field, told), (field, (1, f"refused: bad settings: {first}\n")))
+    # They are judged before the file, and before whether the disk is large enough.
+    same(broker.format(os.path.join(broker.folder, "x", "y"), 1, age=59), (1, "refused: bad settings: age\n"))
+    same(os.path.exists(made), False)
+
+
+@case()
+def each_setting_at_the_ends_of_its_range_is_taken(broker):
+    made = broker.disk + "1"
+    for settings, sectors in (
+        ({"retries": 0, "age": 60, "timeout": 1, "concurrency": 1, "environments": 1, "events": 1, "payload": 2, "response": 2,
+          "name": "a", "handler": "!", "arn": "~"}, 12),
+        ({"retries": 2, "age": 21600, "timeout": 900, "concurrency": 64, "environments": 16, "events": 1024, "payload": 16, "response": 16,
+          "name": 32 * "a_", "handler": 128 * "~", "arn": 200 * "!"}, 452),
+    ):
+        same(broker.format(made, sectors, **settings), (0, f"formatted {sectors} sectors\n"))
+        same(broker.format(made, sectors - 1, **settings), (1, f"refused: too small, least {sectors}\n"))
+
+
+@case()
+def a_disk_is_formatted_byte_by_byte_so(broker):
+    made = broker.disk + "1"
+    with open(made, "wb") as old:
+        old.write(b"\1" * 100000)
+    same(broker.format(made, 65, events=4, payload=1024, response=1024), (0, "formatted 65 sectors\n"))
+    settings = Settings()
+    with open(made, "rb") as disk:
+        assert disk.read() == disks.disk(65, disks.segment(2, settings, 1, disks.snapshot(2, settings))), "it is another disk"
+
+
+@case()
+def an_event_is_written_byte_by_byte_so(broker):
+    made = broker.disk
+    os.remove(made)
+    same(broker.format(made, 64, events=4, payload=1024, response=1024)[0], 0)
+    broker.serve()
+    event = broker.invoke("").id
+    accepted = broker.look(f"/events/{event}").json["accepted"]
+    same(broker.stop(), (202, 0, ""))
+    settings = Settings()
+    frames = [(1, [command(ACCEPT, event, accepted, b"{}")])]
+    assert broker.content() == disks.disk(64, disks.segment(2, settings, 1, disks.snapshot(2, settings), frames)), "it is another disk"
+
+
+@case()
+def a_disk_that_is_too_small_is_refused_with_the_least_number_of_sectors(broker):
+    made = broker.disk + "1"
+    same(broker.format(made, 21, events=1, payload=2900, response=64), (1, "refused: too small, least 22\n"))
+    same(broker.format(made, 139, events=300, payload=16, response=16), (1, "refused: too small, least 140\n"))
+    same(broker.format(made, 0, events=4, payload=1024, response=1024), (1, "refused: too small, least 44\n"))
+
+
+def told_by_all(broker, disk):
+    """What each command that opens a disk says of it."""
+    free = Ports()
+    told = {broker.said(*words) for words in (
+        ("audit", disk), ("audit", disk, "--json"), ("audit", disk, "--records"), ("audit", disk, "--in-force"), ("configure", disk),
+        ("migrate", disk), ("serve", disk, "--port", free.first),
+    )}
+    free.close()
+    return told
+
+
+@case()
+def a_file_that_is_no_disk_is_refused_by_each_command(broker):
+    folder, pipe = os.path.join(broker.folder, "folder"), os.path.join(broker.folder, "pipe")
+    os.mkdir(folder)
+    os.mkfifo(pipe)
+    for size, line in (0, "not formatted"), (5 * 512, "not formatted"), (64 * 512, "not formatted"), (100, "not a whole number of sectors"):
+        disk = broker.disk + str(size)
+        with open(disk, "wb") as zeros:
+            zeros.write(bytes(size))
+        same((size, told_by_all(broker, disk)), (size, {(1, f"refused: {line}\n")}))
+    for path, line in (
+        (broker.disk + "x", "no such file"), ("", "no such file"), (folder, "neither a file nor a block device"),
+        (pipe, "neither a file nor a block device"), ("/dev/null", "neither a file nor a block device"),
+    ):
+        same((path, told_by_all(broker, path)), (path, {(1, f"refused: {line}\n")}))
+    for path in folder, pipe, "/dev/null":
+        same(broker.format(path, 4096, events=4), (1, "refused: neither a file nor a block device\n"))
+    same(broker.format(os.path.join(broker.folder, "x", "y"), 64, events=4), (1, "refused: no such file\n"))
+    for sectors in (1 << 54, 1 << 63, (1 << 64) - 1):
+        same(broker.format(broker.disk + "1", sectors, events=4), (1, "refused: no room for so many sectors\n"))
+
+
+@case()
+def a_disk_that_may_not_be_opened_is_refused(broker):
+    needs("setpriv")
+    os.chmod(broker.folder, 0o755)
+    os.chmod(broker.disk, 0o600)
+    program = os.path.join(broker.folder, "program")
+    shutil.copy(Built.program, program)
+    os.chmod(program, 0o755)
+    nobody = ["setpriv", "--reuid=65534", "--regid=65534", "--clear-groups"] if os.getuid() == 0 else []
+    if not nobody:
+        os.chmod(broker.disk, 0)
+    for words in ("audit", broker.disk), ("configure", broker.disk), ("migrate", broker.disk), ("serve", broker.disk, "--port", "20000"):
+        done = subprocess.run([*nobody, program, *words], capture_output=True, text=True, timeout=240)
+        same((words, done.returncode, done.stdout), (words, 1, "refused: permission denied\n"))
+
+
+@case()
+def a_disk_that_is_served_is_refused_to_all_others_and_one_that_is_audited_to_those_who_write(broker):
+    broker.serve()
+    same(told_by_all(broker, broker.disk), {(1, "refused: in use by another program\n")})
+    same(broker.format(broker.disk, 4096, events=4, payload=16, response=16), (1, "refused: in use by another program\n"))
+    same(broker.stop(), (202, 0, ""))
+    needs("flock")
+    shared = ["flock", "--shared", broker.disk]
+    same(broker.said("audit", broker.disk, under=shared)[0], 0)
+    same(broker.said("configure", broker.disk, under=shared), (1, "refused: in use by another program\n"))
+
+
+@case()
+def a_damaged_disk_is_refused_with_the_sector(broker):
+    settings = Settings()
+    frames = [(1, [command(ACCEPT, id_of(1), 1573755365568, b"{}")])]
+    one = disks.disk(64, disks.segment(2, settings, 1, disks.snapshot(2, settings), frames))
+    for changes, line in (
+        ([], None),
+        ([(4 * 512 + 511, b"\1")], "damaged at sector 3"),
+        ([(4 * 512 + 32, b"\7")], "damaged at sector 3"),
+        ([(4 * 512 + 7, b"\2")], "damaged at sector 3"),
+        ([(512, b"a")], "damaged at sector 1"),
+        ([(512 + 7, b"\3")], "damaged at sector 1"),
+        ([(512 + 15, b"\0")], "damaged at sector 1"),
+        ([(512 + 511, b"\1")], "damaged at sector 1"),
+        ([(512 + 28, b"\3")], "damaged at sector 1"),
+        ([(2 * 512 + 24, b"\1")], "damaged at sector 2"),
+        ([(2 * 512 + 16, b"\3")], "damaged at sector 2"),
+        ([(32 * 512, one[: 3 * 512])], "damaged at sector 32"),
+        ([(0, bytes(512))], "not formatted"),
+        # A gate is open exactly where its first byte is 1.
+        ([(0, b"\2")], "not formatted"),
+        ([(32 * 512, b"\2")], None),
+        ([(3 * 512, b"\2")], None),
+    ):
+        disk = bytearray(one)
+        for at, content in changes:
+            disk[at : at + len(content)] = content
+        with open(broker.disk, "wb") as file:
+            file.write(disk)
+        if line:
+            same((changes, told_by_all(broker, broker.disk)), (changes, {(1, f"refused: {line}\n")}))
+            assert broker.content() == disk, "a disk that is refused was changed"
+        else:
+            same((changes, broker.said("audit", broker.disk)[0]), (changes, 0))
+
+
+def taken(port):
+    """A socket that has this port."""
+    one = socket.socket()
+    one.setsockopt(socket.SOL_SOCKET, socket.SO_REUSEADDR, 1)
+    one.bind(("127.0.0.1", port))
+    one.listen()
+    return one
+
+
+@case({"environments": 2})
+def a_port_in_use_is_refused_that_of_callers_of_environments_and_of_the_operator(broker):
+    ports = Ports()
+    words = ["serve", broker.disk, "--port", ports.first, "--admin", ports.first + 3]
+    for place in range(4):
+        with taken(ports.first + place):
+            same((place, broker.said(*words)), (place, (1, "refused: port in use\n")))
+    # One broker cannot have a port twice.
+    same(broker.said(*words[:-1], ports.first + 1), (1, "refused: port in use\n"))
+    ports.close()
+
+
+@case()
+def faults_are_found_in_this_order(broker):
+    blank, missing = broker.disk + "0", broker.disk + "x"
+    with open(blank, "wb") as zeros:
+        zeros.write(bytes(64 * 512))
+    ports = Ports()
+    with taken(ports.first):
+        same(broker.said("serve", missing, "--port", 80)[0], 2)
+        same(broker.said("serve", missing, "--port", ports.first), (1, "refused: no such file\n"))
+        same(broker.said("serve", blank, "--port", ports.first), (1, "refused: not formatted\n"))
+        same(broker.said("serve", broker.disk, "--port", ports.first), (1, "refused: port in use\n"))
+    ports.close()
+    same(broker.said("format", blank, "--sectors", 1, *FUNCTION, "--age", 59, "--x")[0], 2)
+    same(broker.said("format", blank, "--sectors", 1, *FUNCTION, "--age", 59), (1, "refused: bad settings: age\n"))
+
+
+@case()
+def a_worn_disk_takes_no_more_commands_and_is_served(broker):
+    # The number of the snapshot, the first field of the third sector, is the greatest but one: 2^62 - 1.
+    broker.put(2 * 512, ((1 << 62) - 1).to_bytes(8, "big"))
+    broker.serve()
+    same(broker.invoke("{}").status, 202)
+    worn = broker.invoke("{}")
+    same((worn.status, worn.type), (503, "Unavailable"))
+    same(broker.stop(), (202, 0, ""))
+    same(broker.audit()[:2], [f"generation 1 number {1 << 62}", "held 1 waiting 1 running 0 success 0 failure 0"])
+
+
+@case()
+def the_claims_name_what_is_there(broker):
+    told = subprocess.run([os.path.join(HERE, "..", "tools", "claims")], capture_output=True, text=True)
+    assert told.returncode == 0, told.stdout + told.stderr

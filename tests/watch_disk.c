@@ -1,0 +1,145 @@
+/* Watches the disk of the program that it is preloaded into: it counts the flushes, writes and reads of the file WATCH_DISK, and does to
+ * them what the words in the file WATCH_SHARE say. Both sides have that file in their memory, so a word can change at any time.
+ * Calls are numbered from 1 on. A word that is 0 does nothing. */
+#define _GNU_SOURCE
+#include <dlfcn.h>
+#include <errno.h>
+#include <fcntl.h>
+#include <signal.h>
+#include <stdint.h>
+#include <stdio.h>
+#include <stdlib.h>
+#include <string.h>
+#include <sys/mman.h>
+#include <sys/stat.h>
+#include <unistd.h>
+
+/* In the order of Watch.WORDS in harness.py. */
+struct share {
+    volatile uint64_t flushes, flushed;  /* how many flushes began, and how many were made */
+    volatile uint64_t writes, written;   /* the same of writes */
+    volatile uint64_t folder_flushes;    /* flushes of anything else */
+    volatile uint64_t prints;            /* writes to standard output */
+    volatile uint64_t hold_flush;        /* from this flush on each waits .. */
+    volatile uint64_t release;           /* .. until this is its number or above */
+    volatile uint64_t fail_flush;        /* from this flush on each fails */
+    volatile uint64_t fail_write;        /* from this write on each fails */
+    volatile uint64_t kill_flush;        /* the program is killed before this flush */
+    volatile uint64_t kill_write;        /* .. in this write .. */
+    volatile uint64_t torn;              /* .. of which so many bytes were written */
+    volatile uint64_t kill_print;        /* .. before it prints for this time */
+    volatile uint64_t keep;              /* after each flush the disk is copied to WATCH_DISK.flushed */
+    volatile uint64_t reads;             /* how many reads began */
+    volatile uint64_t fail_read;         /* from this read on each fails */
+};
+
+static struct share *share;
+static const char *disk;
+
+__attribute__((constructor)) static void begin(void) {
+    const char *name = getenv("WATCH_SHARE");
+    disk = getenv("WATCH_DISK");
+    if (!name || !disk) return;
+    int file = open(name, O_RDWR | O_CLOEXEC);
+    if (file < 0) return;
+    void *found = mmap(0, sizeof *share, PROT_READ | PROT_WRITE, MAP_SHARED, file, 0);
+    close(file);
+    if (found != MAP_FAILED) share = found;
+}
+
+static int is_disk(int file) {
+    struct stat one, other;
+    return fstat(file, &one) == 0 && stat(disk, &other) == 0 && one.st_dev == other.st_dev && one.st_ino == other.st_ino;
+}
+
+static uint64_t next_of(volatile uint64_t *count) { return __sync_add_and_fetch(count, 1); }
+
+static void end_here(void) {
+    kill(getpid(), SIGKILL);
+    for (;;) pause();
+}
+
+/* Copies the disk as it is, and puts the copy in its place at once. */
+static void keep_copy(void) {
+    static ssize_t (*put)(int, const void *, size_t);
+    if (!put) put = dlsym(RTLD_NEXT, "write");
+    char made[4096], kept[4096], piece[65536];
+    snprintf(made, sizeof made, "%s.made", disk);
+    snprintf(kept, sizeof kept, "%s.flushed", disk);
+    int from = open(disk, O_RDONLY | O_CLOEXEC), to = open(made, O_WRONLY | O_CREAT | O_TRUNC | O_CLOEXEC, 0600);
+    ssize_t count;
+    while ((count = read(from, piece, sizeof piece)) > 0)
+        if (put(to, piece, count) != count) abort();
+    close(from);
+    close(to);
+    rename(made, kept);
+}
+
+static int flush(int file, const char *name) {
+    int (*next)(int) = dlsym(RTLD_NEXT, name);
+    if (!share) return next(file);
+    if (!is_disk(file)) {
+        next_of(&share->folder_flushes);
+        return next(file);
+    }
+    uint64_t number = next_of(&share->flushes);
+    if (share->kill_flush == number) end_here();
+    while (share->hold_flush && share->hold_flush <= number && share->release < number) usleep(1000);
+    if (share->fail_flush && share->fail_flush <= number) {
+        errno = EIO;
+        return -1;
+    }
+    int result = next(file);
+    if (result == 0) {
+        if (share->keep) keep_copy();
+        next_of(&share->flushed);
+    }
+    return result;
+}
+
+int fdatasync(int file) { return flush(file, "fdatasync"); }
+int fsync(int file) { return flush(file, "fsync"); }
+
+static ssize_t write_at(int file, const void *bytes, size_t count, off_t at) {
+    static ssize_t (*next)(int, const void *, size_t, off_t);
+    if (!next) next = dlsym(RTLD_NEXT, "pwrite64");
+    if (!share || !is_disk(file)) return next(file, bytes, count, at);
+    uint64_t number = next_of(&share->writes);
+    if (share->kill_write == number) {
+        size_t torn = share->torn < count ? share->torn : count;
+        if (torn) next(file, bytes, torn, at);
+        end_here();
+    }
+    if (share->fail_write && share->fail_write <= number) {
+        errno = EIO;
+        return -1;
+    }
+    ssize_t result = next(file, bytes, count, at);
+    if (result >= 0) next_of(&share->written);
+    return result;
+}
+
+ssize_t pwrite64(int file, const void *bytes, size_t count, off_t at) { return write_at(file, bytes, count, at); }
+ssize_t pwrite(int file, const void *bytes, size_t count, off_t at) { return write_at(file, bytes, count, at); }
+
+static ssize_t read_at(int file, void *bytes, size_t count, off_t at) {
+    static ssize_t (*next)(int, void *, size_t, off_t);
+    if (!next) next = dlsym(RTLD_NEXT, "pread64");
+    if (!share || !is_disk(file)) return next(file, bytes, count, at);
+    uint64_t number = next_of(&share->reads);
+    if (share->fail_read && share->fail_read <= number) {
+        errno = EIO;
+        return -1;
+    }
+    return next(file, bytes, count, at);
+}
+
+ssize_t pread64(int file, void *bytes, size_t count, off_t at) { return read_at(file, bytes, count, at); }
+ssize_t pread(int file, void *bytes, size_t count, off_t at) { return read_at(file, bytes, count, at); }
+
+ssize_t write(int file, const void *bytes, size_t count) {
+    static ssize_t (*next)(int, const void *, size_t);
+    if (!next) next = dlsym(RTLD_NEXT, "write");
+    if (share && file == STDOUT_FILENO && next_of(&share->prints) == share->kill_print) end_here();
+    return next(file, bytes, count);
+}
