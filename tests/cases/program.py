@@ -153,7 +153,8 @@ def a_disk_that_may_not_be_opened_is_refused(broker):
     os.chmod(broker.folder, 0o755)
     os.chmod(broker.disk, 0o600)
     program = os.path.join(broker.folder, "program")
-    shutil.copy(Built.program, program)
+    # (a file that another thread's child still has open for writing cannot be run, so a child of its own copies it)
+    subprocess.run(["cp", Built.program, program], check=True)
     os.chmod(program, 0o755)
     nobody = ["setpriv", "--reuid=65534", "--regid=65534", "--clear-groups"] if os.getuid() == 0 else []
     if not nobody:
