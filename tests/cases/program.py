@@ -1,6 +1,5 @@
 """The words of the program, its lines and its statuses."""
 import os
-import shutil
 import socket
 import subprocess
 
