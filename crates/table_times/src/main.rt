@@ -7,7 +7,7 @@
 mod commands;
 mod timing;
 
-use crate::timing::{Times, time_all};
+use crate::timing::{Timed, Times, time};
 use std::process::ExitCode;
 use std::{env, io};
 
@@ -21,32 +21,40 @@ fn number_of(words: &[String], place: usize, usual: u64) -> u64 {
     }
 }
 
-fn print_counts(rt: &HostRuntime, times: &[Times]) -> io::Result<()> {
-    for one in times.iter() {
-        println!(rt; "{}: {} calls, {} as meant", one.name, one.calls, one.meant)?;
+// Prints a line of what was timed.
+fn print_times(rt: &HostRuntime, times: Times, is_timed: bool) -> io::Result<()> {
+    let (name, calls, meant) = (times.name, times.calls, times.meant);
+    if is_timed {
+        let nanos = times.took.as_nanos();
+        println!(rt; "{name}: {calls} calls in {nanos} ns")
+    } else {
+        println!(rt; "{name}: {calls} calls, {meant} as meant")
     }
-    Ok(())
 }
 
-fn print_times(rt: &HostRuntime, times: &[Times]) -> io::Result<()> {
-    for one in times.iter() {
-        let nanos = one.took.as_nanos();
-        println!(rt; "{}: {} calls in {nanos} ns", one.name, one.calls)?;
-    }
-    Ok(())
-}
+const ALL: [Timed; 5] = [
+    Timed::Lives,
+    Timed::Moves,
+    Timed::Expiries,
+    Timed::LateExpiries,
+    Timed::Standings,
+];
 
-fn main(rt: HostRuntime) -> io::Result<ExitCode> {
+// How many events are held, for how many rounds, and whether times are asked for.
+fn asked(rt: &HostRuntime) -> io::Result<(u64, u64, bool)> {
     let mut words = Vec::new(rt.alloc());
-    for word in env::args(&rt)? {
+    for word in env::args(rt)? {
         words.push(word)?;
     }
     let events = number_of(&words, 1, 16).clamp(1, 1024);
-    let times = time_all(&rt, events, number_of(&words, 2, 100))?;
-    if words.len() > 1 {
-        print_times(&rt, &times)?;
-    } else {
-        print_counts(&rt, &times)?;
+    Ok((events, number_of(&words, 2, 100), words.len() > 1))
+}
+
+fn main(rt: HostRuntime) -> io::Result<ExitCode> {
+    let (events, rounds, is_timed) = asked(&rt)?;
+    for timed in ALL {
+        let times = time(&rt, timed, events, rounds)?;
+        print_times(&rt, times, is_timed)?;
     }
     Ok(ExitCode::from(0))
 }

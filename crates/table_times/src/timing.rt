@@ -9,7 +9,7 @@ use std::time::{Clock, Duration, Instant};
 const NOW: u64 = 1_573_755_365_568;
 
 /// How long so many calls took, and how many of them did what they are timed for.
-#[derive(Drop)]
+#[derive(Clone, Copy)]
 pub struct Times {
     pub name: &'static str,
     pub calls: u64,
@@ -39,61 +39,38 @@ fn apply_all(
     Ok(legal)
 }
 
-// Holds so many events that wait.
-fn waiting_table(alloc: Global, events: u64) -> Result<Table, AllocError> {
-    let mut table = Table::new(alloc, settings_for(alloc, events)?);
+// Accepts so many events.
+fn accept_all(alloc: Global, table: &mut Table, events: u64) -> Result<(), AllocError> {
     for event in 0..events {
-        let _ = apply_all(alloc, &mut table, event, NOW, &[Kind::Accept])?;
+        let _ = apply_all(alloc, table, event, NOW, &[Kind::Accept])?;
     }
-    Ok(table)
+    Ok(())
 }
 
-// Holds so many events of which all but one have failed and are too old a minute later, while that one waits and is due
-// before them.
-fn late_table(alloc: Global, events: u64) -> Result<Table, AllocError> {
-    let mut table = Table::new(alloc, settings_for(alloc, events)?);
+// Lets all events but one fail, and accepts that one half a minute later: a minute later the others are too old, while that
+// one waits and is due before them.
+fn fail_all(alloc: Global, table: &mut Table, events: u64) -> Result<(), AllocError> {
     for event in 1..events {
         let failed = [Kind::Accept, Kind::Start, Kind::Fail(Cause::Reported)];
-        let _ = apply_all(alloc, &mut table, event, NOW, &failed)?;
+        let _ = apply_all(alloc, table, event, NOW, &failed)?;
     }
-    let _ = apply_all(alloc, &mut table, 0, NOW + 30_000, &[Kind::Accept])?;
-    Ok(table)
+    let _ = apply_all(alloc, table, 0, NOW + 30_000, &[Kind::Accept])?;
+    Ok(())
 }
 
-// Lives of one event of those held after another, from the start to the next acceptance.
-fn time_lives<C: Clock>(
-    clock: &C,
-    alloc: Global,
-    table: &mut Table,
-    events: u64,
-    rounds: u64,
-) -> io::Result<Times> {
+// Lives of one event of those held after another, from the start to the next acceptance: how many commands were legal.
+fn live_all(alloc: Global, table: &mut Table, events: u64, rounds: u64) -> Result<u64, AllocError> {
     let life = [Kind::Start, Kind::Succeed, Kind::Collect, Kind::Accept];
-    let start = Instant::now(clock)?;
     let mut meant: u64 = 0;
     for n in 0..rounds {
         let event = if events == 0 { 0 } else { n % events };
         meant = meant.saturating_add(apply_all(alloc, table, event, NOW, &life)?);
     }
-    Ok(Times {
-        name: "apply",
-        calls: rounds.saturating_mul(4),
-        meant,
-        took: start.elapsed(clock)?,
-    })
+    Ok(meant)
 }
 
 // Moves at one moment: how many of them were of this kind.
-fn time_moves<C: Clock>(
-    clock: &C,
-    table: &Table,
-    name: &'static str,
-    ready: Option<u16>,
-    now: u64,
-    kind: Kind,
-    rounds: u64,
-) -> io::Result<Times> {
-    let start = Instant::now(clock)?;
+fn move_all(table: &Table, ready: Option<u16>, now: u64, kind: Kind, rounds: u64) -> u64 {
     let mut meant: u64 = 0;
     for _n in 0..rounds {
         if let Some(next) = table.next_move(now, ready) {
@@ -102,22 +79,11 @@ fn time_moves<C: Clock>(
             }
         }
     }
-    Ok(Times {
-        name,
-        calls: rounds,
-        meant,
-        took: start.elapsed(clock)?,
-    })
+    meant
 }
 
-// The standing of each event in turn.
-fn time_standings<C: Clock>(
-    clock: &C,
-    table: &Table,
-    events: u64,
-    rounds: u64,
-) -> io::Result<Times> {
-    let start = Instant::now(clock)?;
+// The standing of each event in turn: how many were held.
+fn find_all(table: &Table, events: u64, rounds: u64) -> u64 {
     let mut meant: u64 = 0;
     for n in 0..rounds {
         let id = id_of(if events == 0 { 0 } else { n % events });
@@ -125,30 +91,89 @@ fn time_standings<C: Clock>(
             meant = meant.saturating_add(1);
         }
     }
+    meant
+}
+
+/// What is timed.
+#[derive(Clone, Copy)]
+pub enum Timed {
+    /// Lives of events: four commands each.
+    Lives,
+    /// The next move, an environment being ready: a Start.
+    Moves,
+    /// The next move a minute later, without an environment that is ready: all events are too old.
+    Expiries,
+    /// The same where an event that waits for an environment is due before all that are too old.
+    LateExpiries,
+    /// Where an event stands.
+    Standings,
+}
+
+impl Timed {
+    fn name(self) -> &'static str {
+        match self {
+            Timed::Lives => "apply",
+            Timed::Moves => "next_move",
+            Timed::Expiries => "next_move, all too old",
+            Timed::LateExpiries => "next_move, behind one that waits",
+            Timed::Standings => "standing",
+        }
+    }
+
+    fn calls(self, rounds: u64) -> u64 {
+        match self {
+            Timed::Lives => rounds.saturating_mul(4),
+            _ => rounds,
+        }
+    }
+}
+
+// Holds what is to be timed.
+fn prepare(alloc: Global, table: &mut Table, timed: Timed, events: u64) -> Result<(), AllocError> {
+    match timed {
+        Timed::LateExpiries => fail_all(alloc, table, events),
+        _ => accept_all(alloc, table, events),
+    }
+}
+
+// Makes the calls: how many did what they are timed for.
+fn call(
+    alloc: Global,
+    table: &mut Table,
+    timed: Timed,
+    events: u64,
+    rounds: u64,
+) -> Result<u64, AllocError> {
+    match timed {
+        Timed::Lives => live_all(alloc, table, events, rounds),
+        Timed::Moves => Ok(move_all(table, Some(1), NOW, Kind::Start, rounds)),
+        Timed::Standings => Ok(find_all(table, events, rounds)),
+        _ => Ok(move_all(table, None, NOW + 60_000, Kind::Expire, rounds)),
+    }
+}
+
+// The same over a table that is there, with the time that it took.
+fn time_over<C: Clock>(
+    clock: &C,
+    alloc: Global,
+    table: &mut Table,
+    timed: Timed,
+    events: u64,
+    rounds: u64,
+) -> io::Result<Times> {
+    prepare(alloc, table, timed, events)?;
+    let start = Instant::now(clock)?;
+    let meant = call(alloc, table, timed, events, rounds)?;
     Ok(Times {
-        name: "standing",
-        calls: rounds,
+        name: timed.name(),
+        calls: timed.calls(rounds),
         meant,
         took: start.elapsed(clock)?,
     })
 }
 
-/// How long calls of a table take that holds so many events: lives of events, moves, standings, and expiries, those too
-/// that are due behind an event that waits for an environment.
-pub fn time_all(rt: &HostRuntime, events: u64, rounds: u64) -> io::Result<Vec<Times>> {
-    let alloc = rt.alloc();
-    let mut waiting = waiting_table(alloc, events)?;
-    let late = late_table(alloc, events)?;
-    let mut times = Vec::new(alloc);
-    let (next, aged, behind) = (
-        "next_move",
-        "next_move, all too old",
-        "next_move, behind one that waits",
-    );
-    times.push(time_lives(rt, alloc, &mut waiting, events, rounds)?)?;
-    times.push(time_moves(rt, &waiting, next, Some(1), NOW, Kind::Start, rounds)?)?;
-    times.push(time_moves(rt, &waiting, aged, None, NOW + 60_000, Kind::Expire, rounds)?)?;
-    times.push(time_moves(rt, &late, behind, None, NOW + 60_000, Kind::Expire, rounds)?)?;
-    times.push(time_standings(rt, &waiting, events, rounds)?)?;
-    Ok(times)
+/// How long so many rounds of calls take of a table that holds so many events.
+pub fn time(rt: &HostRuntime, timed: Timed, events: u64, rounds: u64) -> io::Result<Times> {
+    let mut table = Table::new(rt.alloc(), settings_for(rt.alloc(), events)?);
+    time_over(rt, rt.alloc(), &mut table, timed, events, rounds)
 }
