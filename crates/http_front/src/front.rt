@@ -29,6 +29,28 @@ fn most_read(settings: &Settings) -> usize
     settings.payload.max(settings.response).max(MOST_OTHER) as usize + 1
 }
 
+// What the threads of a new front tell each other by.
+#[derive(Drop)]
+struct Signals {
+    bell: Arc<Bell>,
+    ending: CancellationToken,
+    meters: Arc<Meters>,
+}
+
+impl Signals {
+    // So much is durable, and nothing was told.
+    fn new(alloc: Global, durable: Durable) -> Result<Signals, AllocError> {
+        let meters = Arc::new(alloc, Meters::new())?;
+        let ending = CancellationToken::new(alloc)?;
+        let bell = Arc::new(alloc, Bell::new(alloc, durable))?;
+        Ok(Signals {
+            bell,
+            ending,
+            meters,
+        })
+    }
+}
+
 /// What the threads of a front share: the office and the bell, what the committer sleeps on, and whether the front ends.
 #[derive(Drop)]
 pub struct Front<L: Ledger, T: Trace> {
@@ -61,14 +83,19 @@ impl<L: Ledger, T: Trace> Front<L, T> {
         ensures settings { IfOk result (λ front. front.settings ≡ settings) }
         ensures dialect { IfOk result (λ front. front.dialect ≡ dialect) }
     {
+        let Signals {
+            bell,
+            ending,
+            meters,
+        } = Signals::new(alloc, durable)?;
         let most = most_read(&settings);
         Ok(Front {
             alloc,
             office,
-            bell: Arc::new(alloc, Bell::new(alloc, durable))?,
+            bell,
             wake: Wake::new(),
-            ending: CancellationToken::new(alloc)?,
-            meters: Arc::new(alloc, Meters::new())?,
+            ending,
+            meters,
             settings,
             dialect,
             most,

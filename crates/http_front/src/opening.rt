@@ -12,7 +12,7 @@ use api_core::Dialect;
 use front_board::Seated;
 use group_commit::{Broker, DiskHalf, Durable};
 use hall_core::Hall;
-use long_poll::{Port, Window};
+use long_poll::{Bell, Port, Window};
 use receipts::{Desk, Office, Trace};
 use retry_rules::Settings;
 use sector_disk::Disk;
@@ -31,13 +31,21 @@ pub(crate) struct Opened<L: Ledger, T: Trace, D: Disk> {
     pub(crate) window: Window<L, T>,
 }
 
+// One more share of the office, and of the bell.
+fn shares<L: Ledger, T: Trace>(
+    front: &Front<L, T>,
+) -> Result<(Arc<Office<L, T>>, Arc<Bell>), AllocError> {
+    let bell = Arc::try_clone(&front.bell)?;
+    let office = Arc::try_clone(&front.office)?;
+    Ok((office, bell))
+}
+
 // A window with this seat.
 fn window<L: Ledger, T: Trace>(
     front: &Front<L, T>,
     seated: Seated,
 ) -> Result<Window<L, T>, AllocError> {
-    let office = Arc::try_clone(&front.office)?;
-    let bell = Arc::try_clone(&front.bell)?;
+    let (office, bell) = shares(front)?;
     Ok(Window::new(office, bell, seated))
 }
 
@@ -47,8 +55,7 @@ fn port<L: Ledger, T: Trace>(
     desk: Desk<L, T>,
     seated: Seated,
 ) -> Result<Port<L, T>, AllocError> {
-    let office = Arc::try_clone(&front.office)?;
-    let bell = Arc::try_clone(&front.bell)?;
+    let (office, bell) = shares(front)?;
     Ok(Port::new(office, bell, desk, seated))
 }
 

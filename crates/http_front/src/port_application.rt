@@ -123,21 +123,21 @@ impl<R: Wait + Clock + RandomSource + Copy, L: Ledger, T: Trace> PortApplication
         }
     }
 
-    // A call comes.
-    fn hand_over(&self, call: Call) -> Result<Arrived, Refusal> {
+    // The call of a request comes. What is refused is answered at once.
+    fn hand_over(&self, head: &Parts, body: Vec<u8>) -> Result<Arrived, Refusal> {
+        let call = self.read(head, body)?;
         match self.front.arrive(&self.rt, &self.port, call) {
             Ok(arrived) => Ok(arrived),
             Err(_) => Err(Refusal::Unavailable),
         }
     }
 
-    // The call of a request comes; its reply then waits. What is refused is answered at once.
+    // A request comes; its reply then waits.
     fn arrive(&self, head: &Parts, body: Vec<u8>) -> Result<Waiting<R, L, T>, Refusal> {
-        let call = self.read(head, body)?;
         let Ok(port) = Arc::try_clone(&self.port) else {
             return Err(Refusal::Unavailable);
         };
-        let arrived = self.hand_over(call)?;
+        let arrived = self.hand_over(head, body)?;
         Ok(Waiting::new(self.rt, port, arrived))
     }
 

@@ -107,7 +107,8 @@ where
     L: Ledger + Send + Sync + 'static,
     T: SharedTrace + 'static,
     T::Opening: SharedOpening + 'static,
-    B: Beside<R, Window<L, T>>,
+    B: Beside<R, Window<L, T>> + Send + 'static,
+    B::Served: Send + 'static,
     ensures { IfOk result (λ thread. is_some thread ≡ is_some beside) }
 {
     start(rt, front, ports, listeners, threads)?;
@@ -161,7 +162,8 @@ where
     T::Opening: SharedOpening + 'static,
     D: Disk + Drop,
     G: Gate,
-    B: Beside<R, Window<L, T>>,
+    B: Beside<R, Window<L, T>> + Send + 'static,
+    B::Served: Send + 'static,
     ensures served { IfOk result (λ served. HasServed D.view D.fault_count (broker_of opened.committer.half) (broker_of served.half)) }
     ensures beside { IfOk result (λ served. is_some served.beside ≡ is_some beside) }
 {
@@ -216,7 +218,8 @@ where
     T::Opening: SharedOpening + 'static,
     D: Disk + Drop,
     G: Gate,
-    B: Beside<R, Window<L, T>>,
+    B: Beside<R, Window<L, T>> + Send + 'static,
+    B::Served: Send + 'static,
     requires nothing { pending_of hall.issuer ≡ [] }
     requires fresh { IsFresh (settings_of hall.issuer) hall }
     requires name { blank.name ≡ L.name }

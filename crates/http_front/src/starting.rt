@@ -100,7 +100,8 @@ where
     L: Ledger + Send + Sync + 'static,
     T: SharedTrace + 'static,
     T::Opening: SharedOpening + 'static,
-    B: Beside<R, Window<L, T>>,
+    B: Beside<R, Window<L, T>> + Send + 'static,
+    B::Served: Send + 'static,
     ensures { IfOk result (λ thread. is_some thread ≡ is_some beside) }
 {
     let Some(beside) = beside else {

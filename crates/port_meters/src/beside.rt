@@ -5,9 +5,9 @@ use std::sync::Arc;
 use tokio_util::sync::CancellationToken;
 
 /// What is served beside the ports of a front, on a thread of its own, with a window on what they serve.
-pub trait Beside<R, W>: Drop + Send + 'static {
+pub trait Beside<R, W>: Drop {
     /// What shows that it was served to its end. Only serving it gives that.
-    type Served: Drop + Send + 'static;
+    type Served: Drop;
 
     /// Serves it until the front ends.
     fn serve(

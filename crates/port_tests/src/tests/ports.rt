@@ -54,6 +54,21 @@ where
     Ok((listeners, looking, doors))
 }
 
+// The operator's port over a hall. None where there is no memory for it.
+fn admin_over<D: Disk>(
+    alloc: Global,
+    hall: &Hall<Broker<D>>,
+    listener: TcpListener,
+) -> Option<AdminPort> {
+    let written = Written::new(alloc).ok()?;
+    let admin = Admin {
+        listener,
+        written,
+        memory: None,
+    };
+    admin.over(hall.table()).ok()
+}
+
 // Serves a hall while a thread talks to its ports: what that was told. None where the front does not end as it has to.
 fn serve_talk<R, L, T, D>(
     rt: R,
@@ -86,13 +101,7 @@ where
     requires count { L.parts ≡ desk_count (settings_of hall.issuer) }
 {
     let (listeners, listener, doors) = doors(&rt, rt.alloc()).ok()?;
-    let written = Written::new(rt.alloc()).ok()?;
-    let admin = Admin {
-        listener,
-        written,
-        memory: None,
-    };
-    let admin = admin.over(hall.table()).ok()?;
+    let admin = admin_over(rt.alloc(), &hall, listener)?;
     let clients = thread::spawn(&rt, move || talk_at(&rt, doors, &watch, talk)).ok()?;
     let gate = AtLeast::new(talk.pending());
     let served = serve::<R, L, T, D, AtLeast, AdminPort>(
