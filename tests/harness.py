@@ -518,6 +518,12 @@ class Broker:
         for _ in range(2):
             same(self.ask("GET", "/x", environment=environment).status, 404)
 
+    def until_all_serve(self):
+        """Waits until each port has what it needs: the first line is printed before."""
+        for environment in range(self.environments + 1):
+            self.until_read(environment)
+        self.until_looked()
+
     def until_looked(self):
         """The same of the operator's port."""
         for _ in range(2):

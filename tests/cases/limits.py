@@ -421,6 +421,8 @@ def a_parked_poll_outlives_all_limits(broker):
 @case({"events": 64})
 def an_open_file_limit_does_not_end_it(broker):
     broker.serve(under=FEW_FILES)
+    # Where a crowd takes the last files before each port has its own, the program ends at its start.
+    broker.until_all_serve()
     with crowd(broker.port, 200):
         # It has as many open files as it may have, and does not go on accepting.
         until("all open files", lambda: len(os.listdir(f"/proc/{broker.served.pid}/fd")) >= 99)
@@ -439,6 +441,8 @@ def too_few_open_files_to_begin_with_are_refused_in_words_of_the_system(broker):
 @case({"events": 64}, slow=True)
 def idle_connections_at_the_limit_of_open_files_make_room(broker):
     broker.serve(under=FEW_FILES)
+    # Where a crowd takes the last files before each port has its own, the program ends at its start.
+    broker.until_all_serve()
     # The files are enough for some 85 of them, so that the caller comes behind three times as many at most.
     with crowd(broker.port, 300):
         same(served_at_last(broker, 5 * REQUEST + 2 * DEADLINE), 202)
