@@ -4,6 +4,7 @@ ghost use Rattle.group_commit.specs.Broker.{pending_of, settings_of};
 ghost use Rattle.group_commit.specs.Promises.{ForEachHistory};
 ghost use Rattle.lambda_broker.specs.Serving.{ComesToRest};
 ghost use Rattle.hall_core.specs.Fresh.{IsFresh};
+ghost use Rattle.receipts.specs.Desks.{desk_count};
 
 use admin_port::{Admin, AdminPort};
 use broker_commands::{Address, now, open};
@@ -21,7 +22,7 @@ use std::marker::Brand;
 use std::net::{IpAddr, Ipv4Addr, Net, SocketAddr, TcpListener, TcpStream};
 use std::rt::Files;
 use std::sync::Wait;
-use std::sync::ledger::Blank;
+use std::sync::ledger::{Blank, Ledger};
 use std::time::Clock;
 use thiserror::Error;
 
@@ -245,20 +246,28 @@ fn admin_over<D: Disk>(
     }
 }
 
-// Serves a hall until the broker is stopped.
-fn serve_hall<R, T, D>(rt: R, hall: Hall<Broker<D>>, ports: Ports) -> Result<(), ServingError>
+// Serves a hall by a ledger of the blank's, until the broker is stopped.
+fn serve_by<R, L, T, D>(
+    rt: R,
+    hall: Hall<Broker<D>>,
+    blank: Blank,
+    ports: Ports,
+) -> Result<(), ServingError>
 where
     R: Machine,
+    L: Ledger + Send + Sync + 'static,
     T: SharedTrace + 'static,
     T::Opening: SharedOpening + 'static,
     D: Disk + Drop,
     requires nothing { pending_of hall.issuer ≡ [] }
     requires fresh { IsFresh (settings_of hall.issuer) hall }
+    requires name { blank.name ≡ L.name }
+    requires parts { blank.parts ≡ L.parts }
+    requires count { L.parts ≡ desk_count (settings_of hall.issuer) }
 {
-    let blank = Blank::new(desks(hall.table().settings()));
     let Ports { listeners, admin } = ports;
     let admin = admin_over(&hall, admin)?;
-    let served = serve::<R, Brand, T, D, WhenPending, AdminPort>(
+    let served = serve::<R, L, T, D, WhenPending, AdminPort>(
         rt,
         hall,
         blank,
@@ -270,6 +279,20 @@ where
         Ending::Stopped => Ok(()),
         Ending::Broken => Err(ServingError::Broken),
     }
+}
+
+// Serves a hall until the broker is stopped.
+fn serve_hall<R, T, D>(rt: R, hall: Hall<Broker<D>>, ports: Ports) -> Result<(), ServingError>
+where
+    R: Machine,
+    T: SharedTrace + 'static,
+    T::Opening: SharedOpening + 'static,
+    D: Disk + Drop,
+    requires nothing { pending_of hall.issuer ≡ [] }
+    requires fresh { IsFresh (settings_of hall.issuer) hall }
+{
+    let blank = Blank::new(desks(hall.table().settings()));
+    serve_by::<R, Brand, T, D>(rt, hall, blank, ports)
 }
 
 // Serves what is on a disk: the ports first, then the attempts that the last stop cut off.
