@@ -5,7 +5,7 @@ import subprocess
 
 import disks
 from disks import ACCEPT, Settings, command, id_of
-from harness import HERE, Built, Ports, case, needs, same
+from harness import Built, Ports, case, needs, same
 
 FUNCTION = ["--name", "f", "--handler", "h", "--arn", "a"]
 
@@ -258,9 +258,3 @@ def a_worn_disk_takes_no_more_commands_and_is_served(broker):
     same((worn.status, worn.type), (503, "Unavailable"))
     same(broker.stop(), (202, 0, ""))
     same(broker.audit()[:2], [f"generation 1 number {1 << 62}", "held 1 waiting 1 running 0 success 0 failure 0"])
-
-
-@case()
-def the_claims_name_what_is_there(broker):
-    told = subprocess.run([os.path.join(HERE, "..", "tools", "claims")], capture_output=True, text=True)
-    assert told.returncode == 0, told.stdout + told.stderr
