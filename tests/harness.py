@@ -382,7 +382,8 @@ class Broker:
         if self.served:
             if self.served.poll() is None:
                 self.served.send_signal(signal.SIGKILL)
-            self.served.communicate(timeout=DEADLINE)
+            self.served.stdout.close()
+            self.served.wait(timeout=DEADLINE)
             self.ports.close()
             self.served = None
 
