@@ -3,13 +3,22 @@
 use Rattle.std.specs.Prelude.{[]}
 use Rattle.std.specs.declared.fs.File.{File}
 use Rattle.sector_disk.specs.RandomAccess.{FileView}
+use Rattle.sector_disk.specs.declared.logged_file.LoggedFile.{LoggedFile}
 
--- the file at a moment, of which nothing is claimed
-abbrev pub std_view : File → FileView
-std_view file = record {
+-- a file of which nothing is claimed
+abbrev pub unclaimed : FileView
+unclaimed = record {
   content = [];
   may_leave = λ image. Unit {0};
   moment = 0;
   left_since = λ t image. Unit {0};
   honest = ⊥;
 }
+
+-- the file at a moment
+abbrev pub std_view : File → FileView
+std_view file = unclaimed
+
+-- the same of one whose faults are told
+abbrev pub logged_view : {L : Type 0} → LoggedFile L → FileView
+logged_view file = unclaimed

@@ -1,22 +1,54 @@
 // A file of the system, or a block device, as what a disk lies in.
-ghost use Rattle.std.specs.Prelude.{◌≡◌, IfOk};
+ghost use Rattle.std.specs.Prelude.{◌≡◌, ◌≤◌, length, IfOk};
 
-use crate::{Fault, FileDisk, FileError, RandomAccessFile, SECTOR_SIZE};
+use crate::{DiskFile, Fault, FileDisk, FileError, RandomAccessFile, SECTOR_SIZE};
 use std::fs;
 use std::fs::{File, FileType, OpenOptions};
+use std::io;
 use std::io::{ErrorKind, Seek, SeekFrom};
 use std::os::unix::fs::{FileExt, FileTypeExt};
 use std::path::Path;
 use std::rt::Files;
 
 /// How many sectors a file can have: its size in bytes is below 2^63.
-const MOST_SECTORS: u64 = (1 << 54) - 1;
+pub(crate) const MOST_SECTORS: u64 = (1 << 54) - 1;
 
 /// How many bytes of zeros are written at once.
 const PIECE_SIZE: usize = 128 * SECTOR_SIZE;
 
 /// How often a call is made again that a signal has interrupted.
 const MOST_TRIES: u64 = u64::MAX;
+
+// Why a call failed that a signal has interrupted each time.
+fn interrupted() -> io::Error {
+    io::Error::from(ErrorKind::Interrupted)
+}
+
+// Reads from a place on, again where a signal came between.
+pub(crate) fn read_again(file: &File, at: u64, out: &mut [u8]) -> io::Result<usize>
+    ensures { IfOk result (λ count. count ≤ length out.old) }
+{
+    for _ in 0..MOST_TRIES {
+        match FileExt::read_at(file, out, at) {
+            Err(why) if why.kind() == ErrorKind::Interrupted => {}
+            answered => return answered,
+        }
+    }
+    Err(interrupted())
+}
+
+// Writes from a place on, again where a signal came between.
+pub(crate) fn write_again(file: &File, at: u64, bytes: &[u8]) -> io::Result<usize>
+    ensures { IfOk result (λ count. count ≤ length bytes.now) }
+{
+    for _ in 0..MOST_TRIES {
+        match FileExt::write_at(file, bytes, at) {
+            Err(why) if why.kind() == ErrorKind::Interrupted => {}
+            answered => return answered,
+        }
+    }
+    Err(interrupted())
+}
 
 /// Nothing proves that a file of the system is honest. That it is so is a premise, which no contract has.
 impl RandomAccessFile for File {
@@ -31,25 +63,11 @@ impl RandomAccessFile for File {
     }
 
     fn read_at(&mut self, at: u64, out: &mut [u8]) -> Result<usize, Fault> {
-        for _ in 0..MOST_TRIES {
-            match FileExt::read_at(self, out, at) {
-                Ok(count) => return Ok(count),
-                Err(why) if why.kind() == ErrorKind::Interrupted => {}
-                Err(_) => return Err(Fault),
-            }
-        }
-        Err(Fault)
+        read_again(self, at, out).map_err(|_| Fault)
     }
 
     fn write_at(&mut self, at: u64, bytes: &[u8]) -> Result<usize, Fault> {
-        for _ in 0..MOST_TRIES {
-            match FileExt::write_at(self, bytes, at) {
-                Ok(count) => return Ok(count),
-                Err(why) if why.kind() == ErrorKind::Interrupted => {}
-                Err(_) => return Err(Fault),
-            }
-        }
-        Err(Fault)
+        write_again(self, at, bytes).map_err(|_| Fault)
     }
 
     fn sync(&mut self) -> Result<(), Fault> {
@@ -63,7 +81,7 @@ fn is_for_disks(kind: &FileType) -> bool {
 }
 
 // Refuses what is there and cannot be a disk. It is asked before the file is opened: a pipe would wait for its writer.
-fn check_kind<R: Files>(rt: &R, path: &str) -> Result<(), FileError> {
+pub(crate) fn check_kind<R: Files>(rt: &R, path: &str) -> Result<(), FileError> {
     let kind = fs::metadata(rt, path)?.file_type();
     if is_for_disks(&kind) {
         Ok(())
@@ -72,25 +90,14 @@ fn check_kind<R: Files>(rt: &R, path: &str) -> Result<(), FileError> {
     }
 }
 
-// Gives a regular file this size. A device has its own.
-fn resize(file: &mut File, size: u64) -> Result<(), FileError> {
-    if file.metadata()?.file_type().is_file() {
-        return Ok(file.set_len(size)?);
-    }
-    let own = file.size()?;
-    if own == size {
-        return Ok(());
-    }
-    let sectors = own / SECTOR_SIZE as u64;
-    Err(FileError::OtherSize { sectors })
-}
-
-// Writes zeros to the front of the file, so many bytes.
-fn write_zeros(file: &File, size: u64) -> Result<(), FileError> {
+// Writes zeros to the file from one place to another.
+pub(crate) fn write_zeros(file: &File, from: u64, to: u64) -> Result<(), FileError>
+    requires { from ≤ to }
+{
     let zeros = [0; PIECE_SIZE];
-    let mut done = 0;
-    while done < size {
-        let count = (size - done).min(PIECE_SIZE as u64);
+    let mut done = from;
+    while done < to {
+        let count = (to - done).min(PIECE_SIZE as u64);
         file.write_all_at(&zeros[..count as usize], done)?;
         done += count;
     }
@@ -98,7 +105,7 @@ fn write_zeros(file: &File, size: u64) -> Result<(), FileError> {
 }
 
 // Makes it durable that the file stands in its folder.
-fn sync_folder<R: Files<File = File>>(rt: &R, path: &str) -> Result<(), FileError> {
+pub(crate) fn sync_folder<R: Files<File = File>>(rt: &R, path: &str) -> Result<(), FileError> {
     let folder = Path::new(path).parent().and_then(|folder| folder.to_str());
     let name = folder.filter(|name| !name.is_empty()).unwrap_or(".");
     File::open(rt, name)?.sync_all()?;
@@ -137,13 +144,10 @@ impl FileDisk<File> {
         FileDisk::over(file)
     }
 
-    /// Makes a disk of zeros of so many sectors and opens it, with the file's exclusive lock. The file is made where none
-    /// is there; what it held is lost. Each sector is written and all of it is durable, since a file whose sectors were
-    /// never written is slow to settle.
+    /// Makes a disk of zeros of so many sectors and opens it, with the file's exclusive lock, as `DiskFile` does: what was there
+    /// is lost.
     ///
-    /// Refused before anything is written: `NotFound` (its folder), `NotDisk`, `PermissionDenied`, `InUse`, `OtherSize`
-    /// where a block device has not that many sectors, and `NoRoom` where no file can have so many. After another
-    /// `NoRoom` and after `Fault` a part may be written.
+    /// Refused as `DiskFile::open` and `DiskFile::make`.
     pub fn create<R: Files<File = File>>(
         rt: &R,
         path: &str,
@@ -152,26 +156,8 @@ impl FileDisk<File> {
         ensures sectors { IfOk result (λ disk. sectors_of disk ≡ sectors) }
         ensures faults { IfOk result (λ disk. faults_of disk ≡ 0) }
     {
-        if sectors > MOST_SECTORS {
-            return Err(FileError::NoRoom);
-        }
-        match check_kind(rt, path) {
-            Ok(()) | Err(FileError::NotFound) => {}
-            Err(why) => return Err(why),
-        }
-        let mut options = OpenOptions::new();
-        options.read(true).write(true).create(true);
-        let mut file = options.open(rt, path)?;
-        file.try_lock()?;
-        let size = sectors * SECTOR_SIZE as u64;
-        resize(&mut file, size)?;
-        write_zeros(&file, size)?;
-        file.sync_all()?;
-        sync_folder(rt, path)?;
-        Ok(FileDisk {
-            file,
-            sectors,
-            faults: 0,
-        })
+        let mut place = DiskFile::open(rt, path)?;
+        place.make(rt, path, sectors)?;
+        Ok(place.into_disk())
     }
 }
