@@ -1,0 +1,5 @@
+pub mod Closing
+pub mod Displaced
+pub mod Pieces
+pub mod Reading
+pub mod Sectors
