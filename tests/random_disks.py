@@ -191,13 +191,13 @@ class Disk:
         self.chance, self.settings = chance, settings_by(chance)
         self.version = chance.choice((1, 2, 2))
         self.least = self.settings.least_segment(chance.choice((self.version, 2)))
-        self.sectors = 2 * self.least + chance.choice((0, 1, chance.randint(0, 9), chance.randint(0, 120)))
+        self.sectors = 2 * self.least + chance.choice((0, 1, chance.randint(0, 9), chance.randint(0, 120), chance.randint(60, 400)))
         self.half = self.sectors // 2
         self.content = bytearray(self.sectors * SECTOR)
         self.table = Table(self.settings, chance)
         generation = 1 if chance.random() < 0.7 else chance.randrange(2, GREATEST - 1000)
         self.segments = [self.write_segment(0, generation)]
-        for _ in range(chance.choice((0, 1, 3, 10, 30))):
+        for _ in range(chance.choice((0, 1, 3, 10, 30, 60))):
             self.commit()
         self.leave()
 
@@ -298,7 +298,9 @@ class Laid:
         parts = [segment for segment in disk.segments if segment.base == 0]
         least = max([part.gate + 1 for part in parts] + [disk.half + 2 if disk.live.base else 6])
         if chance.random() < 0.5 and least < disk.sectors:
-            return chance.choice((chance.randrange(least, disk.sectors), disk.sectors - 1, least))
+            ends = [2 * chance.choice(disk.live.frames)[0] + chance.randint(1, 9)] if disk.live.frames else []
+            cut = [sectors for sectors in ends if least <= sectors < disk.sectors]
+            return chance.choice((chance.randrange(least, disk.sectors), disk.sectors - 1, least, *cut, *cut))
         return disk.sectors + chance.choice((1, 2, chance.randint(1, 30), chance.randint(1, 300), disk.sectors))
 
     def filler(self, chance, sectors):

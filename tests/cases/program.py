@@ -185,6 +185,20 @@ def a_disk_that_is_served_is_refused_to_all_others_and_one_that_is_audited_to_th
 
 
 @case()
+def a_disk_is_copied_as_it_is_said_and_never_while_it_is_served(broker):
+    needs("flock")
+    copy = broker.disk + ".copy"
+    copies = ["flock", "--shared", "--nonblock", broker.disk, "cp", broker.disk, copy]
+    broker.serve()
+    same(broker.invoke("{}").status, 202)
+    same((subprocess.run(copies).returncode, os.path.exists(copy)), (1, False))
+    same(broker.stop(), (202, 0, ""))
+    same(subprocess.run(copies).returncode, 0)
+    same(broker.said("audit", copy), broker.said("audit", broker.disk))
+    same(broker.held(), 1)
+
+
+@case()
 def a_damaged_disk_is_refused_with_the_sector(broker):
     settings = Settings()
     frames = [(1, [command(ACCEPT, id_of(1), 1573755365568, b"{}")])]
