@@ -325,6 +325,8 @@ class Laid:
             ((1, 2), (live.generation + 2, live.generation, live.generation + 256), disk.settings), ((1, 2), (live.generation + 1,), other),
             ((0, 3, 255), (live.generation + 1,), disk.settings),
         ))
+        if disk.older and not self.is_displaced and chance.random() < 0.5:
+            versions, generations, settings = (1, 2), (live.generation + 1,), disk.settings
         header = disks.header(chance.choice(versions), settings, chance.choice(generations), bytes(25))
         self.content[at * SECTOR : (at + 2) * SECTOR] = OPEN + header
         return at
