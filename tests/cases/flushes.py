@@ -1,4 +1,6 @@
 """Files and flushes: what is written and flushed before anything is told, and what a device does that fails or is slow."""
+import os
+import re
 import shutil
 import time
 
@@ -264,3 +266,59 @@ def a_device_that_fails_is_told_by_each_command(broker):
             fails(broker, **{word: number}).watch.env["WATCH_DISK"] = made
             told = broker.format(made, 64, events=4, payload=1024, response=1024)
             same((word, number, told), (word, number, (3, "device fault\n")))
+
+
+CALLS = {"fail_read": "read", "fail_write": "write", "fail_flush": "flush|sync|barrier"}
+
+
+def names_fault(line, word, disk):
+    """A line on standard error says which call failed, with which error, of which file, and where, if it is of a place."""
+    has_place = word == "fail_flush" or re.search(r"(sector|byte|offset) *[0-9]+|[0-9]+ *(sectors?|bytes?)", line)
+    return disk in line and has_place and re.search(CALLS[word], line) and re.search(rf"{os.strerror(5)}|EIO|error 5\b", line)
+
+
+def one_names_fault(told, word, disk):
+    """Just one of these lines does."""
+    same((word, [bool(names_fault(line, word, disk)) for line in told.splitlines()].count(True)), (word, 1))
+
+
+@case()
+def a_device_that_fails_is_named_on_standard_error(broker):
+    watch = broker.watches_disk()
+    for word, commands in (
+        ("fail_read", (["audit"], ["audit", "--json"], ["configure"], ["migrate"], ["serve", "--port", 20000])),
+        ("fail_flush", (["audit"], ["configure"], ["serve", "--port", 20000])),
+        ("fail_write", (["configure"],)),
+    ):
+        for words in commands:
+            watch.clear()
+            setattr(watch, word, 1)
+            done = broker.command(words[0], broker.disk, *words[1:])
+            same((word, words, done.returncode, done.stdout), (word, words, 3, "device fault\n"))
+            one_names_fault(done.stderr, word, broker.disk)
+
+
+@case()
+def a_device_that_fails_while_it_is_served_is_named_on_standard_error(broker):
+    # The opening's flush is the first, and each invoke makes two writes and two flushes.
+    for word, number in ("fail_write", 1), ("fail_write", 2), ("fail_flush", 2), ("fail_flush", 3):
+        fails(broker, **{word: number}).serve()
+        same(broker.invoke("{}").status, 503)
+        same((word, number, broker.ended()), (word, number, (3, "device fault\n")))
+        one_names_fault(broker.stderr(), word, broker.disk)
+        works_again(broker)
+
+
+@case()
+def a_format_whose_device_fails_names_it_on_standard_error(broker):
+    watch = broker.watches_disk()
+    os.remove(broker.disk)
+    for word, number in ("fail_write", 2), ("fail_flush", 2), ("fail_flush", 4):
+        with open(broker.disk, "wb"):
+            pass
+        watch.clear()
+        setattr(watch, word, number)
+        words = ["--sectors", 64, "--name", "f", "--handler", "h", "--arn", "a", "--events", 4, "--payload", 16, "--response", 16]
+        done = broker.command("format", broker.disk, *words)
+        same((word, number, done.returncode, done.stdout), (word, number, 3, "device fault\n"))
+        one_names_fault(done.stderr, word, broker.disk)

@@ -288,6 +288,6 @@ def an_address_that_others_reach_is_warned_of(broker):
     told = broker.stderr()
     same(broker.stop(), (202, 0, ""))
     wanted = "whoever reaches 0.0.0.0 can invoke the function, answer for it, read its payloads and records, and stop the broker"
-    same(told, f"warning: {wanted}\n")
+    same(told.splitlines().count(f"warning: {wanted}"), 1)
     broker.serve()
-    same((broker.stop(), broker.stderr()), ((202, 0, ""), ""))
+    same((broker.stop(), "warning" in broker.stderr()), ((202, 0, ""), False))

@@ -1,11 +1,12 @@
 """The words of the program, its lines and its statuses."""
 import os
+import re
 import socket
 import subprocess
 
 import disks
 from disks import ACCEPT, Settings, command, id_of
-from harness import Built, Ports, case, needs, same
+from harness import DEADLINE, Built, Ports, case, needs, same, until
 
 FUNCTION = ["--name", "f", "--handler", "h", "--arn", "a"]
 
@@ -48,6 +49,14 @@ def help_is_told_where_it_is_asked_for(broker):
 
 
 @case()
+def its_version_is_told_where_it_is_asked_for(broker):
+    done = broker.command("--version")
+    same((done.returncode, done.stderr), (0, ""))
+    assert re.match(r"lambda_broker\b.*[0-9]", done.stdout, re.S) and done.stdout.endswith("\n"), done.stdout
+    same(broker.said("--version"), (0, done.stdout))
+
+
+@case()
 def each_setting_out_of_its_range_is_refused_by_name_the_first_one_first(broker):
     made = broker.disk + "1"
     bad = [
@@ -84,7 +93,7 @@ def each_setting_at_the_ends_of_its_range_is_taken(broker):
 def a_disk_is_formatted_byte_by_byte_so(broker):
     made = broker.disk + "1"
     with open(made, "wb") as old:
-        old.write(b"\1" * 100000)
+        old.write(bytes(100000))
     same(broker.format(made, 65, events=4, payload=1024, response=1024), (0, "formatted 65 sectors\n"))
     settings = Settings()
     with open(made, "rb") as disk:
@@ -176,6 +185,20 @@ def a_disk_that_is_served_is_refused_to_all_others_and_one_that_is_audited_to_th
 
 
 @case()
+def a_disk_is_copied_as_it_is_said_and_never_while_it_is_served(broker):
+    needs("flock")
+    copy = broker.disk + ".copy"
+    copies = ["flock", "--shared", "--nonblock", broker.disk, "cp", broker.disk, copy]
+    broker.serve()
+    same(broker.invoke("{}").status, 202)
+    same((subprocess.run(copies).returncode, os.path.exists(copy)), (1, False))
+    same(broker.stop(), (202, 0, ""))
+    same(subprocess.run(copies).returncode, 0)
+    same(broker.said("audit", copy), broker.said("audit", broker.disk))
+    same(broker.held(), 1)
+
+
+@case()
 def a_damaged_disk_is_refused_with_the_sector(broker):
     settings = Settings()
     frames = [(1, [command(ACCEPT, id_of(1), 1573755365568, b"{}")])]
@@ -230,6 +253,107 @@ def a_port_in_use_is_refused_that_of_callers_of_environments_and_of_the_operator
     # One broker cannot have a port twice.
     same(broker.said(*words[:-1], ports.first + 1), (1, "refused: port in use\n"))
     ports.close()
+
+
+def names_address(line, address, port):
+    """A line on standard error has this address and this port."""
+    return re.search(rf"(?<![0-9.]){re.escape(address)}(?![0-9])", line) and re.search(rf"(?<![0-9]){port}(?![0-9])", line)
+
+
+@case({"environments": 2})
+def a_port_in_use_is_named_on_standard_error(broker):
+    ports = Ports()
+    words = ["serve", broker.disk, "--port", ports.first, "--admin", ports.first + 3]
+    for place in range(4):
+        with taken(ports.first + place):
+            done = broker.command(*words)
+        same((place, done.returncode, done.stdout), (place, 1, "refused: port in use\n"))
+        named = [line for line in done.stderr.splitlines() if names_address(line, "127.0.0.1", ports.first + place)]
+        same((place, len(named)), (place, 1))
+    ports.close()
+
+
+@case()
+def an_address_that_this_machine_has_not_is_named_on_standard_error(broker):
+    """192.0.2.1 is of documentation alone."""
+    done = broker.command("serve", broker.disk, "--port", 20000, "--address", "192.0.2.1")
+    same((done.returncode, done.stdout.startswith("refused: "), done.stdout.count("\n")), (1, True, 1))
+    # (the warning names the address too, as one that others reach)
+    same(len([line for line in done.stderr.splitlines() if "192.0.2.1" in line and not line.startswith("warning: ")]), 1)
+
+
+# Standard output that takes nothing: it is closed, full, or a pipe that nobody reads.
+TAKES_NOTHING = (
+    ["bash", "-c", 'exec "$@" >&-', "bash"], ["bash", "-c", 'exec "$@" >/dev/full', "bash"],
+    ["bash", "-c", 'mkfifo "$0" && { : < "$0" & } && exec 4> "$0" && wait && exec "$@" >&4', "FIFO"],
+)
+
+
+def under_all(broker):
+    """Each way of a standard output that takes nothing."""
+    for n, words in enumerate(TAKES_NOTHING):
+        yield n, [os.path.join(broker.folder, f"fifo{os.urandom(4).hex()}") if word == "FIFO" else word for word in words]
+
+
+@case()
+def each_status_stays_though_standard_output_takes_nothing(broker):
+    zeros = broker.disk + "0"
+    with open(zeros, "wb") as file:
+        file.write(bytes(64 * 512))
+    for words, status in (("audit", zeros), 1), (("serve", zeros, "--port", 20000), 1), (("juggle",), 2), ((), 2), (("audit",), 2):
+        for n, under in under_all(broker):
+            same((words, n, broker.command(*words, under=under).returncode), (words, n, status))
+
+
+@case()
+def a_device_fault_has_its_status_though_standard_output_takes_nothing(broker):
+    watch = broker.watches_disk()
+    for word in "fail_read", "fail_flush":
+        for words in ("audit",), ("audit", "--json"), ("configure",), ("migrate",), ("serve", "--port", 20000):
+            for n, under in under_all(broker):
+                watch.clear()
+                setattr(watch, word, 1)
+                done = broker.command(words[0], broker.disk, *words[1:], under=under)
+                same((word, words, n, done.returncode), (word, words, n, 3))
+
+
+@case()
+def a_fault_while_it_serves_has_its_status_though_nobody_reads_what_it_prints(broker):
+    broker.watches_disk().fail_flush = 2
+    broker.serve()
+    broker.served.stdout.close()
+    same(broker.invoke("{}").status, 503)
+    same(broker.served.wait(DEADLINE), 3)
+
+
+@case()
+def a_stream_that_is_closed_never_becomes_the_disk(broker):
+    """A file that is opened has the least free number. What is printed to a stream of that number would be written to the disk."""
+    size, held = len(broker.content()), 0
+    for closed in "0<&-", "1>&-", "2>&-", "0<&- 1>&- 2>&-":
+        ports = Ports()
+        under = ["bash", "-c", f'exec "$@" {closed}', "bash"]
+        words = ["serve", broker.disk, "--port", str(ports.first), "--admin", str(ports.first + 2), "--address", "0.0.0.0"]
+        served = subprocess.Popen([*under, Built.program, *words], stdout=subprocess.DEVNULL, stderr=subprocess.DEVNULL)
+        try:
+            broker.port = ports.first
+            until("an invoke", lambda: served.poll() is None and is_accepted(broker))
+            same((broker.ask("POST", "/broker/stop").status, served.wait(DEADLINE)), (202, 0))
+        finally:
+            served.kill()
+            served.wait()
+            ports.close()
+        held += 1
+        same((closed, len(broker.content())), (closed, size))
+        same((closed, broker.audit()[1]), (closed, f"held {held} waiting {held} running 0 success 0 failure 0"))
+
+
+def is_accepted(broker):
+    """Whether an event was accepted, by a broker that may not listen yet."""
+    try:
+        return broker.invoke("{}").status == 202
+    except OSError:
+        return False
 
 
 @case()
