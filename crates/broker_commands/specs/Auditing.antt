@@ -1,6 +1,5 @@
 -- What the command `audit` tells, which of its faults are the device's, and the program's status for what it tells.
 use Rattle.std.specs.Prelude.{◌≡◌, ℕ, List, [], ◌++◌, Bool, true, false, Option, Some, None, codes, string_bytes}
-use Rattle.sector_disk.specs.declared.file.FileError.TheVariants as file_error
 use Rattle.checkpoint.specs.declared.error.OpenError.TheVariants as open_error
 use Rattle.async_core.specs.State.{State}
 use Rattle.async_core.specs.Rules.{row_at, standing_at}
@@ -17,7 +16,8 @@ use Rattle.broker_commands.specs.declared.auditing.Asked.{Asked}
 use Rattle.broker_commands.specs.declared.auditing.Asked.TheVariants as asked
 use Rattle.broker_commands.specs.declared.auditing.Audit.{Audit}
 use Rattle.broker_commands.specs.declared.auditing.AuditError.{AuditError}
-use Rattle.broker_commands.specs.declared.auditing.AuditError.TheVariants.{File, Open}
+use Rattle.broker_commands.specs.declared.auditing.AuditError.TheVariants.{Disk, Open}
+use Rattle.broker_commands.specs.Opening.{is_disk_fault}
 use Rattle.broker_commands.specs.declared.auditing.More.{More}
 use Rattle.broker_commands.specs.declared.auditing.Told.{Told}
 use Rattle.broker_commands.specs.declared.auditing.Told.TheVariants as told
@@ -64,7 +64,7 @@ pub record Answers (bytes : List ℕ) (asking : Asked) (audit : Audit) : Type 0 
   pub is_told : IsTold table audit.report asking audit.told
 
 abbrev pub is_device_fault : AuditError → Bool
-is_device_fault (File file_error.Fault) = true
+is_device_fault (Disk why) = is_disk_fault why
 is_device_fault (Open open_error.Fault) = true
 is_device_fault refusal = false
 

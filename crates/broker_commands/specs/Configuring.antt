@@ -2,7 +2,6 @@
 use Rattle.std.specs.Prelude.{◌≡◌, ℕ, Bool, true, false, List, [], ◌∷◌, ◌++◌, Option, Some, None, max, if◌then◌else◌}
 use Rattle.sector_disk.specs.Disk.{DiskView}
 use Rattle.sector_disk.specs.declared.disk.Disk.{Ghosts}
-use Rattle.sector_disk.specs.declared.file.FileError.TheVariants as file_error
 use Rattle.retry_rules.specs.declared.policy.RetryPolicy.{RetryPolicy}
 use Rattle.retry_rules.specs.declared.settings.Field.{Field}
 use Rattle.retry_rules.specs.declared.settings.Field.TheVariants as field
@@ -16,6 +15,7 @@ use Rattle.checkpoint.specs.declared.error.OpenError.TheVariants as open_error
 use Rattle.group_commit.specs.declared.broker.Broker.{Broker}
 use Rattle.group_commit.specs.declared.error.CommitError.TheVariants as commit_error
 use Rattle.group_commit.specs.Broker.{settings_of, IsReason, Stands}
+use Rattle.broker_commands.specs.Opening.{is_disk_fault}
 use Rattle.broker_commands.specs.declared.configuring.ConfiguringError.{ConfiguringError}
 use Rattle.broker_commands.specs.declared.configuring.ConfiguringError.TheVariants as error
 use Rattle.broker_commands.specs.declared.configuring.NewPolicy.{NewPolicy}
@@ -73,7 +73,7 @@ abbrev pub refused_for : Field → ConfiguringError
 refused_for field = error.Settings (record { field = field })
 
 abbrev pub is_device_fault : ConfiguringError → Bool
-is_device_fault (error.File file_error.Fault) = true
+is_device_fault (error.Disk why) = is_disk_fault why
 is_device_fault (error.Open open_error.Fault) = true
 is_device_fault (error.Commit commit_error.Fault) = true
 is_device_fault refusal = false

@@ -2,14 +2,16 @@
 ghost use Rattle.std.specs.Prelude.{◌≡◌, ◌++◌, IfOk, OnOk, string_bytes};
 ghost use Rattle.broker_commands.specs.Auditing.{is_device_fault, lines_of_policy, lines_of_event, lines_of, IsTold, Answers};
 
+use crate::opening::{DiskError, open_device_read_only};
 use async_core::Table;
 use audit_report::{
     Report, all_records, audit, explain, figures, in_force_line, inspect, json_line,
 };
 use group_commit::OpenError;
-use sector_disk::{Disk, FileDisk, FileError};
+use sector_disk::Disk;
 use std::alloc::{AllocError, Global};
 use std::fs::File;
+use std::io::Eprint;
 use std::rt::Files;
 use thiserror::Error;
 
@@ -65,7 +67,7 @@ pub enum AuditError {
     #[error("out of memory")]
     OutOfMemory(#[from] AllocError),
     #[error("{0}")]
-    File(#[from] FileError),
+    Disk(#[from] DiskError),
     #[error("{0}")]
     Open(#[from] OpenError),
 }
@@ -75,10 +77,11 @@ impl AuditError {
     pub fn is_device_fault(&self) -> bool
         ensures { result ≡ is_device_fault self.now }
     {
-        matches!(
-            self,
-            AuditError::File(FileError::Fault) | AuditError::Open(OpenError::Fault)
-        )
+        match self {
+            AuditError::OutOfMemory(_) => false,
+            AuditError::Disk(why) => why.is_device_fault(),
+            AuditError::Open(why) => matches!(why, OpenError::Fault),
+        }
     }
 }
 
@@ -169,10 +172,10 @@ fn audit_on<D: Disk + Drop>(alloc: Global, disk: D, asked: Asked) -> Result<Audi
 }
 
 /// Reads what a disk holds, which is opened for reading alone.
-pub fn audit_disk<R: Files<File = File> + AllocGlobal>(
-    rt: &R,
-    old: &OldDisk<'_>,
-) -> Result<Audit, AuditError> {
-    let disk = FileDisk::open_read_only(rt, old.path)?;
+pub fn audit_disk<R>(rt: &R, old: &OldDisk<'_>) -> Result<Audit, AuditError>
+where
+    R: Files<File = File> + Eprint + AllocGlobal + Copy + Drop,
+{
+    let disk = open_device_read_only(rt, old.path)?;
     audit_on(rt.alloc(), disk, old.asked)
 }

@@ -7,15 +7,16 @@ ghost use Rattle.broker_commands.specs.Configuring.{bad_option, policy_for, conf
 ghost use Rattle.retry_rules.specs.declared.settings.Field.{Field};
 
 use crate::clock::now;
-use crate::opening::open;
+use crate::opening::{DiskError, open, open_device};
 use async_core::Table;
 use group_commit::{Broker, CommitError, IssueError, OpenError};
 use invoke_records::{Bytes, Command, Kind};
 use retry_rules::{BadSettings, Field, RetryPolicy};
-use sector_disk::{Disk, FileDisk, FileError};
+use sector_disk::Disk;
 use std::alloc::{AllocError, Global};
 use std::fs::File;
 use std::io;
+use std::io::Eprint;
 use std::rt::Files;
 use std::time::Clock;
 use thiserror::Error;
@@ -40,7 +41,7 @@ pub enum ConfiguringError {
     #[error("{0}")]
     Settings(#[from] BadSettings),
     #[error("{0}")]
-    File(#[from] FileError),
+    Disk(#[from] DiskError),
     #[error("{0}")]
     Open(#[from] OpenError),
     /// The clock could not be read.
@@ -57,12 +58,12 @@ impl ConfiguringError {
     pub fn is_device_fault(&self) -> bool
         ensures { result ≡ is_device_fault self.now }
     {
-        matches!(
-            self,
-            ConfiguringError::File(FileError::Fault)
-                | ConfiguringError::Open(OpenError::Fault)
-                | ConfiguringError::Commit(CommitError::Fault)
-        )
+        match self {
+            ConfiguringError::Disk(why) => why.is_device_fault(),
+            ConfiguringError::Open(why) => matches!(why, OpenError::Fault),
+            ConfiguringError::Commit(why) => matches!(why, CommitError::Fault),
+            _ => false,
+        }
     }
 }
 
@@ -149,17 +150,16 @@ fn configure_on<D: Disk + Drop>(
 /// Brings a retry policy in force on a disk, for the events that are accepted from then on: what is in force after it, the
 /// retries and the age in seconds. The values are judged first, then the file, and then what is on it. Nobody else has the
 /// disk meanwhile.
-pub fn configure_disk<R: Files<File = File> + Clock + AllocGlobal>(
-    rt: &R,
-    new: &NewPolicy<'_>,
-) -> Result<(u8, u32), ConfiguringError>
+pub fn configure_disk<R>(rt: &R, new: &NewPolicy<'_>) -> Result<(u8, u32), ConfiguringError>
+where
+    R: Files<File = File> + Clock + Eprint + AllocGlobal + Copy + Drop,
     ensures asked { IfOk result (IsAsked new.now) }
     ensures bad { (field : Field) → bad_option new.now ≡ Some field → result ≡ Err (refused_for field) }
 {
     if let Some(field) = bad_option(new) {
         return Err(ConfiguringError::Settings(BadSettings { field }));
     }
-    let disk = FileDisk::open(rt, new.path)?;
+    let disk = open_device(rt, new.path)?;
     let now = now(rt)?;
     configure_on(rt.alloc(), disk, new, now)
 }

@@ -1,12 +1,19 @@
 // Formatting a disk in a file.
-ghost use Rattle.std.specs.Prelude.{◌≡◌, IfOk};
+ghost use Rattle.std.specs.Prelude.{◌≡◌, ◌≤◌, None, IfOk, OnOk};
+ghost use Rattle.retry_rules.specs.Settings.{bad_field};
+ghost use Rattle.checkpoint.specs.Image.{least_sectors};
 ghost use Rattle.broker_commands.specs.Formatting.{settings_for, is_device_fault};
 
+use crate::contents::{ContentsError, check_contents};
+use crate::opening::DiskError;
+use crate::telltale::telltale;
+use checkpoint::least_sectors;
 use group_commit::{FormatError, format};
 use retry_rules::{BadSettings, Settings, Text};
-use sector_disk::{FileDisk, FileError};
+use sector_disk::{FaultLog, FileDisk, FileError, LoggedFile, Place};
 use std::alloc::{AllocError, Global};
 use std::fs::File;
+use std::io::Eprint;
 use std::rt::Files;
 use thiserror::Error;
 
@@ -39,6 +46,8 @@ pub struct NewDisk<'a> {
     pub sectors: u64,
     pub function: Function<'a>,
     pub numbers: Numbers,
+    /// Whether it is formatted whatever is there.
+    pub is_forced: bool,
 }
 
 /// Why a disk was not made and formatted.
@@ -51,6 +60,8 @@ pub enum NewDiskError {
     #[error("{0}")]
     File(#[from] FileError),
     #[error("{0}")]
+    Contents(#[from] ContentsError),
+    #[error("{0}")]
     Format(#[from] FormatError),
 }
 
@@ -59,10 +70,12 @@ impl NewDiskError {
     pub fn is_device_fault(&self) -> bool
         ensures { result ≡ is_device_fault self.now }
     {
-        matches!(
-            self,
-            NewDiskError::File(FileError::Fault) | NewDiskError::Format(FormatError::Fault)
-        )
+        match self {
+            NewDiskError::File(why) => matches!(why, FileError::Fault),
+            NewDiskError::Contents(why) => why.is_device_fault(),
+            NewDiskError::Format(why) => matches!(why, FormatError::Fault),
+            _ => false,
+        }
     }
 }
 
@@ -91,15 +104,69 @@ fn settings(alloc: Global, function: &Function<'_>, n: &Numbers) -> Result<Setti
     })
 }
 
-/// Makes a disk of zeros and formats it: its settings are judged first, then the file or device, and then whether the
-/// disk is large enough.
-pub fn make_disk<R: Files<File = File> + AllocGlobal>(
+// Refuses settings that are outside their ranges, and a size that does not suffice for them.
+fn check_settings(settings: &Settings, sectors: u64) -> Result<(), NewDiskError>
+    ensures { OnOk result ((bad_field settings.now ≡ None) × (least_sectors settings.now ≤ sectors)) }
+{
+    settings.check()?;
+    let least = least_sectors(settings);
+    if sectors < least {
+        return Err(NewDiskError::Format(FormatError::TooSmall { least }));
+    }
+    Ok(())
+}
+
+// Refuses a file or a device that may not be formatted over.
+fn check_place<L: FaultLog + Drop>(
+    alloc: Global,
+    file: LoggedFile<L>,
+) -> Result<LoggedFile<L>, ContentsError> {
+    let mut disk = match FileDisk::over(file) {
+        Ok(disk) => disk,
+        Err(FileError::NotWhole) => return Err(ContentsError::NotEmpty),
+        Err(why) => return Err(ContentsError::Disk(DiskError::File(why))),
+    };
+    check_contents(alloc, &mut disk)?;
+    Ok(disk.into_file())
+}
+
+// Formats a disk of zeros that was made there, or gives it back.
+fn format_place<R, L>(
     rt: &R,
     new: &NewDisk<'_>,
-) -> Result<(), NewDiskError> {
+    settings: &Settings,
+    place: Place,
+    file: LoggedFile<L>,
+) -> Result<(), NewDiskError>
+where
+    R: Files<File = File> + AllocGlobal,
+    L: FaultLog + Drop,
+    requires { bad_field settings.now ≡ None }
+{
+    let mut disk = FileDisk::over(file)?;
+    match format(rt.alloc(), &mut disk, settings) {
+        Ok(()) => Ok(()),
+        Err(why) => {
+            place.give_back(rt, new.path, &disk.into_file());
+            Err(NewDiskError::Format(why))
+        }
+    }
+}
+
+/// Makes a disk of zeros and formats it. Its settings are judged first, then whether so many sectors suffice for them, then the
+/// file or device, and then what is there, unless that is to be lost. What is refused is as it was, but for `Fault`.
+pub fn make_disk<R>(rt: &R, new: &NewDisk<'_>) -> Result<(), NewDiskError>
+where
+    R: Files<File = File> + Eprint + AllocGlobal + Copy + Drop,
+{
     let settings = settings(rt.alloc(), &new.function, &new.numbers)?;
-    settings.check()?;
-    let mut disk = FileDisk::create(rt, new.path, new.sectors)?;
-    format(rt.alloc(), &mut disk, &settings)?;
-    Ok(())
+    check_settings(&settings, new.sectors)?;
+    let log = telltale(rt, new.path)?;
+    let (file, place) = Place::open(rt, new.path)?;
+    let mut file = LoggedFile::new(file, log);
+    if !new.is_forced {
+        file = check_place(rt.alloc(), file)?;
+    }
+    place.make(rt, new.path, &file, new.sectors)?;
+    format_place(rt, new, &settings, place, file)
 }

@@ -2,11 +2,13 @@
 ghost use Rattle.std.specs.Prelude.{◌≡◌, IfOk, IfErr};
 ghost use Rattle.broker_commands.specs.Migrating.{is_device_fault, IsMigrated, IsMigratingReason};
 
+use crate::opening::{DiskError, open_device};
 use audit_report::audit;
 use group_commit::{MigrateError, MigrateFailure, OpenError, migrate};
-use sector_disk::{Disk, FileDisk, FileError};
+use sector_disk::Disk;
 use std::alloc::Global;
 use std::fs::File;
+use std::io::Eprint;
 use std::rt::Files;
 use thiserror::Error;
 
@@ -30,7 +32,7 @@ pub struct Migrated {
 #[derive(Clone, Copy, Debug, Error)]
 pub enum MigratingError {
     #[error("{0}")]
-    File(#[from] FileError),
+    Disk(#[from] DiskError),
     #[error("{0}")]
     Migrate(#[from] MigrateError),
     /// The disk was migrated, and could not be read afterwards.
@@ -43,12 +45,11 @@ impl MigratingError {
     pub fn is_device_fault(&self) -> bool
         ensures { result ≡ is_device_fault self.now }
     {
-        matches!(
-            self,
-            MigratingError::File(FileError::Fault)
-                | MigratingError::Migrate(MigrateError::Fault)
-                | MigratingError::Open(OpenError::Fault)
-        )
+        match self {
+            MigratingError::Disk(why) => why.is_device_fault(),
+            MigratingError::Migrate(why) => matches!(why, MigrateError::Fault),
+            MigratingError::Open(why) => matches!(why, OpenError::Fault),
+        }
     }
 }
 
@@ -72,10 +73,10 @@ fn migrate_disk<D: Disk + Drop>(alloc: Global, disk: D) -> Result<Migrated, Migr
 
 /// Migrates a disk of version 1 of the format. The file is judged first, and then what is on it. Nobody else has the disk
 /// meanwhile.
-pub fn migrate_file<R: Files<File = File> + AllocGlobal>(
-    rt: &R,
-    old: &OldVersion<'_>,
-) -> Result<Migrated, MigratingError> {
-    let disk = FileDisk::open(rt, old.path)?;
+pub fn migrate_file<R>(rt: &R, old: &OldVersion<'_>) -> Result<Migrated, MigratingError>
+where
+    R: Files<File = File> + Eprint + AllocGlobal + Copy + Drop,
+{
+    let disk = open_device(rt, old.path)?;
     migrate_disk(rt.alloc(), disk)
 }

@@ -1,9 +1,89 @@
 // Opening a disk for a command.
+ghost use Rattle.std.specs.Prelude.{◌≡◌, ◌≤◌, IfErr};
+ghost use Rattle.sector_disk.specs.Disk.{HasRisen};
+ghost use Rattle.resized_disk.specs.Reading.{OnlyReads};
+ghost use Rattle.broker_commands.specs.Opening.{is_disk_fault, TellsSize};
+ghost use Rattle.broker_commands.specs.declared.opening.DiskError.TheVariants as disk_error;
+ghost use Rattle.sector_disk.specs.declared.file.FileError.TheVariants as file_error;
+
+use crate::telltale::{Telltale, telltale};
 use group_commit::{Broker, OpenError, without_disk};
-use sector_disk::Disk;
-use std::alloc::Global;
+use resized_disk::{DisplacedError, displaced};
+use sector_disk::{Disk, FileDisk, FileError, LoggedFile};
+use std::alloc::{AllocError, Global};
+use std::fs::File;
+use std::io::Eprint;
+use std::rt::Files;
+use thiserror::Error;
+
+/// Why a disk in a file was not opened.
+#[derive(Clone, Copy, Debug, Error)]
+pub enum DiskError {
+    #[error("out of memory")]
+    OutOfMemory(#[from] AllocError),
+    #[error("{0}")]
+    File(#[from] FileError),
+    /// It was formatted with this many sectors, or with one more, and has another size now: its newer segment is not where it
+    /// would be looked for.
+    #[error("resized, formatted with {sectors} sectors")]
+    Resized { sectors: u64 },
+}
+
+impl DiskError {
+    /// Whether the device failed.
+    pub fn is_device_fault(&self) -> bool
+        ensures { result ≡ is_disk_fault self.now }
+    {
+        matches!(self, DiskError::File(FileError::Fault))
+    }
+}
+
+/// A disk in a file, each fault of which is told on standard error.
+pub type Device<R> = FileDisk<LoggedFile<Telltale<R>>>;
 
 /// The broker on a disk, which is given up where it is not opened.
 pub fn open<D: Disk + Drop>(alloc: Global, disk: D) -> Result<Broker<D>, OpenError> {
     without_disk(Broker::open(alloc, disk))
+}
+
+/// Refuses a disk that has another size than it was formatted with, as far as that can be seen. It only reads.
+pub fn check_size<D: Disk>(alloc: Global, disk: &mut D) -> Result<(), DiskError>
+    ensures reads { OnlyReads (D.view disk.old) (D.view disk.new) }
+    ensures later { D.fault_count disk.old ≤ D.fault_count disk.new }
+    ensures fault { IfErr result (λ why. why ≡ disk_error.File file_error.Fault → HasRisen (D.fault_count disk.old) (D.fault_count disk.new)) }
+    ensures exact { (D.view disk.old).honest → TellsSize (D.view disk.old).content result }
+{
+    match displaced(alloc, disk) {
+        Ok(None) => Ok(()),
+        Ok(Some(sectors)) => Err(DiskError::Resized { sectors }),
+        Err(DisplacedError::OutOfMemory) => Err(DiskError::OutOfMemory(AllocError)),
+        Err(DisplacedError::Fault) => Err(DiskError::File(FileError::Fault)),
+    }
+}
+
+// A file as a disk whose faults are told, of the size that it was formatted with.
+fn device<R>(rt: &R, path: &str, file: File) -> Result<Device<R>, DiskError>
+where
+    R: Eprint + AllocGlobal + Copy + Drop,
+{
+    let log = telltale(rt, path)?;
+    let mut disk = FileDisk::over(LoggedFile::new(file, log))?;
+    check_size(rt.alloc(), &mut disk)?;
+    Ok(disk)
+}
+
+/// Opens the disk in a file for reading and writing, where it has the size that it was formatted with. Nothing is written.
+pub fn open_device<R>(rt: &R, path: &str) -> Result<Device<R>, DiskError>
+where
+    R: Files<File = File> + Eprint + AllocGlobal + Copy + Drop,
+{
+    device(rt, path, FileDisk::open(rt, path)?.into_file())
+}
+
+/// Opens the disk in a file for reading alone, where it has the size that it was formatted with.
+pub(crate) fn open_device_read_only<R>(rt: &R, path: &str) -> Result<Device<R>, DiskError>
+where
+    R: Files<File = File> + Eprint + AllocGlobal + Copy + Drop,
+{
+    device(rt, path, FileDisk::open_read_only(rt, path)?.into_file())
 }

@@ -5,7 +5,7 @@ ghost use Rattle.broker_commands.specs.Trial.{status_of};
 
 use crate::auditing::{Audit, OldDisk, Told, audit_disk};
 use crate::configuring::{NewPolicy, configure_disk};
-use crate::formatting::{NewDisk, make_disk};
+use crate::formatting::{Function, NewDisk, make_disk};
 use crate::migrating::{Migrated, OldVersion, migrate_file};
 use crate::words::Job;
 use audit_report::Older;
@@ -16,7 +16,7 @@ use std::alloc::AllocGlobal;
 use std::fmt::Display;
 use std::fs::File;
 use std::io;
-use std::io::Write;
+use std::io::{Eprint, Write};
 use std::rt::Files;
 use std::time::Clock;
 
@@ -33,7 +33,7 @@ const DEVICE: u8 = 3;
 /// 3 the device.
 pub fn print_job<R, W>(rt: &R, job: &Job<'_>, out: &mut W) -> io::Result<u8>
 where
-    R: Files<File = File> + Clock + AllocGlobal,
+    R: Files<File = File> + Clock + Eprint + AllocGlobal + Copy + Drop,
     W: Write,
     ensures { IfOk result (λ status. status ≤ 3) }
 {
@@ -69,14 +69,22 @@ fn print_trial<W: Write>(outcome: Result<Trial, TrialError>, out: &mut W) -> io:
     }
 }
 
+// Says on standard error where an ARN does not end with the name of its function: records are told with the ARN.
+fn warn_of_arn<R: Eprint>(rt: &R, function: &Function<'_>) {
+    let Function { name, arn, .. } = *function;
+    if arn.rsplit(':').next() != Some(name) {
+        let _ = eprintln!(rt; "warning: the ARN {arn} does not end with the name {name}");
+    }
+}
+
 // Formats a disk, and prints its size.
-fn print_format<R: Files<File = File> + AllocGlobal, W: Write>(
-    rt: &R,
-    new: &NewDisk<'_>,
-    out: &mut W,
-) -> io::Result<u8>
+fn print_format<R, W>(rt: &R, new: &NewDisk<'_>, out: &mut W) -> io::Result<u8>
+where
+    R: Files<File = File> + Eprint + AllocGlobal + Copy + Drop,
+    W: Write,
     ensures { IfOk result (λ status. status ≤ 3) }
 {
+    warn_of_arn(rt, &new.function);
     match make_disk(rt, new) {
         Ok(()) => {
             let sectors = new.sectors;
@@ -88,11 +96,10 @@ fn print_format<R: Files<File = File> + AllocGlobal, W: Write>(
 }
 
 // Reads what a disk holds, and prints it.
-fn print_audit<R: Files<File = File> + AllocGlobal, W: Write>(
-    rt: &R,
-    old: &OldDisk<'_>,
-    out: &mut W,
-) -> io::Result<u8>
+fn print_audit<R, W>(rt: &R, old: &OldDisk<'_>, out: &mut W) -> io::Result<u8>
+where
+    R: Files<File = File> + Eprint + AllocGlobal + Copy + Drop,
+    W: Write,
     ensures { IfOk result (λ status. status ≤ 3) }
 {
     match audit_disk(rt, old) {
@@ -102,11 +109,10 @@ fn print_audit<R: Files<File = File> + AllocGlobal, W: Write>(
 }
 
 // Brings a retry policy in force on a disk, and prints what is in force then.
-fn print_configure<R: Files<File = File> + Clock + AllocGlobal, W: Write>(
-    rt: &R,
-    new: &NewPolicy<'_>,
-    out: &mut W,
-) -> io::Result<u8>
+fn print_configure<R, W>(rt: &R, new: &NewPolicy<'_>, out: &mut W) -> io::Result<u8>
+where
+    R: Files<File = File> + Clock + Eprint + AllocGlobal + Copy + Drop,
+    W: Write,
     ensures { IfOk result (λ status. status ≤ 3) }
 {
     match configure_disk(rt, new) {
@@ -119,11 +125,10 @@ fn print_configure<R: Files<File = File> + Clock + AllocGlobal, W: Write>(
 }
 
 // Migrates a disk, and prints what it then holds.
-fn print_migrate<R: Files<File = File> + AllocGlobal, W: Write>(
-    rt: &R,
-    old: &OldVersion<'_>,
-    out: &mut W,
-) -> io::Result<u8>
+fn print_migrate<R, W>(rt: &R, old: &OldVersion<'_>, out: &mut W) -> io::Result<u8>
+where
+    R: Files<File = File> + Eprint + AllocGlobal + Copy + Drop,
+    W: Write,
     ensures { IfOk result (λ status. status ≤ 3) }
 {
     match migrate_file(rt, old) {
@@ -166,7 +171,8 @@ pub fn refuse_for_memory<W: Write>(out: &mut W) -> io::Result<u8>
     print_fault(&"out of memory", false, out)
 }
 
-/// Prints why a command was not carried out, and answers the status of that: 3 where the device failed, else 1.
+/// Prints why a command was not carried out, and answers the status of that: 3 where the device failed, else 1. An output that
+/// takes nothing changes no status.
 pub fn print_fault<E: Display, W: Write>(
     fault: &E,
     is_device_fault: bool,
@@ -175,9 +181,9 @@ pub fn print_fault<E: Display, W: Write>(
     ensures { IfOk result (λ status. status ≡ (if is_device_fault then 3 else 1)) }
 {
     if is_device_fault {
-        writeln!(out, "{fault}")?;
+        let _ = writeln!(out, "{fault}");
         return Ok(DEVICE);
     }
-    writeln!(out, "refused: {fault}")?;
+    let _ = writeln!(out, "refused: {fault}");
     Ok(REFUSED)
 }

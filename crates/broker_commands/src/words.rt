@@ -102,8 +102,9 @@ fn with_limits<'a>(alloc: Global, command: Command<'a>) -> Result<Command<'a>, A
 fn format_command<'a>(alloc: Global) -> Result<Command<'a>, AllocError> {
     let sectors = option(alloc, "sectors", "Size of the disk in sectors of 512 bytes");
     let command = Command::new(alloc, "format")
-        .about("Make a disk of zeros and format it for a function; what it held is lost")
+        .about("Make a disk of zeros and format it for a function")
         .arg(disk(alloc))?
+        .arg(flag(alloc, "force", "Format it whatever is there, which is lost"))?
         .arg(sectors.value_parser(value_parser!(u64)).required(true))?;
     let command = with_function(alloc, command)?;
     let command = with_rules(alloc, command)?;
@@ -203,12 +204,16 @@ fn with_command<'a>(
     command.subcommand(below?)
 }
 
+/// The version of the program.
+const VERSION: &str = "0.1.0";
+
 fn commands<'a>(alloc: Global) -> Result<Command<'a>, AllocError> {
     let trial = Command::new(alloc, "trial").about(
         "Accept, commit and recover one event on a disk in memory",
     );
     let all = Command::new(alloc, "lambda_broker")
         .about("A broker for asynchronous invocations of one function")
+        .version(VERSION)
         .subcommand_required(true)
         .subcommand(trial)?;
     let all = with_command(all, format_command(alloc))?;
@@ -245,6 +250,7 @@ fn new_disk<'a>(matches: &ArgMatches<'a>) -> Option<NewDisk<'a>> {
         sectors: matches.get_one("sectors")?,
         function: function(matches)?,
         numbers: numbers(matches)?,
+        is_forced: matches.get_flag("force"),
     })
 }
 

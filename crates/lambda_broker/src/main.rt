@@ -2,13 +2,19 @@
 #![tactic(auto)]
 
 mod command_line;
+mod notes;
+mod output;
 mod serving;
 
-use broker_commands::refuse_for_memory;
+use crate::output::{Output, keep_numbers};
+use broker_commands::{DONE, refuse_for_memory};
 use std::io::{ErrorKind, Write};
 use std::process::ExitCode;
 use std::rt::Env;
 use std::{env, io};
+
+/// The status where not all that was to be printed was taken.
+const CUT: u8 = 1;
 
 // The words of the command line.
 fn words_of<R: Env + AllocGlobal>(rt: &R) -> io::Result<Vec<String>> {
@@ -20,12 +26,17 @@ fn words_of<R: Env + AllocGlobal>(rt: &R) -> io::Result<Vec<String>> {
 }
 
 fn main(rt: HostRuntime) -> io::Result<ExitCode> {
-    let mut out = io::writer(&rt);
+    let streams = keep_numbers(&rt);
+    let mut out = Output::new(io::writer(&rt));
     let status = match words_of(&rt) {
         Ok(words) => command_line::run(rt, &words, &mut out)?,
         Err(fault) if fault.kind() == ErrorKind::OutOfMemory => { refuse_for_memory(&mut out)? }
         Err(fault) => return Err(fault),
     };
     out.flush()?;
+    drop(streams);
+    if status == DONE && out.is_cut() {
+        return Ok(ExitCode::from(CUT));
+    }
     Ok(ExitCode::from(status))
 }

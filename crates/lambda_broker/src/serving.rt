@@ -7,13 +7,14 @@ ghost use Rattle.hall_core.specs.Fresh.{IsFresh};
 ghost use Rattle.receipts.specs.Desks.{desk_count};
 
 use admin_port::{Admin, AdminPort};
-use broker_commands::{Address, now, open};
+use crate::notes::{Opening, note_opening, note_port, note_stop, warn};
+use broker_commands::{Address, Device, DiskError, now, open, open_device};
 use group_commit::{Broker, CommitError, IssueError, OpenError};
 use hall_core::{Hall, HallFailure};
 use http_front::{Ending, ServeError, WhenPending, serve};
 use port_meters::Machine;
 use receipts::{Gone, SharedOpening, SharedTrace, desks};
-use sector_disk::{CountingDisk, Disk, FileDisk, FileError, Written};
+use sector_disk::{CountingDisk, Disk, Written};
 use std::alloc::{AllocError, AllocGlobal, Global};
 use std::fs::File;
 use std::io;
@@ -23,7 +24,7 @@ use std::net::{IpAddr, Ipv4Addr, Net, SocketAddr, TcpListener, TcpStream};
 use std::rt::Files;
 use std::sync::Wait;
 use std::sync::ledger::{Blank, Ledger};
-use std::time::Clock;
+use std::time::{Clock, Instant};
 use thiserror::Error;
 
 /// Why a disk was not served, or not to its end.
@@ -32,7 +33,7 @@ pub enum ServingError {
     #[error("out of memory")]
     OutOfMemory(#[from] AllocError),
     #[error("{0}")]
-    File(#[from] FileError),
+    Disk(#[from] DiskError),
     #[error("{0}")]
     Open(#[from] OpenError),
     /// A port is in use, or may not be used.
@@ -56,76 +57,75 @@ pub enum ServingError {
 impl ServingError {
     /// Whether the device failed.
     pub fn is_device_fault(&self) -> bool {
-        matches!(
-            self,
-            ServingError::File(FileError::Fault)
-                | ServingError::Open(OpenError::Fault)
-                | ServingError::Commit(CommitError::Fault)
-                | ServingError::Broken
-        )
+        match self {
+            ServingError::Disk(why) => why.is_device_fault(),
+            ServingError::Open(why) => matches!(why, OpenError::Fault),
+            ServingError::Commit(why) => matches!(why, CommitError::Fault),
+            ServingError::Broken => true,
+            _ => false,
+        }
     }
 }
 
-// Binds the port of the callers and one for each environment behind it.
-fn bind<R>(rt: &R, at: &Address<'_>, environments: u8) -> io::Result<Vec<TcpListener>>
-where
-    R: Net<Listener = TcpListener, Stream = TcpStream> + AllocGlobal,
-{
-    let mut listeners = Vec::with_capacity(rt.alloc(), usize::from(environments) + 1)?;
-    for number in 0..=u16::from(environments) {
-        let address = SocketAddr::new(at.reach, at.port.saturating_add(number));
-        listeners.push(TcpListener::bind(rt, address)?)?;
-    }
-    Ok(listeners)
-}
-
-// Issues an Interrupt for each attempt that the last stop cut off.
+// Issues an Interrupt for each attempt that the last stop cut off: how many.
 fn interrupt_attempts<R: Clock + Wait, D: Disk>(
     rt: &R,
     broker: &mut Broker<D>,
-) -> Result<(), ServingError>
+) -> Result<u64, ServingError>
     ensures settings { settings_of broker.new ≡ settings_of broker.old }
     ensures rest { ForEachHistory D.view broker.old (λ history. OnOk result (ComesToRest D.view history broker.new)) }
 {
     let now = now(rt)?;
+    let mut count: u64 = 0;
     for _ in rt.forever() {
         if broker.resume(now)?.is_none() {
             break;
         }
+        count = count.saturating_add(1);
     }
-    Ok(())
+    Ok(count)
 }
 
-// Issues an Interrupt for each attempt that the last stop cut off, and makes that durable: nothing runs then.
-fn resume<R: Clock + Wait, D: Disk>(rt: &R, broker: &mut Broker<D>) -> Result<(), ServingError>
+// Issues an Interrupt for each attempt that the last stop cut off, and makes that durable: nothing runs then. It tells how many.
+fn resume<R: Clock + Wait, D: Disk>(rt: &R, broker: &mut Broker<D>) -> Result<u64, ServingError>
     ensures durable { OnOk result (pending_of broker.new ≡ []) }
     ensures rest { ForEachHistory D.view broker.old (λ history. OnOk result (ComesToRest D.view history broker.new)) }
 {
-    interrupt_attempts(rt, broker)?;
+    let count = interrupt_attempts(rt, broker)?;
     match broker.commit() {
-        Ok(_) => Ok(()),
+        Ok(_) => Ok(count),
         Err(why) => Err(ServingError::Commit(why)),
     }
 }
 
-// Why a port is not listened on.
-fn not_bound(why: &io::Error) -> ServingError {
-    if why.kind() == io::ErrorKind::OutOfMemory {
-        ServingError::OutOfMemory(AllocError)
-    } else {
-        ServingError::Port
+// Listens on a port.
+fn bind<R>(rt: &R, address: SocketAddr) -> Result<TcpListener, ServingError>
+where
+    R: Eprint + Net<Listener = TcpListener, Stream = TcpStream>,
+{
+    match TcpListener::bind(rt, address) {
+        Ok(listener) => Ok(listener),
+        Err(why) if why.kind() == io::ErrorKind::OutOfMemory => {
+            Err(ServingError::OutOfMemory(AllocError))
+        }
+        Err(why) => {
+            note_port(rt, address, &why);
+            Err(ServingError::Port)
+        }
     }
 }
 
 // Listens on the port of the callers and on one for each environment behind it.
 fn listen<R>(rt: &R, at: &Address<'_>, environments: u8) -> Result<Vec<TcpListener>, ServingError>
 where
-    R: Net<Listener = TcpListener, Stream = TcpStream> + AllocGlobal,
+    R: Eprint + Net<Listener = TcpListener, Stream = TcpStream> + AllocGlobal,
 {
-    match bind(rt, at, environments) {
-        Ok(listeners) => Ok(listeners),
-        Err(why) => Err(not_bound(&why)),
+    let mut listeners = Vec::with_capacity(rt.alloc(), usize::from(environments) + 1)?;
+    for number in 0..=u16::from(environments) {
+        let address = SocketAddr::new(at.reach, at.port.saturating_add(number));
+        listeners.push(bind(rt, address)?)?;
     }
+    Ok(listeners)
 }
 
 /// Where Linux tells how many pages this process has.
@@ -138,20 +138,17 @@ fn listen_admin<R>(
     written: Written,
 ) -> Result<Option<Admin>, ServingError>
 where
-    R: Files<File = File> + Net<Listener = TcpListener, Stream = TcpStream> + AllocGlobal,
+    R: Files<File = File> + Eprint + Net<Listener = TcpListener, Stream = TcpStream>,
 {
     let Some(port) = at.admin else {
         return Ok(None);
     };
     let address = SocketAddr::from((Ipv4Addr::LOCALHOST, port));
-    match TcpListener::bind(rt, address) {
-        Ok(listener) => Ok(Some(Admin {
-            listener,
-            written,
-            memory: File::open(rt, MEMORY).ok(),
-        })),
-        Err(why) => Err(not_bound(&why)),
-    }
+    Ok(Some(Admin {
+        listener: bind(rt, address)?,
+        written,
+        memory: File::open(rt, MEMORY).ok(),
+    }))
 }
 
 // What a front listens on.
@@ -171,7 +168,10 @@ fn listen_on_all<R>(
     written: Written,
 ) -> Result<Ports, ServingError>
 where
-    R: Files<File = File> + Net<Listener = TcpListener, Stream = TcpStream> + AllocGlobal,
+    R: Files<File = File>
+        + Eprint
+        + Net<Listener = TcpListener, Stream = TcpStream>
+        + AllocGlobal,
 {
     let listeners = listen(rt, at, environments)?;
     let admin = listen_admin(rt, at, written)?;
@@ -197,17 +197,24 @@ fn hall_over<D: Disk + Drop>(
     }
 }
 
-// The hall over a broker of which nothing runs any more: attempts that the last stop cut off are interrupted.
-fn hall_at_rest<R: Clock + Wait + AllocGlobal, D: Disk + Drop>(
+// The hall over a broker of which nothing runs any more: attempts that the last stop cut off are interrupted. It is told what was
+// found since the opening began.
+fn hall_at_rest<R, D>(
     rt: &R,
     broker: Broker<D>,
     at: &Address<'_>,
+    start: &io::Result<Instant>,
 ) -> Result<Hall<Broker<D>>, ServingError>
+where
+    R: Clock + Wait + Eprint + AllocGlobal,
+    D: Disk + Drop,
     ensures nothing { IfOk result (λ hall. pending_of hall.issuer ≡ []) }
     ensures fresh { IfOk result (λ hall. IsFresh (settings_of hall.issuer) hall) }
 {
     let mut broker = broker;
-    resume(rt, &mut broker)?;
+    let held = broker.table().snapshot()?.rows.as_slice().len();
+    let interrupted = resume(rt, &mut broker)?;
+    note_opening(rt, at, Opening { held, interrupted }, start);
     hall_over(rt.alloc(), broker, at)
 }
 
@@ -219,17 +226,6 @@ fn announce<W: Write>(at: &Address<'_>, out: &mut W) -> io::Result<()> {
         writeln!(out, "showing on 127.0.0.1:{admin}")?;
     }
     out.flush()
-}
-
-// Says on standard error what an address that others reach opens to whom.
-fn warn<R: Eprint>(rt: &R, at: &Address<'_>) -> io::Result<()> {
-    if at.reach.is_loopback() {
-        return Ok(());
-    }
-    let reach = at.reach;
-    eprintln!(rt;
-        "warning: whoever reaches {reach} can invoke the function, answer for it, read its payloads and records, and stop the broker"
-    )
 }
 
 // The operator's port over a hall, where there is one.
@@ -301,10 +297,11 @@ fn serve_on<R, T, D, W>(
     disk: D,
     written: Written,
     at: &Address<'_>,
+    start: &io::Result<Instant>,
     out: &mut W,
 ) -> Result<(), ServingError>
 where
-    R: Files<File = File> + Machine,
+    R: Files<File = File> + Eprint + Machine,
     T: SharedTrace + 'static,
     T::Opening: SharedOpening + 'static,
     D: Disk + Drop,
@@ -313,7 +310,7 @@ where
     let broker = open(rt.alloc(), disk)?;
     let environments = broker.table().settings().environments;
     let ports = listen_on_all(&rt, at, environments, written)?;
-    let hall = hall_at_rest(&rt, broker, at)?;
+    let hall = hall_at_rest(&rt, broker, at, start)?;
     announce(at, out)?;
     serve_hall::<R, T, D>(rt, hall, ports)
 }
@@ -325,9 +322,12 @@ where
     R: Files<File = File> + Eprint + Machine,
     W: Write,
 {
-    let disk = FileDisk::open(&rt, at.path)?;
-    warn(&rt, at)?;
+    let start = Instant::now(&rt);
+    let disk = open_device(&rt, at.path)?;
+    warn(&rt, at);
     let written = Written::new(rt.alloc())?;
     let counting = CountingDisk::over(disk, written.another()?);
-    serve_on::<R, Gone, CountingDisk<FileDisk>, W>(rt, counting, written, at, out)
+    serve_on::<R, Gone, CountingDisk<Device<R>>, W>(rt, counting, written, at, &start, out)?;
+    note_stop(&rt, at);
+    Ok(())
 }

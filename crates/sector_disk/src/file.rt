@@ -38,8 +38,9 @@ pub enum FileError {
     Fault,
 }
 
-impl From<io::Error> for FileError {
-    fn from(why: io::Error) -> Self {
+impl FileError {
+    /// What an error of the system says of a file.
+    pub(crate) fn of(why: &io::Error) -> FileError {
         match why.kind() {
             ErrorKind::NotFound | ErrorKind::NotADirectory | ErrorKind::InvalidFilename => {
                 FileError::NotFound
@@ -54,6 +55,12 @@ impl From<io::Error> for FileError {
             }
             _ => FileError::Fault,
         }
+    }
+}
+
+impl From<io::Error> for FileError {
+    fn from(why: io::Error) -> Self {
+        FileError::of(&why)
     }
 }
 

@@ -26,7 +26,7 @@ pub use fault_once::{CallKind, FaultOnceDisk};
 pub use file::{FileDisk, FileError};
 pub use fuse::FuseDisk;
 pub use logged_file::{FaultLog, FileCall, LoggedFile};
-pub use making::DiskFile;
+pub use making::Place;
 pub use memory::MemDisk;
 pub use memory_file::MemFile;
 pub use random_access::RandomAccessFile;

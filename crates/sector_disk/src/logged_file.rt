@@ -2,7 +2,7 @@
 ghost use Rattle.std.specs.Prelude.{IsErr};
 
 use crate::std_file::{read_again, write_again};
-use crate::{Fault, RandomAccessFile};
+use crate::{Fault, FileError, RandomAccessFile};
 use std::fs::File;
 use std::io;
 use std::io::{ErrorKind, Seek, SeekFrom};
@@ -24,10 +24,18 @@ pub trait FaultLog {
     fn tell(&self, call: FileCall, at: u64, why: &io::Error);
 }
 
+/// Nobody is told.
+#[derive(Clone, Copy, Debug)]
+pub(crate) struct Untold;
+
+impl FaultLog for Untold {
+    fn tell(&self, _call: FileCall, _at: u64, _why: &io::Error) {}
+}
+
 /// A file of the system, of which each call that failed is told. Nothing proves that it is honest.
 #[derive(Drop)]
 pub struct LoggedFile<L: Drop> {
-    file: File,
+    pub(crate) file: File,
     log: L,
 }
 
@@ -35,6 +43,31 @@ impl<L: FaultLog + Drop> LoggedFile<L> {
     /// This file, whose faults are told to this log.
     pub fn new(file: File, log: L) -> LoggedFile<L> {
         LoggedFile { file, log }
+    }
+
+    /// The file.
+    pub fn into_file(self) -> File {
+        let LoggedFile { file, .. } = self;
+        file
+    }
+
+    // Tells of a call that failed, where the device did.
+    pub(crate) fn note<T: Drop>(
+        &self,
+        call: FileCall,
+        at: u64,
+        answered: io::Result<T>,
+    ) -> Result<T, FileError> {
+        match answered {
+            Ok(done) => Ok(done),
+            Err(why) => {
+                let error = FileError::of(&why);
+                if error == FileError::Fault {
+                    self.log.tell(call, at, &why);
+                }
+                Err(error)
+            }
+        }
     }
 
     // Tells of a call that failed.

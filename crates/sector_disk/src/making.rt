@@ -1,36 +1,55 @@
 // Making a disk of what a path names.
-ghost use Rattle.std.specs.Prelude.{◌≡◌, IfOk, OnOk};
+ghost use Rattle.std.specs.Prelude.{◌*◌, ◌<◌, ◌≤◌, ◌^◌, OnOk};
 
-use crate::std_file::{MOST_SECTORS, check_kind, sync_folder, write_zeros};
-use crate::{FileDisk, FileError, RandomAccessFile, SECTOR_SIZE};
+use crate::std_file::{check_kind, sync_folder};
+use crate::{Fault, FaultLog, FileCall, FileError, LoggedFile, RandomAccessFile, SECTOR_SIZE};
 use std::fs;
 use std::fs::{File, OpenOptions};
-use std::os::unix::fs::OpenOptionsExt;
+use std::os::unix::fs::{FileExt, OpenOptionsExt};
 use std::rt::Files;
 
 /// Who may read and write a new file: its owner alone, since payloads stand in it.
 const OWNER_ALONE: u32 = 0o600;
 
-/// A file or a block device that is to be made a disk, with its exclusive lock. As long as it is not made one, it can be read as
-/// what it was.
-#[derive(Drop)]
-pub struct DiskFile {
-    /// The file as a disk, of as many whole sectors as it has.
-    pub disk: FileDisk<File>,
-    /// Its size in bytes before it is made a disk.
+/// How many sectors a file can have: its size in bytes is below 2^63.
+const MOST_SECTORS: u64 = (1 << 54) - 1;
+
+/// How many bytes of zeros are written at once.
+const PIECE_SIZE: usize = 128 * SECTOR_SIZE;
+
+// Writes zeros to a file from one place to another.
+fn write_zeros<L: FaultLog + Drop>(
+    file: &LoggedFile<L>,
+    from: u64,
+    to: u64,
+) -> Result<(), FileError>
+    requires { from ≤ to }
+{
+    let zeros = [0; PIECE_SIZE];
+    let mut done = from;
+    while done < to {
+        let count = (to - done).min(PIECE_SIZE as u64);
+        let written = file.file.write_all_at(&zeros[..count as usize], done);
+        file.note(FileCall::Write, done, written)?;
+        done += count;
+    }
+    Ok(())
+}
+
+/// What a path named before it is made a disk.
+#[derive(Clone, Copy, Debug)]
+pub struct Place {
+    /// How many bytes were there.
     size: u64,
     is_new: bool,
 }
 
-impl DiskFile {
-    ghost use Rattle.sector_disk.specs.File.{faults_of, sectors_of};
-
-    /// What the path names, or a new file, which its owner alone can read. Of what was there nothing is written.
+impl Place {
+    /// What the path names, with its exclusive lock: a file or a block device, or a new file, which its owner alone can read. Of what
+    /// was there nothing is written.
     ///
     /// Refused: `NotFound` (its folder), `NotDisk`, `PermissionDenied`, `InUse` where any other disk is open over it, and `Fault`.
-    pub fn open<R: Files<File = File>>(rt: &R, path: &str) -> Result<DiskFile, FileError>
-        ensures { IfOk result (λ place. faults_of place.disk ≡ 0) }
-    {
+    pub fn open<R: Files<File = File>>(rt: &R, path: &str) -> Result<(File, Place), FileError> {
         match check_kind(rt, path) {
             Ok(()) | Err(FileError::NotFound) => {}
             Err(why) => return Err(why),
@@ -40,97 +59,97 @@ impl DiskFile {
         options.read(true).write(true).create(true).mode(OWNER_ALONE);
         let mut file = options.open(rt, path)?;
         file.try_lock()?;
-        let size = file.size()?;
-        let sectors = size / SECTOR_SIZE as u64;
-        let disk = FileDisk {
-            file,
-            sectors,
-            faults: 0,
-        };
-        Ok(DiskFile {
-            disk,
-            size,
-            is_new,
-        })
+        match file.size() {
+            Ok(size) => Ok((file, Place { size, is_new })),
+            Err(Fault) => Err(FileError::Fault),
+        }
     }
 
-    /// Its size in bytes, before it was made a disk.
+    /// How many bytes were there.
     pub fn size(&self) -> u64 {
         self.size
     }
 
-    /// The disk.
-    pub fn into_disk(self) -> FileDisk<File>
-        ensures { result ≡ self.disk }
+    // Refuses a device of another size than this.
+    fn check_device<L>(&self, file: &LoggedFile<L>, size: u64) -> Result<(), FileError>
+    where
+        L: FaultLog + Drop,
     {
-        let DiskFile { disk, .. } = self;
-        disk
+        let data = file.note(FileCall::Size, 0, file.file.metadata())?;
+        if data.file_type().is_file() || self.size == size {
+            return Ok(());
+        }
+        let sectors = self.size / SECTOR_SIZE as u64;
+        Err(FileError::OtherSize { sectors })
     }
 
-    // Gives a regular file room for so many bytes, and makes them zeros: first those behind its end, where room may be wanting. A
-    // device has its own size.
-    fn fill(&self, size: u64) -> Result<(), FileError> {
-        let file = &self.disk.file;
-        if !file.metadata()?.file_type().is_file() && self.size != size {
-            let sectors = self.size / SECTOR_SIZE as u64;
-            return Err(FileError::OtherSize { sectors });
-        }
+    // Gives it this size and makes all of it zeros: first what lies behind its end, where room may be wanting.
+    fn fill<L: FaultLog + Drop>(&self, file: &LoggedFile<L>, size: u64) -> Result<(), FileError> {
+        self.check_device(file, size)?;
         write_zeros(file, self.size.min(size), size)?;
         write_zeros(file, 0, self.size.min(size))?;
         if self.size > size {
-            file.set_len(size)?;
+            file.note(FileCall::Size, size, file.file.set_len(size))?;
         }
-        Ok(file.sync_all()?)
+        file.note(FileCall::Sync, 0, file.file.sync_all())
     }
 
     // Makes it a disk of zeros, and makes that durable.
-    fn try_make<R: Files<File = File>>(
-        &mut self,
+    fn try_make<R, L>(
+        &self,
         rt: &R,
         path: &str,
+        file: &LoggedFile<L>,
         sectors: u64,
     ) -> Result<(), FileError>
-        ensures sectors { OnOk result (sectors_of self.new.disk ≡ sectors) }
-        ensures faults { faults_of self.new.disk ≡ faults_of self.old.disk }
+    where
+        R: Files<File = File>,
+        L: FaultLog + Drop,
+        ensures { OnOk result (512 * sectors < 2 ^ 64) }
     {
         if sectors > MOST_SECTORS {
             return Err(FileError::NoRoom);
         }
-        self.fill(sectors * SECTOR_SIZE as u64)?;
-        sync_folder(rt, path)?;
-        self.disk.sectors = sectors;
-        Ok(())
+        self.fill(file, sectors * SECTOR_SIZE as u64)?;
+        sync_folder(rt, path)
     }
 
     /// Makes it a disk of zeros of so many sectors; what it held is lost. Each sector is written and all of it is durable, since a
-    /// file whose sectors were never written is slow to settle. Where it is refused, it is given back. The path is that it was
-    /// opened by.
+    /// file whose sectors were never written is slow to settle. Path and file are those it was opened by. Where it is refused, it is
+    /// given back.
     ///
     /// Refused: `OtherSize` where a block device has not that many sectors, `NoRoom`, `PermissionDenied`, and `Fault`.
-    pub fn make<R: Files<File = File>>(
-        &mut self,
+    pub fn make<R, L>(
+        &self,
         rt: &R,
         path: &str,
+        file: &LoggedFile<L>,
         sectors: u64,
     ) -> Result<(), FileError>
-        ensures sectors { OnOk result (sectors_of self.new.disk ≡ sectors) }
-        ensures faults { faults_of self.new.disk ≡ faults_of self.old.disk }
+    where
+        R: Files<File = File>,
+        L: FaultLog + Drop,
+        ensures { OnOk result (512 * sectors < 2 ^ 64) }
     {
-        match self.try_make(rt, path, sectors) {
+        match self.try_make(rt, path, file, sectors) {
             Ok(()) => Ok(()),
             Err(why) => {
-                self.give_back(rt, path);
+                self.give_back(rt, path, file);
                 Err(why)
             }
         }
     }
 
     /// Gives back what was made: a new file is removed, and one that was there has its size again. Nobody is told where that fails.
-    pub fn give_back<R: Files<File = File>>(&self, rt: &R, path: &str) {
+    pub fn give_back<R, L>(&self, rt: &R, path: &str, file: &LoggedFile<L>)
+    where
+        R: Files<File = File>,
+        L: FaultLog + Drop,
+    {
         if self.is_new {
             let _ = fs::remove_file(rt, path);
         } else {
-            let _ = self.disk.file.set_len(self.size);
+            let _ = file.file.set_len(self.size);
         }
     }
 }

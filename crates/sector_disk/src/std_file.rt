@@ -1,7 +1,8 @@
 // A file of the system, or a block device, as what a disk lies in.
 ghost use Rattle.std.specs.Prelude.{◌≡◌, ◌≤◌, length, IfOk};
 
-use crate::{DiskFile, Fault, FileDisk, FileError, RandomAccessFile, SECTOR_SIZE};
+use crate::logged_file::Untold;
+use crate::{Fault, FileDisk, FileError, LoggedFile, Place, RandomAccessFile};
 use std::fs;
 use std::fs::{File, FileType, OpenOptions};
 use std::io;
@@ -9,12 +10,6 @@ use std::io::{ErrorKind, Seek, SeekFrom};
 use std::os::unix::fs::{FileExt, FileTypeExt};
 use std::path::Path;
 use std::rt::Files;
-
-/// How many sectors a file can have: its size in bytes is below 2^63.
-pub(crate) const MOST_SECTORS: u64 = (1 << 54) - 1;
-
-/// How many bytes of zeros are written at once.
-const PIECE_SIZE: usize = 128 * SECTOR_SIZE;
 
 /// How often a call is made again that a signal has interrupted.
 const MOST_TRIES: u64 = u64::MAX;
@@ -90,20 +85,6 @@ pub(crate) fn check_kind<R: Files>(rt: &R, path: &str) -> Result<(), FileError> 
     }
 }
 
-// Writes zeros to the file from one place to another.
-pub(crate) fn write_zeros(file: &File, from: u64, to: u64) -> Result<(), FileError>
-    requires { from ≤ to }
-{
-    let zeros = [0; PIECE_SIZE];
-    let mut done = from;
-    while done < to {
-        let count = (to - done).min(PIECE_SIZE as u64);
-        file.write_all_at(&zeros[..count as usize], done)?;
-        done += count;
-    }
-    Ok(())
-}
-
 // Makes it durable that the file stands in its folder.
 pub(crate) fn sync_folder<R: Files<File = File>>(rt: &R, path: &str) -> Result<(), FileError> {
     let folder = Path::new(path).parent().and_then(|folder| folder.to_str());
@@ -144,10 +125,10 @@ impl FileDisk<File> {
         FileDisk::over(file)
     }
 
-    /// Makes a disk of zeros of so many sectors and opens it, with the file's exclusive lock, as `DiskFile` does: what was there
+    /// Makes a disk of zeros of so many sectors and opens it, with the file's exclusive lock, as a `Place` does it: what was there
     /// is lost.
     ///
-    /// Refused as `DiskFile::open` and `DiskFile::make`.
+    /// Refused as `Place::open` and `Place::make`.
     pub fn create<R: Files<File = File>>(
         rt: &R,
         path: &str,
@@ -156,8 +137,13 @@ impl FileDisk<File> {
         ensures sectors { IfOk result (λ disk. sectors_of disk ≡ sectors) }
         ensures faults { IfOk result (λ disk. faults_of disk ≡ 0) }
     {
-        let mut place = DiskFile::open(rt, path)?;
-        place.make(rt, path, sectors)?;
-        Ok(place.into_disk())
+        let (file, place) = Place::open(rt, path)?;
+        let file = LoggedFile::new(file, Untold);
+        place.make(rt, path, &file, sectors)?;
+        Ok(FileDisk {
+            file: file.into_file(),
+            sectors,
+            faults: 0,
+        })
     }
 }
