@@ -151,12 +151,16 @@ module _ (old : DiskView) (s : Settings) (good : bad_field s ≡ None) (snapshot
       ⊎_elim (λ was. inl (⊎_elim (λ left. unchanged old image left) (λ gates. gates.1) was)) (λ closed. inr (inl (closed_is_none image closed.0 closed.1))) closing)
       (λ holds. inr (inr (whole_there image holds)))
 
-  -- no gate is open that could be torn, where the disk was not formatted
-  pub none_or_whole : IsDisk old → IsUnformatted old → (image : List ℕ) → Step image → IsNoneOrWhole s snapshot image
-  none_or_whole disk none image =
-      let was = closed_there old.sectors old.content disk.size enough (none old.content disk.reads_an_image) in
+  -- where the disk reads as not formatted, no gate is open that could be torn
+  pub old_or_whole : IsDisk old → recovered old.content ≡ Err NotFormatted → (image : List ℕ) → Step image → old.may_leave image ⊎ IsNoneOrWhole s snapshot image
+  old_or_whole disk none image =
+      let was = closed_there old.sectors old.content disk.size enough none in
       let shut : HasOpenGate (old.sectors / 2) old.content → ⊥ = ⊎_elim (λ a. true≢false (sym a ∙ was.gate_a)) (λ b. true≢false (sym b ∙ was.gate_b)) in
       ⊎_elim
       (λ closing.
-      ⊎_elim (λ was. inl (⊎_elim (λ left. none image left) (λ gates. absurd (shut gates.0)) was)) (λ closed. inl (closed_is_none image closed.0 closed.1)) closing)
-      (λ holds. inr (whole_there image holds))
+      ⊎_elim (λ was. ⊎_elim (λ left. inl left) (λ gates. absurd (shut gates.0)) was) (λ closed. inr (inl (closed_is_none image closed.0 closed.1))) closing)
+      (λ holds. inr (inr (whole_there image holds)))
+
+  pub none_or_whole : IsDisk old → IsUnformatted old → (image : List ℕ) → Step image → IsNoneOrWhole s snapshot image
+  none_or_whole disk none image step =
+      ⊎_elim (λ left. inl (none image left)) (λ is. is) (old_or_whole disk (none old.content disk.reads_an_image) image step)

@@ -72,10 +72,17 @@ TellsLeastToSeed disk s result =
 abbrev pub IsBadToSeed : DiskView → Settings → Snapshot → Type 0
 IsBadToSeed disk s table = (least_sectors s ≤ disk.sectors) × (may_stand s table ≡ false)
 
+-- what a stop leaves at any moment while an honest disk is formatted with a table of which a read gives no formatted disk: an image
+-- from before the call, no formatted disk, or one that recovers to the whole table
+abbrev pub LeavesOldOrWhole : DiskView → DiskView → Settings → Snapshot → Type 0
+LeavesOldOrWhole old new s table =
+    old.honest → recovered old.content ≡ Err NotFormatted
+    → LeavesOnly old new (λ image. old.may_leave image ⊎ IsNoneOrWhole s table image)
+
 -- no image of the disk is one of a formatted disk
 abbrev pub IsUnformatted : DiskView → Type 0
 IsUnformatted disk = (image : List ℕ) → disk.may_leave image → recovered image ≡ Err NotFormatted
 
--- what a stop leaves at any moment while an honest disk that is not formatted is formatted with a table: no part of it
+-- what a stop leaves then of such a disk: no formatted disk, or one that recovers to the whole table
 abbrev pub LeavesNoneOrWhole : DiskView → DiskView → Settings → Snapshot → Type 0
 LeavesNoneOrWhole old new s table = old.honest → IsUnformatted old → LeavesOnly old new (IsNoneOrWhole s table)

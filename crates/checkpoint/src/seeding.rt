@@ -8,7 +8,7 @@ ghost use Rattle.checkpoint.specs.declared.error.SeedError.TheVariants as seed_e
 ghost use Rattle.checkpoint.specs.Image.{least_sectors, sector_at, header_text, HasGeneration};
 ghost use Rattle.checkpoint.specs.Live.{may_stand};
 ghost use Rattle.checkpoint.specs.Pieces.{parts_text};
-ghost use Rattle.checkpoint.specs.Formatting.{IsTooSmall, TellsLeastToSeed, IsBadToSeed, IsSeeded, LeavesSeeding, LeavesNoneOrWhole};
+ghost use Rattle.checkpoint.specs.Formatting.{IsTooSmall, TellsLeastToSeed, IsBadToSeed, IsSeeded, LeavesSeeding, LeavesOldOrWhole, LeavesNoneOrWhole};
 ghost use Rattle.checkpoint.specs.FormatSteps.{IsFirst};
 ghost use Rattle.checkpoint.specs.SwitchSteps.{Rewrites};
 ghost use Rattle.checkpoint.specs.SeedSteps.{LeavesShutting, LeavesClosing, AreBothClosed, LeavesSeedSteps};
@@ -133,7 +133,9 @@ pub fn seed<D: Disk>(
     // A stop at any moment of the call leaves the old disk but for its gates, no formatted disk, or a disk with the whole table.
     ensures any_moment { LeavesSeeding (D.view disk.old) (D.view disk.new) settings.now snapshot.now }
 
-    // Where the disk was not formatted, a stop leaves it so, or a disk with the whole table.
+    // Where the disk reads as not formatted, a stop leaves an image from before the call, no formatted disk, or one with the
+    // whole table. Where no image of it is one of a formatted disk, a stop leaves it so, or with the whole table.
+    ensures old_or_whole { LeavesOldOrWhole (D.view disk.old) (D.view disk.new) settings.now snapshot.now }
     ensures none_or_whole { LeavesNoneOrWhole (D.view disk.old) (D.view disk.new) settings.now snapshot.now }
 
     ensures generation { (D.view disk.old).honest → OnOk result (HasGeneration 1 (D.view disk.new).content) }

@@ -5,7 +5,7 @@ use Rattle.async_core.specs.laws.Limits.{spelled_within}
 use Rattle.checkpoint.specs.Image.{least_sectors}
 use Rattle.checkpoint.proofs.Spelled.{header_size}
 use Rattle.checkpoint.proofs.Switches.{stands_within, parts_are}
-use Rattle.checkpoint.proofs.Seeds.{alone_recovers, being_seeded, none_or_whole}
+use Rattle.checkpoint.proofs.Seeds.{alone_recovers, being_seeded, old_or_whole, none_or_whole}
 use Rattle.checkpoint.proofs.seeding.seed.Goals as goal
 
 pub write_alone-requires-clause-header : goal.write_alone-requires-clause-header
@@ -41,6 +41,17 @@ returns-in_err-write_alone-clause-none_or_whole g c honest none =
     let leaves = rw (text, c.sectors-sectors.ensures) at c.write_alone.ensures.any_moment honest in
     leaves_weaker _ (none_or_whole old s c.requires snapshot made.spelled made.stands room (g.met.D.Disk.laws c.args.disk.now honest) none) leaves
 
+pub returns-in_err-write_alone-clause-old_or_whole : goal.returns-in_err-write_alone-clause-old_or_whole
+returns-in_err-write_alone-clause-old_or_whole g c honest none =
+    let s = c.args.settings.now in
+    let snapshot = c.args.snapshot.now in
+    let made = c.in_ok-header.ensures in
+    let old = g.D.Disk.view c.args.disk.now in
+    let room : least_sectors s ≤ old.sectors = omega (arith, made.room, c.sectors-sectors.ensures) in
+    let text = parts_are 1 (length (snapshot_text snapshot)) s snapshot _ c.deref.result.now c.deref.ensures.value made.header refl in
+    let leaves = rw (text, c.sectors-sectors.ensures) at c.write_alone.ensures.any_moment honest in
+    leaves_weaker _ (old_or_whole old s c.requires snapshot made.spelled made.stands room (g.met.D.Disk.laws c.args.disk.now honest) none) leaves
+
 pub returns-clause-any_moment : goal.returns-clause-any_moment
 returns-clause-any_moment g c honest =
     let s = c.args.settings.now in
@@ -62,6 +73,17 @@ returns-clause-none_or_whole g c honest none =
     let text = parts_are 1 (length (snapshot_text snapshot)) s snapshot _ c.deref.result.now c.deref.ensures.value made.header refl in
     let leaves = rw (text, c.sectors-sectors.ensures) at c.write_alone.ensures.any_moment honest in
     leaves_weaker _ (none_or_whole old s c.requires snapshot made.spelled made.stands room (g.met.D.Disk.laws c.args.disk.now honest) none) leaves
+
+pub returns-clause-old_or_whole : goal.returns-clause-old_or_whole
+returns-clause-old_or_whole g c honest none =
+    let s = c.args.settings.now in
+    let snapshot = c.args.snapshot.now in
+    let made = c.in_ok-header.ensures in
+    let old = g.D.Disk.view c.args.disk.now in
+    let room : least_sectors s ≤ old.sectors = omega (arith, made.room, c.sectors-sectors.ensures) in
+    let text = parts_are 1 (length (snapshot_text snapshot)) s snapshot _ c.deref.result.now c.deref.ensures.value made.header refl in
+    let leaves = rw (text, c.sectors-sectors.ensures) at c.write_alone.ensures.any_moment honest in
+    leaves_weaker _ (old_or_whole old s c.requires snapshot made.spelled made.stands room (g.met.D.Disk.laws c.args.disk.now honest) none) leaves
 
 pub returns-clause-seeded : goal.returns-clause-seeded
 returns-clause-seeded g c honest =
