@@ -80,7 +80,7 @@ module _ (s : Settings) (good : bad_field s ≡ None) (sectors : ℕ) (room : le
   empty_generation = subst (λ (r : Result DiskImage OpenError). IsOkAnd r (λ image. image.live.generation ≡ 1)) (sym first_read) refl
 
 -- neither gate is open
-none_open : (sectors : ℕ) (image : List ℕ) → length image ≡ 512 * sectors → 6 ≤ sectors → IsClosed (sectors / 2) image → read_image image ≡ Err NotFormatted
+pub none_open : (sectors : ℕ) (image : List ℕ) → length image ≡ 512 * sectors → 6 ≤ sectors → IsClosed (sectors / 2) image → read_image image ≡ Err NotFormatted
 none_open sectors image size enough closed =
     by_both image sectors size enough
     ∙ (λ i. by_headers (sectors / 2) image (shut_header 0 (sectors / 2) image closed.gate_a i) (shut_header (sectors / 2) (sectors / 2) image closed.gate_b i))

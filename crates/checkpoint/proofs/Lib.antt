@@ -18,3 +18,5 @@ pub mod Rewrites
 pub mod Switches
 pub mod Held
 pub mod Versions
+pub mod Unread
+pub mod Seeds

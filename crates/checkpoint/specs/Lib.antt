@@ -7,4 +7,5 @@ pub mod Older
 pub mod Opening
 pub mod OpenSteps
 pub mod Pieces
+pub mod SeedSteps
 pub mod SwitchSteps

@@ -3,6 +3,7 @@ ghost use Rattle.std.specs.Prelude.{◌≡◌};
 ghost use Rattle.checkpoint.specs.Opening.{open_error_of};
 ghost use Rattle.checkpoint.specs.declared.error.FormatError.TheVariants as format_error;
 ghost use Rattle.checkpoint.specs.declared.error.OpenError.TheVariants as open_error;
+ghost use Rattle.checkpoint.specs.declared.error.SeedError.TheVariants as seed_error;
 ghost use Rattle.checkpoint.specs.declared.error.SwitchError.TheVariants as switch_error;
 
 use gate_journal::ReadError;
@@ -36,6 +37,38 @@ impl From<Fault> for FormatError {
 
     fn from(_: Fault) -> Self {
         FormatError::Fault
+    }
+}
+
+/// Why a disk was not formatted with a table.
+#[derive(Clone, Copy, Debug, PartialEq, Eq, Error)]
+pub enum SeedError {
+    /// The disk has fewer sectors than the settings need: the least number.
+    #[error("too small, least {least}")]
+    TooSmall { least: u64 },
+    /// The table has no spelling, or is past the limits of the settings.
+    #[error("bad snapshot")]
+    BadKind,
+    #[error("out of memory")]
+    OutOfMemory,
+    /// The device failed.
+    #[error("device fault")]
+    Fault,
+}
+
+impl From<AllocError> for SeedError {
+    ghost from_gives = { λ _ e. e ≡ seed_error.OutOfMemory };
+
+    fn from(_: AllocError) -> Self {
+        SeedError::OutOfMemory
+    }
+}
+
+impl From<Fault> for SeedError {
+    ghost from_gives = { λ _ e. e ≡ seed_error.Fault };
+
+    fn from(_: Fault) -> Self {
+        SeedError::Fault
     }
 }
 

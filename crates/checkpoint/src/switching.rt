@@ -38,7 +38,7 @@ fn write_gate<D: Disk>(disk: &mut D, sector: u64, gate: &[u8; 512]) -> Result<()
 }
 
 // Closes a gate, if it is open: a stop could leave one that is closed open, over old bytes.
-fn close_gate<D: Disk>(disk: &mut D, sector: u64, was_open: bool) -> Result<(), Fault>
+pub(crate) fn close_gate<D: Disk>(disk: &mut D, sector: u64, was_open: bool) -> Result<(), Fault>
     requires { sector < (D.view disk.old).sectors }
     ensures same { IsSameDisk (D.view disk.old) (D.view disk.new) }
     ensures cause { HasCause (D.fault_count disk.old) (D.fault_count disk.new) result }
@@ -77,7 +77,7 @@ fn write_parts<D: Disk>(
 }
 
 // Makes the segment of so many sectors that begins at this one the live one.
-fn write_live<D: Disk>(
+pub(crate) fn write_live<D: Disk>(
     disk: &mut D,
     pieces: &mut Pieces,
     base: u64,
