@@ -1,5 +1,5 @@
 -- Laws: a history that is legal under settings is legal under those that allow all that they do, and stands for the same table.
-use Rattle.std.proofs.Common.{◌≡◌, ℕ, ◌+◌, ◌*◌, ◌<◌, ◌≤◌, List, [], ◌∷◌, length, take, map, Bool, true, false, not, ◌||◌, refl, sym, ap, ◌∙◌, arith, Option, Some, None, nat_lt, nat_le}
+use Rattle.std.proofs.Common.{◌≡◌, ℕ, ◌+◌, ◌*◌, ◌<◌, ◌≤◌, List, [], ◌∷◌, length, take, map, Bool, false, not, refl, sym, ap, ◌∙◌, arith, None, nat_lt}
 use Rattle.std.specs.List.{count_by, list_any}
 use Rattle.std.proofs.lemmas.Bool.{ltb-false, le-ltb, leb-false, lt-leb, or_parts, or_from}
 use Rattle.retry_rules.specs.Settings.{policy_of}
@@ -79,45 +79,45 @@ module _ (old new : Settings) (allows : AllowsAll old new) where
       (or_from (not (has_environment c)) (nat_lt new.environments c.environment) parts.0 within, passes.1)
 
   -- a command keeps its shape
-  shape-kept : (c : Command) (k : Kind) → NoneFails (shape_checks old c k) → NoneFails (shape_checks new c k)
-  shape-kept c Accept passes = longer (has_environment c) 1 old.payload new.payload c allows.payload passes
-  shape-kept c Start passes = started c passes
-  shape-kept c Succeed passes = longer (has_environment c) 0 old.response new.response c allows.response passes
-  shape-kept c (Fail Reported) passes = longer (has_environment c) 0 old.response new.response c allows.response passes
-  shape-kept c (Fail Timeout) passes = passes
-  shape-kept c (Fail Exited) passes = passes
-  shape-kept c Throttle passes = passes
-  shape-kept c Interrupt passes = passes
-  shape-kept c Expire passes = passes
-  shape-kept c Collect passes = passes
-  shape-kept c (Configure policy) passes = passes
+  shape_checks-kept : (c : Command) (k : Kind) → NoneFails (shape_checks old c k) → NoneFails (shape_checks new c k)
+  shape_checks-kept c Accept passes = longer (has_environment c) 1 old.payload new.payload c allows.payload passes
+  shape_checks-kept c Start passes = started c passes
+  shape_checks-kept c Succeed passes = longer (has_environment c) 0 old.response new.response c allows.response passes
+  shape_checks-kept c (Fail Reported) passes = longer (has_environment c) 0 old.response new.response c allows.response passes
+  shape_checks-kept c (Fail Timeout) passes = passes
+  shape_checks-kept c (Fail Exited) passes = passes
+  shape_checks-kept c Throttle passes = passes
+  shape_checks-kept c Interrupt passes = passes
+  shape_checks-kept c Expire passes = passes
+  shape_checks-kept c Collect passes = passes
+  shape_checks-kept c (Configure policy) passes = passes
 
   -- the events allow it still
-  state-kept : (x : Situation) (c : Command) (k : Kind) → NoneFails (state_checks old x c k) → NoneFails (state_checks new x c k)
-  state-kept x c Accept passes =
+  state_checks-kept : (x : Situation) (c : Command) (k : Kind) → NoneFails (state_checks old x c k) → NoneFails (state_checks new x c k)
+  state_checks-kept x c Accept passes =
       let room : x.held < old.events = leb-false old.events x.held passes.1.0 in
       (passes.0, (lt-leb new.events x.held (omega arith), tt))
-  state-kept x c Start passes = rw allows.concurrency passes
-  state-kept x c Succeed passes = passes
-  state-kept x c (Fail cause) passes = passes
-  state-kept x c Throttle passes = rw allows.concurrency passes
-  state-kept x c Interrupt passes = passes
-  state-kept x c Expire passes = passes
-  state-kept x c Collect passes = passes
-  state-kept x c (Configure policy) passes = passes
+  state_checks-kept x c Start passes = rw allows.concurrency passes
+  state_checks-kept x c Succeed passes = passes
+  state_checks-kept x c (Fail cause) passes = passes
+  state_checks-kept x c Throttle passes = rw allows.concurrency passes
+  state_checks-kept x c Interrupt passes = passes
+  state_checks-kept x c Expire passes = passes
+  state_checks-kept x c Collect passes = passes
+  state_checks-kept x c (Configure policy) passes = passes
 
-  in_situation-kept : (x : Situation) (c : Command) → refusal_in old x c ≡ None → refusal_in new x c ≡ None
-  in_situation-kept x c passes =
-      let shape = first_failed-none (shape_checks new c c.kind) (shape-kept c c.kind (shape_passes old x c passes)) in
+  refusal_in-kept : (x : Situation) (c : Command) → refusal_in old x c ≡ None → refusal_in new x c ≡ None
+  refusal_in-kept x c passes =
+      let shape = first_failed-none (shape_checks new c c.kind) (shape_checks-kept c c.kind (shape_passes old x c passes)) in
       let clock = first_failed-none (clock_check x c ∷ []) (le-ltb c.time x.last_moment (clock_passes old x c passes), tt) in
-      let state = first_failed-none (state_checks new x c c.kind) (state-kept x c c.kind (state_passes old x c passes)) in
+      let state = first_failed-none (state_checks new x c c.kind) (state_checks-kept x c c.kind (state_passes old x c passes)) in
       sym (judged_by_state new x c None (sym shape) (sym clock) (sym state))
 
   -- what is legal after a history stays legal
   pub refusal_of-kept : (history : List Command) (c : Command) → refusal_of old history c ≡ None → refusal_of new history c ≡ None
   unfolding refusal_of
   refusal_of-kept history c passes =
-      ap (λ x. refusal_in new x c) (situation_of-same history c) ∙ in_situation-kept (situation_of old history c) c passes
+      ap (λ x. refusal_in new x c) (situation_of-same history c) ∙ refusal_in-kept (situation_of old history c) c passes
 
   -- and so does each legal history
   pub IsLegal-kept : (history : List Command) → IsLegal old history → IsLegal new history

@@ -17,8 +17,8 @@ within_more n least most le within =
     le-leb n most (omega arith)
 
 module _ (old new : Settings) (allows : AllowsAll old new) where
-  row-kept : (r : EventRow) → is_row_within old r ≡ true → is_row_within new r ≡ true
-  row-kept r within =
+  is_row_within-kept : (r : EventRow) → is_row_within old r ≡ true → is_row_within new r ≡ true
+  is_row_within-kept r within =
       let outer = and_parts (nat_le (length r.payload) old.payload && nat_le (length (answer_bytes r.answer)) old.response) (nat_le (environment_in r.standing) old.environments) within in
       let inner = and_parts (nat_le (length r.payload) old.payload) (nat_le (length (answer_bytes r.answer)) old.response) outer.0 in
       let payload = within_more (length r.payload) old.payload new.payload allows.payload inner.0 in
@@ -30,7 +30,7 @@ module _ (old new : Settings) (allows : AllowsAll old new) where
   rows-kept [] within = refl
   rows-kept (r ∷ rows) within =
       let parts = and_parts (is_row_within old r) (list_all (is_row_within old) rows) within in
-      and_from (is_row_within new r) (list_all (is_row_within new) rows) (row-kept r parts.0) (rows-kept rows parts.1)
+      and_from (is_row_within new r) (list_all (is_row_within new) rows) (is_row_within-kept r parts.0) (rows-kept rows parts.1)
 
   pub is_within-kept : (table : Snapshot) → is_within old table ≡ true → is_within new table ≡ true
   is_within-kept table within =
