@@ -1,0 +1,3 @@
+-- Laws that other crates and the proofs cite.
+pub mod Histories
+pub mod Tables
