@@ -11,6 +11,7 @@ use broker_commands::{Address, now, open};
 use group_commit::{Broker, CommitError, IssueError, OpenError};
 use hall_core::{Hall, HallFailure};
 use http_front::{Ending, ServeError, WhenPending, serve};
+use http_port::Listening;
 use port_meters::Machine;
 use receipts::{Gone, SharedOpening, SharedTrace, desks};
 use sector_disk::{CountingDisk, Disk, FileDisk, FileError, Written};
@@ -67,14 +68,14 @@ impl ServingError {
 }
 
 // Binds the port of the callers and one for each environment behind it.
-fn bind<R>(rt: &R, at: &Address<'_>, environments: u8) -> io::Result<Vec<TcpListener>>
+fn bind<R>(rt: &R, at: &Address<'_>, environments: u8) -> io::Result<Vec<Listening>>
 where
     R: Net<Listener = TcpListener, Stream = TcpStream> + AllocGlobal,
 {
     let mut listeners = Vec::with_capacity(rt.alloc(), usize::from(environments) + 1)?;
     for number in 0..=u16::from(environments) {
         let address = SocketAddr::new(at.reach, at.port.saturating_add(number));
-        listeners.push(TcpListener::bind(rt, address)?)?;
+        listeners.push(Listening::bind(rt, address, at.host)?)?;
     }
     Ok(listeners)
 }
@@ -118,7 +119,7 @@ fn not_bound(why: &io::Error) -> ServingError {
 }
 
 // Listens on the port of the callers and on one for each environment behind it.
-fn listen<R>(rt: &R, at: &Address<'_>, environments: u8) -> Result<Vec<TcpListener>, ServingError>
+fn listen<R>(rt: &R, at: &Address<'_>, environments: u8) -> Result<Vec<Listening>, ServingError>
 where
     R: Net<Listener = TcpListener, Stream = TcpStream> + AllocGlobal,
 {
@@ -144,9 +145,9 @@ where
         return Ok(None);
     };
     let address = SocketAddr::from((Ipv4Addr::LOCALHOST, port));
-    match TcpListener::bind(rt, address) {
-        Ok(listener) => Ok(Some(Admin {
-            listener,
+    match Listening::bind(rt, address, at.host) {
+        Ok(listening) => Ok(Some(Admin {
+            listening,
             written,
             memory: File::open(rt, MEMORY).ok(),
         })),
@@ -158,7 +159,7 @@ where
 #[derive(Drop)]
 struct Ports {
     // The callers' port, and one for each environment behind it.
-    listeners: Vec<TcpListener>,
+    listeners: Vec<Listening>,
     // The operator's port.
     admin: Option<Admin>,
 }
