@@ -6,7 +6,7 @@ use crate::application::AdminApplication;
 use crate::lookout::Lookout;
 use admin_replies::Facts;
 use async_core::Table;
-use http_port::Limits;
+use http_port::{Limits, Listening};
 use long_poll::Window;
 use port_meters::{Beside, Machine, Meters};
 use receipts::Trace;
@@ -14,7 +14,6 @@ use sector_disk::Written;
 use std::alloc::{AllocError, Global};
 use std::fs::File;
 use std::io;
-use std::net::TcpListener;
 use std::sync::Arc;
 use std::sync::ledger::Ledger;
 use tokio_util::sync::CancellationToken;
@@ -22,7 +21,7 @@ use tokio_util::sync::CancellationToken;
 /// Where an operator asks, and what he is told beside what is seen of a broker.
 #[derive(Drop)]
 pub struct Admin {
-    pub listener: TcpListener,
+    pub listening: Listening,
     /// How many bytes were written to the disk.
     pub written: Written,
     /// Where Linux tells how many pages the process has, `/proc/self/statm`.
@@ -61,13 +60,13 @@ fn lookout_of<L: Ledger, T: Trace>(
     port: AdminPort,
     window: Arc<Window<L, T>>,
     meters: Arc<Meters>,
-) -> (Lookout<L, T>, TcpListener)
+) -> (Lookout<L, T>, Listening)
     ensures facts { result.0.facts ≡ port.facts }
     ensures window { result.0.window ≡ window }
 {
     let AdminPort { admin, facts } = port;
     let Admin {
-        listener,
+        listening,
         written,
         memory,
     } = admin;
@@ -79,7 +78,7 @@ fn lookout_of<L: Ledger, T: Trace>(
         written,
         memory,
     };
-    (lookout, listener)
+    (lookout, listening)
 }
 
 impl<R: Machine, L: Ledger, T: Trace> Beside<R, Window<L, T>> for AdminPort {
@@ -94,10 +93,10 @@ impl<R: Machine, L: Ledger, T: Trace> Beside<R, Window<L, T>> for AdminPort {
     ) -> io::Result<Watched> {
         let alloc = rt.alloc();
         let window = Arc::new(alloc, window)?;
-        let (lookout, listener) = lookout_of(alloc, self, window, meters);
+        let (lookout, listening) = lookout_of(alloc, self, window, meters);
         let lookout = Arc::new(alloc, lookout)?;
         let application = AdminApplication { rt, lookout };
-        http_port::serve(rt, application, listener, Limits::default(), ending)?;
+        http_port::serve(rt, application, listening, Limits::default(), ending)?;
         Ok(Watched { served: () })
     }
 }

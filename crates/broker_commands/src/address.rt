@@ -12,6 +12,8 @@ pub struct Address<'a> {
     pub reach: IpAddr,
     /// The port of the callers.
     pub port: u16,
+    /// A host name under which the ports are asked, beside `localhost` and addresses.
+    pub host: Option<&'a str>,
     /// The operator's port, which is on the loopback address.
     pub admin: Option<u16>,
     pub dialect: Dialect,

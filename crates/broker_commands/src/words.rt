@@ -168,6 +168,7 @@ fn serve_command<'a>(alloc: Global) -> Result<Command<'a>, AllocError> {
     let dialect = option(alloc, "dialect", "Whose words errors and names are in");
     let extensions = "Extensions for which an environment waits before its first event, 0 to 10";
     let reach = "IP address of the callers' and the environments' ports";
+    let host = "A host name under which the ports are asked, beside localhost and addresses";
     let admin = "Port of the operator, who only looks, 1024 to 65535, on the loopback address";
     Command::new(alloc, "serve")
         .about("Serve a disk until POST /broker/stop")
@@ -193,6 +194,7 @@ fn serve_command<'a>(alloc: Global) -> Result<Command<'a>, AllocError> {
                 .value_name("IP")
                 .default_value("127.0.0.1"),
         )?
+        .arg(option(alloc, "host", host).value_name("NAME"))?
         .arg(option(alloc, "admin", admin).value_parser(value_parser!(u16).range(1024..65536)))
 }
 
@@ -333,6 +335,7 @@ fn address_at<'a>(matches: &ArgMatches<'a>, reach: IpAddr) -> Option<Address<'a>
         path: matches.get_str("disk")?,
         reach,
         port: matches.get_one("port")?,
+        host: matches.get_str("host"),
         admin: matches.get_one("admin"),
         dialect: dialect(matches.get_str("dialect")?),
         extensions: matches.get_one("extensions")?,

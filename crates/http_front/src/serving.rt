@@ -16,12 +16,12 @@ use crate::ticking::tick_all;
 use commit_loop::Gate;
 use group_commit::{Broker, DiskHalf};
 use hall_core::Hall;
+use http_port::Listening;
 use long_poll::{Port, Window};
 use port_meters::{Beside, Machine};
 use receipts::{Desk, SharedOpening, SharedTrace, Trace, desks};
 use retry_rules::Settings;
 use sector_disk::Disk;
-use std::net::TcpListener;
 use std::sync::ledger::{Blank, Ledger};
 use std::sync::{Arc, Wait};
 use std::thread::{JoinHandle, Threads};
@@ -97,7 +97,7 @@ fn start_all<R, L, T, B>(
     rt: R,
     front: &Arc<Front<L, T>>,
     ports: Vec<Port<L, T>>,
-    listeners: Vec<TcpListener>,
+    listeners: Vec<Listening>,
     window: Window<L, T>,
     beside: Option<B>,
     threads: &mut Vec<PortThread>,
@@ -151,7 +151,7 @@ where
 fn run<R, L, T, D, G, B>(
     rt: R,
     opened: Opened<L, T, D>,
-    listeners: Vec<TcpListener>,
+    listeners: Vec<Listening>,
     beside: Option<B>,
     gate: &G,
 ) -> io::Result<Served<D, B::Served>>
@@ -207,7 +207,7 @@ pub fn serve<R, L, T, D, G, B>(
     rt: R,
     hall: Hall<Broker<D>>,
     blank: Blank,
-    listeners: Vec<TcpListener>,
+    listeners: Vec<Listening>,
     beside: Option<B>,
     gate: &G,
 ) -> Result<Served<D, B::Served>, ServeError>

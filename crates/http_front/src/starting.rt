@@ -3,11 +3,10 @@ ghost use Rattle.std.specs.Prelude.{◌≡◌, IfOk, is_some};
 
 use crate::front::Front;
 use crate::port_application::PortApplication;
-use http_port::Limits;
+use http_port::{Limits, Listening};
 use long_poll::{Port, Window};
 use port_meters::{Beside, Machine};
 use receipts::{SharedOpening, SharedTrace, Trace};
-use std::net::TcpListener;
 use std::sync::Arc;
 use std::sync::ledger::Ledger;
 use std::thread::{JoinHandle, Threads};
@@ -20,10 +19,10 @@ pub(crate) type PortThread = JoinHandle<io::Result<()>>;
 fn serve_place<R: Machine, L: Ledger, T: Trace>(
     rt: R,
     place: PortApplication<R, L, T>,
-    listener: TcpListener,
+    listening: Listening,
 ) -> io::Result<()> {
     let front = Arc::try_clone(&place.front)?;
-    let served = http_port::serve(rt, place, listener, Limits::default(), &front.ending);
+    let served = http_port::serve(rt, place, listening, Limits::default(), &front.ending);
     front.ending.cancel();
     front.wake.call(&rt);
     served
@@ -35,7 +34,7 @@ fn start_port<R, L, T>(
     front: &Arc<Front<L, T>>,
     number: u16,
     port: Port<L, T>,
-    listener: TcpListener,
+    listening: Listening,
 ) -> io::Result<PortThread>
 where
     R: Machine,
@@ -51,7 +50,7 @@ where
         front,
         port,
     };
-    let thread = thread::spawn(&rt, move || serve_place(rt, place, listener))?;
+    let thread = thread::spawn(&rt, move || serve_place(rt, place, listening))?;
     Ok(thread)
 }
 
@@ -60,7 +59,7 @@ pub(crate) fn start<R, L, T>(
     rt: R,
     front: &Arc<Front<L, T>>,
     ports: Vec<Port<L, T>>,
-    listeners: Vec<TcpListener>,
+    listeners: Vec<Listening>,
     threads: &mut Vec<PortThread>,
 ) -> io::Result<()>
 where
@@ -70,8 +69,8 @@ where
     T::Opening: SharedOpening + 'static,
 {
     let mut number = 0u16;
-    for (port, listener) in ports.into_iter().zip(listeners) {
-        threads.push(start_port(rt, front, number, port, listener)?)?;
+    for (port, listening) in ports.into_iter().zip(listeners) {
+        threads.push(start_port(rt, front, number, port, listening)?)?;
         number = number.wrapping_add(1);
     }
     Ok(())

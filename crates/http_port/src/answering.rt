@@ -58,6 +58,21 @@ impl Refused {
         Refused { response }
     }
 
+    /// A refusal with a text of JSON. Where there is no memory to say that it is that, the text comes all the same.
+    pub(crate) fn json(alloc: Global, status: StatusCode, text: &'static str) -> Refused
+        requires { 400 ≤ status }
+        ensures { result ≡ status }
+    {
+        let body = Full::new(Bytes::from_static(text.as_bytes()));
+        let (mut head, body) = Response::new(alloc, body).into_parts();
+        head.status = status;
+        let json = HeaderValue::from_static("application/json");
+        let _ = head.headers.insert(header::CONTENT_TYPE, json);
+        Refused {
+            response: Response::from_parts(head, body),
+        }
+    }
+
     /// What a client is told whose body has not come in time. Its connection ends then, as each whose body was not read to its
     /// end.
     pub(crate) fn late(alloc: Global) -> Refused

@@ -4,6 +4,7 @@ ghost use Rattle.std.specs.Prelude.{IfSome};
 use crate::answering::Body;
 use crate::application::Application;
 use crate::connections::Door;
+use crate::hosts::Hosts;
 use crate::limits::Limits;
 use crate::lingering::{Alarm, Lingering};
 use crate::noted::Noted;
@@ -42,6 +43,7 @@ pub(crate) struct HttpDoor<R, A> {
     /// It tells the date of each reply, and has no limit of its own.
     pub(crate) http: Builder<TokioTimer<R>>,
     pub(crate) application: Arc<A>,
+    pub(crate) hosts: Arc<Hosts>,
     pub(crate) timers: time::Handle,
     pub(crate) alarm: Rc<Alarm<R>>,
     pub(crate) limits: Limits,
@@ -75,6 +77,7 @@ impl<R: Clock + Copy + Drop, A: Application> Door for HttpDoor<R, A> {
         let requests = Requests {
             alloc: self.alloc,
             application: Arc::try_clone(&self.application).ok()?,
+            hosts: Arc::try_clone(&self.hosts).ok()?,
             watch: Rc::clone(&watch).ok()?,
         };
         let socket = self.socket_of(socket, &watch)?;

@@ -3,16 +3,20 @@
 //! A thread serves a port by `serve`, on a runtime of its own. Each request is a hand-written future: its body is read,
 //! up to as many bytes as the application wants, and then its reply is waited for. Where the body was not read to its end,
 //! the reply says that the connection ends, and what is left is read behind it and thrown away, so that the client sees the
-//! reply and not a connection that fails. The value of one header may be left out, so that heads may be longer by it. `Limits`
-//! say how long a client may take, and how many connections are open at once.
+//! reply and not a connection that fails. The value of one header may be left out, so that heads may be longer by it. What a
+//! browser sends for a web page is refused by its head alone, and so is a host that a port does not answer to (`Hosts`).
+//! `Limits` say how long a client may take, and how many connections are open at once.
 #![tactic(auto)]
 
 mod answering;
 mod application;
 mod connections;
 mod door;
+mod forbidden;
+mod hosts;
 mod limits;
 mod lingering;
+mod listening;
 mod noted;
 mod permits;
 mod port;
@@ -26,6 +30,8 @@ mod watch;
 
 pub use answering::{Answered, Body, Refused, Told};
 pub use application::Application;
+pub use hosts::Hosts;
 pub use limits::Limits;
+pub use listening::Listening;
 pub use port::serve;
 pub use reading::ReadError;

@@ -2,8 +2,10 @@
 use crate::application::Application;
 use crate::connections::{Connections, Door};
 use crate::door::HttpDoor;
+use crate::hosts::Hosts;
 use crate::limits::Limits;
 use crate::lingering::Alarm;
+use crate::listening::Listening;
 use crate::permits::Permits;
 use hyper::rt::TokioTimer;
 use hyper::server::conn::http1::Builder;
@@ -48,6 +50,7 @@ where
 fn door_of<R, A>(
     rt: R,
     application: Arc<A>,
+    hosts: Arc<Hosts>,
     timers: &time::Handle,
     limits: Limits,
     ending: &CancellationToken,
@@ -65,6 +68,7 @@ where
         alloc,
         http,
         application,
+        hosts,
         timers: timers.clone()?,
         alarm,
         limits,
@@ -114,13 +118,16 @@ where
 /// not come in its time is answered 408. A reply is waited for without a limit. While as many connections are open as the limits
 /// allow, nothing is accepted.
 ///
+/// A request that a browser makes for a web page, or that names a host which the port does not answer to, is refused by its head
+/// alone with 403: its body is not read, and the application is not asked.
+///
 /// A reply to a request whose body was not read to its end says that its connection ends. Behind it, and behind the refusal of a
 /// head, what is left is read and thrown away, up to 8 MiB and for two seconds; then the connection is shut and closed. Each
 /// reply has a date, but for those to a head that is refused.
 pub fn serve<R, A>(
     rt: R,
     application: A,
-    listener: std::net::TcpListener,
+    listening: Listening,
     limits: Limits,
     ending: &CancellationToken,
 ) -> io::Result<()>
@@ -134,12 +141,13 @@ where
         + Drop,
     A: Application,
 {
+    let Listening { listener, hosts } = listening;
     let mut runtime = LocalRuntime::new(&rt)?;
     runtime.set_shutdown_timeout(Some(Duration::from_secs(LAST_REPLIES)));
     let listener = TcpListener::from_std(listener, runtime.handle().reactor())?;
     let timers = runtime.handle().time();
     let application = Arc::new(rt.alloc(), application)?;
-    let door = door_of(rt, application, timers, limits, ending)?;
+    let door = door_of(rt, application, hosts, timers, limits, ending)?;
     let connections = connections_of(rt, door, timers, listener, ending)?;
     run(&rt, &mut runtime, connections)
 }

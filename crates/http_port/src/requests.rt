@@ -1,11 +1,15 @@
 // The future of one request: its body is read, then its reply waits.
-ghost use Rattle.std.specs.Prelude.{◌≡◌, IfOk, IfSome, None};
+ghost use Rattle.std.specs.Prelude.{◌≡◌, IfOk, IfSome, IsSome, None, Err};
 ghost use Rattle.futures.specs.Task.{IsArmed, Keeps};
 ghost use Rattle.futures.specs.Poll.{IfReady, OnPending};
+ghost use Rattle.http.specs.Request.{head_of};
 ghost use Rattle.http_port.specs.Answering.{status_of, SendsAnswer, SendsGiven};
+ghost use Rattle.http_port.specs.Browsers.{SendsForbidden, forbidden_of};
 
 use crate::answering::{Answered, Refused, say_last, tell};
 use crate::application::Application;
+use crate::forbidden::Forbidden;
+use crate::hosts::Hosts;
 use crate::reading::{ReadError, Reading, State};
 use crate::watch::{Phase, Watch};
 use futures::Future;
@@ -25,6 +29,8 @@ pub(crate) struct Serving<A: Application, I: Drop> {
     alloc: Global,
     application: Option<Arc<A>>,
     watch: Option<Rc<Watch>>,
+    // Why it is refused by its head alone, where it is.
+    forbidden: Option<Forbidden>,
     head: Parts,
     reading: Reading<I>,
     reply: Option<A::Reply>,
@@ -49,6 +55,7 @@ impl<A: Application, I: Drop> Serving<A, I> {
     // A body was read, or was not. From now on its connection waits for the reply.
     fn answer(&mut self, body: Result<Vec<u8>, ReadError>) -> Result<A::Reply, Refused>
         ensures value { IfOk result A.Reply.can_poll }
+        ensures same { self.new.forbidden ≡ self.old.forbidden }
     {
         self.enter(Phase::Reply);
         match self.application.take() {
@@ -82,10 +89,16 @@ impl<A: Application, I: Drop> Serving<A, I> {
     fn poll_body(&mut self, cx: &mut Context<'_>) -> Poll<Result<A::Reply, Refused>>
         requires { IfSome self.old.reply A.Reply.can_poll }
         ensures value { IfReady result (λ answered. IfOk answered A.Reply.can_poll) }
+        ensures forbidden { IsSome self.old.forbidden → result ≡ Poll.Ready (Err 403) }
+        ensures unasked { IsSome self.old.forbidden → (self.new.reading ≡ self.old.reading) × (self.new.application ≡ self.old.application) }
+        ensures same { self.new.forbidden ≡ self.old.forbidden }
         ensures reads { OnPending result (self.new.reply ≡ None) }
         ensures armed { OnPending result (IsArmed cx.new) }
         ensures kept { Keeps cx.old cx.new }
     {
+        if let Some(forbidden) = self.forbidden {
+            return Poll::Ready(Err(forbidden.refused(self.alloc)));
+        }
         if let Some(reply) = self.reply.take() {
             return Poll::Ready(Ok(reply));
         }
@@ -125,7 +138,7 @@ impl<A: Application, I: Drop> Future for Serving<A, I> {
 
     ghost can_poll = { λ s. IfSome s.reply A.Reply.can_poll };
 
-    ghost gives = { λ _ sent. SendsAnswer A.Given.status sent };
+    ghost gives = { λ s sent. SendsAnswer A.Given.status sent × SendsForbidden s.forbidden sent };
 
     fn poll(&mut self, cx: &mut Context<'_>) -> Poll<Result<Answered, Infallible>> {
         match self.poll_body(cx) {
@@ -141,6 +154,7 @@ impl<A: Application, I: Drop> Future for Serving<A, I> {
 pub(crate) struct Requests<A> {
     pub(crate) alloc: Global,
     pub(crate) application: Arc<A>,
+    pub(crate) hosts: Arc<Hosts>,
     pub(crate) watch: Rc<Watch>,
 }
 
@@ -151,6 +165,8 @@ impl<A: Application, I: Drop> Service<Request<Incoming<I>>> for Requests<A> {
 
     type Future = Serving<A, I>;
 
+    ghost calls = { λ requests req serving. serving.forbidden ≡ forbidden_of requests.hosts.value (head_of req).headers };
+
     fn call(&self, req: Request<Incoming<I>>) -> Serving<A, I> {
         let (head, body) = req.into_parts();
         self.watch.enter(Phase::Body);
@@ -158,6 +174,7 @@ impl<A: Application, I: Drop> Service<Request<Incoming<I>>> for Requests<A> {
             alloc: self.alloc,
             application: Arc::try_clone(&self.application).ok(),
             watch: Rc::clone(&self.watch).ok(),
+            forbidden: Forbidden::of(&self.hosts, &head.headers),
             head,
             reading: Reading::new(self.alloc, body, self.application.most()),
             reply: None,

@@ -12,6 +12,7 @@ use broker_commands::{Address, Device, DiskError, now, open, open_device};
 use group_commit::{Broker, CommitError, IssueError, OpenError};
 use hall_core::{Hall, HallFailure};
 use http_front::{Ending, ServeError, WhenPending, serve};
+use http_port::Listening;
 use port_meters::Machine;
 use receipts::{Gone, SharedOpening, SharedTrace, desks};
 use sector_disk::{CountingDisk, Disk, Written};
@@ -99,12 +100,16 @@ fn resume<R: Clock + Wait, D: Disk>(rt: &R, broker: &mut Broker<D>) -> Result<u6
 }
 
 // Listens on a port.
-fn bind<R>(rt: &R, address: SocketAddr) -> Result<TcpListener, ServingError>
+fn bind<R>(
+    rt: &R,
+    address: SocketAddr,
+    host: Option<&str>,
+) -> Result<Listening, ServingError>
 where
-    R: Eprint + Net<Listener = TcpListener, Stream = TcpStream>,
+    R: Eprint + Net<Listener = TcpListener, Stream = TcpStream> + AllocGlobal,
 {
-    match TcpListener::bind(rt, address) {
-        Ok(listener) => Ok(listener),
+    match Listening::bind(rt, address, host) {
+        Ok(listening) => Ok(listening),
         Err(why) if why.kind() == io::ErrorKind::OutOfMemory => {
             Err(ServingError::OutOfMemory(AllocError))
         }
@@ -116,14 +121,14 @@ where
 }
 
 // Listens on the port of the callers and on one for each environment behind it.
-fn listen<R>(rt: &R, at: &Address<'_>, environments: u8) -> Result<Vec<TcpListener>, ServingError>
+fn listen<R>(rt: &R, at: &Address<'_>, environments: u8) -> Result<Vec<Listening>, ServingError>
 where
     R: Eprint + Net<Listener = TcpListener, Stream = TcpStream> + AllocGlobal,
 {
     let mut listeners = Vec::with_capacity(rt.alloc(), usize::from(environments) + 1)?;
     for number in 0..=u16::from(environments) {
         let address = SocketAddr::new(at.reach, at.port.saturating_add(number));
-        listeners.push(bind(rt, address)?)?;
+        listeners.push(bind(rt, address, at.host)?)?;
     }
     Ok(listeners)
 }
@@ -138,14 +143,17 @@ fn listen_admin<R>(
     written: Written,
 ) -> Result<Option<Admin>, ServingError>
 where
-    R: Files<File = File> + Eprint + Net<Listener = TcpListener, Stream = TcpStream>,
+    R: Files<File = File>
+        + Eprint
+        + Net<Listener = TcpListener, Stream = TcpStream>
+        + AllocGlobal,
 {
     let Some(port) = at.admin else {
         return Ok(None);
     };
     let address = SocketAddr::from((Ipv4Addr::LOCALHOST, port));
     Ok(Some(Admin {
-        listener: bind(rt, address)?,
+        listening: bind(rt, address, at.host)?,
         written,
         memory: File::open(rt, MEMORY).ok(),
     }))
@@ -155,7 +163,7 @@ where
 #[derive(Drop)]
 struct Ports {
     // The callers' port, and one for each environment behind it.
-    listeners: Vec<TcpListener>,
+    listeners: Vec<Listening>,
     // The operator's port.
     admin: Option<Admin>,
 }

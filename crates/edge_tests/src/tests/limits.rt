@@ -3,7 +3,7 @@ mod application;
 
 use crate::tests::house::expect;
 use crate::tests::limits::application::Patient;
-use http_port::{Limits, serve};
+use http_port::{Hosts, Limits, Listening, serve};
 use std::alloc::AllocGlobal;
 use std::io::{Read, Write};
 use std::net::{Net, SocketAddr, TcpListener, TcpStream};
@@ -254,6 +254,7 @@ where
     let ending = CancellationToken::new(alloc)?;
     let replies = CancellationToken::new(alloc)?;
     let (listener, address) = listen(&rt)?;
+    let listening = Listening::new(alloc, listener, Hosts::All)?;
     let theirs = ending.clone()?;
     let application = Patient {
         alloc,
@@ -261,7 +262,7 @@ where
     };
     let port = thread::spawn(
         &rt,
-        move || serve(rt, application, listener, limits, &theirs),
+        move || serve(rt, application, listening, limits, &theirs),
     )?;
     let visited = visit_at(&rt, address, &replies, visit);
     ending.cancel();

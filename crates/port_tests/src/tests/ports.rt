@@ -15,6 +15,7 @@ use admin_port::{Admin, AdminPort};
 use group_commit::Broker;
 use hall_core::Hall;
 use http_front::serve;
+use http_port::{Hosts, Listening};
 use receipts::{Gone, SharedOpening, SharedTrace, desks};
 use sector_disk::{Disk, FileDisk, Written};
 use std::alloc::{AllocGlobal, Global};
@@ -36,16 +37,17 @@ use test_parts::{
 };
 
 // A listener for callers and one for the environment, one for an operator, and where they listen.
-fn doors<N>(rt: &N, alloc: Global) -> io::Result<(Vec<TcpListener>, TcpListener, Doors)>
+fn doors<N>(rt: &N, alloc: Global) -> io::Result<(Vec<Listening>, Listening, Doors)>
 where
     N: Net<Listener = TcpListener, Stream = TcpStream>,
 {
     let mut listeners = Vec::with_capacity(alloc, 2)?;
     let (listener, callers) = listen(rt)?;
-    listeners.push(listener)?;
+    listeners.push(Listening::new(alloc, listener, Hosts::All)?)?;
     let (listener, environment) = listen(rt)?;
-    listeners.push(listener)?;
-    let (looking, admin) = listen(rt)?;
+    listeners.push(Listening::new(alloc, listener, Hosts::All)?)?;
+    let (listener, admin) = listen(rt)?;
+    let looking = Listening::new(alloc, listener, Hosts::All)?;
     let doors = Doors {
         callers,
         environment,
@@ -58,11 +60,11 @@ where
 fn admin_over<D: Disk>(
     alloc: Global,
     hall: &Hall<Broker<D>>,
-    listener: TcpListener,
+    listening: Listening,
 ) -> Option<AdminPort> {
     let written = Written::new(alloc).ok()?;
     let admin = Admin {
-        listener,
+        listening,
         written,
         memory: None,
     };
@@ -100,8 +102,8 @@ where
     requires parts { blank.parts ≡ L.parts }
     requires count { L.parts ≡ desk_count (settings_of hall.issuer) }
 {
-    let (listeners, listener, doors) = doors(&rt, rt.alloc()).ok()?;
-    let admin = admin_over(rt.alloc(), &hall, listener)?;
+    let (listeners, listening, doors) = doors(&rt, rt.alloc()).ok()?;
+    let admin = admin_over(rt.alloc(), &hall, listening)?;
     let clients = thread::spawn(&rt, move || talk_at(&rt, doors, &watch, talk)).ok()?;
     let gate = AtLeast::new(talk.pending());
     let served = serve::<R, L, T, D, AtLeast, AdminPort>(

@@ -8,6 +8,7 @@ use admin_port::AdminPort;
 use group_commit::Broker;
 use hall_core::Hall;
 use http_front::{ServeError, WhenPending, serve};
+use http_port::{Hosts, Listening};
 use receipts::{Gone, SharedOpening, SharedTrace, desks};
 use sector_disk::Disk;
 use std::alloc::{AllocGlobal, Global};
@@ -26,14 +27,14 @@ use test_parts::{NO_TROUBLE, TestDisk, Watch, hall, listen};
 const TOO_MANY: usize = 7;
 
 // More listeners than there are ports.
-fn crowd<N>(rt: &N, alloc: Global) -> io::Result<Vec<TcpListener>>
+fn crowd<N>(rt: &N, alloc: Global) -> io::Result<Vec<Listening>>
 where
     N: Net<Listener = TcpListener, Stream = TcpStream>,
 {
     let mut listeners = Vec::with_capacity(alloc, TOO_MANY)?;
     for _ in 0..TOO_MANY {
         let (listener, _) = listen(rt)?;
-        listeners.push(listener)?;
+        listeners.push(Listening::new(alloc, listener, Hosts::All)?)?;
     }
     Ok(listeners)
 }

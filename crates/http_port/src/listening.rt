@@ -1,0 +1,38 @@
+// Where the requests of a port come.
+ghost use Rattle.std.specs.Prelude.{◌≡◌, IfOk};
+
+use crate::hosts::Hosts;
+use std::alloc::{AllocError, AllocGlobal, Global};
+use std::io;
+use std::net::{Net, SocketAddr, TcpListener, TcpStream};
+use std::sync::Arc;
+
+/// Where the requests of a port come, and which hosts it answers to.
+#[derive(Drop)]
+pub struct Listening {
+    pub listener: TcpListener,
+    pub hosts: Arc<Hosts>,
+}
+
+impl Listening {
+    /// What this listener gives is answered, for these hosts. Only want of memory is refused.
+    pub fn new(alloc: Global, listener: TcpListener, hosts: Hosts) -> Result<Listening, AllocError>
+        ensures listener { IfOk result (λ listening. listening.listener ≡ listener) }
+        ensures hosts { IfOk result (λ listening. listening.hosts.value ≡ hosts) }
+    {
+        let hosts = Arc::new(alloc, hosts)?;
+        Ok(Listening { listener, hosts })
+    }
+
+    /// Listens on an address of this machine, and answers to the hosts of a port there that is asked under this name, too, where
+    /// one is given.
+    pub fn bind<R>(rt: &R, address: SocketAddr, name: Option<&str>) -> io::Result<Listening>
+    where
+        R: Net<Listener = TcpListener, Stream = TcpStream> + AllocGlobal,
+    {
+        let listener = TcpListener::bind(rt, address)?;
+        let reach = address.ip().to_canonical();
+        let hosts = Hosts::of(rt.alloc(), reach, name)?;
+        Ok(Listening::new(rt.alloc(), listener, hosts)?)
+    }
+}
