@@ -6,8 +6,8 @@ ghost use Rattle.lambda_broker.specs.Serving.{ComesToRest};
 ghost use Rattle.hall_core.specs.Fresh.{IsFresh};
 ghost use Rattle.receipts.specs.Desks.{desk_count};
 
-use admin_port::{Admin, AdminPort};
 use crate::notes::{Opening, note_opening, note_port, note_stop, warn};
+use admin_port::{Admin, AdminPort};
 use broker_commands::{Address, Device, DiskError, now, open, open_device};
 use group_commit::{Broker, CommitError, IssueError, OpenError};
 use hall_core::{Hall, HallFailure};
@@ -100,11 +100,7 @@ fn resume<R: Clock + Wait, D: Disk>(rt: &R, broker: &mut Broker<D>) -> Result<u6
 }
 
 // Listens on a port.
-fn bind<R>(
-    rt: &R,
-    address: SocketAddr,
-    host: Option<&str>,
-) -> Result<Listening, ServingError>
+fn bind<R>(rt: &R, address: SocketAddr, host: Option<&str>) -> Result<Listening, ServingError>
 where
     R: Eprint + Net<Listener = TcpListener, Stream = TcpStream> + AllocGlobal,
 {
@@ -143,10 +139,7 @@ fn listen_admin<R>(
     written: Written,
 ) -> Result<Option<Admin>, ServingError>
 where
-    R: Files<File = File>
-        + Eprint
-        + Net<Listener = TcpListener, Stream = TcpStream>
-        + AllocGlobal,
+    R: Files<File = File> + Eprint + Net<Listener = TcpListener, Stream = TcpStream> + AllocGlobal,
 {
     let Some(port) = at.admin else {
         return Ok(None);
@@ -176,10 +169,7 @@ fn listen_on_all<R>(
     written: Written,
 ) -> Result<Ports, ServingError>
 where
-    R: Files<File = File>
-        + Eprint
-        + Net<Listener = TcpListener, Stream = TcpStream>
-        + AllocGlobal,
+    R: Files<File = File> + Eprint + Net<Listener = TcpListener, Stream = TcpStream> + AllocGlobal,
 {
     let listeners = listen(rt, at, environments)?;
     let admin = listen_admin(rt, at, written)?;

@@ -95,7 +95,11 @@ impl<L: FaultLog + Drop> RandomAccessFile for LoggedFile<L> {
 
     fn read_at(&mut self, at: u64, out: &mut [u8]) -> Result<usize, Fault> {
         match read_again(&self.file, at, out) {
-            Ok(0) => self.fail(FileCall::Read, at, &io::Error::from(ErrorKind::UnexpectedEof)),
+            Ok(0) => self.fail(
+                FileCall::Read,
+                at,
+                &io::Error::from(ErrorKind::UnexpectedEof),
+            ),
             Ok(count) => Ok(count),
             Err(why) => self.fail(FileCall::Read, at, &why),
         }

@@ -56,7 +56,11 @@ impl Place {
         }
         let is_new = fs::metadata(rt, path).is_err();
         let mut options = OpenOptions::new();
-        options.read(true).write(true).create(true).mode(OWNER_ALONE);
+        options
+            .read(true)
+            .write(true)
+            .create(true)
+            .mode(OWNER_ALONE);
         let mut file = options.open(rt, path)?;
         file.try_lock()?;
         match file.size() {

@@ -3,13 +3,12 @@ ghost use Rattle.std.specs.Prelude.{◌≡◌, ◌≤◌, length, IfOk};
 
 use crate::logged_file::Untold;
 use crate::{Fault, FileDisk, FileError, LoggedFile, Place, RandomAccessFile};
-use std::fs;
 use std::fs::{File, FileType, OpenOptions};
-use std::io;
 use std::io::{ErrorKind, Seek, SeekFrom};
 use std::os::unix::fs::{FileExt, FileTypeExt};
 use std::path::Path;
 use std::rt::Files;
+use std::{fs, io};
 
 /// How often a call is made again that a signal has interrupted.
 const MOST_TRIES: u64 = u64::MAX;
