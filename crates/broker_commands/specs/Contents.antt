@@ -1,7 +1,8 @@
 -- What may be formatted over, and why anything else may not.
 use Rattle.std.specs.Prelude.{◌≡◌, ◌≢◌, ◌⊎◌, ℕ, List, Bool, true, false, Err, Some}
 use Rattle.resized_disk.specs.Blank.{is_blank}
-use Rattle.resized_disk.specs.Displaced.{TellsDisplaced}
+use Rattle.resized_disk.specs.Resized.{TellsResized}
+use Rattle.resized_disk.specs.declared.told.Resized.TheVariants as found
 use Rattle.sector_disk.specs.declared.file.FileError.TheVariants as file_error
 use Rattle.checkpoint.specs.Image.{recovered}
 use Rattle.checkpoint.specs.declared.error.OpenError.TheVariants as open_error
@@ -38,7 +39,8 @@ IsUnopened image (Open other) = Unit {0}
 
 -- why an image is not formatted over: it has another size than it was formatted with, or one of those
 abbrev pub IsOccupied : List ℕ → ContentsError → Type 0
-IsOccupied image (Disk (disk_error.Resized sectors)) = TellsDisplaced image (Some sectors)
+IsOccupied image (Disk (disk_error.Resized sectors)) = TellsResized image (Some (found.Displaced sectors))
+IsOccupied image (Disk (disk_error.Cut sector)) = TellsResized image (Some (found.Cut sector))
 IsOccupied image (Disk other) = IsPassing other
 IsOccupied image other = IsUnopened image other
 

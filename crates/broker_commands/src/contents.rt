@@ -7,7 +7,7 @@ ghost use Rattle.broker_commands.specs.Contents.{IsFree, HoldsEvents, IsOccupied
 use crate::opening::{DiskError, check_size};
 use audit_report::{Report, inspect};
 use checkpoint::OpenError;
-use resized_disk::{DisplacedError, is_blank};
+use resized_disk::{ResizedError, is_blank};
 use sector_disk::{Disk, FileError};
 use std::alloc::{AllocError, Global};
 use thiserror::Error;
@@ -50,8 +50,8 @@ fn is_zeros<D: Disk>(alloc: Global, disk: &mut D) -> Result<bool, DiskError>
 {
     match is_blank(alloc, disk) {
         Ok(blank) => Ok(blank),
-        Err(DisplacedError::OutOfMemory) => Err(DiskError::OutOfMemory(AllocError)),
-        Err(DisplacedError::Fault) => Err(DiskError::File(FileError::Fault)),
+        Err(ResizedError::OutOfMemory) => Err(DiskError::OutOfMemory(AllocError)),
+        Err(ResizedError::Fault) => Err(DiskError::File(FileError::Fault)),
     }
 }
 

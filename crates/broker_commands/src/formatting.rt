@@ -79,7 +79,7 @@ impl NewDiskError {
     }
 }
 
-fn text(alloc: Global, told: &str) -> Result<Text, AllocError>
+pub(crate) fn text(alloc: Global, told: &str) -> Result<Text, AllocError>
     ensures { IfOk result (λ text. text ≡ told.now) }
 {
     Ok(Text::from_vec(Vec::from_slice(alloc, told.as_bytes())?))
@@ -117,7 +117,7 @@ fn check_settings(settings: &Settings, sectors: u64) -> Result<(), NewDiskError>
 }
 
 // Refuses a file or a device that may not be formatted over.
-fn check_place<L: FaultLog + Drop>(
+pub(crate) fn check_place<L: FaultLog + Drop>(
     alloc: Global,
     file: LoggedFile<L>,
 ) -> Result<LoggedFile<L>, ContentsError> {

@@ -8,7 +8,7 @@ ghost use Rattle.sector_disk.specs.declared.file.FileError.TheVariants as file_e
 
 use crate::telltale::{Telltale, telltale};
 use group_commit::{Broker, OpenError, without_disk};
-use resized_disk::{DisplacedError, displaced};
+use resized_disk::{Resized, ResizedError, resized};
 use sector_disk::{Disk, FileDisk, FileError, LoggedFile};
 use std::alloc::{AllocError, Global};
 use std::fs::File;
@@ -27,6 +27,9 @@ pub enum DiskError {
     /// would be looked for.
     #[error("resized, formatted with {sectors} sectors")]
     Resized { sectors: u64 },
+    /// Its one open segment goes on behind its half, since it was cut: at this sector an open gate stands where no frame has room.
+    #[error("damaged at sector {sector}")]
+    Cut { sector: u64 },
 }
 
 impl DiskError {
@@ -53,11 +56,12 @@ pub fn check_size<D: Disk>(alloc: Global, disk: &mut D) -> Result<(), DiskError>
     ensures fault { IfErr result (λ why. why ≡ disk_error.File file_error.Fault → HasRisen (D.fault_count disk.old) (D.fault_count disk.new)) }
     ensures exact { (D.view disk.old).honest → TellsSize (D.view disk.old).content result }
 {
-    match displaced(alloc, disk) {
+    match resized(alloc, disk) {
         Ok(None) => Ok(()),
-        Ok(Some(sectors)) => Err(DiskError::Resized { sectors }),
-        Err(DisplacedError::OutOfMemory) => Err(DiskError::OutOfMemory(AllocError)),
-        Err(DisplacedError::Fault) => Err(DiskError::File(FileError::Fault)),
+        Ok(Some(Resized::Displaced { sectors })) => Err(DiskError::Resized { sectors }),
+        Ok(Some(Resized::Cut { sector })) => Err(DiskError::Cut { sector }),
+        Err(ResizedError::OutOfMemory) => Err(DiskError::OutOfMemory(AllocError)),
+        Err(ResizedError::Fault) => Err(DiskError::File(FileError::Fault)),
     }
 }
 

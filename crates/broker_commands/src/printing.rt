@@ -5,6 +5,7 @@ ghost use Rattle.broker_commands.specs.Trial.{status_of};
 
 use crate::auditing::{Audit, OldDisk, Told, audit_disk};
 use crate::configuring::{NewPolicy, configure_disk};
+use crate::copying::{Copied, NewCopy, copy_disk};
 use crate::formatting::{Function, NewDisk, make_disk};
 use crate::migrating::{Migrated, OldVersion, migrate_file};
 use crate::words::Job;
@@ -43,6 +44,7 @@ where
         Job::Audit(old) => print_audit(rt, old, out),
         Job::Configure(new) => print_configure(rt, new, out),
         Job::Migrate(old) => print_migrate(rt, old, out),
+        Job::Copy(new) => print_copy(rt, new, out),
     }
 }
 
@@ -134,6 +136,22 @@ where
     match migrate_file(rt, old) {
         Ok(Migrated { generation, number }) => {
             writeln!(out, "migrated generation {generation} number {number}")?;
+            Ok(DONE)
+        }
+        Err(fault) => print_fault(&fault, fault.is_device_fault(), out),
+    }
+}
+
+// Copies a disk, and prints how many events that are, and the size of the new one.
+fn print_copy<R, W>(rt: &R, new: &NewCopy<'_>, out: &mut W) -> io::Result<u8>
+where
+    R: Files<File = File> + Eprint + AllocGlobal + Copy + Drop,
+    W: Write,
+    ensures { IfOk result (λ status. status ≤ 3) }
+{
+    match copy_disk(rt, new) {
+        Ok(Copied { events, sectors }) => {
+            writeln!(out, "copied {events} events to {sectors} sectors")?;
             Ok(DONE)
         }
         Err(fault) => print_fault(&fault, fault.is_device_fault(), out),

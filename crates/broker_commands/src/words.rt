@@ -2,6 +2,7 @@
 use crate::address::Address;
 use crate::auditing::{Asked, More, OldDisk};
 use crate::configuring::NewPolicy;
+use crate::copying::{NewCopy, NewLimits};
 use crate::formatting::{Function, NewDisk, Numbers};
 use crate::migrating::OldVersion;
 use api_core::Dialect;
@@ -28,6 +29,7 @@ pub enum Job<'a> {
     Audit(OldDisk<'a>),
     Configure(NewPolicy<'a>),
     Migrate(OldVersion<'a>),
+    Copy(NewCopy<'a>),
 }
 
 // An option with a value.
@@ -162,6 +164,39 @@ fn migrate_command<'a>(alloc: Global) -> Result<Command<'a>, AllocError> {
         .arg(disk(alloc))
 }
 
+// What a copy may have other than its disk.
+fn with_change<'a>(alloc: Global, command: Command<'a>) -> Result<Command<'a>, AllocError> {
+    let environments = "Environments, as many as before at least";
+    let events = "Events that may be held at once, as many as before at least";
+    let payload = "Greatest payload in bytes, as great as before at least";
+    let response = "Greatest response in bytes, as great as before at least";
+    command
+        .arg(option(alloc, "environments", environments).value_parser(value_parser!(u8)))?
+        .arg(option(alloc, "events", events).value_parser(value_parser!(u16)))?
+        .arg(option(alloc, "payload", payload).value_parser(value_parser!(u32)))?
+        .arg(option(alloc, "response", response).value_parser(value_parser!(u32)))?
+        .arg(option(alloc, "name", "Another name of the function"))?
+        .arg(option(alloc, "handler", "Another handler"))?
+        .arg(option(alloc, "arn", "Another ARN"))
+}
+
+fn copy_command<'a>(alloc: Global) -> Result<Command<'a>, AllocError> {
+    let new = Arg::new(alloc, "new")
+        .value_name("NEW")
+        .help("The new disk: a file or a block device");
+    let old = Arg::new(alloc, "disk")
+        .value_name("OLD")
+        .help("The disk that is copied, which stays as it is");
+    let sectors = "Size of the new disk in sectors of 512 bytes, else that of the old one";
+    let command = Command::new(alloc, "copy")
+        .about("Make a new disk with every event of an old one; its limits may be larger")
+        .arg(old.required(true))?
+        .arg(new.required(true))?
+        .arg(option(alloc, "sectors", sectors).value_parser(value_parser!(u64)))?
+        .arg(flag(alloc, "force", "Make it whatever is there, which is lost"))?;
+    with_change(alloc, command)
+}
+
 fn serve_command<'a>(alloc: Global) -> Result<Command<'a>, AllocError> {
     let help = "Port of the callers, 1024 to 65519; environment n has the port n behind it";
     let port = option(alloc, "port", help);
@@ -222,6 +257,7 @@ fn commands<'a>(alloc: Global) -> Result<Command<'a>, AllocError> {
     let all = with_command(all, audit_command(alloc))?;
     let all = with_command(all, configure_command(alloc))?;
     let all = with_command(all, migrate_command(alloc))?;
+    let all = with_command(all, copy_command(alloc))?;
     with_command(all, serve_command(alloc))
 }
 
@@ -307,6 +343,28 @@ fn new_policy<'a>(matches: &ArgMatches<'a>) -> Option<NewPolicy<'a>> {
     })
 }
 
+fn new_limits<'a>(matches: &ArgMatches<'a>) -> NewLimits<'a> {
+    NewLimits {
+        environments: matches.get_one("environments"),
+        events: matches.get_one("events"),
+        payload: matches.get_one("payload"),
+        response: matches.get_one("response"),
+        name: matches.get_str("name"),
+        handler: matches.get_str("handler"),
+        arn: matches.get_str("arn"),
+    }
+}
+
+fn new_copy<'a>(matches: &ArgMatches<'a>) -> Option<NewCopy<'a>> {
+    Some(NewCopy {
+        old: matches.get_str("disk")?,
+        path: matches.get_str("new")?,
+        sectors: matches.get_one("sectors"),
+        limits: new_limits(matches),
+        is_forced: matches.get_flag("force"),
+    })
+}
+
 fn old_version<'a>(matches: &ArgMatches<'a>) -> Option<OldVersion<'a>> {
     Some(OldVersion {
         path: matches.get_str("disk")?,
@@ -365,6 +423,7 @@ pub fn read_task<'a>(alloc: Global, words: &'a [String]) -> Result<Option<Task<'
         "audit" => old_disk(alloc, told),
         "configure" => Ok(new_policy(told).map(Job::Configure).map(Task::Job)),
         "migrate" => Ok(old_version(told).map(Job::Migrate).map(Task::Job)),
+        "copy" => Ok(new_copy(told).map(Job::Copy).map(Task::Job)),
         _ => Ok(None),
     }
 }

@@ -1,0 +1,184 @@
+// Copying all events of a disk to a new one.
+ghost use Rattle.std.specs.Prelude.{◌≡◌};
+ghost use Rattle.broker_commands.specs.Copying.{is_device_fault};
+
+use crate::formatting::{check_place, text};
+use crate::opening::{Device, DiskError, open, open_device};
+use crate::contents::ContentsError;
+use crate::telltale::{Telltale, telltale};
+use checkpoint::least_sectors;
+use disk_copy::{Change, ChangeError, CopyError, copy, grown_settings};
+use group_commit::{Broker, OpenError};
+use retry_rules::{Settings, Text};
+use sector_disk::{FileDisk, FileError, LoggedFile, Place};
+use std::alloc::{AllocError, Global};
+use std::fs::File;
+use std::io::Eprint;
+use std::rt::Files;
+use thiserror::Error;
+
+/// What a copy has other than the old disk. What is absent stays as it is.
+#[derive(Clone, Copy, Debug)]
+pub struct NewLimits<'a> {
+    pub environments: Option<u8>,
+    pub events: Option<u16>,
+    /// In bytes.
+    pub payload: Option<u32>,
+    /// In bytes.
+    pub response: Option<u32>,
+    pub name: Option<&'a str>,
+    pub handler: Option<&'a str>,
+    pub arn: Option<&'a str>,
+}
+
+/// A disk whose events are to be copied to a new one.
+#[derive(Clone, Copy, Debug)]
+pub struct NewCopy<'a> {
+    /// The disk that is copied: a file or a block device.
+    pub old: &'a str,
+    /// The disk that is made: a file or a block device.
+    pub path: &'a str,
+    /// As many as the old disk has, where none is told.
+    pub sectors: Option<u64>,
+    pub limits: NewLimits<'a>,
+    /// Whether it is made whatever is there.
+    pub is_forced: bool,
+}
+
+/// What was copied.
+#[derive(Clone, Copy, Debug)]
+pub struct Copied {
+    /// How many events the old disk holds.
+    pub events: usize,
+    /// How many sectors the new one has.
+    pub sectors: u64,
+}
+
+/// Why a disk was not copied. The old one is as it was.
+#[derive(Clone, Copy, Debug, Error)]
+pub enum CopyingError {
+    #[error("out of memory")]
+    OutOfMemory(#[from] AllocError),
+    /// The old disk in its file.
+    #[error("{0}")]
+    Disk(#[from] DiskError),
+    /// What is on the old disk.
+    #[error("{0}")]
+    Open(#[from] OpenError),
+    #[error("{0}")]
+    Change(#[from] ChangeError),
+    #[error("too small, least {least}")]
+    TooSmall { least: u64 },
+    /// The file of the new disk.
+    #[error("{0}")]
+    File(#[from] FileError),
+    /// What is there.
+    #[error("{0}")]
+    Contents(#[from] ContentsError),
+    #[error("{0}")]
+    Copy(#[from] CopyError),
+}
+
+impl CopyingError {
+    /// Whether a device failed.
+    pub fn is_device_fault(&self) -> bool
+        ensures { result ≡ is_device_fault self.now }
+    {
+        match self {
+            CopyingError::Disk(why) => why.is_device_fault(),
+            CopyingError::Open(why) => matches!(why, OpenError::Fault),
+            CopyingError::File(why) => matches!(why, FileError::Fault),
+            CopyingError::Contents(why) => why.is_device_fault(),
+            CopyingError::Copy(why) => matches!(why, CopyError::Fault),
+            _ => false,
+        }
+    }
+}
+
+// A text that is told, if one is.
+fn told_text(alloc: Global, told: Option<&str>) -> Result<Option<Text>, AllocError> {
+    match told {
+        Some(told) => Ok(Some(text(alloc, told)?)),
+        None => Ok(None),
+    }
+}
+
+// What the settings of a copy have other than those of the old disk.
+fn change_for(alloc: Global, limits: &NewLimits<'_>) -> Result<Change, AllocError> {
+    Ok(Change {
+        environments: limits.environments,
+        events: limits.events,
+        payload: limits.payload,
+        response: limits.response,
+        name: told_text(alloc, limits.name)?,
+        handler: told_text(alloc, limits.handler)?,
+        arn: told_text(alloc, limits.arn)?,
+    })
+}
+
+// Refuses a change that the old settings do not allow, and a size that does not suffice for it.
+fn check_change(old: &Settings, change: &Change, sectors: u64) -> Result<(), CopyingError> {
+    let settings = grown_settings(old, change)?;
+    let least = least_sectors(&settings);
+    if sectors < least {
+        return Err(CopyingError::TooSmall { least });
+    }
+    Ok(())
+}
+
+// The file of the new disk, where it may be made one, and made zeros.
+fn new_place<R>(
+    rt: &R,
+    new: &NewCopy<'_>,
+    sectors: u64,
+) -> Result<(LoggedFile<Telltale<R>>, Place), CopyingError>
+where
+    R: Files<File = File> + Eprint + AllocGlobal + Copy + Drop,
+{
+    let log = telltale(rt, new.path)?;
+    let (file, place) = Place::open(rt, new.path)?;
+    let mut file = LoggedFile::new(file, log);
+    if !new.is_forced {
+        file = check_place(rt.alloc(), file)?;
+    }
+    place.make(rt, new.path, &file, sectors)?;
+    Ok((file, place))
+}
+
+// Copies what a broker holds to a new disk, which is given back where that fails.
+fn copy_to_place<R>(
+    rt: &R,
+    broker: &Broker<Device<R>>,
+    new: &NewCopy<'_>,
+    change: &Change,
+    sectors: u64,
+) -> Result<(), CopyingError>
+where
+    R: Files<File = File> + Eprint + AllocGlobal + Copy + Drop,
+{
+    let (file, place) = new_place(rt, new, sectors)?;
+    let mut disk = FileDisk::over(file)?;
+    match copy(rt.alloc(), broker, &mut disk, change) {
+        Ok(()) => Ok(()),
+        Err(why) => {
+            place.give_back(rt, new.path, &disk.into_file());
+            Err(CopyingError::Copy(why))
+        }
+    }
+}
+
+/// Makes a new disk with every event of an old one. The old disk is opened and read, and nobody else has it meanwhile. Then the new
+/// settings and the size are judged, then the file of the new disk, and then what is there, unless that is to be lost.
+pub fn copy_disk<R>(rt: &R, new: &NewCopy<'_>) -> Result<Copied, CopyingError>
+where
+    R: Files<File = File> + Eprint + AllocGlobal + Copy + Drop,
+{
+    let change = change_for(rt.alloc(), &new.limits)?;
+    let disk = open_device(rt, new.old)?;
+    let sectors = new.sectors.unwrap_or(disk.sectors());
+    let broker = open(rt.alloc(), disk)?;
+    check_change(broker.table().settings(), &change, sectors)?;
+    let events = broker.table().snapshot()?.rows.as_slice().len();
+    copy_to_place(rt, &broker, new, &change, sectors)?;
+    Ok(Copied { events, sectors })
+}
