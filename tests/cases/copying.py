@@ -1,0 +1,184 @@
+"""Copying a disk to a new one: every event comes along, the old disk stays as it is, and what is refused changes nothing."""
+import contextlib
+import os
+import subprocess
+
+from harness import Skipped, case, same
+
+STOPPED = (202, 0, "")
+
+
+def content_of(path):
+    with open(path, "rb") as file:
+        return file.read()
+
+
+def put(path, content):
+    with open(path, "wb") as file:
+        file.write(content)
+
+
+def copy(broker, new, *words, under=()):
+    """What copying its disk prints, and its status."""
+    return broker.said("copy", broker.disk, new, *words, under=under)
+
+
+def told(broker, disk, ids=()):
+    """What an audit tells of a disk, but for its segments, and of each of these events."""
+    numbers = broker.command("audit", disk, "--in-force").stdout.splitlines()
+    events = [broker.command("audit", disk, "--event", event).stdout.splitlines()[-1] for event in ids]
+    records = broker.command("audit", disk, "--records").stdout
+    return numbers[0].split(" number ")[1], numbers[1], numbers[3], events, records
+
+
+def holds_much(broker):
+    """Its disk holds an event that waits, one that is due again, one that failed and one with an answer; one was collected."""
+    broker.serve()
+    ended = broker.live('"first"', b"\0an answer\xff")
+    same(broker.delete(broker.live('"second"', "2")).status, 204)
+    failed = broker.live('"third"', "no", path="error")
+    waits = broker.invoke('"fourth"').id
+    same(broker.stop(), STOPPED)
+    same(broker.configure("--retries", 0, "--age", 70)[0], 0)
+    broker.serve()
+    gone = broker.live('"fifth"', "none", path="error") if broker.next().id else None
+    last = broker.invoke('"sixth"').id
+    same(broker.stop(), STOPPED)
+    return [event for event in (ended, failed, waits, gone, last) if event]
+
+
+@case({"timeout": 900})
+def every_event_comes_along_to_a_larger_disk(broker):
+    events = holds_much(broker)
+    before = content_of(broker.disk)
+    new = broker.disk + ".new"
+    status, line = copy(broker, new, "--sectors", 8192, "--events", 100)
+    assert content_of(broker.disk) == before, "the old disk was changed"
+    held = told(broker, broker.disk)[1].split()[1]
+    same((status, line), (0, f"copied {held} events to 8192 sectors\n"))
+    same((os.path.getsize(new), os.stat(new).st_mode & 0o777), (8192 * 512, 0o600))
+    same(told(broker, new, events), told(broker, broker.disk, events))
+    same(broker.command("audit", new).stdout.splitlines()[::2], ["generation 1 number " + told(broker, new)[0], "older none"])
+
+
+@case({"events": 2, "payload": 16, "response": 16})
+def a_copy_is_served_with_its_larger_limits(broker):
+    broker.serve()
+    same([broker.invoke(f"{n}").status for n in range(3)], [202, 202, 429])
+    same(broker.stop(), STOPPED)
+    new = broker.disk + ".new"
+    same(copy(broker, new, "--events", 3, "--payload", 1024, "--name", "other", "--arn", "arn:other"),
+         (0, "copied 2 events to 4096 sectors\n"))
+    broker.disk = new
+    broker.serve()
+    path = "/2015-03-31/functions/other/invocations"
+    same(broker.ask("POST", path, '"' + 100 * "x" + '"', {"X-Amz-Invocation-Type": "Event"}).status, 202)
+    same(broker.ask("POST", path, "{}", {"X-Amz-Invocation-Type": "Event"}).status, 429)
+    same([broker.next().body for _ in range(1)], [b"0"])
+    broker.kill()
+    broker.serve()
+    same(broker.held(), 3)
+    same(broker.stop(), STOPPED)
+
+
+def is_refused(broker, new, line, *words):
+    """The copy is refused with this line; old and new disk stay as they are."""
+    old, made = content_of(broker.disk), content_of(new) if os.path.exists(new) else None
+    same((words, copy(broker, new, *words)), (words, (1, f"refused: {line}\n")))
+    same(content_of(broker.disk) == old, True)
+    same((content_of(new) if os.path.exists(new) else None) == made, True)
+
+
+@case({"events": 4, "payload": 1024, "response": 1024})
+def what_a_copy_may_not_have_is_named_before_anything_is_touched(broker):
+    new = broker.disk + ".new"
+    is_refused(broker, new, "smaller limit: events", "--events", 3)
+    is_refused(broker, new, "smaller limit: payload", "--payload", 1023)
+    is_refused(broker, new, "smaller limit: response", "--response", 2, "--payload", 2048)
+    is_refused(broker, new, "bad settings: events", "--events", 1025)
+    is_refused(broker, new, "bad settings: name", "--name", "a b")
+    is_refused(broker, new, "bad settings: environments", "--environments", 17)
+    is_refused(broker, new, "too small, least 44", "--sectors", 43)
+    same(broker.command("copy", broker.disk).returncode, 2)
+    same(broker.command("copy", broker.disk, new, "--timeout", 5).returncode, 2)
+    is_refused(broker, broker.disk + "/new", "no such file")
+
+
+@case()
+def a_disk_is_not_copied_to_itself_nor_over_what_is_needed(broker):
+    broker.serve()
+    same(broker.invoke("{}").status, 202)
+    new = broker.disk + ".new"
+    same(copy(broker, new), (1, "refused: in use by another program\n"))
+    same(os.path.exists(new), False)
+    same(broker.stop(), STOPPED)
+    is_refused(broker, broker.disk, "in use by another program", "--force")
+    os.symlink(broker.disk, broker.disk + ".link")
+    is_refused(broker, broker.disk + ".link", "in use by another program", "--force")
+    put(new, b"a letter")
+    is_refused(broker, new, "not empty")
+    same(copy(broker, new, "--force"), (0, "copied 1 events to 4096 sectors\n"))
+    is_refused(broker, new, "holds 1 events")
+
+
+@case()
+def a_disk_that_cannot_be_opened_is_not_copied(broker):
+    broker.serve()
+    same(broker.invoke("{}").status, 202)
+    same(broker.stop(), STOPPED)
+    new = broker.disk + ".new"
+    content = content_of(broker.disk)
+    for at, line in (512, "damaged at sector 1"), (0, "not formatted"):
+        put(broker.disk, content[:at] + b"\7" + content[at + 1:])
+        is_refused(broker, new, line)
+        same(os.path.exists(new), False)
+
+
+@contextlib.contextmanager
+def small_room(folder):
+    """A file system of 1 MiB."""
+    os.mkdir(folder)
+    if subprocess.run(["mount", "-t", "tmpfs", "-o", "size=1m", "none", folder], stderr=subprocess.DEVNULL).returncode:
+        raise Skipped("nothing can be mounted here")
+    try:
+        yield folder
+    finally:
+        subprocess.run(["umount", folder], check=True)
+
+
+@case()
+def a_copy_that_finds_no_room_leaves_nothing_behind(broker):
+    with small_room(os.path.join(broker.folder, "room")) as room:
+        new = os.path.join(room, "new")
+        same(copy(broker, new), (1, "refused: no room for so many sectors\n"))
+        same(os.listdir(room), [])
+        put(new, bytes(512))
+        same(copy(broker, new), (1, "refused: no room for so many sectors\n"))
+        same(content_of(new), bytes(512))
+
+
+@case({"sectors": 64, "events": 8, "payload": 64, "response": 64})
+def a_stop_within_a_copy_leaves_no_disk_or_the_whole(broker):
+    """Killed in each write, of which a part was done, and before each flush: the new disk is not formatted or has all, and the old
+    one stays as it is."""
+    broker.serve()
+    for n in range(5):
+        same(broker.invoke(f"{n}").status, 202)
+    same(broker.stop(), STOPPED)
+    before, wanted = content_of(broker.disk), told(broker, broker.disk)
+    new, watch, seen = broker.disk + ".new", broker.watches_disk(), []
+    for word, torn in ("kill_write", 0), ("kill_write", 1), ("kill_write", 700), ("kill_flush", 0):
+        for number in range(1, 50):
+            put(new, b"")
+            watch.clear()
+            watch.torn, done = torn, setattr(watch, word, number) or broker.command("copy", broker.disk, new, env={"WATCH_DISK": new})
+            watch.clear()
+            assert content_of(broker.disk) == before, "the old disk was changed"
+            if done.returncode == 0:
+                break
+            status, line = broker.said("audit", new)
+            seen.append(line if status else "whole")
+            same(told(broker, new) if status == 0 else wanted, wanted)
+        same(told(broker, new), wanted)
+    same(sorted(set(seen)), ["refused: not formatted\n", "whole"])
+    assert len(seen) > 20, f"only {len(seen)} stops were made"
