@@ -10,7 +10,7 @@ use checkpoint::least_sectors;
 use disk_copy::{Change, ChangeError, CopyError, copy, grown_settings};
 use group_commit::{Broker, OpenError};
 use retry_rules::{Settings, Text};
-use sector_disk::{FileDisk, FileError, LoggedFile, Place};
+use sector_disk::{Disk, FileDisk, FileError, LoggedFile, Place};
 use std::alloc::{AllocError, Global};
 use std::fs::File;
 use std::io::Eprint;

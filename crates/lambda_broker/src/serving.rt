@@ -124,7 +124,10 @@ where
     let mut listeners = Vec::with_capacity(rt.alloc(), usize::from(environments) + 1)?;
     for number in 0..=u16::from(environments) {
         let address = SocketAddr::new(at.reach, at.port.saturating_add(number));
-        listeners.push(bind(rt, address, at.host)?)?;
+        let listening = bind(rt, address, at.host)?;
+        if listeners.push(listening).is_err() {
+            return Err(ServingError::OutOfMemory(AllocError));
+        }
     }
     Ok(listeners)
 }
