@@ -1,11 +1,7 @@
 -- A disk that is formatted with a whole table: what a stop leaves of it, and what it then recovers to.
-use Rattle.std.proofs.Common.{◌≡◌, ◌⊎◌, inl, inr, ⊎_elim, ℕ, ◌+◌, ◌-◌, ◌*◌, ◌/◌, ◌≤◌, Bool, true, false, List, length, take, drop, Result, OnOk, None, Err, refl, sym, ◌∙◌, ap, subst, arith}
+use Rattle.std.proofs.Common.{◌≡◌, ◌⊎◌, inl, inr, ⊎_elim, ℕ, ◌+◌, ◌-◌, ◌*◌, ◌/◌, ◌≤◌, true, false, List, length, take, None, Err, refl, sym, ◌∙◌, ap, arith}
 use Rattle.std.proofs.lemmas.Bool.{cases_Bool, true≢false, false≢true}
-use Rattle.std.proofs.lemmas.Result.{on_ok_weaker}
-use Rattle.sector_disk.specs.declared.disk.Fault.{Fault}
-use Rattle.sector_disk.specs.Disk.{DiskView, IsDisk, IsSameDisk, IsUntouched, HasOneImage}
-use Rattle.sector_disk.specs.Moments.{LeavesOnly}
-use Rattle.sector_disk.specs.laws.Moments.{Run, started, reads, joined, leaves_weaker}
+use Rattle.sector_disk.specs.Disk.{DiskView, IsDisk}
 use Rattle.sector_disk.specs.laws.Written.{same_part}
 use Rattle.retry_rules.specs.declared.settings.Settings.{Settings}
 use Rattle.retry_rules.specs.Settings.{bad_field}
@@ -18,10 +14,9 @@ use Rattle.checkpoint.specs.Live.{RecoversTo, may_stand}
 use Rattle.checkpoint.specs.Pieces.{DiffersWithin, StandsFrom}
 use Rattle.checkpoint.specs.Formatting.{DiffersInGates, IsOldButForGates, IsSeeding, IsNoneOrWhole, IsUnformatted}
 use Rattle.checkpoint.specs.FormatSteps.{HoldsFirst, IsClosed}
-use Rattle.checkpoint.specs.SwitchSteps.{HasGate, IsRewritten, IsBeingClosed, IsSwitching, IsSwitched}
+use Rattle.checkpoint.specs.SwitchSteps.{IsBeingClosed, IsSwitching, IsSwitched}
 use Rattle.checkpoint.specs.SeedSteps.{HasOpenGate, IsClosing, IsBeingSeeded}
 use Rattle.checkpoint.proofs.Ranges.{later_same}
-use Rattle.checkpoint.proofs.Rewrites.{nothing_differs}
 use Rattle.checkpoint.proofs.Stops.{unchanged}
 use Rattle.checkpoint.proofs.Lives.{image_refused}
 use Rattle.checkpoint.proofs.Firsts.{none_open}

@@ -1,5 +1,5 @@
 -- An image that is told as not formatted has no open gate: whatever is wrong behind one is told with its sector.
-use Rattle.std.proofs.Common.{◌≡◌, inl, inr, ℕ, ◌+◌, ◌*◌, ◌/◌, ◌<◌, ◌≤◌, Bool, true, false, nat_lt, nat_eq, List, [], ◌∷◌, length, Option, Some, None, option_map, Result, Ok, Err, refl, sym, ◌∙◌, ap, arith, if◌then◌else◌}
+use Rattle.std.proofs.Common.{◌≡◌, inl, inr, ℕ, ◌+◌, ◌*◌, ◌/◌, ◌≤◌, Bool, true, false, nat_lt, nat_eq, List, [], ◌∷◌, length, Option, Some, None, Result, Ok, Err, refl, sym, ◌∙◌, ap, if◌then◌else◌}
 use Rattle.std.proofs.lemmas.Bool.{cases_Bool}
 use Rattle.retry_rules.specs.declared.settings.Settings.{Settings}
 use Rattle.invoke_records.specs.declared.command.Command.{Command}
@@ -16,9 +16,9 @@ use Rattle.checkpoint.specs.declared.header.Header.{Header}
 use Rattle.checkpoint.specs.declared.choosing.Found.{Found}
 use Rattle.checkpoint.specs.declared.error.OpenError.{OpenError}
 use Rattle.checkpoint.specs.declared.error.OpenError.TheVariants.{NotFormatted, Damaged}
-use Rattle.checkpoint.specs.Image.{SegmentImage, DiskImage, or_damaged, legal_or_damaged, folded, next_to, kinds_in, folded_in, area_of, with_table, with_frames, snapshot_in, segment_at, header_in, open_header, found_at, is_later_than, in_order, chosen, found_in, with_older, segments_in, by_headers, read_image, live_in, if_new, recovered}
+use Rattle.checkpoint.specs.Image.{SegmentImage, DiskImage, or_damaged, legal_or_damaged, folded, next_to, kinds_in, folded_in, area_of, with_table, with_frames, snapshot_in, segment_at, header_in, open_header, found_at, is_later_than, in_order, found_in, with_older, segments_in, by_headers, read_image, live_in, if_new, recovered}
 use Rattle.checkpoint.specs.FormatSteps.{IsClosed}
-use Rattle.checkpoint.proofs.Images.{is_open_at, shut_header, behind_gate, header_or_damage, header_is_not, by_both}
+use Rattle.checkpoint.proofs.Images.{is_open_at, shut_header, behind_gate, header_is_not, by_both}
 
 -- it is not told as not formatted
 abbrev TellsMore : {A : Type 0} → Result A OpenError → Type 0

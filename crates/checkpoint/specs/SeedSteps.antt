@@ -1,12 +1,12 @@
 -- What the private steps of formatting a disk with a table leave. No public contract cites it.
-use Rattle.std.specs.Prelude.{◌≡◌, ◌⊎◌, ℕ, ◌+◌, ◌*◌, true, false, List, length, Result, OnOk}
+use Rattle.std.specs.Prelude.{◌≡◌, ◌⊎◌, ℕ, ◌*◌, true, List, length, Result, OnOk}
 use Rattle.sector_disk.specs.declared.disk.Fault.{Fault}
 use Rattle.sector_disk.specs.Disk.{DiskView, HasOneImage}
 use Rattle.sector_disk.specs.Moments.{LeavesOnly}
 use Rattle.gate_journal.specs.Frames.{is_open}
 use Rattle.checkpoint.specs.Image.{sector_at}
 use Rattle.checkpoint.specs.Formatting.{IsOldButForGates}
-use Rattle.checkpoint.specs.FormatSteps.{IsFirst, HoldsFirst, IsClosed}
+use Rattle.checkpoint.specs.FormatSteps.{HoldsFirst, IsClosed}
 use Rattle.checkpoint.specs.SwitchSteps.{OnSettled, IsBeingClosed}
 
 -- what a stop leaves while a gate is closed if it is open
