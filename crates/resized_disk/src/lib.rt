@@ -11,6 +11,8 @@ mod error;
 mod piece;
 mod searching;
 mod sectors;
+#[cfg(test)]
+mod tests;
 
 pub use closing::close_segments;
 pub use error::DisplacedError;
