@@ -77,10 +77,11 @@ fn close_each<D: Disk>(disk: &mut D, buffer: &mut [u8]) -> Result<(), Fault>
     Ok(())
 }
 
-/// Closes each segment that is open, wherever it begins: at each sector whose gate is open and behind which a header's
-/// letters stand, it writes zeros, and it ends with a barrier, also where it wrote none. It is meant for a disk that is
-/// to be formatted, so that nothing of an earlier format is taken for a displaced segment. `OutOfMemory` comes before any
-/// call of the disk. After `Fault` some segments may be closed.
+/// Closes each segment that is open, wherever it begins: each gate that is open before a sector with a header's letters is
+/// overwritten with zeros. It ends with a barrier, also where it wrote nothing.
+///
+/// It is for a disk that is about to be formatted, so that nothing of an earlier format is taken for a displaced segment.
+/// `OutOfMemory` comes before any call of the disk. After `Fault`, which comes from the device, some gates may be closed.
 pub fn close_segments<D: Disk>(alloc: Global, disk: &mut D) -> Result<(), DisplacedError>
     ensures same { IsSameDisk (D.view disk.old) (D.view disk.new) }
     ensures later { D.fault_count disk.old ≤ D.fault_count disk.new }

@@ -1,9 +1,9 @@
 //! Disks whose file or device was grown or cut since they were formatted.
 //!
-//! Segment B begins in the middle of a disk. So a disk that has another size now is missing it, and would be opened by its
-//! older half. A disk is seen by the bytes of an image of it: which sector the front of the newer segment stands at.
-//! The crates above use that `displaced` tells just that, and that `close_segments` leaves no image in which any segment
-//! is open, before a disk is formatted in its new size.
+//! Segment B begins in the middle of a disk. So a disk that has another size now misses it, and would be opened by segment
+//! A alone, which may be the older one. A disk is seen by the bytes of an image: where segments begin, and which of them
+//! stands displaced. The crates above use that `displaced` tells just that, and that `close_segments` leaves no image in
+//! which a segment is open, before a disk is formatted anew.
 #![tactic(auto)]
 
 mod closing;
@@ -11,6 +11,8 @@ mod error;
 mod piece;
 mod searching;
 mod sectors;
+#[cfg(test)]
+mod tests;
 
 pub use closing::close_segments;
 pub use error::DisplacedError;

@@ -146,11 +146,14 @@ fn twice(found: Option<u64>) -> Option<u64>
     }
 }
 
-/// How many sectors the disk had when it was formatted, where it has another number now and so is missing its segment B: a
-/// gate is open where neither segment begins, and behind it stands the header that a switch writes beside the one open
-/// segment. The number is told give or take one: it is twice the sector of the gate, up to the greatest number. None where
-/// no such gate is open, where both segments are open or neither is, or where the disk has fewer than 6 sectors. It only
-/// reads. `OutOfMemory` comes before the first read.
+/// How many sectors the disk had when it was formatted, give or take one, where that can be seen not to be what it has now.
+///
+/// Where just one of segments A and B is open, its newer one is searched for: an open gate, at a sector where neither of
+/// them begins, before a header of the next generation with the same settings. Segment B began at that sector, so it is
+/// told twice, up to the greatest number. None where there is no such gate, where both segments are open or neither is, or
+/// where the disk has fewer than 6 sectors.
+///
+/// It only reads, 64 sectors at once. `OutOfMemory` comes before the first read, and `Fault` from the device.
 pub fn displaced<D: Disk>(alloc: Global, disk: &mut D) -> Result<Option<u64>, DisplacedError>
     ensures reads { OnlyReads (D.view disk.old) (D.view disk.new) }
     ensures later { D.fault_count disk.old ≤ D.fault_count disk.new }

@@ -1,6 +1,5 @@
-use Rattle.std.proofs.Common.{◌≡◌, ℕ, ◌+◌, ◌-◌, ◌*◌, ◌/◌, ◌<◌, ◌≤◌, false, List, length, take, ◌∙◌, ap, sym, subst, arith}
+use Rattle.std.proofs.Common.{◌≡◌, ◌+◌, ◌-◌, ◌*◌, ◌/◌, length, take, arith}
 use Rattle.std.proofs.lemmas.List.{length-take-le}
-use Rattle.resized_disk.specs.Pieces.{IsClosedIn}
 use Rattle.resized_disk.proofs.Calls.{same_more, cause_more}
 use Rattle.resized_disk.proofs.Gates.{closed_on, closed_fewer}
 use Rattle.resized_disk.proofs.Stops.{gates_joined}

@@ -1,5 +1,4 @@
-use Rattle.std.proofs.Common.{◌≡◌, ℕ, ◌+◌, ◌-◌, ◌*◌, ◌/◌, ◌<◌, ◌≤◌, true, false, List, length, sym, ◌∙◌, subst, arith}
-use Rattle.resized_disk.specs.Sectors.{is_segment}
+use Rattle.std.proofs.Common.{◌≡◌, ℕ, ◌+◌, ◌*◌, ◌≤◌, length, sym, ◌∙◌, subst, arith}
 use Rattle.resized_disk.specs.Pieces.{IsClosedIn}
 use Rattle.resized_disk.proofs.Calls.{same_more, cause_more}
 use Rattle.resized_disk.proofs.Places.{piece_segment}

@@ -1,4 +1,4 @@
-use Rattle.std.proofs.Common.{◌≡◌, ℕ, false, List, ◌∙◌, ap, sym}
+use Rattle.std.proofs.Common.{◌∙◌, ap}
 use Rattle.sector_disk.specs.laws.Moments.{reads}
 use Rattle.resized_disk.specs.Sectors.{is_segment}
 use Rattle.resized_disk.specs.Closing.{IsOldButForGates}

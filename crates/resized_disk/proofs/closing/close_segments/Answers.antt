@@ -1,4 +1,4 @@
-use Rattle.std.proofs.Common.{◌≡◌, ℕ, ◌-◌, ◌*◌, false, List, length, ◌∙◌, sym, subst}
+use Rattle.std.proofs.Common.{◌≡◌, ℕ, false, List, ◌∙◌, sym, subst}
 use Rattle.resized_disk.specs.Sectors.{is_segment}
 use Rattle.resized_disk.specs.Closing.{IsClosedImage}
 use Rattle.resized_disk.proofs.Gates.{all_closed, none_open}

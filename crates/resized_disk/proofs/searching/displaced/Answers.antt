@@ -1,4 +1,4 @@
-use Rattle.std.proofs.Common.{◌≡◌, ℕ, ◌+◌, ◌-◌, ◌*◌, ◌/◌, ◌<◌, ◌≤◌, List, length, Option, None, Some, sym, ◌∙◌, ap, subst, arith}
+use Rattle.std.proofs.Common.{◌≡◌, ℕ, ◌+◌, ◌-◌, ◌<◌, List, Some, sym, ◌∙◌, subst, arith}
 use Rattle.resized_disk.specs.Sectors.{sectors_of}
 use Rattle.resized_disk.specs.Displaced.{lone_header, TellsDisplaced}
 use Rattle.resized_disk.specs.Pieces.{passes, TellsFirst}
