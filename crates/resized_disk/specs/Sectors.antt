@@ -31,6 +31,6 @@ is_header header = has_letters header && ((slice_index header 7 == 1) || (slice_
 unfoldable pub generation : List ℕ → ℕ
 generation header = from_be_bytes w64 (take 8 (drop 8 header))
 
--- a segment is open that begins at this sector: a header's letters stand behind an open gate
-unfoldable pub is_segment : ℕ → List ℕ → Bool
-is_segment sector image = is_open (sector_at sector image) && has_letters (sector_at (sector + 1) image)
+-- how many bytes its snapshot has
+unfoldable pub snapshot_size : List ℕ → ℕ
+snapshot_size header = from_be_bytes w64 (take 8 (drop 16 header))
