@@ -1,11 +1,11 @@
 -- What is found behind the frames of the one open segment is what is told.
-use Rattle.std.proofs.Common.{◌≡◌, inl, inr, ℕ, ◌+◌, ◌-◌, ◌*◌, ◌/◌, ◌^◌, ◌<◌, ◌≤◌, ◌==◌, nat_lt, min, Bool, true, false, ◌&&◌, List, length, Option, None, Some, refl, sym, ◌∙◌, ap, subst, arith}
+use Rattle.std.proofs.Common.{◌≡◌, inl, inr, ℕ, ◌+◌, ◌-◌, ◌*◌, ◌^◌, ◌<◌, ◌≤◌, nat_lt, min, Bool, true, false, ◌&&◌, List, length, Option, None, Some, refl, sym, ◌∙◌, ap, arith}
 use Rattle.std.specs.Prelude.{if◌then◌else◌}
 use Rattle.std.proofs.lemmas.Bool.{cases_lt, lt-ltb, le-ltb, and_right}
 use Rattle.resized_disk.specs.declared.told.Resized.{Resized}
 use Rattle.resized_disk.specs.declared.told.Resized.TheVariants.{Displaced, Cut}
 use Rattle.resized_disk.specs.Sectors.{sector_at, sectors_of, half, is_open, is_header}
-use Rattle.resized_disk.specs.Frames.{area_end, frames_end}
+use Rattle.resized_disk.specs.Frames.{frames_end}
 use Rattle.resized_disk.specs.Resized.{lone_base, lone_open, lone_segment, with_header, is_elsewhere, leads_on, stands_beside, stands_displaced, ends_open, is_cut_at, NoneDisplaced, TellsResized}
 use Rattle.resized_disk.specs.Pieces.{TellsFirst, passes, TellsCut}
 

@@ -1,5 +1,5 @@
 -- Where frames end, one after another.
-use Rattle.std.proofs.Common.{◌≡◌, inl, inr, ℕ, zero, suc, ◌+◌, ◌-◌, ◌*◌, ◌<◌, ◌≤◌, nat_le, Bool, true, false, ◌&&◌, List, Option, None, Some, refl, sym, ◌∙◌, ap, subst, arith}
+use Rattle.std.proofs.Common.{◌≡◌, inl, inr, ℕ, zero, suc, ◌+◌, ◌<◌, ◌≤◌, Bool, true, false, ◌&&◌, List, None, Some, refl, sym, ◌∙◌, ap, arith}
 use Rattle.std.specs.Prelude.{min, if◌then◌else◌}
 use Rattle.std.proofs.lemmas.Bool.{cases_Bool, le-leb, lt-leb}
 use Rattle.resized_disk.specs.Sectors.{sector_at, is_open}
@@ -26,7 +26,7 @@ pub gate_closed : (end gate : ℕ) (image : List ℕ) → gate + 3 ≤ end → N
 gate_closed end gate image room closed =
     elim (cases_Bool (is_open (sector_at gate image))) [
       | inl open_gate ↦ absurd (let clash : None ≡ Some (frame_sectors (sector_at (gate + 1) image)) =
-      closed ∙ ap (λ (b : Bool). if b then Some (frame_sectors (sector_at (gate + 1) image)) else None) open_gate in cc)
+          closed ∙ ap (λ (b : Bool). if b then Some (frame_sectors (sector_at (gate + 1) image)) else None) open_gate in cc)
       | inr shut ↦ (λ i. le-leb (gate + 3) end room i && shut i)
     ]
 
@@ -35,7 +35,7 @@ module _ (end gate sectors : ℕ) (image : List ℕ) (room : gate + 3 ≤ end) (
   opened = elim (cases_Bool (is_open (sector_at gate image))) [
     | inl open_gate ↦ open_gate
     | inr shut ↦ absurd (let clash : Some sectors ≡ None =
-    told ∙ ap (λ (b : Bool). if b then Some (frame_sectors (sector_at (gate + 1) image)) else None) shut in cc)
+        told ∙ ap (λ (b : Bool). if b then Some (frame_sectors (sector_at (gate + 1) image)) else None) shut in cc)
   ]
 
   size : sectors ≡ frame_sectors (sector_at (gate + 1) image)

@@ -1,5 +1,5 @@
 -- The gates and the headers of segments, by the bytes of an image (docs/FORMATS.md, "The disk").
-use Rattle.std.specs.Prelude.{ℕ, ◌+◌, ◌*◌, ◌/◌, ◌==◌, nat_eq, Bool, ◌&&◌, ◌||◌, List, length, take, drop, codes, slice_index}
+use Rattle.std.specs.Prelude.{ℕ, ◌*◌, ◌/◌, ◌==◌, nat_eq, Bool, ◌&&◌, ◌||◌, List, length, take, drop, codes, slice_index}
 use Rattle.std.specs.List.{starts_with}
 use Rattle.std.specs.Int.{w64, from_be_bytes}
 

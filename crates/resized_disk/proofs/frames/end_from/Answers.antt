@@ -1,4 +1,4 @@
-use Rattle.std.proofs.Common.{◌≡◌, ℕ, ◌+◌, ◌-◌, ◌^◌, ◌<◌, ◌≤◌, List, Option, None, Some, min, refl, sym, ◌∙◌, ap, subst, rules, arith}
+use Rattle.std.proofs.Common.{◌≡◌, ℕ, ◌+◌, ◌<◌, ◌≤◌, None, Some, min, refl, sym, ◌∙◌, ap, subst, rules, arith}
 use Rattle.resized_disk.specs.Frames.{end_from}
 use Rattle.resized_disk.specs.Pieces.{frame_at}
 use Rattle.resized_disk.proofs.Calls.{reads_more, cause_ok}

@@ -1,6 +1,6 @@
-use Rattle.std.proofs.Common.{◌≡◌, ℕ, ◌+◌, ◌*◌, ◌/◌, ◌≤◌, List, length, min, sym, ◌∙◌, ap, arith}
+use Rattle.std.proofs.Common.{◌≡◌, ℕ, ◌+◌, ◌*◌, ◌/◌, List, length, min, ◌∙◌, ap, arith}
 use Rattle.std.proofs.lemmas.Result.{IfOk-weaker}
-use Rattle.resized_disk.specs.Sectors.{sector_at, sectors_of, half, snapshot_size}
+use Rattle.resized_disk.specs.Sectors.{sector_at, sectors_of, snapshot_size}
 use Rattle.resized_disk.specs.Frames.{sectors_for, area_end, first_gate, end_from, frames_end}
 use Rattle.resized_disk.proofs.frames.frames_end.Goals as goal
 

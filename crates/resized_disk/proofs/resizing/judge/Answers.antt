@@ -1,4 +1,4 @@
-use Rattle.std.proofs.Common.{◌≡◌, ℕ, ◌+◌, sym, ◌∙◌, ap}
+use Rattle.std.proofs.Common.{sym, ◌∙◌, ap}
 use Rattle.resized_disk.specs.Sectors.{is_header}
 use Rattle.resized_disk.proofs.Found.{none_headed}
 use Rattle.resized_disk.proofs.resizing.judge.Goals as goal

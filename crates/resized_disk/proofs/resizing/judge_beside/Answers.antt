@@ -1,7 +1,6 @@
-use Rattle.std.proofs.Common.{◌≡◌, ℕ, ◌+◌, ◌-◌, ◌*◌, ◌/◌, ◌^◌, ◌<◌, ◌≤◌, List, length, Option, None, Some, min, sym, ◌∙◌, ap, subst, arith}
+use Rattle.std.proofs.Common.{◌≡◌, ℕ, ◌+◌, ◌-◌, ◌*◌, ◌^◌, List, Option, None, Some, min, sym, ◌∙◌, ap, subst, arith}
 use Rattle.std.proofs.lemmas.Result.{IfOk-weaker}
 use Rattle.resized_disk.specs.declared.told.Resized.TheVariants.{Displaced}
-use Rattle.resized_disk.specs.Sectors.{sector_at}
 use Rattle.resized_disk.specs.Frames.{frames_end}
 use Rattle.resized_disk.specs.Resized.{NoneDisplaced, TellsResized}
 use Rattle.resized_disk.specs.Pieces.{passes, TellsFirst, TellsCut}

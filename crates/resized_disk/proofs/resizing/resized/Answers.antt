@@ -1,4 +1,4 @@
-use Rattle.std.proofs.Common.{◌*◌, ◌/◌, ◌<◌, sym, ◌∙◌, arith}
+use Rattle.std.proofs.Common.{◌<◌, sym, ◌∙◌, arith}
 use Rattle.resized_disk.specs.Sectors.{sectors_of}
 use Rattle.resized_disk.proofs.Found.{none_on_small, none_alone}
 use Rattle.resized_disk.proofs.resizing.resized.Goals as goal

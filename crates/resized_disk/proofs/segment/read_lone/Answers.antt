@@ -1,4 +1,4 @@
-use Rattle.std.proofs.Common.{◌≡◌, ℕ, ◌*◌, ◌/◌, ◌≤◌, ◌∙◌, ap, arith}
+use Rattle.std.proofs.Common.{◌≡◌, ◌/◌, ◌≤◌, ◌∙◌, ap, arith}
 use Rattle.resized_disk.specs.Sectors.{sector_at, sectors_of, half, is_open}
 use Rattle.resized_disk.proofs.Found.{open_there}
 use Rattle.resized_disk.proofs.segment.read_lone.Goals as goal
