@@ -36,6 +36,6 @@ area_end base image = base + half image
 abbrev pub first_gate : ℕ → List ℕ → ℕ
 first_gate base image = min (base + 2 + sectors_for (snapshot_size (sector_at (base + 1) image))) (area_end base image)
 
--- the sector at which the frames of that segment end
+-- the sector at which the frames of that segment end: there are fewer of them than sectors
 unfoldable pub frames_end : ℕ → List ℕ → ℕ
 frames_end base image = end_from (sectors_of image) (area_end base image) (first_gate base image) image

@@ -45,8 +45,8 @@ leads_on header sector image = is_open (sector_at sector image) && follows heade
 abbrev pub is_elsewhere : ℕ → ℕ → Bool
 is_elsewhere half sector = not (sector == 0) && not (sector == half)
 
--- beside the segment that begins at `base` its newer one stands at this sector: behind its frames, whose bytes may be any, and where
--- neither A nor B begins
+-- beside the segment that begins at `base` its newer one stands at this sector: behind the frames, whose bytes may be any, and
+-- where neither A nor B begins
 abbrev pub stands_beside : Option ℕ → ℕ → List ℕ → Bool
 stands_beside None sector image = false
 stands_beside (Some base) sector image =
