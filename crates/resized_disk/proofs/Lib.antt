@@ -1,5 +1,5 @@
 pub mod Calls
 pub mod Found
-pub mod Gates
 pub mod Places
-pub mod Stops
+pub mod Walk
+pub mod Zeros

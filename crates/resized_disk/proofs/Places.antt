@@ -1,11 +1,11 @@
 -- Places in a piece, and the sectors of the image that they are.
-use Rattle.std.proofs.Common.{◌≡◌, inl, inr, ℕ, ◌+◌, ◌-◌, ◌*◌, ◌/◌, ◌<◌, ◌≤◌, Bool, true, false, ◌&&◌, List, length, take, drop, Option, None, Some, sym, ◌∙◌, ap, subst, arith}
+use Rattle.std.proofs.Common.{◌≡◌, inl, inr, ℕ, ◌+◌, ◌-◌, ◌*◌, ◌<◌, ◌≤◌, Bool, true, false, ◌&&◌, List, length, take, drop, Option, None, Some, sym, ◌∙◌, ap, subst, arith}
 use Rattle.std.specs.Prelude.{option_map, is_some}
 use Rattle.std.proofs.lemmas.List.{take_all, drop-drop}
 use Rattle.std.proofs.lemmas.Bool.{cases_lt}
 use Rattle.sector_disk.specs.laws.Written.{same_part}
-use Rattle.resized_disk.specs.Sectors.{sector_at, half, is_open, has_letters, is_segment}
-use Rattle.resized_disk.specs.Displaced.{is_elsewhere, follows, leads_on}
+use Rattle.resized_disk.specs.Sectors.{sector_at, half, is_open}
+use Rattle.resized_disk.specs.Resized.{is_elsewhere, follows, leads_on}
 use Rattle.resized_disk.specs.Pieces.{is_found, passes, TellsFirst, IsPiece}
 
 module _ (image piece : List ℕ) (at place : ℕ) (is : IsPiece image at piece) where
@@ -25,11 +25,6 @@ module _ (image piece : List ℕ) (at place : ℕ) (is : IsPiece image at piece)
 
   here : sector_at place piece ≡ sector_at (at + place) image
   here = piece_sector image piece at place is (omega (arith, within))
-
-  -- a segment that begins in a piece
-  pub piece_segment : is_segment place piece ≡ is_segment (at + place) image
-  unfolding is_segment
-  piece_segment = λ i. is_open (here i) && has_letters (next_sector i)
 
   -- what is looked for stands in a piece where it stands in the image
   pub found_passes : (header : List ℕ) (middle : ℕ) → middle ≡ half image → is_found header middle at place piece ≡ passes header image (at + place)
@@ -65,12 +60,12 @@ first_behind p from mid to le more none (Some found) rest = (
 )
 
 -- none at first, and then the one that was found, before others
-pub first_of_all : (p : ℕ → Bool) (at mid to : ℕ) → at ≤ mid → mid ≤ to → TellsFirst p 0 at None → (found : Option ℕ) → is_some found ≡ true → TellsFirst p at mid found → TellsFirst p 0 to found
-first_of_all p at mid to le more none None is tells = absurd (cc)
-first_of_all p at mid to le more none (Some found) is tells =
-    first_behind p 0 at to (omega arith) (omega (arith, le, more)) none (Some found) (tells.0, omega (arith, tells.1, more), tells.2, tells.3)
+pub first_of_all : (p : ℕ → Bool) (from at mid to : ℕ) → from ≤ at → at ≤ mid → mid ≤ to → TellsFirst p from at None → (found : Option ℕ) → is_some found ≡ true → TellsFirst p at mid found → TellsFirst p from to found
+first_of_all p from at mid to low le more none None is tells = absurd (cc)
+first_of_all p from at mid to low le more none (Some found) is tells =
+    first_behind p from at to low (omega (arith, le, more)) none (Some found) (tells.0, omega (arith, tells.1, more), tells.2, tells.3)
 
 -- none at first, and none of those behind
-pub none_of_more : (p : ℕ → Bool) (at mid : ℕ) → at ≤ mid → TellsFirst p 0 at None → (found : Option ℕ) → is_some found ≡ false → TellsFirst p at mid found → TellsFirst p 0 mid None
-none_of_more p at mid le none None is tells = first_behind p 0 at mid (omega arith) le none None tells
-none_of_more p at mid le none (Some found) is tells = absurd (cc)
+pub none_of_more : (p : ℕ → Bool) (from at mid : ℕ) → from ≤ at → at ≤ mid → TellsFirst p from at None → (found : Option ℕ) → is_some found ≡ false → TellsFirst p at mid found → TellsFirst p from mid None
+none_of_more p from at mid low le none None is tells = first_behind p from at mid low le none None tells
+none_of_more p from at mid low le none (Some found) is tells = absurd (cc)

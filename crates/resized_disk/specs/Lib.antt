@@ -1,5 +1,6 @@
-pub mod Closing
-pub mod Displaced
+pub mod Blank
+pub mod Frames
 pub mod Pieces
 pub mod Reading
+pub mod Resized
 pub mod Sectors

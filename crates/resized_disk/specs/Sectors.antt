@@ -1,5 +1,5 @@
 -- The gates and the headers of segments, by the bytes of an image (docs/FORMATS.md, "The disk").
-use Rattle.std.specs.Prelude.{ℕ, ◌+◌, ◌*◌, ◌/◌, ◌==◌, nat_eq, Bool, ◌&&◌, ◌||◌, List, length, take, drop, codes, slice_index}
+use Rattle.std.specs.Prelude.{ℕ, ◌*◌, ◌/◌, ◌==◌, nat_eq, Bool, ◌&&◌, ◌||◌, List, length, take, drop, codes, slice_index}
 use Rattle.std.specs.List.{starts_with}
 use Rattle.std.specs.Int.{w64, from_be_bytes}
 
@@ -31,6 +31,6 @@ is_header header = has_letters header && ((slice_index header 7 == 1) || (slice_
 unfoldable pub generation : List ℕ → ℕ
 generation header = from_be_bytes w64 (take 8 (drop 8 header))
 
--- a segment is open that begins at this sector: a header's letters stand behind an open gate
-unfoldable pub is_segment : ℕ → List ℕ → Bool
-is_segment sector image = is_open (sector_at sector image) && has_letters (sector_at (sector + 1) image)
+-- how many bytes its snapshot has
+unfoldable pub snapshot_size : List ℕ → ℕ
+snapshot_size header = from_be_bytes w64 (take 8 (drop 16 header))

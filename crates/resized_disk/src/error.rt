@@ -1,14 +1,14 @@
-// Why a disk was not searched, or not closed.
+// Why a disk was not judged.
 ghost use Rattle.std.specs.Prelude.{◌≡◌};
-ghost use Rattle.resized_disk.specs.declared.error.DisplacedError.TheVariants as displaced_error;
+ghost use Rattle.resized_disk.specs.declared.error.ResizedError.TheVariants as resized_error;
 
 use sector_disk::Fault;
 use std::alloc::AllocError;
 use thiserror::Error;
 
-/// Why a disk was not searched for a displaced segment, or its segments were not closed.
+/// Why it was not told whether a disk is resized, or blank.
 #[derive(Clone, Copy, Debug, PartialEq, Eq, Error)]
-pub enum DisplacedError {
+pub enum ResizedError {
     #[error("out of memory")]
     OutOfMemory,
     /// The device failed.
@@ -16,18 +16,18 @@ pub enum DisplacedError {
     Fault,
 }
 
-impl From<AllocError> for DisplacedError {
-    ghost from_gives = { λ _ e. e ≡ displaced_error.OutOfMemory };
+impl From<AllocError> for ResizedError {
+    ghost from_gives = { λ _ e. e ≡ resized_error.OutOfMemory };
 
     fn from(_: AllocError) -> Self {
-        DisplacedError::OutOfMemory
+        ResizedError::OutOfMemory
     }
 }
 
-impl From<Fault> for DisplacedError {
-    ghost from_gives = { λ _ e. e ≡ displaced_error.Fault };
+impl From<Fault> for ResizedError {
+    ghost from_gives = { λ _ e. e ≡ resized_error.Fault };
 
     fn from(_: Fault) -> Self {
-        DisplacedError::Fault
+        ResizedError::Fault
     }
 }

@@ -1,5 +1,5 @@
-// Pieces of a disk: 64 sectors at once.
-ghost use Rattle.std.specs.Prelude.{◌≡◌, ◌+◌, ◌*◌, ◌/◌, ◌%◌, ◌-◌, ◌≤◌, length, IfOk, OnOk, min};
+// Parts of a disk: up to 64 sectors at once, and one alone.
+ghost use Rattle.std.specs.Prelude.{◌≡◌, ◌+◌, ◌*◌, ◌/◌, ◌%◌, ◌-◌, ◌≤◌, ◌<◌, length, IfOk, OnOk, min};
 ghost use Rattle.sector_disk.specs.Disk.{HasCause};
 ghost use Rattle.resized_disk.specs.Reading.{OnlyReads};
 ghost use Rattle.resized_disk.specs.Sectors.{sector_at};
@@ -45,4 +45,16 @@ pub(crate) fn read_piece<D: Disk>(disk: &mut D, at: u64, piece: &mut [u8]) -> Re
     ensures bytes { (D.view disk.old).honest → OnOk result (IsPiece (D.view disk.old).content at piece.new) }
 {
     disk.read(at, piece)
+}
+
+// Reads a sector.
+pub(crate) fn read_sector<D: Disk>(disk: &mut D, at: u64) -> Result<[u8; 512], Fault>
+    requires { at < (D.view disk.old).sectors }
+    ensures reads { OnlyReads (D.view disk.old) (D.view disk.new) }
+    ensures cause { HasCause (D.fault_count disk.old) (D.fault_count disk.new) result }
+    ensures bytes { (D.view disk.old).honest → IfOk result (λ bytes. bytes ≡ sector_at at (D.view disk.old).content) }
+{
+    let mut bytes = [0; SECTOR_SIZE];
+    disk.read(at, &mut bytes)?;
+    Ok(bytes)
 }

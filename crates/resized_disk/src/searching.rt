@@ -1,19 +1,15 @@
-// Searching a disk for the newer segment of another size.
-ghost use Rattle.std.specs.Prelude.{◌≡◌, ◌+◌, ◌*◌, ◌/◌, ◌-◌, ◌%◌, ◌≤◌, ◌<◌, ◌^◌, length, IsErrOf, IfOk, IfSome, None, Ok};
-ghost use Rattle.sector_disk.specs.Disk.{HasRisen, HasCause};
+// Searching a disk for a displaced segment.
+ghost use Rattle.std.specs.Prelude.{◌≡◌, ◌+◌, ◌*◌, ◌/◌, ◌-◌, ◌%◌, ◌≤◌, ◌<◌, ◌^◌, length, IfOk};
+ghost use Rattle.sector_disk.specs.Disk.{HasCause};
 ghost use Rattle.resized_disk.specs.Reading.{OnlyReads};
-ghost use Rattle.resized_disk.specs.Sectors.{sector_at};
-ghost use Rattle.resized_disk.specs.Displaced.{lone_base, lone_header, TellsDisplaced};
-ghost use Rattle.resized_disk.specs.Pieces.{TellsFirst, TellsNext, is_found, twice};
+ghost use Rattle.resized_disk.specs.Pieces.{TellsFirst, TellsNext, is_found};
 
-use crate::DisplacedError;
-use crate::piece::{memory, read_piece, sector_in, sectors_from};
-use crate::sectors::{follows, is_header, is_open};
+use crate::piece::{read_piece, sector_in, sectors_from};
+use crate::sectors::{follows, is_open};
 use sector_disk::{Disk, Fault, SECTOR_SIZE};
-use std::alloc::Global;
 
-// What is looked for stands at this place of a piece, whose first sector is `at`.
-#[tactic(auto, unfolding(crate::specs::Pieces::is_found, crate::specs::Displaced::leads_on))]
+// A displaced segment stands at this place of a piece, whose first sector is `at`.
+#[tactic(auto, unfolding(crate::specs::Pieces::is_found, crate::specs::Resized::leads_on))]
 fn is_found(header: &[u8], half: u64, at: u64, place: usize, piece: &[u8]) -> bool
     requires header { length header.now ≡ 512 }
     requires inside { 512 * place + 1024 ≤ length piece.now }
@@ -27,7 +23,7 @@ fn is_found(header: &[u8], half: u64, at: u64, place: usize, piece: &[u8]) -> bo
         && follows(header, sector_in(piece, place + 1))
 }
 
-// The first place of a piece where it stands.
+// The first place of a piece where one stands.
 fn first_in(header: &[u8], half: u64, at: u64, piece: &[u8]) -> Option<usize>
     requires header { length header.now ≡ 512 }
     requires some { 512 ≤ length piece.now }
@@ -42,7 +38,7 @@ fn first_in(header: &[u8], half: u64, at: u64, piece: &[u8]) -> Option<usize>
     None
 }
 
-// Reads the piece from this sector on, and tells the first sector of it at which that stands.
+// Reads the piece from this sector on, and tells the first sector of it at which one stands.
 fn search_piece<D: Disk>(
     disk: &mut D,
     header: &[u8],
@@ -56,7 +52,7 @@ fn search_piece<D: Disk>(
     ensures reads { OnlyReads (D.view disk.old) (D.view disk.new) }
     ensures cause { HasCause (D.fault_count disk.old) (D.fault_count disk.new) result }
     ensures exact { (D.view disk.old).honest
-        → IfOk result (TellsNext header.now at (length piece.old / 512 - 1) (D.view disk.old)) }
+        → IfOk result (TellsNext header.now at (at + (length piece.old / 512 - 1)) (D.view disk.old).content) }
 {
     let half = disk.sectors() / 2;
     read_piece(disk, at, piece)?;
@@ -66,18 +62,23 @@ fn search_piece<D: Disk>(
     }
 }
 
-// The first sector of the disk at which that stands.
-fn search<D: Disk>(disk: &mut D, header: &[u8], buffer: &mut [u8]) -> Result<Option<u64>, Fault>
+// The first sector of the disk, from this one on, at which one stands.
+pub(crate) fn search<D: Disk>(
+    disk: &mut D,
+    header: &[u8],
+    from: u64,
+    buffer: &mut [u8],
+) -> Result<Option<u64>, Fault>
     requires header { length header.now ≡ 512 }
     requires room { length buffer.old ≡ 32768 }
     ensures reads { OnlyReads (D.view disk.old) (D.view disk.new) }
     ensures cause { HasCause (D.fault_count disk.old) (D.fault_count disk.new) result }
     ensures exact { (D.view disk.old).honest
-        → IfOk result (TellsNext header.now 0 ((D.view disk.old).sectors - 1) (D.view disk.old)) }
+        → IfOk result (TellsNext header.now from ((D.view disk.old).sectors - 1) (D.view disk.old).content) }
 {
     let sectors = disk.sectors();
-    let mut at = 0;
-    while sectors - at > 1 {
+    let mut at = from;
+    while at.saturating_add(1) < sectors {
         let count = sectors_from(sectors, at);
         let found = search_piece(
             disk,
@@ -91,84 +92,4 @@ fn search<D: Disk>(disk: &mut D, header: &[u8], buffer: &mut [u8]) -> Result<Opt
         at += count - 1;
     }
     Ok(None)
-}
-
-// Reads a sector.
-fn read_sector<D: Disk>(disk: &mut D, at: u64) -> Result<[u8; 512], Fault>
-    requires { at < (D.view disk.old).sectors }
-    ensures reads { OnlyReads (D.view disk.old) (D.view disk.new) }
-    ensures cause { HasCause (D.fault_count disk.old) (D.fault_count disk.new) result }
-    ensures bytes { (D.view disk.old).honest → IfOk result (λ bytes. bytes ≡ sector_at at (D.view disk.old).content) }
-{
-    let mut bytes = [0; SECTOR_SIZE];
-    disk.read(at, &mut bytes)?;
-    Ok(bytes)
-}
-
-// Where the open segment begins, where just one of A and B is open.
-fn lone_base(half: u64, is_a_open: bool, is_b_open: bool) -> Option<u64>
-    ensures exact { result ≡ lone_base half is_a_open is_b_open }
-    ensures inside { IfSome result (λ base. base ≤ half) }
-{
-    match (is_a_open, is_b_open) {
-        (true, false) => Some(0),
-        (false, true) => Some(half),
-        _ => None,
-    }
-}
-
-// The header of that segment.
-fn read_header<D: Disk>(disk: &mut D) -> Result<Option<[u8; 512]>, Fault>
-    requires { 6 ≤ (D.view disk.old).sectors }
-    ensures reads { OnlyReads (D.view disk.old) (D.view disk.new) }
-    ensures cause { HasCause (D.fault_count disk.old) (D.fault_count disk.new) result }
-    ensures exact { (D.view disk.old).honest → IfOk result (λ header. header ≡ lone_header (D.view disk.old).content) }
-{
-    let half = disk.sectors() / 2;
-    let gate_a = read_sector(disk, 0)?;
-    let gate_b = read_sector(disk, half)?;
-    match lone_base(half, is_open(&gate_a), is_open(&gate_b)) {
-        Some(base) => {
-            let header = read_sector(disk, base + 1)?;
-            Ok(Some(header))
-        }
-        None => Ok(None),
-    }
-}
-
-// Twice that, up to the greatest number.
-fn twice(found: Option<u64>) -> Option<u64>
-    ensures { result ≡ twice found }
-{
-    match found {
-        Some(sector) => Some(sector.saturating_mul(2)),
-        None => None,
-    }
-}
-
-/// How many sectors the disk had when it was formatted, where it has another number now and so is missing its segment B: a
-/// gate is open where neither segment begins, and behind it stands the header that a switch writes beside the one open
-/// segment. The number is told give or take one: it is twice the sector of the gate, up to the greatest number. None where
-/// no such gate is open, where both segments are open or neither is, or where the disk has fewer than 6 sectors. It only
-/// reads. `OutOfMemory` comes before the first read.
-pub fn displaced<D: Disk>(alloc: Global, disk: &mut D) -> Result<Option<u64>, DisplacedError>
-    ensures reads { OnlyReads (D.view disk.old) (D.view disk.new) }
-    ensures later { D.fault_count disk.old ≤ D.fault_count disk.new }
-    ensures fault { IsErrOf result DisplacedError.Fault → HasRisen (D.fault_count disk.old) (D.fault_count disk.new) }
-    ensures no_call { IsErrOf result DisplacedError.OutOfMemory → disk.new ≡ disk.old }
-    ensures small { (D.view disk.old).sectors < 6 → (result ≡ Ok None) × (disk.new ≡ disk.old) }
-    ensures exact { (D.view disk.old).honest → IfOk result (TellsDisplaced (D.view disk.old).content) }
-{
-    if disk.sectors() < 6 {
-        return Ok(None);
-    }
-    let mut buffer = memory(alloc)?;
-    let Some(header) = read_header(disk)? else {
-        return Ok(None);
-    };
-    if !is_header(&header) {
-        return Ok(None);
-    }
-    let found = search(disk, &header, &mut buffer)?;
-    Ok(twice(found))
 }

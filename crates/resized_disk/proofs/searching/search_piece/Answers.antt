@@ -1,4 +1,4 @@
-use Rattle.std.proofs.Common.{◌≡◌, ℕ, ◌+◌, ◌-◌, ◌*◌, ◌/◌, ◌<◌, ◌≤◌, length, Option, None, Some, subst, arith}
+use Rattle.std.proofs.Common.{◌≡◌, ℕ, ◌+◌, ◌-◌, ◌*◌, ◌/◌, ◌≤◌, length, None, Some, subst, arith}
 use Rattle.resized_disk.specs.Sectors.{half}
 use Rattle.resized_disk.specs.Pieces.{is_found, passes, TellsFirst}
 use Rattle.resized_disk.proofs.Places.{found_passes, first_further}
