@@ -1,5 +1,5 @@
 // What the office keeps under its lock: the hall, and the marks of all that it issued.
-ghost use Rattle.std.specs.Prelude.{◌≡◌, ◌+◌, ◌<◌, ◌≤◌, ◌^◌, ◌++◌, map, length, vec_len, vec_capacity, IfOk, IfErr, OnOk, OnErr, OnSome, IfSome, IfNone, option_map};
+ghost use Rattle.std.specs.Prelude.{◌≡◌, ◌+◌, ◌<◌, ◌≤◌, ◌^◌, ◌++◌, map, length, vec_len, vec_capacity, IfOk, IfErr, OnOk, OnErr, option_map};
 ghost use Rattle.group_commit.specs.Issuer.{issued_in};
 ghost use Rattle.receipts.specs.Marks.{marks_by, AreNumbered, KeepsHistories};
 ghost use Rattle.receipts.specs.Following.{Follows};
@@ -9,12 +9,12 @@ ghost use Rattle.receipts.specs.UnderLock.{DoesAt, AnswersItsNumber, AddBoth, Le
 ghost use Rattle.receipts.specs.Running.{HasRuns};
 ghost use Rattle.receipts.specs.Serving.{IsToldOf};
 ghost use Rattle.receipts.specs.Sights.{Withholds};
+ghost use Rattle.receipts.specs.Told.{TellsPoint, Takes, Forgets};
 ghost use Rattle.invoke_records.specs.Spelling.{greatest_moment};
 ghost use Rattle.group_commit.specs.Batch.{last_in};
-ghost use Rattle.hall_core.specs.Past.{tick, take_slot, forget_slot};
-ghost use Rattle.hall_core.specs.OpenSlots.{ForEachKept};
-ghost use Rattle.hall_core.specs.Slots.{open_slots, point_in, point_of};
-ghost use Rattle.hall_core.specs.Hall.{StandsFor, ForEachPast, IsSameHall, IsAsDurable, request, pending_in, open_slot_count, slot_told, Gives, GivesFor, IsDone};
+ghost use Rattle.hall_core.specs.Past.{tick};
+ghost use Rattle.hall_core.specs.Slots.{open_slots};
+ghost use Rattle.hall_core.specs.Hall.{StandsFor, ForEachPast, IsSameHall, IsAsDurable, request, pending_in, open_slot_count};
 ghost use Rattle.hall_core.specs.Hall.{AnswersPolls, answered_slots};
 ghost use Rattle.hall_core.specs.Halves.{HasSameParts, IsNotDurable};
 ghost use Rattle.hall_core.specs.Plans.{drawn_by};
@@ -303,12 +303,7 @@ impl<L: Ledger, T: Trace> Kept<L, T> {
 
     /// The reply of a slot, where it is told.
     pub(crate) fn take(&mut self, slot: u64) -> Option<Released>
-        ensures slot { IfSome result (λ released. slot_told released ≡ slot) }
-        ensures gives { Gives (hall_in self.old.hall) slot result }
-        ensures by_events { ForEachKept self.old.hall.slots (GivesFor (hall_in self.old.hall) slot result) }
-        ensures done { OnSome result (IsDone (hall_in self.old.hall) (hall_in self.new.hall) (take_slot slot)) }
-        ensures none { IfNone result (IsSameHall (hall_in self.old.hall) (hall_in self.new.hall)) }
-        ensures issuer { self.new.hall.issuer ≡ self.old.hall.issuer }
+        ensures takes { Takes self.old.hall self.new.hall slot result }
         ensures marks { self.new.marks.all.items ≡ self.old.marks.all.items }
         ensures counted { self.new.slots ≡ self.old.slots }
         ensures opening { self.new.opening ≡ self.old.opening }
@@ -318,16 +313,14 @@ impl<L: Ledger, T: Trace> Kept<L, T> {
 
     /// How many commands have to be durable before the reply of a slot is told, where it is computed and still wanted.
     pub(crate) fn point(&self, slot: u64) -> Option<u64>
-        ensures by_past { ForEachPast (hall_in self.now.hall) (λ past. result ≡ point_of past slot) }
-        ensures by_events { ForEachKept self.now.hall.slots (λ _ events. result ≡ point_in events slot) }
+        ensures tells { TellsPoint self.now.hall slot result }
     {
         self.hall.point(slot)
     }
 
     /// The reply of a slot is not wanted any more.
     pub(crate) fn forget(&mut self, slot: u64)
-        ensures done { IsDone (hall_in self.old.hall) (hall_in self.new.hall) (forget_slot slot) }
-        ensures issuer { self.new.hall.issuer ≡ self.old.hall.issuer }
+        ensures forgets { Forgets self.old.hall self.new.hall slot }
         ensures marks { self.new.marks.all.items ≡ self.old.marks.all.items }
         ensures counted { self.new.slots ≡ self.old.slots }
         ensures opening { self.new.opening ≡ self.old.opening }

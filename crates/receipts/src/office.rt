@@ -1,5 +1,5 @@
 // The office: the hall under its lock.
-ghost use Rattle.std.specs.Prelude.{◌≡◌, ◌≤◌, [], map, All, Err, vec_capacity, IfOk, IfErr, OnOk, OnErr, IfSome, OnSome, IfNone};
+ghost use Rattle.std.specs.Prelude.{◌≡◌, ◌≤◌, [], map, All, Err, vec_capacity, IfOk, IfErr, OnOk, OnErr};
 ghost use Rattle.std.specs.List.{range_with_len};
 ghost use Rattle.invoke_records.specs.Spelling.{greatest_moment};
 ghost use Rattle.group_commit.specs.Broker.{pending_of, settings_of, table_in};
@@ -7,10 +7,8 @@ ghost use Rattle.group_commit.specs.IssuerBroker.{issuer_of};
 ghost use Rattle.group_commit.specs.Refusals.{FaultsHaveRisen};
 ghost use Rattle.group_commit.specs.Splitting.{broker_of, IsSplitReason};
 ghost use Rattle.hall_core.specs.declared.error.HallError.TheVariants as HallError;
-ghost use Rattle.hall_core.specs.Hall.{view_of, slot_told, request, Gives, GivesFor, IsDone, IsSameHall, IsAsDurable, AnswersPolls, ForEachPast, StandsFor};
-ghost use Rattle.hall_core.specs.OpenSlots.{ForEachKept};
-ghost use Rattle.hall_core.specs.Past.{tick, take_slot, forget_slot};
-ghost use Rattle.hall_core.specs.Slots.{point_in, point_of};
+ghost use Rattle.hall_core.specs.Hall.{view_of, request, IsAsDurable, AnswersPolls, ForEachPast, StandsFor};
+ghost use Rattle.hall_core.specs.Past.{tick};
 ghost use Rattle.hall_core.specs.Fresh.{IsFresh};
 ghost use Rattle.hall_core.specs.Halves.{HasSameParts, IsNotDurable};
 ghost use Rattle.receipts.specs.Desks.{desk_count};
@@ -18,6 +16,7 @@ ghost use Rattle.receipts.specs.Answers.{AddsAtMostOne, AddsAnswered, IsToldMore
 ghost use Rattle.receipts.specs.Answers.{AddsAsked, IsArrivalRefusal, IsTickRefusal, IsCommitRefusal};
 ghost use Rattle.receipts.specs.Kept.{hall_in, issuer_in, IsToldByLoan, IsNotLentTo};
 ghost use Rattle.receipts.specs.Marks.{KeepsHistories};
+ghost use Rattle.receipts.specs.Told.{TellsPoint, Takes, Forgets};
 ghost use Rattle.receipts.specs.Serving.{CommitsTo, IsToldOf};
 ghost use Rattle.receipts.specs.UnderLock.{DoesAt, AnswersItsNumber, AddBoth, LendsAs, Counts, IsNotMade, IsNotMoved, IsSameUnderLock, IsNoFault};
 ghost use Rattle.receipts.specs.UnderLock.{IsCommitted, IsNotCommitted};
@@ -391,14 +390,8 @@ impl<L: Ledger, T: Trace> Office<L, T> {
         desk: &mut Desk<L, T>,
         slot: u64,
     ) -> Witnessed<Option<Released>, L, T>
-        ensures slot { IfSome result.answer (λ released. slot_told released ≡ slot) }
         ensures desk { desk.new ≡ desk.old }
-        ensures gives { Gives (hall_in result.met.value.hall) slot result.answer }
-        ensures by_events { ForEachKept result.met.value.hall.slots (GivesFor (hall_in result.met.value.hall) slot result.answer) }
-        ensures done { OnSome result.answer
-            (IsDone (hall_in result.met.value.hall) (hall_in result.left.value.hall) (take_slot slot)) }
-        ensures none { IfNone result.answer (IsSameHall (hall_in result.met.value.hall) (hall_in result.left.value.hall)) }
-        ensures issuer { result.left.value.hall.issuer ≡ result.met.value.hall.issuer }
+        ensures takes { Takes result.met.value.hall result.left.value.hall slot result.answer }
         ensures marks { result.left.value.marks.all.items ≡ result.met.value.marks.all.items }
         ensures counted { result.left.value.slots ≡ result.met.value.slots }
         ensures opening { result.left.value.opening ≡ result.met.value.opening }
@@ -419,8 +412,7 @@ impl<L: Ledger, T: Trace> Office<L, T> {
         slot: u64,
     ) -> Witnessed<Option<u64>, L, T>
         ensures desk { desk.new ≡ desk.old }
-        ensures by_past { ForEachPast (hall_in result.met.value.hall) (λ past. result.answer ≡ point_of past slot) }
-        ensures by_events { ForEachKept result.met.value.hall.slots (λ _ events. result.answer ≡ point_in events slot) }
+        ensures tells { TellsPoint result.met.value.hall slot result.answer }
         ensures same { result.left.value ≡ result.met.value }
     {
         let _ = desk;
@@ -432,8 +424,7 @@ impl<L: Ledger, T: Trace> Office<L, T> {
     /// The reply of a slot is not wanted any more, as `Hall::forget` says. It takes no memory.
     pub fn forget<R: Wait>(&self, rt: &R, desk: &mut Desk<L, T>, slot: u64) -> Witnessed<(), L, T>
         ensures desk { desk.new ≡ desk.old }
-        ensures done { IsDone (hall_in result.met.value.hall) (hall_in result.left.value.hall) (forget_slot slot) }
-        ensures issuer { result.left.value.hall.issuer ≡ result.met.value.hall.issuer }
+        ensures forgets { Forgets result.met.value.hall result.left.value.hall slot }
         ensures marks { result.left.value.marks.all.items ≡ result.met.value.marks.all.items }
         ensures counted { result.left.value.slots ≡ result.met.value.slots }
         ensures opening { result.left.value.opening ≡ result.met.value.opening }
