@@ -132,7 +132,7 @@ impl<L: Ledger, T: Trace> Port<L, T> {
 
     /// The reply of a slot, as `Office::take` gives it.
     pub(crate) fn take<R: Wait>(&self, rt: &R, slot: u64) -> Witnessed<Option<Released>, L, T>
-        ensures { Takes result.met.value.hall result.left.value.hall slot result.answer }
+        ensures { Takes result.met.value result.left.value slot result.answer }
     {
         let mut desk = self.desk.lock(rt);
         self.office.take(rt, &mut desk, slot)
@@ -140,7 +140,7 @@ impl<L: Ledger, T: Trace> Port<L, T> {
 
     /// How much has to be durable before the reply of a slot is told, as `Office::point` says.
     pub(crate) fn point<R: Wait>(&self, rt: &R, slot: u64) -> Witnessed<Option<u64>, L, T>
-        ensures { TellsPoint result.met.value.hall slot result.answer }
+        ensures { TellsPoint result.met.value slot result.answer }
     {
         let mut desk = self.desk.lock(rt);
         self.office.point(rt, &mut desk, slot)
@@ -148,7 +148,7 @@ impl<L: Ledger, T: Trace> Port<L, T> {
 
     /// The reply of a slot is not wanted any more, as `Office::forget` says.
     pub(crate) fn forget<R: Wait>(&self, rt: &R, slot: u64) -> Witnessed<(), L, T>
-        ensures { Forgets result.met.value.hall result.left.value.hall slot }
+        ensures { Forgets result.met.value result.left.value slot }
     {
         let mut desk = self.desk.lock(rt);
         self.office.forget(rt, &mut desk, slot)
