@@ -1,6 +1,7 @@
 -- What each call under the lock tells of what it met there and of what it leaves, and of its desk: one record for each call,
 -- which the office cites, and what it keeps.
 use Rattle.std.specs.Prelude.{◌≡◌, ℕ, List, map, Option, Result, IfOk, IfErr, OnOk, OnErr, OnSome, IfSome, IfNone}
+use Rattle.std.specs.declared.sync.ledger.Ledger.{Ghosts as LedgerGhosts}
 use Rattle.api_core.specs.declared.call.Call.{Call}
 use Rattle.group_commit.specs.Issuer.{issued_in}
 use Rattle.group_commit.specs.IssuerHalf.{has_same_lent}
@@ -16,20 +17,21 @@ use Rattle.hall_core.specs.Hall.{StandsFor, ForEachPast, IsSameHall, IsAsDurable
 use Rattle.hall_core.specs.OpenSlots.{ForEachKept}
 use Rattle.hall_core.specs.Slots.{point_in, point_of}
 use Rattle.receipts.specs.declared.mark.Mark.{Mark}
-use Rattle.std.specs.declared.sync.ledger.Ledger.{Ghosts as LedgerGhosts}
-use Rattle.receipts.specs.declared.opening.OpeningTrace.{Ghosts as OpeningGhosts}
 use Rattle.receipts.specs.declared.mark.Trace.{Ghosts as TraceGhosts}
+use Rattle.receipts.specs.declared.opening.OpeningTrace.{Ghosts as OpeningGhosts}
 use Rattle.receipts.specs.declared.desk.Desk.{Desk}
 use Rattle.receipts.specs.declared.kept.Kept.{Kept}
 use Rattle.receipts.specs.declared.kept.Loan.{Loan}
-use Rattle.receipts.specs.Answers.{AddsAtMostOne, AddsAnswered, AddsAsked, IsToldMore, IsToldIfAny, IsSlotOf, IsArrivalRefusal, IsTickRefusal}
+use Rattle.receipts.specs.Answers.{AddsAtMostOne, AddsAnswered, AddsAsked, IsToldMore, IsToldIfAny, IsSlotOf}
+use Rattle.receipts.specs.Answers.{IsArrivalRefusal, IsTickRefusal}
 use Rattle.receipts.specs.Kept.{hall_in, issuer_in, IsToldByLoan, IsNotLentTo}
 use Rattle.receipts.specs.Marks.{KeepsHistories}
 use Rattle.receipts.specs.Serving.{IsToldOf}
 use Rattle.receipts.specs.UnderLock.{DoesAt, AnswersItsNumber, AddBoth, LendsAs, Counts, IsNotMade, IsNotMoved, IsSameUnderLock, IsNoFault}
 
 -- the marks under the lock
-abbrev pub marks_in : {L T O : Type 0} {l : LedgerGhosts L} {g : TraceGhosts T O} {o : OpeningGhosts O} → Kept L T O l g o → List Mark
+abbrev pub marks_in : {L T O : Type 0} {l : LedgerGhosts L} {g : TraceGhosts T O} {o : OpeningGhosts O}
+    → Kept L T O l g o → List Mark
 marks_in {g = g} kept = map g.mark kept.marks.all.items
 
 -- the marks of a desk
@@ -43,8 +45,9 @@ IsLeftSame met left = IsSameUnderLock (hall_in met.hall) (hall_in left.hall) (ma
 
 -- just this request was done, with the slot that is answered, and its command was marked here and at the desk; a refusal is
 -- the first check that fails, and changes nothing
-pub record Arrives {L T O : Type 0} {l : LedgerGhosts L} {g : TraceGhosts T O} {o : OpeningGhosts O} (met left : Kept L T O l g o) (desk desk' : Desk L T O g o) (call : Call) (now : ℕ)
-    (words : List ℕ) (result : Result (ℕ × ℕ) HallError) : Type 0 where
+pub record Arrives {L T O : Type 0} {l : LedgerGhosts L} {g : TraceGhosts T O} {o : OpeningGhosts O}
+    (met left : Kept L T O l g o) (desk desk' : Desk L T O g o) (call : Call) (now : ℕ) (words : List ℕ)
+    (result : Result (ℕ × ℕ) HallError) : Type 0 where
   pub marks : IfOk result (λ r. AddsAtMostOne desk.number (own_of desk) (own_of desk') r.0)
   pub told : IfOk result (λ r. IsToldMore desk.told desk'.told r.0)
   pub slot : IfOk result (λ r. IsSlotOf desk.number r.1)
@@ -52,7 +55,8 @@ pub record Arrives {L T O : Type 0} {l : LedgerGhosts L} {g : TraceGhosts T O} {
   pub err : OnErr result ((desk'.own.items ≡ desk.own.items) × (desk'.told ≡ desk.told))
   pub asked : OnOk result (AddsAsked (drawn_by words) call (own_of desk) (own_of desk'))
   pub refused : IfErr result (IsArrivalRefusal desk.told)
-  pub done : IfOk result (λ r. DoesAt (hall_in met.hall) (hall_in left.hall) (request r.1 call now words) desk.number (own_of desk) (own_of desk'))
+  pub done : IfOk result (λ r. DoesAt (hall_in met.hall) (hall_in left.hall) (request r.1 call now words)
+      desk.number (own_of desk) (own_of desk'))
   pub both : OnOk result (AddBoth (own_of desk) (own_of desk') (marks_in met) (marks_in left))
   pub histories : OnOk result (KeepsHistories desk.number (marks_in met) (own_of desk) (marks_in left) (own_of desk'))
   pub unmarked : OnErr result (left.marks.all.items ≡ met.marks.all.items)
@@ -70,8 +74,8 @@ pub record Arrives {L T O : Type 0} {l : LedgerGhosts L} {g : TraceGhosts T O} {
 
 -- just this move was made, and its command was marked here and at the desk; a refusal is the first check that fails, and
 -- changes nothing
-pub record Moves {L T O : Type 0} {l : LedgerGhosts L} {g : TraceGhosts T O} {o : OpeningGhosts O} (met left : Kept L T O l g o) (desk desk' : Desk L T O g o) (now : ℕ)
-    (result : Result (Option ℕ) HallError) : Type 0 where
+pub record Moves {L T O : Type 0} {l : LedgerGhosts L} {g : TraceGhosts T O} {o : OpeningGhosts O}
+    (met left : Kept L T O l g o) (desk desk' : Desk L T O g o) (now : ℕ) (result : Result (Option ℕ) HallError) : Type 0 where
   pub marks : IfOk result (AddsAnswered desk.number (own_of desk) (own_of desk'))
   pub told : IfOk result (IsToldIfAny desk.told desk'.told)
   pub number : desk'.number ≡ desk.number
@@ -93,8 +97,8 @@ pub record Moves {L T O : Type 0} {l : LedgerGhosts L} {g : TraceGhosts T O} {o 
   pub kept_answered : OnErr result (desk'.answered.items ≡ desk.answered.items)
 
 -- just all that is pending was lent, or nothing was, and then the desk is told how much is durable
-pub record LendsTo {L T O : Type 0} {l : LedgerGhosts L} {g : TraceGhosts T O} {o : OpeningGhosts O} (met left : Kept L T O l g o) (desk desk' : Desk L T O g o)
-    (result : Result Loan HallError) : Type 0 where
+pub record LendsTo {L T O : Type 0} {l : LedgerGhosts L} {g : TraceGhosts T O} {o : OpeningGhosts O}
+    (met left : Kept L T O l g o) (desk desk' : Desk L T O g o) (result : Result Loan HallError) : Type 0 where
   pub told : IfOk result (IsToldByLoan desk.told desk'.told)
   pub number : desk'.number ≡ desk.number
   pub own : desk'.own.items ≡ desk.own.items
@@ -108,8 +112,9 @@ pub record LendsTo {L T O : Type 0} {l : LedgerGhosts L} {g : TraceGhosts T O} {
   pub opening : left.opening ≡ met.opening
 
 -- just the batch that was out is durable, which the desk is told, or there is a reason why it is not
-pub record Settles {L T O : Type 0} {l : LedgerGhosts L} {g : TraceGhosts T O} {o : OpeningGhosts O} (met left : Kept L T O l g o) (desk desk' : Desk L T O g o)
-    (outcome : Result Written Failed) (result : Result ℕ HallError) : Type 0 where
+pub record Settles {L T O : Type 0} {l : LedgerGhosts L} {g : TraceGhosts T O} {o : OpeningGhosts O}
+    (met left : Kept L T O l g o) (desk desk' : Desk L T O g o) (outcome : Result Written Failed)
+    (result : Result ℕ HallError) : Type 0 where
   pub told : IfOk result (IsToldMore desk.told desk'.told)
   pub number : desk'.number ≡ desk.number
   pub own : desk'.own.items ≡ desk.own.items
@@ -125,7 +130,8 @@ pub record Settles {L T O : Type 0} {l : LedgerGhosts L} {g : TraceGhosts T O} {
   pub opening : left.opening ≡ met.opening
 
 -- the reply of this slot was taken, where all that it shows is durable
-pub record Takes {L T O : Type 0} {l : LedgerGhosts L} {g : TraceGhosts T O} {o : OpeningGhosts O} (met left : Kept L T O l g o) (asked : ℕ) (result : Option Released) : Type 0 where
+pub record Takes {L T O : Type 0} {l : LedgerGhosts L} {g : TraceGhosts T O} {o : OpeningGhosts O}
+    (met left : Kept L T O l g o) (asked : ℕ) (result : Option Released) : Type 0 where
   pub slot : IfSome result (λ released. slot_told released ≡ asked)
   pub gives : Gives (hall_in met.hall) asked result
   pub by_events : ForEachKept met.hall.slots (GivesFor (hall_in met.hall) asked result)
@@ -137,12 +143,14 @@ pub record Takes {L T O : Type 0} {l : LedgerGhosts L} {g : TraceGhosts T O} {o 
   pub opening : left.opening ≡ met.opening
 
 -- how many commands have to be durable before the reply of this slot is told, where it is computed and still wanted
-pub record TellsPoint {L T O : Type 0} {l : LedgerGhosts L} {g : TraceGhosts T O} {o : OpeningGhosts O} (met : Kept L T O l g o) (slot : ℕ) (result : Option ℕ) : Type 0 where
+pub record TellsPoint {L T O : Type 0} {l : LedgerGhosts L} {g : TraceGhosts T O} {o : OpeningGhosts O}
+    (met : Kept L T O l g o) (slot : ℕ) (result : Option ℕ) : Type 0 where
   pub by_past : ForEachPast (hall_in met.hall) (λ past. result ≡ point_of past slot)
   pub by_events : ForEachKept met.hall.slots (λ _ events. result ≡ point_in events slot)
 
 -- the reply of this slot is not wanted any more
-pub record Forgets {L T O : Type 0} {l : LedgerGhosts L} {g : TraceGhosts T O} {o : OpeningGhosts O} (met left : Kept L T O l g o) (slot : ℕ) : Type 0 where
+pub record Forgets {L T O : Type 0} {l : LedgerGhosts L} {g : TraceGhosts T O} {o : OpeningGhosts O}
+    (met left : Kept L T O l g o) (slot : ℕ) : Type 0 where
   pub done : IsDone (hall_in met.hall) (hall_in left.hall) (forget_slot slot)
   pub issuer : left.hall.issuer ≡ met.hall.issuer
   pub marks : left.marks.all.items ≡ met.marks.all.items
