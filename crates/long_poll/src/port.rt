@@ -1,10 +1,10 @@
 // What the futures of one port share.
-ghost use Rattle.std.specs.Prelude.{◌≡◌, ◌≤◌, IfOk, IfErr, OnOk, IfSome, OnSome, IfNone};
+ghost use Rattle.std.specs.Prelude.{◌≡◌, ◌≤◌, IfOk, IfErr, OnOk};
 ghost use Rattle.invoke_records.specs.Spelling.{greatest_moment};
-ghost use Rattle.hall_core.specs.Hall.{slot_told, request, Gives, IsDone, IsSameHall, ForEachPast};
-ghost use Rattle.hall_core.specs.Past.{tick, take_slot, forget_slot};
-ghost use Rattle.hall_core.specs.Slots.{point_of};
+ghost use Rattle.hall_core.specs.Hall.{request, IsDone};
+ghost use Rattle.hall_core.specs.Past.{tick};
 ghost use Rattle.receipts.specs.Kept.{hall_in};
+ghost use Rattle.receipts.specs.Told.{TellsPoint, Takes, Forgets};
 ghost use Rattle.receipts.specs.UnderLock.{AnswersItsNumber};
 ghost use Rattle.long_poll.specs.Port.{IsSlot, IsRequestRefusal, IsMoveRefusal, IsRequestReason, IsMoveReason};
 
@@ -132,11 +132,7 @@ impl<L: Ledger, T: Trace> Port<L, T> {
 
     /// The reply of a slot, as `Office::take` gives it.
     pub(crate) fn take<R: Wait>(&self, rt: &R, slot: u64) -> Witnessed<Option<Released>, L, T>
-        ensures slot { IfSome result.answer (λ released. slot_told released ≡ slot) }
-        ensures gives { Gives (hall_in result.met.value.hall) slot result.answer }
-        ensures done { OnSome result.answer
-            (IsDone (hall_in result.met.value.hall) (hall_in result.left.value.hall) (take_slot slot)) }
-        ensures none { IfNone result.answer (IsSameHall (hall_in result.met.value.hall) (hall_in result.left.value.hall)) }
+        ensures { Takes result.met.value result.left.value slot result.answer }
     {
         let mut desk = self.desk.lock(rt);
         self.office.take(rt, &mut desk, slot)
@@ -144,7 +140,7 @@ impl<L: Ledger, T: Trace> Port<L, T> {
 
     /// How much has to be durable before the reply of a slot is told, as `Office::point` says.
     pub(crate) fn point<R: Wait>(&self, rt: &R, slot: u64) -> Witnessed<Option<u64>, L, T>
-        ensures point { ForEachPast (hall_in result.met.value.hall) (λ past. result.answer ≡ point_of past slot) }
+        ensures { TellsPoint result.met.value slot result.answer }
     {
         let mut desk = self.desk.lock(rt);
         self.office.point(rt, &mut desk, slot)
@@ -152,7 +148,7 @@ impl<L: Ledger, T: Trace> Port<L, T> {
 
     /// The reply of a slot is not wanted any more, as `Office::forget` says.
     pub(crate) fn forget<R: Wait>(&self, rt: &R, slot: u64) -> Witnessed<(), L, T>
-        ensures done { IsDone (hall_in result.met.value.hall) (hall_in result.left.value.hall) (forget_slot slot) }
+        ensures { Forgets result.met.value result.left.value slot }
     {
         let mut desk = self.desk.lock(rt);
         self.office.forget(rt, &mut desk, slot)

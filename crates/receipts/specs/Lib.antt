@@ -9,3 +9,4 @@ pub mod Serving
 pub mod Tallies
 pub mod Sights
 pub mod laws
+pub mod Told

@@ -1,26 +1,11 @@
 // What the office keeps under its lock: the hall, and the marks of all that it issued.
-ghost use Rattle.std.specs.Prelude.{◌≡◌, ◌+◌, ◌<◌, ◌≤◌, ◌^◌, ◌++◌, map, length, vec_len, vec_capacity, IfOk, IfErr, OnOk, OnErr, OnSome, IfSome, IfNone, option_map};
+ghost use Rattle.std.specs.Prelude.{◌≡◌, ◌+◌, ◌<◌, ◌≤◌, ◌^◌, ◌++◌, map, length, vec_len, vec_capacity, IfOk, IfErr, OnOk, option_map};
 ghost use Rattle.group_commit.specs.Issuer.{issued_in};
-ghost use Rattle.receipts.specs.Marks.{marks_by, AreNumbered, KeepsHistories};
+ghost use Rattle.receipts.specs.Marks.{marks_by, AreNumbered};
 ghost use Rattle.receipts.specs.Following.{Follows};
-ghost use Rattle.receipts.specs.Answers.{AddsAtMostOne, AddsAnswered, IsToldMore, IsToldIfAny, IsSlotOf, AddsAsked, IsMismatch, IsArrivalRefusal, IsTickRefusal};
-ghost use Rattle.receipts.specs.Kept.{hall_in, issuer_in, IsToldByLoan, IsNotLentTo, number_of, either_number};
-ghost use Rattle.receipts.specs.UnderLock.{DoesAt, AnswersItsNumber, AddBoth, LendsAs, Counts, next_slot, IsNotMade, IsNotMoved, IsSameUnderLock, IsNoFault};
+ghost use Rattle.receipts.specs.Kept.{hall_in, issuer_in, number_of, either_number};
 ghost use Rattle.receipts.specs.Running.{HasRuns};
-ghost use Rattle.receipts.specs.Serving.{IsToldOf};
-ghost use Rattle.receipts.specs.Sights.{Withholds};
-ghost use Rattle.invoke_records.specs.Spelling.{greatest_moment};
-ghost use Rattle.group_commit.specs.Batch.{last_in};
-ghost use Rattle.hall_core.specs.Past.{tick, take_slot, forget_slot};
-ghost use Rattle.hall_core.specs.OpenSlots.{ForEachKept};
-ghost use Rattle.hall_core.specs.Slots.{open_slots, point_in, point_of};
-ghost use Rattle.hall_core.specs.Hall.{StandsFor, ForEachPast, IsSameHall, IsAsDurable, request, pending_in, open_slot_count, slot_told, Gives, GivesFor, IsDone};
-ghost use Rattle.hall_core.specs.Hall.{AnswersPolls, answered_slots};
-ghost use Rattle.hall_core.specs.Halves.{HasSameParts, IsNotDurable};
-ghost use Rattle.hall_core.specs.Plans.{drawn_by};
-ghost use Rattle.hall_core.specs.declared.error.HallError.TheVariants.{WornOut};
-ghost use Rattle.group_commit.specs.IssuerHalf.{has_same_lent};
-ghost use Rattle.group_commit.specs.Lending.{SettlesBy};
+ghost use Rattle.hall_core.specs.Hall.{IsSameHall, answered_slots};
 
 use crate::desk::Desk;
 use crate::desk_count::DeskCount;
@@ -105,6 +90,16 @@ fn hand_out(hall: &mut Hall<IssueHalf>, answered: &mut Vec<u64>)
 }
 
 impl<L: Ledger, T: Trace> Kept<L, T> {
+    ghost use Rattle.receipts.specs.Told.{Arrives, Moves, LendsTo, Settles, Takes, TellsPoint, Forgets};
+    ghost use Rattle.receipts.specs.Answers.{IsSlotOf, IsMismatch};
+    ghost use Rattle.receipts.specs.UnderLock.{next_slot};
+    ghost use Rattle.receipts.specs.Sights.{Withholds};
+    ghost use Rattle.invoke_records.specs.Spelling.{greatest_moment};
+    ghost use Rattle.group_commit.specs.Batch.{last_in};
+    ghost use Rattle.hall_core.specs.Slots.{open_slots};
+    ghost use Rattle.hall_core.specs.Hall.{ForEachPast, pending_in, open_slot_count};
+    ghost use Rattle.hall_core.specs.declared.error.HallError.TheVariants.{WornOut};
+
     // What the hall issued is not below what the desk was told.
     fn check(&self, desk: &Desk<L, T>) -> Result<(), HallError>
         ensures ok { OnOk result (desk.now.told ≤ issued_in (issuer_in self.now.hall)) }
@@ -141,38 +136,7 @@ impl<L: Ledger, T: Trace> Kept<L, T> {
         now: u64,
         words: [u64; 2],
     ) -> Result<(Ticket, u64), HallError>
-        ensures marks { IfOk result (λ r.
-            AddsAtMostOne desk.old.number (map T.mark desk.old.own.items) (map T.mark desk.new.own.items) r.0) }
-        ensures told { IfOk result (λ r. IsToldMore desk.old.told desk.new.told r.0) }
-        ensures slot { IfOk result (λ r. IsSlotOf desk.old.number r.1) }
-        ensures number { desk.new.number ≡ desk.old.number }
-        ensures err { OnErr result ((desk.new.own.items ≡ desk.old.own.items) × (desk.new.told ≡ desk.old.told)) }
-        ensures asked { OnOk result (AddsAsked (drawn_by words) call (map T.mark desk.old.own.items) (map T.mark desk.new.own.items)) }
-        ensures refused { IfErr result (IsArrivalRefusal desk.old.told) }
-
-        // Just this request is done, with the slot that is answered, and its command is marked here and at the desk. A refusal
-        // is the first check that fails, and changes nothing.
-        ensures done { IfOk result (λ r. DoesAt (hall_in self.old.hall) (hall_in self.new.hall) (request r.1 call now words)
-            desk.old.number (map T.mark desk.old.own.items) (map T.mark desk.new.own.items)) }
-        ensures both { OnOk result (AddBoth (map T.mark desk.old.own.items) (map T.mark desk.new.own.items)
-            (map T.mark self.old.marks.all.items) (map T.mark self.new.marks.all.items)) }
-        ensures histories { OnOk result (KeepsHistories desk.old.number
-            (map T.mark self.old.marks.all.items) (map T.mark desk.old.own.items)
-            (map T.mark self.new.marks.all.items) (map T.mark desk.new.own.items)) }
-        ensures unmarked { OnErr result (self.new.marks.all.items ≡ self.old.marks.all.items) }
-        ensures counts { IfOk result (λ r. Counts self.old.slots self.new.slots desk.old.number r.1) }
-        ensures ticket { IfOk result (λ r. r.0 ≡ issued_in (issuer_in self.new.hall)) }
-        ensures kept { OnOk result (IsAsDurable (hall_in self.old.hall) (hall_in self.new.hall)) }
-        ensures no_call { has_same_lent self.old.hall.issuer self.new.hall.issuer }
-        ensures opening { self.new.opening ≡ self.old.opening }
-        ensures reason { IfErr result (IsNotMade (hall_in self.old.hall) self.old.slots
-            (record { told = desk.old.told; desk = desk.old.number; call = call; now = now; words = words })) }
-        ensures same { OnErr result (IsSameUnderLock (hall_in self.old.hall) (hall_in self.new.hall)
-            (map T.mark self.old.marks.all.items) (map T.mark self.new.marks.all.items) self.old.slots self.new.slots) }
-
-        // The desk has the slots of just the polls that this request answered.
-        ensures answered { IfOk result (λ r. AnswersPolls (hall_in self.old.hall) (request r.1 call now words) desk.new.answered.items) }
-        ensures kept_answered { OnErr result (desk.new.answered.items ≡ desk.old.answered.items) }
+        ensures { Arrives self.old self.new desk.old desk.new call now words result }
     {
         self.check(desk)?;
         let slot = self.next_slot(desk)?;
@@ -202,33 +166,7 @@ impl<L: Ledger, T: Trace> Kept<L, T> {
     /// A move of the hall, and a mark of its command.
     pub(crate) fn tick(&mut self, desk: &mut Desk<L, T>, now: u64) -> Result<Option<u64>, HallError>
         requires { now ≤ greatest_moment }
-        ensures marks { IfOk result (AddsAnswered desk.old.number (map T.mark desk.old.own.items) (map T.mark desk.new.own.items)) }
-        ensures told { IfOk result (IsToldIfAny desk.old.told desk.new.told) }
-        ensures number { desk.new.number ≡ desk.old.number }
-        ensures err { OnErr result ((desk.new.own.items ≡ desk.old.own.items) × (desk.new.told ≡ desk.old.told)) }
-        ensures refused { IfErr result (IsTickRefusal desk.old.told) }
-
-        // Just this move is made, and its command is marked here and at the desk.
-        ensures done { OnOk result (DoesAt (hall_in self.old.hall) (hall_in self.new.hall) (tick now)
-            desk.old.number (map T.mark desk.old.own.items) (map T.mark desk.new.own.items)) }
-        ensures answer { IfOk result (AnswersItsNumber (hall_in self.old.hall) (tick now)) }
-        ensures both { OnOk result (AddBoth (map T.mark desk.old.own.items) (map T.mark desk.new.own.items)
-            (map T.mark self.old.marks.all.items) (map T.mark self.new.marks.all.items)) }
-        ensures histories { OnOk result (KeepsHistories desk.old.number
-            (map T.mark self.old.marks.all.items) (map T.mark desk.old.own.items)
-            (map T.mark self.new.marks.all.items) (map T.mark desk.new.own.items)) }
-        ensures unmarked { OnErr result (self.new.marks.all.items ≡ self.old.marks.all.items) }
-        ensures counted { self.new.slots ≡ self.old.slots }
-        ensures kept { OnOk result (IsAsDurable (hall_in self.old.hall) (hall_in self.new.hall)) }
-        ensures no_call { has_same_lent self.old.hall.issuer self.new.hall.issuer }
-        ensures opening { self.new.opening ≡ self.old.opening }
-        ensures reason { IfErr result (IsNotMoved (hall_in self.old.hall) desk.old.told now) }
-        ensures same { OnErr result (IsSameUnderLock (hall_in self.old.hall) (hall_in self.new.hall)
-            (map T.mark self.old.marks.all.items) (map T.mark self.new.marks.all.items) self.old.slots self.new.slots) }
-
-        // The desk has the slots of just the polls that this move answered.
-        ensures answered { OnOk result (AnswersPolls (hall_in self.old.hall) (tick now) desk.new.answered.items) }
-        ensures kept_answered { OnErr result (desk.new.answered.items ≡ desk.old.answered.items) }
+        ensures { Moves self.old self.new desk.old desk.new now result }
     {
         self.check(desk)?;
         self.marks.reserve(desk)?;
@@ -246,18 +184,7 @@ impl<L: Ledger, T: Trace> Kept<L, T> {
 
     /// What is there to write, which is then out; where nothing is, the desk is told how much is durable.
     pub(crate) fn lend(&mut self, desk: &mut Desk<L, T>) -> Result<Loan, HallError>
-        ensures told { IfOk result (IsToldByLoan desk.old.told desk.new.told) }
-        ensures number { desk.new.number ≡ desk.old.number }
-        ensures own { desk.new.own.items ≡ desk.old.own.items }
-        ensures answered { desk.new.answered ≡ desk.old.answered }
-        ensures err { OnErr result (desk.new.told ≡ desk.old.told) }
-        ensures refused { IfErr result (IsNotLentTo desk.old.told self.old.hall.issuer) }
-        ensures no_fault { IfErr result IsNoFault }
-        ensures lends { IfOk result (LendsAs self.old.hall.issuer self.new.hall.issuer) }
-        ensures kept { OnErr result (has_same_lent self.old.hall.issuer self.new.hall.issuer) }
-        ensures same { IsSameUnderLock (hall_in self.old.hall) (hall_in self.new.hall)
-            (map T.mark self.old.marks.all.items) (map T.mark self.new.marks.all.items) self.old.slots self.new.slots }
-        ensures opening { self.new.opening ≡ self.old.opening }
+        ensures { LendsTo self.old self.new desk.old desk.new result }
     {
         self.check(desk)?;
         match self.hall.lend() {
@@ -278,19 +205,7 @@ impl<L: Ledger, T: Trace> Kept<L, T> {
         outcome: Result<Written, Failed>,
     ) -> Result<Durable, HallError>
         requires { desk.old.told ≤ last_in outcome }
-        ensures told { IfOk result (IsToldMore desk.old.told desk.new.told) }
-        ensures number { desk.new.number ≡ desk.old.number }
-        ensures own { desk.new.own.items ≡ desk.old.own.items }
-        ensures answered { desk.new.answered ≡ desk.old.answered }
-        ensures err { OnErr result (desk.new.told ≡ desk.old.told) }
-        ensures refused { IfErr result (IsNotDurable self.old.hall.issuer self.new.hall.issuer outcome) }
-        ensures settles { IfOk result (SettlesBy self.old.hall.issuer self.new.hall.issuer outcome) }
-        ensures tells { IsToldOf outcome result }
-        ensures stands { ForEachPast (hall_in self.old.hall) (λ past. StandsFor (hall_in self.new.hall) past) }
-        ensures parts { HasSameParts (hall_in self.old.hall) (hall_in self.new.hall) }
-        ensures marks { self.new.marks.all.items ≡ self.old.marks.all.items }
-        ensures counted { self.new.slots ≡ self.old.slots }
-        ensures opening { self.new.opening ≡ self.old.opening }
+        ensures { Settles self.old self.new desk.old desk.new outcome result }
     {
         match self.hall.settle(outcome) {
             Ok(durable) => {
@@ -303,34 +218,21 @@ impl<L: Ledger, T: Trace> Kept<L, T> {
 
     /// The reply of a slot, where it is told.
     pub(crate) fn take(&mut self, slot: u64) -> Option<Released>
-        ensures slot { IfSome result (λ released. slot_told released ≡ slot) }
-        ensures gives { Gives (hall_in self.old.hall) slot result }
-        ensures by_events { ForEachKept self.old.hall.slots (GivesFor (hall_in self.old.hall) slot result) }
-        ensures done { OnSome result (IsDone (hall_in self.old.hall) (hall_in self.new.hall) (take_slot slot)) }
-        ensures none { IfNone result (IsSameHall (hall_in self.old.hall) (hall_in self.new.hall)) }
-        ensures issuer { self.new.hall.issuer ≡ self.old.hall.issuer }
-        ensures marks { self.new.marks.all.items ≡ self.old.marks.all.items }
-        ensures counted { self.new.slots ≡ self.old.slots }
-        ensures opening { self.new.opening ≡ self.old.opening }
+        ensures { Takes self.old self.new slot result }
     {
         self.hall.take(slot)
     }
 
     /// How many commands have to be durable before the reply of a slot is told, where it is computed and still wanted.
     pub(crate) fn point(&self, slot: u64) -> Option<u64>
-        ensures by_past { ForEachPast (hall_in self.now.hall) (λ past. result ≡ point_of past slot) }
-        ensures by_events { ForEachKept self.now.hall.slots (λ _ events. result ≡ point_in events slot) }
+        ensures { TellsPoint self.now slot result }
     {
         self.hall.point(slot)
     }
 
     /// The reply of a slot is not wanted any more.
     pub(crate) fn forget(&mut self, slot: u64)
-        ensures done { IsDone (hall_in self.old.hall) (hall_in self.new.hall) (forget_slot slot) }
-        ensures issuer { self.new.hall.issuer ≡ self.old.hall.issuer }
-        ensures marks { self.new.marks.all.items ≡ self.old.marks.all.items }
-        ensures counted { self.new.slots ≡ self.old.slots }
-        ensures opening { self.new.opening ≡ self.old.opening }
+        ensures { Forgets self.old self.new slot }
     {
         self.hall.forget(slot);
     }

@@ -1,5 +1,5 @@
 // The office: the hall under its lock.
-ghost use Rattle.std.specs.Prelude.{◌≡◌, ◌≤◌, [], map, All, Err, vec_capacity, IfOk, IfErr, OnOk, OnErr, IfSome, OnSome, IfNone};
+ghost use Rattle.std.specs.Prelude.{◌≡◌, ◌≤◌, [], map, All, Err, vec_capacity, IfOk, IfErr, OnErr};
 ghost use Rattle.std.specs.List.{range_with_len};
 ghost use Rattle.invoke_records.specs.Spelling.{greatest_moment};
 ghost use Rattle.group_commit.specs.Broker.{pending_of, settings_of, table_in};
@@ -7,25 +7,16 @@ ghost use Rattle.group_commit.specs.IssuerBroker.{issuer_of};
 ghost use Rattle.group_commit.specs.Refusals.{FaultsHaveRisen};
 ghost use Rattle.group_commit.specs.Splitting.{broker_of, IsSplitReason};
 ghost use Rattle.hall_core.specs.declared.error.HallError.TheVariants as HallError;
-ghost use Rattle.hall_core.specs.Hall.{view_of, slot_told, request, Gives, GivesFor, IsDone, IsSameHall, IsAsDurable, AnswersPolls, ForEachPast, StandsFor};
-ghost use Rattle.hall_core.specs.OpenSlots.{ForEachKept};
-ghost use Rattle.hall_core.specs.Past.{tick, take_slot, forget_slot};
-ghost use Rattle.hall_core.specs.Slots.{point_in, point_of};
+ghost use Rattle.hall_core.specs.Hall.{view_of, ForEachPast, StandsFor};
 ghost use Rattle.hall_core.specs.Fresh.{IsFresh};
-ghost use Rattle.hall_core.specs.Halves.{HasSameParts, IsNotDurable};
+ghost use Rattle.hall_core.specs.Halves.{HasSameParts};
 ghost use Rattle.receipts.specs.Desks.{desk_count};
-ghost use Rattle.receipts.specs.Answers.{AddsAtMostOne, AddsAnswered, IsToldMore, IsToldIfAny, IsSlotOf};
-ghost use Rattle.receipts.specs.Answers.{AddsAsked, IsArrivalRefusal, IsTickRefusal, IsCommitRefusal};
-ghost use Rattle.receipts.specs.Kept.{hall_in, issuer_in, IsToldByLoan, IsNotLentTo};
-ghost use Rattle.receipts.specs.Marks.{KeepsHistories};
-ghost use Rattle.receipts.specs.Serving.{CommitsTo, IsToldOf};
-ghost use Rattle.receipts.specs.UnderLock.{DoesAt, AnswersItsNumber, AddBoth, LendsAs, Counts, IsNotMade, IsNotMoved, IsSameUnderLock, IsNoFault};
+ghost use Rattle.receipts.specs.Answers.{IsToldMore, IsCommitRefusal};
+ghost use Rattle.receipts.specs.Kept.{hall_in};
+ghost use Rattle.receipts.specs.Told.{Arrives, Moves, LendsTo, Settles, Takes, TellsPoint, Forgets};
+ghost use Rattle.receipts.specs.Serving.{CommitsTo};
 ghost use Rattle.receipts.specs.UnderLock.{IsCommitted, IsNotCommitted};
-ghost use Rattle.group_commit.specs.Issuer.{issued_in};
-ghost use Rattle.group_commit.specs.IssuerHalf.{has_same_lent};
 ghost use Rattle.group_commit.specs.Batch.{last_in};
-ghost use Rattle.group_commit.specs.Lending.{SettlesBy};
-ghost use Rattle.hall_core.specs.Plans.{drawn_by};
 
 use crate::desk::{Desk, desks};
 use crate::desk_count::DeskCount;
@@ -187,39 +178,7 @@ impl<L: Ledger, T: Trace> Office<L, T> {
         now: u64,
         words: [u64; 2],
     ) -> Witnessed<Result<(Ticket, u64), HallError>, L, T>
-        ensures marks { IfOk result.answer (λ r.
-            AddsAtMostOne desk.old.number (map T.mark desk.old.own.items) (map T.mark desk.new.own.items) r.0) }
-        ensures told { IfOk result.answer (λ r. IsToldMore desk.old.told desk.new.told r.0) }
-        ensures slot { IfOk result.answer (λ r. IsSlotOf desk.old.number r.1) }
-        ensures number { desk.new.number ≡ desk.old.number }
-        ensures err { OnErr result.answer ((desk.new.own.items ≡ desk.old.own.items) × (desk.new.told ≡ desk.old.told)) }
-        ensures asked { OnOk result.answer (AddsAsked (drawn_by words) call (map T.mark desk.old.own.items) (map T.mark desk.new.own.items)) }
-        ensures refused { IfErr result.answer (IsArrivalRefusal desk.old.told) }
-        ensures kept_answered { OnErr result.answer (desk.new.answered.items ≡ desk.old.answered.items) }
-
-        // Just this request was done to what was met under the lock, with the slot that is answered, and its command was marked
-        // there and at the desk. A refusal is the first check that failed there, and changed nothing.
-        ensures done { IfOk result.answer (λ r.
-            DoesAt (hall_in result.met.value.hall) (hall_in result.left.value.hall) (request r.1 call now words)
-            desk.old.number (map T.mark desk.old.own.items) (map T.mark desk.new.own.items)) }
-        ensures both { OnOk result.answer (AddBoth (map T.mark desk.old.own.items) (map T.mark desk.new.own.items)
-            (map T.mark result.met.value.marks.all.items) (map T.mark result.left.value.marks.all.items)) }
-        ensures histories { OnOk result.answer (KeepsHistories desk.old.number
-            (map T.mark result.met.value.marks.all.items) (map T.mark desk.old.own.items)
-            (map T.mark result.left.value.marks.all.items) (map T.mark desk.new.own.items)) }
-        ensures unmarked { OnErr result.answer (result.left.value.marks.all.items ≡ result.met.value.marks.all.items) }
-        ensures counts { IfOk result.answer (λ r. Counts result.met.value.slots result.left.value.slots desk.old.number r.1) }
-        ensures ticket { IfOk result.answer (λ r. r.0 ≡ issued_in (issuer_in result.left.value.hall)) }
-        ensures kept { OnOk result.answer (IsAsDurable (hall_in result.met.value.hall) (hall_in result.left.value.hall)) }
-        ensures no_call { has_same_lent result.met.value.hall.issuer result.left.value.hall.issuer }
-        ensures opening { result.left.value.opening ≡ result.met.value.opening }
-        ensures answered { IfOk result.answer (λ r.
-            AnswersPolls (hall_in result.met.value.hall) (request r.1 call now words) desk.new.answered.items) }
-        ensures reason { IfErr result.answer (IsNotMade (hall_in result.met.value.hall) result.met.value.slots
-            (record { told = desk.old.told; desk = desk.old.number; call = call; now = now; words = words })) }
-        ensures same { OnErr result.answer (IsSameUnderLock (hall_in result.met.value.hall) (hall_in result.left.value.hall)
-            (map T.mark result.met.value.marks.all.items) (map T.mark result.left.value.marks.all.items)
-            result.met.value.slots result.left.value.slots) }
+        ensures { Arrives result.met.value result.left.value desk.old desk.new call now words result.answer }
     {
         let mut kept = self.kept.lock(rt);
         let met = Seen::of(&*kept);
@@ -240,34 +199,7 @@ impl<L: Ledger, T: Trace> Office<L, T> {
         now: u64,
     ) -> Witnessed<Result<Option<u64>, HallError>, L, T>
         requires { now ≤ greatest_moment }
-        ensures marks { IfOk result.answer (AddsAnswered desk.old.number (map T.mark desk.old.own.items) (map T.mark desk.new.own.items)) }
-        ensures told { IfOk result.answer (IsToldIfAny desk.old.told desk.new.told) }
-        ensures number { desk.new.number ≡ desk.old.number }
-        ensures err { OnErr result.answer ((desk.new.own.items ≡ desk.old.own.items) × (desk.new.told ≡ desk.old.told)) }
-        ensures refused { IfErr result.answer (IsTickRefusal desk.old.told) }
-        ensures kept_answered { OnErr result.answer (desk.new.answered.items ≡ desk.old.answered.items) }
-
-        // Just this move was made in what was met under the lock, and its command was marked there and at the desk. A refusal is
-        // the first check that failed there, and changed nothing.
-        ensures done { OnOk result.answer (
-            DoesAt (hall_in result.met.value.hall) (hall_in result.left.value.hall) (tick now)
-            desk.old.number (map T.mark desk.old.own.items) (map T.mark desk.new.own.items)) }
-        ensures answer { IfOk result.answer (AnswersItsNumber (hall_in result.met.value.hall) (tick now)) }
-        ensures both { OnOk result.answer (AddBoth (map T.mark desk.old.own.items) (map T.mark desk.new.own.items)
-            (map T.mark result.met.value.marks.all.items) (map T.mark result.left.value.marks.all.items)) }
-        ensures histories { OnOk result.answer (KeepsHistories desk.old.number
-            (map T.mark result.met.value.marks.all.items) (map T.mark desk.old.own.items)
-            (map T.mark result.left.value.marks.all.items) (map T.mark desk.new.own.items)) }
-        ensures unmarked { OnErr result.answer (result.left.value.marks.all.items ≡ result.met.value.marks.all.items) }
-        ensures counted { result.left.value.slots ≡ result.met.value.slots }
-        ensures kept { OnOk result.answer (IsAsDurable (hall_in result.met.value.hall) (hall_in result.left.value.hall)) }
-        ensures no_call { has_same_lent result.met.value.hall.issuer result.left.value.hall.issuer }
-        ensures opening { result.left.value.opening ≡ result.met.value.opening }
-        ensures answered { OnOk result.answer (AnswersPolls (hall_in result.met.value.hall) (tick now) desk.new.answered.items) }
-        ensures reason { IfErr result.answer (IsNotMoved (hall_in result.met.value.hall) desk.old.told now) }
-        ensures same { OnErr result.answer (IsSameUnderLock (hall_in result.met.value.hall) (hall_in result.left.value.hall)
-            (map T.mark result.met.value.marks.all.items) (map T.mark result.left.value.marks.all.items)
-            result.met.value.slots result.left.value.slots) }
+        ensures { Moves result.met.value result.left.value desk.old desk.new now result.answer }
     {
         let mut kept = self.kept.lock(rt);
         let met = Seen::of(&*kept);
@@ -281,18 +213,7 @@ impl<L: Ledger, T: Trace> Office<L, T> {
         rt: &R,
         desk: &mut Desk<L, T>,
     ) -> Witnessed<Result<Loan, HallError>, L, T>
-        ensures told { IfOk result.answer (IsToldByLoan desk.old.told desk.new.told) }
-        ensures number { desk.new.number ≡ desk.old.number }
-        ensures own { desk.new.own.items ≡ desk.old.own.items }
-        ensures answered { desk.new.answered ≡ desk.old.answered }
-        ensures err { OnErr result.answer (desk.new.told ≡ desk.old.told) }
-        ensures refused { IfErr result.answer (IsNotLentTo desk.old.told result.met.value.hall.issuer) }
-        ensures no_fault { IfErr result.answer IsNoFault }
-        ensures lends { IfOk result.answer (LendsAs result.met.value.hall.issuer result.left.value.hall.issuer) }
-        ensures same { IsSameUnderLock (hall_in result.met.value.hall) (hall_in result.left.value.hall)
-            (map T.mark result.met.value.marks.all.items) (map T.mark result.left.value.marks.all.items)
-            result.met.value.slots result.left.value.slots }
-        ensures opening { result.left.value.opening ≡ result.met.value.opening }
+        ensures { LendsTo result.met.value result.left.value desk.old desk.new result.answer }
     {
         let mut kept = self.kept.lock(rt);
         let met = Seen::of(&*kept);
@@ -308,20 +229,7 @@ impl<L: Ledger, T: Trace> Office<L, T> {
         outcome: Result<Written, Failed>,
     ) -> Witnessed<Result<Durable, HallError>, L, T>
         requires { desk.old.told ≤ last_in outcome }
-        ensures told { IfOk result.answer (IsToldMore desk.old.told desk.new.told) }
-        ensures number { desk.new.number ≡ desk.old.number }
-        ensures own { desk.new.own.items ≡ desk.old.own.items }
-        ensures answered { desk.new.answered ≡ desk.old.answered }
-        ensures err { OnErr result.answer (desk.new.told ≡ desk.old.told) }
-        ensures refused { IfErr result.answer
-            (IsNotDurable result.met.value.hall.issuer result.left.value.hall.issuer outcome) }
-        ensures settles { IfOk result.answer
-            (SettlesBy result.met.value.hall.issuer result.left.value.hall.issuer outcome) }
-        ensures tells { IsToldOf outcome result.answer }
-        ensures stands { ForEachPast (hall_in result.met.value.hall) (λ past. StandsFor (hall_in result.left.value.hall) past) }
-        ensures all { result.left.value.marks.all.items ≡ result.met.value.marks.all.items }
-        ensures counted { result.left.value.slots ≡ result.met.value.slots }
-        ensures opening { result.left.value.opening ≡ result.met.value.opening }
+        ensures { Settles result.met.value result.left.value desk.old desk.new outcome result.answer }
     {
         let mut kept = self.kept.lock(rt);
         let met = Seen::of(&*kept);
@@ -391,17 +299,8 @@ impl<L: Ledger, T: Trace> Office<L, T> {
         desk: &mut Desk<L, T>,
         slot: u64,
     ) -> Witnessed<Option<Released>, L, T>
-        ensures slot { IfSome result.answer (λ released. slot_told released ≡ slot) }
         ensures desk { desk.new ≡ desk.old }
-        ensures gives { Gives (hall_in result.met.value.hall) slot result.answer }
-        ensures by_events { ForEachKept result.met.value.hall.slots (GivesFor (hall_in result.met.value.hall) slot result.answer) }
-        ensures done { OnSome result.answer
-            (IsDone (hall_in result.met.value.hall) (hall_in result.left.value.hall) (take_slot slot)) }
-        ensures none { IfNone result.answer (IsSameHall (hall_in result.met.value.hall) (hall_in result.left.value.hall)) }
-        ensures issuer { result.left.value.hall.issuer ≡ result.met.value.hall.issuer }
-        ensures marks { result.left.value.marks.all.items ≡ result.met.value.marks.all.items }
-        ensures counted { result.left.value.slots ≡ result.met.value.slots }
-        ensures opening { result.left.value.opening ≡ result.met.value.opening }
+        ensures takes { Takes result.met.value result.left.value slot result.answer }
     {
         let _ = desk;
         let mut kept = self.kept.lock(rt);
@@ -419,8 +318,7 @@ impl<L: Ledger, T: Trace> Office<L, T> {
         slot: u64,
     ) -> Witnessed<Option<u64>, L, T>
         ensures desk { desk.new ≡ desk.old }
-        ensures by_past { ForEachPast (hall_in result.met.value.hall) (λ past. result.answer ≡ point_of past slot) }
-        ensures by_events { ForEachKept result.met.value.hall.slots (λ _ events. result.answer ≡ point_in events slot) }
+        ensures tells { TellsPoint result.met.value slot result.answer }
         ensures same { result.left.value ≡ result.met.value }
     {
         let _ = desk;
@@ -432,11 +330,7 @@ impl<L: Ledger, T: Trace> Office<L, T> {
     /// The reply of a slot is not wanted any more, as `Hall::forget` says. It takes no memory.
     pub fn forget<R: Wait>(&self, rt: &R, desk: &mut Desk<L, T>, slot: u64) -> Witnessed<(), L, T>
         ensures desk { desk.new ≡ desk.old }
-        ensures done { IsDone (hall_in result.met.value.hall) (hall_in result.left.value.hall) (forget_slot slot) }
-        ensures issuer { result.left.value.hall.issuer ≡ result.met.value.hall.issuer }
-        ensures marks { result.left.value.marks.all.items ≡ result.met.value.marks.all.items }
-        ensures counted { result.left.value.slots ≡ result.met.value.slots }
-        ensures opening { result.left.value.opening ≡ result.met.value.opening }
+        ensures forgets { Forgets result.met.value result.left.value slot }
     {
         let _ = desk;
         let mut kept = self.kept.lock(rt);

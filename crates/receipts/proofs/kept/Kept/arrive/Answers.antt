@@ -33,53 +33,90 @@ invariant_of-self-in-Err-1 g c = record {
   runs = ∥∥₁_map c.args.self.now.runs (runs_same (view_of half_view c.args.self.now.hall) (view_of half_view c.arrive.new.self) _ c.in-Err.ensures.err);
 }
 
-pub returns-in-Ok-clause-marks : goal.returns-in-Ok-clause-marks
-returns-in-Ok-clause-marks g c =
+pub returns-in-Ok : goal.returns-in-Ok
+returns-in-Ok g c =
     let e = c.in-Ok.ensures.issues in
-    let added : map g.T.Trace.mark c.note.new.desk.own.items ≡ map g.T.Trace.mark c.args.desk.now.own.items ++ marks_by c.args.desk.now.number c.in-Ok.issued = search rules in
-    adds_by _ _ _ _ e.command _ added e.answered _ (c.ticket-ticket.ensures ∙ e.continues.issued)
-
-pub returns-in-Ok-clause-asked : goal.returns-in-Ok-clause-asked
-returns-in-Ok-clause-asked g c =
-    let added : map g.T.Trace.mark c.note.new.desk.own.items ≡ map g.T.Trace.mark c.args.desk.now.own.items ++ marks_by c.args.desk.now.number c.in-Ok.issued = search rules in
-    adds_asked _ _ _ _ _ c.in-Ok.issued added c.in-Ok.ensures.asked
-
-pub returns-in-Ok-clause-done : goal.returns-in-Ok-clause-done
-returns-in-Ok-clause-done g c =
-    let added : map g.T.Trace.mark c.note.new.desk.own.items ≡ map g.T.Trace.mark c.args.desk.now.own.items ++ marks_by c.args.desk.now.number c.in-Ok.issued = search rules in
-    does_at _ _ _ c.in-Ok.issued (does_still _ _ _ _ c.in-Ok.issued c.hand_out.ensures.same c.in-Ok.ensures.ok) _ _ _ added
-
-pub returns-in-Ok-clause-answered : goal.returns-in-Ok-clause-answered
-returns-in-Ok-clause-answered g c past stands = c.hand_out.ensures.slots ∙ c.in-Ok.ensures.answered past stands
-
-pub returns-in-Ok-clause-both : goal.returns-in-Ok-clause-both
-returns-in-Ok-clause-both g c =
     let own : map g.T.Trace.mark c.note.new.desk.own.items ≡ map g.T.Trace.mark c.args.desk.now.own.items ++ marks_by c.args.desk.now.number c.in-Ok.issued = search rules in
     let all : map g.T.Trace.mark c.note.new.marks.all.items ≡ map g.T.Trace.mark c.args.self.now.marks.all.items ++ marks_by c.args.desk.now.number c.in-Ok.issued = search rules in
-    (marks_by c.args.desk.now.number c.in-Ok.issued, own, all)
-
-pub returns-in-Ok-clause-histories : goal.returns-in-Ok-clause-histories
-returns-in-Ok-clause-histories g c =
-    let own : map g.T.Trace.mark c.note.new.desk.own.items ≡ map g.T.Trace.mark c.args.desk.now.own.items ++ marks_by c.args.desk.now.number c.in-Ok.issued = search rules in
-    let all : map g.T.Trace.mark c.note.new.marks.all.items ≡ map g.T.Trace.mark c.args.self.now.marks.all.items ++ marks_by c.args.desk.now.number c.in-Ok.issued = search rules in
-    histories_by _ _ _ _ _ c.in-Ok.issued all own
-
-pub returns-in-Err-clause-refused : goal.returns-in-Err-clause-refused
-returns-in-Err-clause-refused g c =
-    refused_arrival _ (view_of half_view c.args.self.now.hall) (request c.in_ok-slot.slot c.args.call c.args.now c.args.words) c.in-Err.why c.in-Err.ensures.reason
+    record {
+      marks = adds_by _ _ _ _ e.command _ own e.answered _ (c.ticket-ticket.ensures ∙ e.continues.issued);
+      told = search rules;
+      slot = search rules;
+      number = search rules;
+      err = search rules;
+      asked = adds_asked _ _ _ _ _ c.in-Ok.issued own c.in-Ok.ensures.asked;
+      refused = search rules;
+      done = does_at _ _ _ c.in-Ok.issued (does_still _ _ _ _ c.in-Ok.issued c.hand_out.ensures.same c.in-Ok.ensures.ok) _ _ _ own;
+      both = (marks_by c.args.desk.now.number c.in-Ok.issued, own, all);
+      histories = histories_by _ _ _ _ _ c.in-Ok.issued all own;
+      unmarked = search rules;
+      counts = search rules;
+      ticket = search rules;
+      kept = search rules;
+      no_call = search rules;
+      opening = search rules;
+      reason = search rules;
+      same = search rules;
+      answered = λ past stands. c.hand_out.ensures.slots ∙ c.in-Ok.ensures.answered past stands;
+      kept_answered = search rules;
+    }
 
 -- ## Refusals
 
-pub returns-then-not-fits-clause-reason : goal.returns-then-not-fits-clause-reason
-returns-then-not-fits-clause-reason g c =
+pub returns-then-not-fits : goal.returns-then-not-fits
+returns-then-not-fits g c =
     let asking : Asking = record { told = c.args.desk.now.told; desk = c.args.desk.now.number; call = c.args.call; now = c.args.now; words = c.args.words } in
-    not_made_by_fit (view_of half_view c.args.self.now.hall) c.args.self.now.slots asking (search rules) (search rules) c.in_ok-slot.slot c.in_ok-slot.ensures.next
-    c.fits.result c.fits.ensures.all (search rules)
+    record {
+      marks = search rules;
+      told = search rules;
+      slot = search rules;
+      number = search rules;
+      err = search rules;
+      asked = search rules;
+      refused = search rules;
+      done = search rules;
+      both = search rules;
+      histories = search rules;
+      unmarked = search rules;
+      counts = search rules;
+      ticket = search rules;
+      kept = search rules;
+      no_call = search rules;
+      opening = search rules;
+      reason = not_made_by_fit (view_of half_view c.args.self.now.hall) c.args.self.now.slots asking (search rules) (search rules)
+          c.in_ok-slot.slot c.in_ok-slot.ensures.next c.fits.result c.fits.ensures.all (search rules);
+      same = search rules;
+      answered = search rules;
+      kept_answered = search rules;
+    }
 
-pub returns-in-Err-clause-reason : goal.returns-in-Err-clause-reason
-returns-in-Err-clause-reason g c =
+pub returns-in-Err : goal.returns-in-Err
+returns-in-Err g c =
     let asking : Asking = record { told = c.args.desk.now.told; desk = c.args.desk.now.number; call = c.args.call; now = c.args.now; words = c.args.words } in
     let can : CanBeAsked (view_of half_view c.args.self.now.hall) c.in_ok-slot.slot c.args.call c.args.now c.args.words
     = record { free = search rules; environment = search rules; fit = search rules } in
-    not_made_by_hall (view_of half_view c.args.self.now.hall) c.args.self.now.slots asking (search rules) (search rules) c.in_ok-slot.slot c.in_ok-slot.ensures.next
-    can c.in-Err.why (record { first = c.in-Err.ensures.refused; reason = c.in-Err.ensures.reason })
+    record {
+      marks = search rules;
+      told = search rules;
+      slot = search rules;
+      number = search rules;
+      err = search rules;
+      asked = search rules;
+      refused = refused_arrival _ (view_of half_view c.args.self.now.hall) (request c.in_ok-slot.slot c.args.call c.args.now c.args.words)
+          c.in-Err.why c.in-Err.ensures.reason;
+      done = search rules;
+      both = search rules;
+      histories = search rules;
+      unmarked = search rules;
+      counts = search rules;
+      ticket = search rules;
+      kept = search rules;
+      no_call = search rules;
+      opening = search rules;
+      reason = not_made_by_hall (view_of half_view c.args.self.now.hall) c.args.self.now.slots asking (search rules) (search rules)
+          c.in_ok-slot.slot c.in_ok-slot.ensures.next can c.in-Err.why
+          (record { first = c.in-Err.ensures.refused; reason = c.in-Err.ensures.reason });
+      same = search rules;
+      answered = search rules;
+      kept_answered = search rules;
+    }

@@ -14,5 +14,18 @@ invariant_of-self g c = record {
   runs = ∥∥₁_map c.args.self.now.runs (runs_same (view_of half_view c.args.self.now.hall) (view_of half_view c.lend.new.self) _ c.lend.ensures.same);
 }
 
-pub returns-in-Err-clause-no_fault : goal.returns-in-Err-clause-no_fault
-returns-in-Err-clause-no_fault g c = lent_no_fault _ c.in-Err.why c.in-Err.ensures.reason
+pub returns-in-Err : goal.returns-in-Err
+returns-in-Err g c =
+    record {
+      told = search rules;
+      number = search rules;
+      own = search rules;
+      answered = search rules;
+      err = search rules;
+      refused = search rules;
+      no_fault = lent_no_fault _ c.in-Err.why c.in-Err.ensures.reason;
+      lends = search rules;
+      kept = search rules;
+      same = search rules;
+      opening = search rules;
+    }

@@ -18,14 +18,40 @@ invariant_of-self g c =
       runs = ∥∥₁_map kept.runs (runs_kept (view_of half_view kept.hall) (view_of half_view c.settle.new.self) _ same.0 c.settle.ensures.stands);
     }
 
-pub returns-in-Ok-clause-told : goal.returns-in-Ok-clause-told
-returns-in-Ok-clause-told g c =
+pub returns-in-Ok : goal.returns-in-Ok
+returns-in-Ok g c =
     let number = settled_number _ _ _ _ c.in-Ok.ensures.ok in
     let told = c.requires in
-    search (rules, number, told)
+    record {
+      told = search (rules, number, told);
+      number = search rules;
+      own = search rules;
+      answered = search rules;
+      err = search rules;
+      refused = search rules;
+      settles = search rules;
+      tells = told_of _ _ c.args.outcome (Ok c.in-Ok.durable) c.in-Ok.ensures.ok tt;
+      stands = search rules;
+      parts = search rules;
+      all = search rules;
+      counted = search rules;
+      opening = search rules;
+    }
 
-pub returns-in-Ok-clause-tells : goal.returns-in-Ok-clause-tells
-returns-in-Ok-clause-tells g c = told_of _ _ c.args.outcome (Ok c.in-Ok.durable) c.in-Ok.ensures.ok tt
-
-pub returns-in-Err-clause-tells : goal.returns-in-Err-clause-tells
-returns-in-Err-clause-tells g c = told_of _ _ c.args.outcome (Err c.in-Err.why) tt c.in-Err.ensures.err
+pub returns-in-Err : goal.returns-in-Err
+returns-in-Err g c =
+    record {
+      told = search rules;
+      number = search rules;
+      own = search rules;
+      answered = search rules;
+      err = search rules;
+      refused = search rules;
+      settles = search rules;
+      tells = told_of _ _ c.args.outcome (Err c.in-Err.why) tt c.in-Err.ensures.err;
+      stands = search rules;
+      parts = search rules;
+      all = search rules;
+      counted = search rules;
+      opening = search rules;
+    }

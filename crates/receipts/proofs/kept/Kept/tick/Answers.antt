@@ -32,36 +32,50 @@ invariant_of-self-in-Err-1 g c = record {
   runs = ∥∥₁_map c.args.self.now.runs (runs_same (view_of half_view c.args.self.now.hall) (view_of half_view c.tick.new.self) _ c.in-Err.ensures.err);
 }
 
-pub returns-in-Ok-clause-marks : goal.returns-in-Ok-clause-marks
-returns-in-Ok-clause-marks g c =
-    let added : map g.T.Trace.mark c.told_by-told.new.desk.own.items ≡ map g.T.Trace.mark c.args.desk.now.own.items ++ marks_by c.args.desk.now.number c.in-Ok.issued = search rules in
-    adds_answered _ _ _ c.in-Ok.issued added _ c.told_by-told.ensures.number
-
-pub returns-in-Ok-clause-done : goal.returns-in-Ok-clause-done
-returns-in-Ok-clause-done g c =
-    let added : map g.T.Trace.mark c.told_by-told.new.desk.own.items ≡ map g.T.Trace.mark c.args.desk.now.own.items ++ marks_by c.args.desk.now.number c.in-Ok.issued = search rules in
-    does_at _ _ _ c.in-Ok.issued (does_still _ _ _ _ c.in-Ok.issued c.hand_out.ensures.same c.in-Ok.ensures.ok) _ _ _ added
-
-pub returns-in-Ok-clause-answer : goal.returns-in-Ok-clause-answer
-returns-in-Ok-clause-answer g c = answers_number _ _ _ c.in-Ok.issued c.in-Ok.ensures.ok _ c.told_by-told.ensures.number
-
-pub returns-in-Ok-clause-answered : goal.returns-in-Ok-clause-answered
-returns-in-Ok-clause-answered g c past stands = c.hand_out.ensures.slots ∙ c.in-Ok.ensures.answered past stands
-
-pub returns-in-Ok-clause-both : goal.returns-in-Ok-clause-both
-returns-in-Ok-clause-both g c =
+pub returns-in-Ok : goal.returns-in-Ok
+returns-in-Ok g c =
     let own : map g.T.Trace.mark c.told_by-told.new.desk.own.items ≡ map g.T.Trace.mark c.args.desk.now.own.items ++ marks_by c.args.desk.now.number c.in-Ok.issued = search rules in
     let all : map g.T.Trace.mark c.note.new.marks.all.items ≡ map g.T.Trace.mark c.args.self.now.marks.all.items ++ marks_by c.args.desk.now.number c.in-Ok.issued = search rules in
-    (marks_by c.args.desk.now.number c.in-Ok.issued, own, all)
+    record {
+      marks = adds_answered _ _ _ c.in-Ok.issued own _ c.told_by-told.ensures.number;
+      told = search rules;
+      number = search rules;
+      err = search rules;
+      refused = search rules;
+      done = does_at _ _ _ c.in-Ok.issued (does_still _ _ _ _ c.in-Ok.issued c.hand_out.ensures.same c.in-Ok.ensures.ok) _ _ _ own;
+      answer = answers_number _ _ _ c.in-Ok.issued c.in-Ok.ensures.ok _ c.told_by-told.ensures.number;
+      both = (marks_by c.args.desk.now.number c.in-Ok.issued, own, all);
+      histories = histories_by _ _ _ _ _ c.in-Ok.issued all own;
+      unmarked = search rules;
+      counted = search rules;
+      kept = search rules;
+      no_call = search rules;
+      opening = search rules;
+      reason = search rules;
+      same = search rules;
+      answered = λ past stands. c.hand_out.ensures.slots ∙ c.in-Ok.ensures.answered past stands;
+      kept_answered = search rules;
+    }
 
-pub returns-in-Ok-clause-histories : goal.returns-in-Ok-clause-histories
-returns-in-Ok-clause-histories g c =
-    let own : map g.T.Trace.mark c.told_by-told.new.desk.own.items ≡ map g.T.Trace.mark c.args.desk.now.own.items ++ marks_by c.args.desk.now.number c.in-Ok.issued = search rules in
-    let all : map g.T.Trace.mark c.note.new.marks.all.items ≡ map g.T.Trace.mark c.args.self.now.marks.all.items ++ marks_by c.args.desk.now.number c.in-Ok.issued = search rules in
-    histories_by _ _ _ _ _ c.in-Ok.issued all own
-
-pub returns-in-Err-clause-refused : goal.returns-in-Err-clause-refused
-returns-in-Err-clause-refused g c = refused_tick _ (view_of half_view c.args.self.now.hall) c.args.now c.in-Err.why c.in-Err.ensures.reason
-
-pub returns-in-Err-clause-reason : goal.returns-in-Err-clause-reason
-returns-in-Err-clause-reason g c = inr (search rules, inr (record { first = c.in-Err.ensures.refused; reason = c.in-Err.ensures.reason }))
+pub returns-in-Err : goal.returns-in-Err
+returns-in-Err g c =
+    record {
+      marks = search rules;
+      told = search rules;
+      number = search rules;
+      err = search rules;
+      refused = refused_tick _ (view_of half_view c.args.self.now.hall) c.args.now c.in-Err.why c.in-Err.ensures.reason;
+      done = search rules;
+      answer = search rules;
+      both = search rules;
+      histories = search rules;
+      unmarked = search rules;
+      counted = search rules;
+      kept = search rules;
+      no_call = search rules;
+      opening = search rules;
+      reason = inr (search rules, inr (record { first = c.in-Err.ensures.refused; reason = c.in-Err.ensures.reason }));
+      same = search rules;
+      answered = search rules;
+      kept_answered = search rules;
+    }
