@@ -1,3 +1,5 @@
 pub mod Limits
 pub mod Change
+pub mod Copying
+pub mod CopySteps
 pub mod laws

@@ -6,9 +6,13 @@
 #![tactic(auto)]
 
 mod change;
+mod copying;
+mod error;
 mod growing;
 mod laws;
 
 pub use change::{Change, ChangeError};
+pub use copying::copy;
+pub use error::CopyError;
 pub use growing::grown_settings;
 pub use laws::{larger_limits_keep_histories, larger_limits_keep_tables};

@@ -1,0 +1,135 @@
+-- What a copy answers, and that its disk goes on with the broker's histories.
+use Rattle.std.proofs.Common.{◌≡◌, ◌⊎◌, ◌↔◌, ℕ, ◌≤◌, ◌<◌, Bool, true, false, is_none, nat_lt, List, length, take, Option, None, Some, Result, Err, refl, sym, ap, subst, ◌∙◌, arith, inl, inr, ⊎_elim}
+use Rattle.std.specs.Prelude.{if◌then◌else◌}
+use Rattle.std.proofs.lemmas.List.{take_all}
+use Rattle.std.proofs.lemmas.Bool.{and_from, cases_lt, le-ltb, lt-ltb, false≢true}
+use Rattle.sector_disk.specs.Disk.{DiskView}
+use Rattle.sector_disk.specs.declared.disk.Disk.{Ghosts}
+use Rattle.retry_rules.specs.declared.settings.Settings.{Settings}
+use Rattle.invoke_records.specs.declared.command.Command.{Command}
+use Rattle.invoke_records.specs.declared.snapshot.Snapshot.{Snapshot}
+use Rattle.invoke_records.specs.Spelling.{snapshot_fault}
+use Rattle.async_core.specs.History.{IsLegal, table_of}
+use Rattle.async_core.specs.State.{State}
+use Rattle.async_core.specs.Limits.{is_within}
+use Rattle.async_core.specs.laws.Limits.{history_fit}
+use Rattle.async_core.specs.laws.Tables.{number-table_of}
+use Rattle.checkpoint.specs.declared.error.SeedError.{SeedError}
+use Rattle.checkpoint.specs.declared.error.SeedError.TheVariants as seed_error
+use Rattle.checkpoint.specs.Image.{least_sectors}
+use Rattle.checkpoint.specs.Live.{RecoversTo, may_stand}
+use Rattle.checkpoint.specs.Formatting.{IsTooSmall, IsBadToSeed, IsSeeded}
+use Rattle.group_commit.specs.declared.broker.Broker.{Broker}
+use Rattle.group_commit.specs.Broker.{settings_of, table_in, Stands}
+use Rattle.group_commit.specs.History.{IsLegalStop}
+use Rattle.disk_copy.specs.Limits.{AllowsAll}
+use Rattle.disk_copy.specs.laws.Histories.{IsLegal-kept, table_of-same}
+use Rattle.disk_copy.specs.laws.Tables.{may_stand-kept}
+use Rattle.disk_copy.specs.Change.{settings_with, refusal_between}
+use Rattle.disk_copy.specs.declared.change.Change.{Change}
+use Rattle.disk_copy.specs.declared.error.CopyError.{CopyError}
+use Rattle.disk_copy.specs.declared.error.CopyError.TheVariants as copy_error
+use Rattle.disk_copy.specs.Copying.{settings_for, of_seed, misfit, first_cause, refusal_for, IsCopyReason, GoesOnWith}
+
+-- ## Why it is refused
+
+-- by whether the disk is too small, and whether the table may stand on it
+abbrev cause_by : Bool → Bool → ℕ → Option CopyError
+cause_by small stands least = if small then Some (copy_error.TooSmall least) else if stands then None else Some copy_error.BadTable
+
+no_cause : (small stands : Bool) (least : ℕ) → (small ≡ true → ⊥) → (stands ≡ false → ⊥) → cause_by small stands least ≡ None
+no_cause true stands least large good = absurd (large refl)
+no_cause false false least large good = absurd (good refl)
+no_cause false true least large good = refl
+
+module _ (disk : DiskView) (s : Settings) (table : Snapshot) (result : Result (Unit {0}) SeedError)
+    (least : (n : ℕ) → result ≡ Err (seed_error.TooSmall n) → (n ≡ least_sectors s) × IsTooSmall disk s)
+    (small : IsTooSmall disk s → result ≡ Err (seed_error.TooSmall (least_sectors s)))
+    (bad : (result ≡ Err seed_error.BadKind) ↔ IsBadToSeed disk s table) where
+  -- neither of its own refusals was told
+  pub fits : ((n : ℕ) → result ≡ Err (seed_error.TooSmall n) → ⊥) → (result ≡ Err seed_error.BadKind → ⊥) → misfit disk.sectors s table ≡ None
+  fits not_small not_bad =
+      let large : least_sectors s ≤ disk.sectors =
+      ⊎_elim (λ below. absurd (not_small (least_sectors s) (small below))) (λ (le : least_sectors s ≤ disk.sectors). le) (cases_lt disk.sectors (least_sectors s)) in
+      no_cause (nat_lt disk.sectors (least_sectors s)) (may_stand s table) (least_sectors s)
+      (λ is. false≢true (sym (le-ltb disk.sectors (least_sectors s) large) ∙ is)) (λ is. not_bad (bad.1 (large, is)))
+
+  -- what was told is the first that holds
+  pub told : (why : SeedError) → result ≡ Err why → IsCopyReason (misfit disk.sectors s table) (of_seed why)
+  told (seed_error.TooSmall n) is =
+      let says = least n is in
+      rw (lt-ltb disk.sectors (least_sectors s) says.1, says.0) refl
+  told seed_error.BadKind is =
+      let says = bad.0 is in
+      rw (le-ltb disk.sectors (least_sectors s) says.0, says.1) refl
+  told seed_error.OutOfMemory is = tt
+  told seed_error.Fault is = fits (λ n wrong. let no = sym is ∙ wrong in cc) (λ wrong. let no = sym is ∙ wrong in cc)
+
+-- and the disk calls it bad alone where it says so
+pub seed_bad : (why : SeedError) → of_seed why ≡ copy_error.BadTable → why ≡ seed_error.BadKind
+seed_bad (seed_error.TooSmall n) is = cc
+seed_bad seed_error.BadKind is = refl
+seed_bad seed_error.OutOfMemory is = cc
+seed_bad seed_error.Fault is = cc
+
+-- ## What was prepared
+
+-- these settings and this snapshot are those of the copy
+module _ {D : Type 0} {g : Ghosts D} (broker : Broker D g) (change : Change) (read : State) (s : Settings) (table : Snapshot)
+    (read_is : read ≡ record { settings = settings_of broker; table = table_in broker }) (s_is : s ≡ settings_with change read.settings) (table_is : table ≡ read.table) where
+  pub same_settings : s ≡ settings_for broker change
+  same_settings = s_is ∙ ap (λ (r : State). settings_with change r.settings) read_is
+
+  pub same_table : table ≡ table_in broker
+  same_table = table_is ∙ ap (λ (r : State). r.table) read_is
+
+  pub same_misfit : (sectors : ℕ) → misfit sectors s table ≡ misfit sectors (settings_for broker change) (table_in broker)
+  same_misfit sectors = λ i. misfit sectors (same_settings i) (same_table i)
+
+  module _ (none : refusal_between read.settings (settings_with change read.settings) ≡ None) where
+    not_refused : refusal_between (settings_of broker) (settings_for broker change) ≡ None
+    not_refused = sym (ap (λ (r : State). refusal_between r.settings (settings_with change r.settings)) read_is) ∙ none
+
+    pub granted : (sectors : ℕ) → misfit sectors s table ≡ None → refusal_for sectors broker change ≡ None
+    granted sectors fits =
+        ap (λ b. first_cause b (misfit sectors (settings_for broker change) (table_in broker))) not_refused ∙ sym (same_misfit sectors) ∙ fits
+
+    pub refused : (sectors : ℕ) (why : CopyError) → IsCopyReason (misfit sectors s table) why → IsCopyReason (refusal_for sectors broker change) why
+    refused sectors why reason =
+        subst (λ (r : Option CopyError). IsCopyReason r why)
+        (same_misfit sectors ∙ sym (ap (λ b. first_cause b (misfit sectors (settings_for broker change) (table_in broker))) not_refused)) reason
+
+-- ## What the new disk has
+
+module _ {D : Type 0} {g : Ghosts D} (view : D → DiskView) (broker : Broker D g) (history : List Command) (stands : Stands view broker history)
+    (new : Settings) (allows : AllowsAll (settings_of broker) new) where
+  abbrev s : Settings
+  s = settings_of broker
+
+  number : table_in broker ≡ table_of s history → (table_in broker).number ≡ length history
+  number is = ap (λ (t : Snapshot). t.number) is ∙ number-table_of s history
+
+  -- its table may stand on a disk under the new settings
+  pub never_bad : may_stand new (table_in broker) ≡ false → ⊥
+  never_bad bad =
+      let fit = history_fit s history stands.good.check stands.legal (omega (arith, broker.below, number stands.table_is)) in
+      let there : may_stand s (table_of s history) ≡ true = and_from (is_none (snapshot_fault (table_of s history))) (is_within s (table_of s history)) (ap is_none fit.fault) fit.within in
+      let here : may_stand s (table_in broker) ≡ true = ap (may_stand s) stands.table_is ∙ there in
+      false≢true (sym bad ∙ may_stand-kept s new allows (table_in broker) here)
+
+  -- a disk that has its table goes on with it
+  pub goes_on : (disk : DiskView) → IsSeeded disk new (table_in broker) → GoesOnWith disk new history
+  goes_on disk seeded =
+      let table_is : table_in broker ≡ table_of new history = stands.table_is ∙ sym (table_of-same s new allows history) in
+      record {
+        legal = IsLegal-kept s new allows history stands.legal;
+        stops = λ image left. record {
+          size = length history;
+          least = omega arith;
+          most = omega arith;
+          recovers =
+              subst (λ (h : List Command). RecoversTo new (table_of new h) image) (sym (take_all (length history) history (omega arith)))
+              (subst (λ (t : Snapshot). RecoversTo new t image) table_is
+              (subst (λ (i : List ℕ). RecoversTo new (table_in broker) i) (sym (seeded.0 image left)) seeded.1));
+        };
+      }

@@ -1,0 +1,83 @@
+// Copying all events of an opened broker to a new disk.
+ghost use Rattle.std.specs.Prelude.{◌≡◌, ◌≤◌, ◌⊎◌, None, Err, IsErrOf, IfOk, IfErr, OnOk, OnErr};
+ghost use Rattle.sector_disk.specs.Disk.{IsSameDisk, HasRisen};
+ghost use Rattle.retry_rules.specs.Settings.{bad_field};
+ghost use Rattle.checkpoint.specs.Image.{HasGeneration};
+ghost use Rattle.checkpoint.specs.Formatting.{IsSeeded, LeavesSeeding, LeavesOldOrWhole, LeavesNoneOrWhole};
+ghost use Rattle.group_commit.specs.Broker.{settings_of, table_in};
+ghost use Rattle.group_commit.specs.Promises.{ForEachHistory};
+ghost use Rattle.disk_copy.specs.declared.error.CopyError.TheVariants as copy_error;
+ghost use Rattle.disk_copy.specs.Limits.{AllowsAll};
+ghost use Rattle.disk_copy.specs.Change.{settings_with, refusal_between};
+ghost use Rattle.disk_copy.specs.Copying.{settings_for, refusal_for, IsCopyReason, GoesOnWith};
+ghost use Rattle.disk_copy.specs.CopySteps.{IsUnprepared};
+
+use crate::growing::grown_settings;
+use crate::{Change, CopyError};
+use async_core::Table;
+use checkpoint::seed;
+use group_commit::Broker;
+use invoke_records::Snapshot;
+use retry_rules::Settings;
+use sector_disk::Disk;
+use std::alloc::Global;
+
+// The settings of the copy, and all of the table, in memory of their own.
+fn prepare(table: &Table, change: &Change) -> Result<(Settings, Snapshot), CopyError>
+    ensures settings { IfOk result (λ r. r.0 ≡ settings_with change.now table.now.settings) }
+    ensures table { IfOk result (λ r. r.1 ≡ table.now.table) }
+    ensures good { IfOk result (λ r. bad_field r.0 ≡ None) }
+    ensures allows { IfOk result (λ r. AllowsAll table.now.settings r.0) }
+    ensures granted { OnOk result (refusal_between table.now.settings (settings_with change.now table.now.settings) ≡ None) }
+    ensures refused { IfErr result (IsUnprepared table.now.settings (settings_with change.now table.now.settings)) }
+{
+    let settings = grown_settings(table.settings(), change)?;
+    let snapshot = table.snapshot()?;
+    Ok((settings, snapshot))
+}
+
+/// Copies all events of an opened broker to a new disk, under the old settings with what the change names. What that disk
+/// held is lost. The old disk is not called.
+///
+/// The copy has the broker's table as it is: each event that is held with its standing, its counts, its payload, its answer and
+/// the retry policy by which it is judged, and what is in force for the next ones; also what was issued and is not durable yet.
+///
+/// The change is refused as `grown_settings` refuses it; then `TooSmall` names the least number of sectors; then `BadTable`
+/// comes where the table may not stand on a disk under the new settings, which is so of no table that a history leaves. They and
+/// `OutOfMemory` come before any call of the new disk. After `Fault` it has to be copied again.
+pub fn copy<D: Disk, E: Disk>(
+    alloc: Global,
+    broker: &Broker<D>,
+    disk: &mut E,
+    change: &Change,
+) -> Result<(), CopyError>
+    ensures same { IsSameDisk (E.view disk.old) (E.view disk.new) }
+    ensures later { E.fault_count disk.old ≤ E.fault_count disk.new }
+    ensures fault { IsErrOf result CopyError.Fault → HasRisen (E.fault_count disk.old) (E.fault_count disk.new) }
+
+    ensures granted { OnOk result (refusal_for (E.view disk.old).sectors broker.now change.now ≡ None) }
+    ensures refused { IfErr result (IsCopyReason (refusal_for (E.view disk.old).sectors broker.now change.now)) }
+    ensures no_call { OnErr result (result ≡ Err copy_error.Fault ⊎ disk.new ≡ disk.old) }
+
+    // After Ok on an honest disk it has one image, which recovers to the new settings and the broker's table.
+    ensures generation { (E.view disk.old).honest → OnOk result (HasGeneration 1 (E.view disk.new).content) }
+    ensures copied { (E.view disk.old).honest
+        → OnOk result (IsSeeded (E.view disk.new) (settings_for broker.now change.now) (table_in broker.now)) }
+
+    // It goes on with each history that the broker stands for. The table of a history is never bad.
+    ensures goes_on { (E.view disk.old).honest → ForEachHistory D.view broker.now (λ history.
+        OnOk result (GoesOnWith (E.view disk.new) (settings_for broker.now change.now) history)) }
+    ensures sound { ForEachHistory D.view broker.now (λ history. result ≡ Err copy_error.BadTable → ⊥) }
+
+    // A stop at any moment of the call leaves the new disk as it was but for its gates, no formatted disk, or the whole copy.
+    ensures any_moment { LeavesSeeding (E.view disk.old) (E.view disk.new) (settings_for broker.now change.now) (table_in broker.now) }
+
+    // Where that disk reads as not formatted, a stop leaves an image from before the call, no formatted disk, or the whole
+    // copy. Where no image of it is one of a formatted disk, a stop leaves it so, or with the whole copy.
+    ensures old_or_whole { LeavesOldOrWhole (E.view disk.old) (E.view disk.new) (settings_for broker.now change.now) (table_in broker.now) }
+    ensures none_or_whole { LeavesNoneOrWhole (E.view disk.old) (E.view disk.new) (settings_for broker.now change.now) (table_in broker.now) }
+{
+    let (settings, snapshot) = prepare(broker.table(), change)?;
+    seed(alloc, disk, &settings, &snapshot)?;
+    Ok(())
+}
