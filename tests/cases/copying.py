@@ -181,4 +181,4 @@ def a_stop_within_a_copy_leaves_no_disk_or_the_whole(broker):
             same(told(broker, new) if status == 0 else wanted, wanted)
         same(told(broker, new), wanted)
     same(sorted(set(seen)), ["refused: not formatted\n", "whole"])
-    assert len(seen) > 20, f"only {len(seen)} stops were made"
+    assert len(seen) > 10, f"only {len(seen)} stops were made"

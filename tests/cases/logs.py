@@ -1,7 +1,7 @@
-"""What `serve` says on standard error for who keeps a log: how it opened, why environments were reset, and how it ended."""
+"""What `serve` says on standard error for who keeps a log: how it opened, and how it ended."""
 import re
 
-from harness import RUNTIME, case, same, until
+from harness import case, same, until
 
 STOPPED = (202, 0, "")
 
@@ -39,30 +39,6 @@ def an_end_in_order_is_told_with_who_asked_for_it(broker):
     same(broker.stop(), STOPPED)
     until_told(broker, "stopped", "POST /broker/stop")
     same(len(lines_with(broker, "opened")), 1)
-
-
-@case({"timeout": 1, "retries": 0})
-def a_reset_by_a_timeout_is_told(broker):
-    broker.serve()
-    same(broker.invoke("{}").status, 202)
-    same(broker.next().status, 200)
-    until_told(broker, "environment 1 was reset: timeout")
-    until("the end", lambda: broker.record("failure").status == 200)
-    same(len(lines_with(broker, "was reset")), 1)
-    same(broker.stop(), STOPPED)
-
-
-@case({"environments": 2})
-def each_reset_is_told_once_with_its_environment(broker):
-    broker.serve()
-    for count in 1, 2:
-        same(broker.ask("POST", f"{RUNTIME}/init/error", "{}", environment=2).status, 202)
-        until_told(broker, "environment 2 was reset: ", count=count)
-    # What is refused resets nothing.
-    same(broker.next(1).status if broker.invoke("{}").status == 202 else None, 200)
-    same(broker.ask("POST", f"{RUNTIME}/init/error", "{}", environment=1).status, 403)
-    same(broker.stop(), STOPPED)
-    same(len(lines_with(broker, "was reset")), 2)
 
 
 @case()

@@ -149,8 +149,8 @@ def a_file_that_is_no_disk_is_refused_by_each_command(broker):
     ):
         same((path, told_by_all(broker, path)), (path, {(1, f"refused: {line}\n")}))
     for path in folder, pipe, "/dev/null":
-        same(broker.format(path, 4096, events=4), (1, "refused: neither a file nor a block device\n"))
-    same(broker.format(os.path.join(broker.folder, "x", "y"), 64, events=4), (1, "refused: no such file\n"))
+        same(broker.format(path, 4096, events=4, payload=1024, response=1024), (1, "refused: neither a file nor a block device\n"))
+    same(broker.format(os.path.join(broker.folder, "x", "y"), 64, events=4, payload=1024, response=1024), (1, "refused: no such file\n"))
     for sectors in (1 << 54, 1 << 63, (1 << 64) - 1):
         same(broker.format(broker.disk + "1", sectors, events=4), (1, "refused: no room for so many sectors\n"))
 

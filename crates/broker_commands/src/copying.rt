@@ -2,9 +2,9 @@
 ghost use Rattle.std.specs.Prelude.{◌≡◌};
 ghost use Rattle.broker_commands.specs.Copying.{is_device_fault};
 
+use crate::contents::ContentsError;
 use crate::formatting::{check_place, text};
 use crate::opening::{Device, DiskError, open, open_device};
-use crate::contents::ContentsError;
 use crate::telltale::{Telltale, telltale};
 use checkpoint::least_sectors;
 use disk_copy::{Change, ChangeError, CopyError, copy, grown_settings};
@@ -139,7 +139,7 @@ where
     let (file, place) = Place::open(rt, new.path)?;
     let mut file = LoggedFile::new(file, log);
     if !new.is_forced {
-        file = check_place(rt.alloc(), file)?;
+        file = check_place(rt.alloc(), place, file)?;
     }
     place.make(rt, new.path, &file, sectors)?;
     Ok((file, place))

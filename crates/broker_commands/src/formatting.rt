@@ -10,7 +10,9 @@ use crate::telltale::telltale;
 use checkpoint::least_sectors;
 use group_commit::{FormatError, format};
 use retry_rules::{BadSettings, Settings, Text};
-use sector_disk::{FaultLog, FileDisk, FileError, LoggedFile, Place};
+use sector_disk::{
+    FaultLog, FileDisk, FileError, LoggedFile, Place, RandomAccessFile, SECTOR_SIZE,
+};
 use std::alloc::{AllocError, Global};
 use std::fs::File;
 use std::io::Eprint;
@@ -116,14 +118,48 @@ fn check_settings(settings: &Settings, sectors: u64) -> Result<(), NewDiskError>
     Ok(())
 }
 
-// Refuses a file or a device that may not be formatted over.
+// Whether so many bytes at the front of a file are zeros.
+fn are_zeros<L: FaultLog + Drop>(file: &mut LoggedFile<L>, size: u64) -> Result<bool, FileError> {
+    let mut piece = [0; SECTOR_SIZE];
+    let mut at = 0;
+    while at < size {
+        match file.read_at(at, &mut piece) {
+            Ok(count) if count > 0 => {
+                if piece[..count].iter().any(|byte| *byte != 0) {
+                    return Ok(false);
+                }
+                at = at.saturating_add(count as u64);
+            }
+            _ => return Err(FileError::Fault),
+        }
+    }
+    Ok(true)
+}
+
+// Refuses a file that is no disk, since it has no whole number of sectors, unless it is zeros.
+fn check_part<L: FaultLog + Drop>(
+    file: LoggedFile<L>,
+    size: u64,
+) -> Result<LoggedFile<L>, ContentsError> {
+    let mut file = file;
+    match are_zeros(&mut file, size) {
+        Ok(true) => Ok(file),
+        Ok(false) => Err(ContentsError::NotEmpty),
+        Err(why) => Err(ContentsError::Disk(DiskError::File(why))),
+    }
+}
+
+/// Refuses a file or a device that may not be formatted over.
 pub(crate) fn check_place<L: FaultLog + Drop>(
     alloc: Global,
+    place: Place,
     file: LoggedFile<L>,
 ) -> Result<LoggedFile<L>, ContentsError> {
+    if place.size() % SECTOR_SIZE as u64 != 0 {
+        return check_part(file, place.size());
+    }
     let mut disk = match FileDisk::over(file) {
         Ok(disk) => disk,
-        Err(FileError::NotWhole) => return Err(ContentsError::NotEmpty),
         Err(why) => return Err(ContentsError::Disk(DiskError::File(why))),
     };
     check_contents(alloc, &mut disk)?;
@@ -165,7 +201,7 @@ where
     let (file, place) = Place::open(rt, new.path)?;
     let mut file = LoggedFile::new(file, log);
     if !new.is_forced {
-        file = check_place(rt.alloc(), file)?;
+        file = check_place(rt.alloc(), place, file)?;
     }
     place.make(rt, new.path, &file, new.sectors)?;
     format_place(rt, new, &settings, place, file)
