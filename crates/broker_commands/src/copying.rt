@@ -5,7 +5,7 @@ ghost use Rattle.broker_commands.specs.Copying.{is_device_fault};
 use crate::contents::ContentsError;
 use crate::formatting::{check_place, text};
 use crate::opening::{Device, DiskError, open, open_device};
-use crate::telltale::{Telltale, telltale};
+use crate::telltale::{Telltale, telltale_for};
 use checkpoint::least_sectors;
 use disk_copy::{Change, ChangeError, CopyError, copy, grown_settings};
 use group_commit::{Broker, OpenError};
@@ -135,7 +135,7 @@ fn new_place<R>(
 where
     R: Files<File = File> + Eprint + AllocGlobal + Copy + Drop,
 {
-    let log = telltale(rt, new.path)?;
+    let log = telltale_for(rt, new.path)?;
     let (file, place) = Place::open(rt, new.path)?;
     let mut file = LoggedFile::new(file, log);
     if !new.is_forced {

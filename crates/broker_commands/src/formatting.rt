@@ -6,7 +6,7 @@ ghost use Rattle.broker_commands.specs.Formatting.{settings_for, is_device_fault
 
 use crate::contents::{ContentsError, check_contents};
 use crate::opening::DiskError;
-use crate::telltale::telltale;
+use crate::telltale::telltale_for;
 use checkpoint::least_sectors;
 use group_commit::{FormatError, format};
 use retry_rules::{BadSettings, Settings, Text};
@@ -197,7 +197,7 @@ where
 {
     let settings = settings(rt.alloc(), &new.function, &new.numbers)?;
     check_settings(&settings, new.sectors)?;
-    let log = telltale(rt, new.path)?;
+    let log = telltale_for(rt, new.path)?;
     let (file, place) = Place::open(rt, new.path)?;
     let mut file = LoggedFile::new(file, log);
     if !new.is_forced {

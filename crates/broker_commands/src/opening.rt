@@ -6,7 +6,7 @@ ghost use Rattle.broker_commands.specs.Opening.{is_disk_fault, TellsSize};
 ghost use Rattle.broker_commands.specs.declared.opening.DiskError.TheVariants as disk_error;
 ghost use Rattle.sector_disk.specs.declared.file.FileError.TheVariants as file_error;
 
-use crate::telltale::{Telltale, telltale};
+use crate::telltale::{Telltale, telltale_for};
 use group_commit::{Broker, OpenError, without_disk};
 use resized_disk::{Resized, ResizedError, resized};
 use sector_disk::{Disk, FileDisk, FileError, LoggedFile};
@@ -70,7 +70,7 @@ fn device<R>(rt: &R, path: &str, file: File) -> Result<Device<R>, DiskError>
 where
     R: Eprint + AllocGlobal + Copy + Drop,
 {
-    let log = telltale(rt, path)?;
+    let log = telltale_for(rt, path)?;
     let mut disk = FileDisk::over(LoggedFile::new(file, log))?;
     check_size(rt.alloc(), &mut disk)?;
     Ok(disk)

@@ -12,7 +12,7 @@ pub struct Telltale<R: Drop> {
 }
 
 /// One for the disk that this path names.
-pub(crate) fn telltale<R>(rt: &R, path: &str) -> Result<Telltale<R>, AllocError>
+pub(crate) fn telltale_for<R>(rt: &R, path: &str) -> Result<Telltale<R>, AllocError>
 where
     R: Eprint + AllocGlobal + Copy + Drop,
 {
