@@ -81,6 +81,7 @@ def figures(top):
         "failed reads": tried(top, "everywhere.txt", "an opening .*fails once in a read"),
         "failed flushes": tried(top, "everywhere.txt", "an opening .*fails once in its barrier"),
         "migration stops": tried(top, "migrations.txt", "and each sector that is not settled is torn|.* and torn$"),
+        "copy stops": tried(top, "copies.txt", "a stop|a torn gate"),
         "other crashes": tried(top, "stops.txt", "every stop of a script"),
         "switch crashes": tried(top, "switches.txt", "each stop of|each gate that is torn"),
     }

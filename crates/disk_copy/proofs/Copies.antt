@@ -1,5 +1,5 @@
 -- What a copy answers, and that its disk goes on with the broker's histories.
-use Rattle.std.proofs.Common.{◌≡◌, ◌⊎◌, ◌↔◌, ℕ, ◌≤◌, ◌<◌, Bool, true, false, is_none, nat_lt, List, length, take, Option, None, Some, Result, Err, refl, sym, ap, subst, ◌∙◌, arith, inl, inr, ⊎_elim}
+use Rattle.std.proofs.Common.{◌≡◌, ◌↔◌, ℕ, ◌≤◌, Bool, true, false, is_none, nat_lt, List, length, Option, None, Some, Result, Err, refl, sym, ap, subst, ◌∙◌, arith, ⊎_elim}
 use Rattle.std.specs.Prelude.{if◌then◌else◌}
 use Rattle.std.proofs.lemmas.List.{take_all}
 use Rattle.std.proofs.lemmas.Bool.{and_from, cases_lt, le-ltb, lt-ltb, false≢true}
@@ -9,8 +9,7 @@ use Rattle.retry_rules.specs.declared.settings.Settings.{Settings}
 use Rattle.invoke_records.specs.declared.command.Command.{Command}
 use Rattle.invoke_records.specs.declared.snapshot.Snapshot.{Snapshot}
 use Rattle.invoke_records.specs.Spelling.{snapshot_fault}
-use Rattle.async_core.specs.History.{IsLegal, table_of}
-use Rattle.async_core.specs.State.{State}
+use Rattle.async_core.specs.History.{table_of}
 use Rattle.async_core.specs.Limits.{is_within}
 use Rattle.async_core.specs.laws.Limits.{history_fit}
 use Rattle.async_core.specs.laws.Tables.{number-table_of}
@@ -21,11 +20,10 @@ use Rattle.checkpoint.specs.Live.{RecoversTo, may_stand}
 use Rattle.checkpoint.specs.Formatting.{IsTooSmall, IsBadToSeed, IsSeeded}
 use Rattle.group_commit.specs.declared.broker.Broker.{Broker}
 use Rattle.group_commit.specs.Broker.{settings_of, table_in, Stands}
-use Rattle.group_commit.specs.History.{IsLegalStop}
 use Rattle.disk_copy.specs.Limits.{AllowsAll}
 use Rattle.disk_copy.specs.laws.Histories.{IsLegal-kept, table_of-same}
 use Rattle.disk_copy.specs.laws.Tables.{may_stand-kept}
-use Rattle.disk_copy.specs.Change.{settings_with, refusal_between}
+use Rattle.disk_copy.specs.Change.{refusal_between}
 use Rattle.disk_copy.specs.declared.change.Change.{Change}
 use Rattle.disk_copy.specs.declared.error.CopyError.{CopyError}
 use Rattle.disk_copy.specs.declared.error.CopyError.TheVariants as copy_error
@@ -65,7 +63,7 @@ module _ (disk : DiskView) (s : Settings) (table : Snapshot) (result : Result (U
   told seed_error.OutOfMemory is = tt
   told seed_error.Fault is = fits (λ n wrong. let no = sym is ∙ wrong in cc) (λ wrong. let no = sym is ∙ wrong in cc)
 
--- and the disk calls it bad alone where it says so
+-- the disk calls it bad alone where it says so
 pub seed_bad : (why : SeedError) → of_seed why ≡ copy_error.BadTable → why ≡ seed_error.BadKind
 seed_bad (seed_error.TooSmall n) is = cc
 seed_bad seed_error.BadKind is = refl
@@ -74,32 +72,29 @@ seed_bad seed_error.Fault is = cc
 
 -- ## What was prepared
 
--- these settings and this snapshot are those of the copy
-module _ {D : Type 0} {g : Ghosts D} (broker : Broker D g) (change : Change) (read : State) (s : Settings) (table : Snapshot)
-    (read_is : read ≡ record { settings = settings_of broker; table = table_in broker }) (s_is : s ≡ settings_with change read.settings) (table_is : table ≡ read.table) where
-  pub same_settings : s ≡ settings_for broker change
-  same_settings = s_is ∙ ap (λ (r : State). settings_with change r.settings) read_is
+-- the settings were not refused, and these settings and this table were prepared
+module _ {D : Type 0} {g : Ghosts D} (broker : Broker D g) (change : Change) (s : Settings) (table : Snapshot)
+    (settings : s ≡ settings_for broker change) (same : table ≡ table_in broker) (none : refusal_between (settings_of broker) (settings_for broker change) ≡ None) where
+  same_refusal : (sectors : ℕ) → refusal_for sectors broker change ≡ misfit sectors s table
+  same_refusal sectors =
+      ap (λ b. first_cause b (misfit sectors (settings_for broker change) (table_in broker))) none ∙ sym (λ i. misfit sectors (settings i) (same i))
 
-  pub same_table : table ≡ table_in broker
-  same_table = table_is ∙ ap (λ (r : State). r.table) read_is
+  pub granted : (sectors : ℕ) → misfit sectors s table ≡ None → refusal_for sectors broker change ≡ None
+  granted sectors fits = same_refusal sectors ∙ fits
 
-  pub same_misfit : (sectors : ℕ) → misfit sectors s table ≡ misfit sectors (settings_for broker change) (table_in broker)
-  same_misfit sectors = λ i. misfit sectors (same_settings i) (same_table i)
+  pub refused : (sectors : ℕ) (why : CopyError) → IsCopyReason (misfit sectors s table) why → IsCopyReason (refusal_for sectors broker change) why
+  refused sectors why reason = subst (λ (r : Option CopyError). IsCopyReason r why) (sym (same_refusal sectors)) reason
 
-  module _ (none : refusal_between read.settings (settings_with change read.settings) ≡ None) where
-    not_refused : refusal_between (settings_of broker) (settings_for broker change) ≡ None
-    not_refused = sym (ap (λ (r : State). refusal_between r.settings (settings_with change r.settings)) read_is) ∙ none
+  pub bad_so : may_stand s table ≡ false → may_stand (settings_for broker change) (table_in broker) ≡ false
+  bad_so bad = sym (λ i. may_stand (settings i) (same i)) ∙ bad
 
-    pub granted : (sectors : ℕ) → misfit sectors s table ≡ None → refusal_for sectors broker change ≡ None
-    granted sectors fits =
-        ap (λ b. first_cause b (misfit sectors (settings_for broker change) (table_in broker))) not_refused ∙ sym (same_misfit sectors) ∙ fits
+  pub copied : (disk : DiskView) → IsSeeded disk s table → IsSeeded disk (settings_for broker change) (table_in broker)
+  copied disk seeded = (
+    seeded.0,
+    subst (λ (x : Settings). RecoversTo x (table_in broker) disk.content) settings (subst (λ (t : Snapshot). RecoversTo s t disk.content) same seeded.1),
+  )
 
-    pub refused : (sectors : ℕ) (why : CopyError) → IsCopyReason (misfit sectors s table) why → IsCopyReason (refusal_for sectors broker change) why
-    refused sectors why reason =
-        subst (λ (r : Option CopyError). IsCopyReason r why)
-        (same_misfit sectors ∙ sym (ap (λ b. first_cause b (misfit sectors (settings_for broker change) (table_in broker))) not_refused)) reason
-
--- ## What the new disk has
+-- ## The histories
 
 module _ {D : Type 0} {g : Ghosts D} (view : D → DiskView) (broker : Broker D g) (history : List Command) (stands : Stands view broker history)
     (new : Settings) (allows : AllowsAll (settings_of broker) new) where

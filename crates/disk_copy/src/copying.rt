@@ -8,13 +8,12 @@ ghost use Rattle.group_commit.specs.Broker.{settings_of, table_in};
 ghost use Rattle.group_commit.specs.Promises.{ForEachHistory};
 ghost use Rattle.disk_copy.specs.declared.error.CopyError.TheVariants as copy_error;
 ghost use Rattle.disk_copy.specs.Limits.{AllowsAll};
-ghost use Rattle.disk_copy.specs.Change.{settings_with, refusal_between};
+ghost use Rattle.disk_copy.specs.Change.{refusal_between};
 ghost use Rattle.disk_copy.specs.Copying.{settings_for, refusal_for, IsCopyReason, GoesOnWith};
 ghost use Rattle.disk_copy.specs.CopySteps.{IsUnprepared};
 
 use crate::growing::grown_settings;
 use crate::{Change, CopyError};
-use async_core::Table;
 use checkpoint::seed;
 use group_commit::Broker;
 use invoke_records::Snapshot;
@@ -22,15 +21,16 @@ use retry_rules::Settings;
 use sector_disk::Disk;
 use std::alloc::Global;
 
-// The settings of the copy, and all of the table, in memory of their own.
-fn prepare(table: &Table, change: &Change) -> Result<(Settings, Snapshot), CopyError>
-    ensures settings { IfOk result (λ r. r.0 ≡ settings_with change.now table.now.settings) }
-    ensures table { IfOk result (λ r. r.1 ≡ table.now.table) }
+// The settings of the copy, and all of the broker's table, in memory of their own.
+fn prepare<D: Disk>(broker: &Broker<D>, change: &Change) -> Result<(Settings, Snapshot), CopyError>
+    ensures settings { IfOk result (λ r. r.0 ≡ settings_for broker.now change.now) }
+    ensures table { IfOk result (λ r. r.1 ≡ table_in broker.now) }
     ensures good { IfOk result (λ r. bad_field r.0 ≡ None) }
-    ensures allows { IfOk result (λ r. AllowsAll table.now.settings r.0) }
-    ensures granted { OnOk result (refusal_between table.now.settings (settings_with change.now table.now.settings) ≡ None) }
-    ensures refused { IfErr result (IsUnprepared table.now.settings (settings_with change.now table.now.settings)) }
+    ensures allows { OnOk result (AllowsAll (settings_of broker.now) (settings_for broker.now change.now)) }
+    ensures granted { OnOk result (refusal_between (settings_of broker.now) (settings_for broker.now change.now) ≡ None) }
+    ensures refused { IfErr result (IsUnprepared (settings_of broker.now) (settings_for broker.now change.now)) }
 {
+    let table = broker.table();
     let settings = grown_settings(table.settings(), change)?;
     let snapshot = table.snapshot()?;
     Ok((settings, snapshot))
@@ -77,7 +77,7 @@ pub fn copy<D: Disk, E: Disk>(
     ensures old_or_whole { LeavesOldOrWhole (E.view disk.old) (E.view disk.new) (settings_for broker.now change.now) (table_in broker.now) }
     ensures none_or_whole { LeavesNoneOrWhole (E.view disk.old) (E.view disk.new) (settings_for broker.now change.now) (table_in broker.now) }
 {
-    let (settings, snapshot) = prepare(broker.table(), change)?;
+    let (settings, snapshot) = prepare(broker, change)?;
     seed(alloc, disk, &settings, &snapshot)?;
     Ok(())
 }

@@ -1,8 +1,8 @@
-//! Copying the events of a disk to a new one, whose settings allow all that the old ones do: which settings those are,
-//! and that the history and the table stay what they were.
+//! Copying all events of an opened broker to a new disk, whose settings allow all that the old ones do.
 //!
-//! The crates above use that a legal history is legal under the new settings and stands for the same table, and that a
-//! table which may stand on the old disk may stand on the new one.
+//! The crates above use that the new disk goes on with each history of the broker: it is legal under the new settings, which
+//! stand for the same table, and each image of the new disk is a legal stop of it with its whole length durable. At each
+//! moment of the copy a new disk that was not formatted is still none, or has it all.
 #![tactic(auto)]
 
 mod change;

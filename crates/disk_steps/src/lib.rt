@@ -12,7 +12,7 @@ mod migrating;
 pub mod refusals;
 mod world;
 
-pub use devices::{CaseDisk, SOUND, wrapped};
+pub use devices::{CaseDisk, SOUND, read_failures, wrapped};
 pub use disks::{disk_step, read_choice};
 pub use issuing::{broker_step, issuer_step, keep, open_broker};
 pub use memory::format_disk;

@@ -5,6 +5,7 @@
 //! `CONTRIBUTING.md` has the language of the cases.
 #![tactic(auto)]
 
+mod copying;
 mod drilling;
 mod events;
 mod stage;

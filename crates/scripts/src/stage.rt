@@ -1,4 +1,5 @@
 // What a case of this program has of a disk: the disk, or a broker that is open on it.
+use crate::copying::copy_to;
 use crate::drilling::drill_step;
 use crate::events::whole_broker_step;
 use case_runner::{Reply, Text, Words};
@@ -45,6 +46,31 @@ impl BrokerStage {
             }
             _ => Reply::NoStep,
         }
+    }
+
+    // Copies the broker that is open to a new disk, which takes the place of it and of its own. What was issued is durable
+    // there once that is done.
+    fn copy_to(
+        &mut self,
+        alloc: Global,
+        base: &mut Base,
+        words: &mut Words,
+        answer: &mut Text,
+    ) -> Reply {
+        let OpenBroker::Open(broker) = &self.place else {
+            return Reply::NoStep;
+        };
+        let issued = broker.issued();
+        let (reply, disk) = copy_to(alloc, broker, words, answer);
+        if matches!(reply, Reply::Done) {
+            base.durable = issued;
+            base.issued = issued;
+        }
+        if let Some(disk) = disk {
+            self.tickets.clear();
+            set(&mut self.place, OpenBroker::Closed(disk));
+        }
+        reply
     }
 
     // A step of the broker, if one is open, or of the disk.
@@ -130,6 +156,7 @@ impl Stage for BrokerStage {
     ) -> Reply {
         match word {
             "record" => self.tell_record(alloc, words, answer),
+            "copy-to" => self.copy_to(alloc, base, words, answer),
             "request" => request_step(alloc, &base.settings, words, answer),
             "reply" => reply_step(alloc, &base.settings, words, answer),
             "env" => environment_step(alloc, &mut self.environment, words, answer),

@@ -1,0 +1,92 @@
+// Copying an open broker to a new disk.
+use case_runner::{Reply, Text, Words};
+use disk_copy::{Change, CopyError, copy};
+use disk_steps::{CaseDisk, read_failures, wrapped};
+use group_commit::Broker;
+use retry_rules::BadSettings;
+use sector_disk::{Disk, MemDisk};
+use std::alloc::Global;
+
+// `FIELD N`, if that field is named next.
+fn limit<T: TryFrom<u64> + Drop>(words: &mut Words, field: &str) -> Option<T>
+where
+    T::Error: Drop,
+{
+    if !words.takes(field) {
+        return None;
+    }
+    match T::try_from(words.number()) {
+        Ok(number) => Some(number),
+        Err(_) => {
+            words.refuse();
+            None
+        }
+    }
+}
+
+// `[environments N] [events N] [payload N] [response N]`: which limits the copy has in place of the disk's.
+fn read_change(words: &mut Words) -> Change {
+    Change {
+        environments: limit(words, "environments"),
+        events: limit(words, "events"),
+        payload: limit(words, "payload"),
+        response: limit(words, "response"),
+        name: None,
+        handler: None,
+        arn: None,
+    }
+}
+
+// Why a broker is not copied.
+fn refusal(why: CopyError, answer: &mut Text) -> Reply {
+    match why {
+        CopyError::BadSettings { field } => {
+            answer.add_reason(&BadSettings { field });
+            Reply::RefusalTold
+        }
+        CopyError::Smaller { .. } => Reply::Refused("smaller limit"),
+        CopyError::TooSmall { least } => {
+            answer.add_with("too small ", least);
+            Reply::RefusalTold
+        }
+        CopyError::BadTable => Reply::Refused("bad table"),
+        CopyError::OutOfMemory => Reply::Refused("out of memory"),
+        CopyError::Fault => Reply::Refused("fault"),
+    }
+}
+
+// Copies a broker, and whether the new disk was called.
+fn copy_onto<D: Disk, E: Disk>(
+    alloc: Global,
+    broker: &Broker<D>,
+    disk: &mut E,
+    change: &Change,
+    answer: &mut Text,
+) -> (Reply, bool) {
+    match copy(alloc, broker, disk, change) {
+        Ok(()) => (Reply::Done, true),
+        Err(why) => (refusal(why, answer), matches!(why, CopyError::Fault)),
+    }
+}
+
+/// `SECTORS [fuse N] [fault ..] [environments N] [events N] [payload N] [response N]`: copies a broker to a disk of zeros,
+/// which is given where it was called.
+pub fn copy_to<D: Disk>(
+    alloc: Global,
+    broker: &Broker<D>,
+    words: &mut Words,
+    answer: &mut Text,
+) -> (Reply, Option<CaseDisk>) {
+    let sectors = words.number();
+    let failures = read_failures(words);
+    let change = read_change(words);
+    if words.are_bad() {
+        return (Reply::Unreadable, None);
+    }
+    let Ok(disk) = MemDisk::new(alloc, sectors) else {
+        return (Reply::NoMemory, None);
+    };
+    let mut disk = wrapped(disk, failures);
+    let (reply, is_called) = copy_onto(alloc, broker, &mut disk, &change, answer);
+    (reply, if is_called { Some(disk) } else { None })
+}
