@@ -12,7 +12,9 @@ abbrev pub TellsSize : List ℕ → Result (Unit {0}) DiskError → Type 0
 TellsSize image (Ok done) = TellsResized image None
 TellsSize image (Err (Resized sectors)) = TellsResized image (Some (found.Displaced sectors))
 TellsSize image (Err (Cut sector)) = TellsResized image (Some (found.Cut sector))
-TellsSize image (Err other) = Unit {0}
+TellsSize image (Err (OutOfMemory why)) = Unit {0}
+TellsSize image (Err (File file_error.Fault)) = Unit {0}
+TellsSize image (Err other) = ⊥
 
 abbrev pub is_disk_fault : DiskError → Bool
 is_disk_fault (File file_error.Fault) = true

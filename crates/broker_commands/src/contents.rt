@@ -76,9 +76,13 @@ pub(crate) fn check_contents<D: Disk>(alloc: Global, disk: &mut D) -> Result<(),
     ensures free { (D.view disk.old).honest → OnOk result (IsFree (D.view disk.old).content) }
     ensures occupied { (D.view disk.old).honest → IfErr result (IsOccupied (D.view disk.old).content) }
 {
-    if is_zeros(alloc, disk)? {
-        return Ok(());
+    match is_zeros(alloc, disk) {
+        Ok(true) => return Ok(()),
+        Ok(false) => {}
+        Err(why) => return Err(ContentsError::Disk(why)),
     }
-    check_size(alloc, disk)?;
-    check_events(alloc, disk)
+    match check_size(alloc, disk) {
+        Ok(()) => check_events(alloc, disk),
+        Err(why) => Err(ContentsError::Disk(why)),
+    }
 }
