@@ -188,3 +188,16 @@ def where_there_is_no_room_nothing_is_left_and_nothing_is_changed(broker):
                 same((len(content), more, content_of(made) == content), (len(content), more, True))
         os.remove(made)
         same((broker.said(*words_of(made)), content_of(made) == blank()), ((0, "formatted 64 sectors\n"), True))
+
+
+@case()
+def an_arn_that_does_not_end_with_the_name_is_warned_of(broker):
+    """Records are told with the ARN, so a version or an alias at its end would be told twice."""
+    new = broker.disk + "1"
+    for end, warnings in (":my-function", 0), (":my-function:prod", 1), (":other", 1):
+        words = words_of(new)
+        words[words.index("--arn") + 1] = "arn:aws:lambda:us-east-2:123456789012:function" + end
+        done = broker.command(*words)
+        same((end, done.returncode, done.stdout), (end, 0, "formatted 64 sectors\n"))
+        told = [line for line in done.stderr.splitlines() if line.startswith("warning: ") and end in line]
+        same((end, len(told)), (end, warnings))
