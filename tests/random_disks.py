@@ -377,7 +377,9 @@ class Laid:
         """Where A is live. What it holds is told whole, or refused."""
         live = self.disk.live
         if self.too_small():
-            return "A live, too small for its settings", self.too_small() | {(1, self.resized())}
+            # Frames that the new half cuts off are told before the settings that it is too small for.
+            cut = {(1, self.damaged(gate)) for gate, body in live.frames if gate + body + 2 > self.half}
+            return "A live, too small for its settings", self.too_small() | cut | {(1, self.resized())}
         if self.gate(self.half):
             return "A live, an open sector in B's place", {(1, self.damaged(self.half + 1)), (1, self.resized())}
         for gate, body in live.frames:

@@ -32,7 +32,8 @@ def told(broker, disk, ids=()):
 
 
 def holds_much(broker):
-    """Its disk holds an event that waits, one that is due again, one that failed and one with an answer; one was collected."""
+    """Its disk holds an event that has ended with an answer, one that is due again, and two that wait, each under a policy of its own;
+    one more was collected."""
     broker.serve()
     ended = broker.live('"first"', b"\0an answer\xff")
     same(broker.delete(broker.live('"second"', "2")).status, 204)
@@ -41,10 +42,9 @@ def holds_much(broker):
     same(broker.stop(), STOPPED)
     same(broker.configure("--retries", 0, "--age", 70)[0], 0)
     broker.serve()
-    gone = broker.live('"fifth"', "none", path="error") if broker.next().id else None
-    last = broker.invoke('"sixth"').id
+    last = broker.invoke('"fifth"').id
     same(broker.stop(), STOPPED)
-    return [event for event in (ended, failed, waits, gone, last) if event]
+    return ended, failed, waits, last
 
 
 @case({"timeout": 900})
@@ -74,11 +74,11 @@ def a_copy_is_served_with_its_larger_limits(broker):
     path = "/2015-03-31/functions/other/invocations"
     same(broker.ask("POST", path, '"' + 100 * "x" + '"', {"X-Amz-Invocation-Type": "Event"}).status, 202)
     same(broker.ask("POST", path, "{}", {"X-Amz-Invocation-Type": "Event"}).status, 429)
-    same([broker.next().body for _ in range(1)], [b"0"])
+    same(broker.next().body, b"0")
     broker.kill()
     broker.serve()
-    same(broker.held(), 3)
     same(broker.stop(), STOPPED)
+    same(broker.held(), 3)
 
 
 def is_refused(broker, new, line, *words):

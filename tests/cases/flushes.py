@@ -268,7 +268,7 @@ def a_device_that_fails_is_told_by_each_command(broker):
             same((word, number, told), (word, number, (3, "device fault\n")))
 
 
-CALLS = {"fail_read": "read", "fail_write": "write", "fail_flush": "flush|sync|barrier"}
+CALLS = {"fail_read": "reading", "fail_write": "writing", "fail_flush": "flushing"}
 
 
 def names_fault(line, word, disk):
