@@ -4,7 +4,7 @@ ghost use Rattle.broker_commands.specs.Copying.{is_device_fault};
 
 use crate::contents::ContentsError;
 use crate::formatting::{check_place, text};
-use crate::opening::{Device, DiskError, open, open_device};
+use crate::opening::{DiskError, open, open_device};
 use crate::telltale::{Telltale, telltale_for};
 use checkpoint::least_sectors;
 use disk_copy::{Change, ChangeError, CopyError, copy, grown_settings};
@@ -145,26 +145,79 @@ where
     Ok((file, place))
 }
 
-// Copies what a broker holds to a new disk, which is given back where that fails.
-fn copy_to_place<R>(
+// Copies what a broker holds to a new disk. That is handed back, with the cause where it was refused.
+fn copy_onto<D: Disk, E: Disk>(
+    alloc: Global,
+    broker: &Broker<D>,
+    disk: E,
+    change: &Change,
+) -> (E, Result<(), CopyError>) {
+    let mut disk = disk;
+    let copied = copy(alloc, broker, &mut disk, change);
+    (disk, copied)
+}
+
+// Copies what a broker holds to a new disk in a file, which is given back where that fails.
+fn copy_to_place<R, D>(
     rt: &R,
-    broker: &Broker<Device<R>>,
+    broker: &Broker<D>,
     new: &NewCopy<'_>,
     change: &Change,
     sectors: u64,
 ) -> Result<(), CopyingError>
 where
     R: Files<File = File> + Eprint + AllocGlobal + Copy + Drop,
+    D: Disk,
 {
     let (file, place) = new_place(rt, new, sectors)?;
-    let mut disk = FileDisk::over(file)?;
-    match copy(rt.alloc(), broker, &mut disk, change) {
+    let disk = FileDisk::over(file)?;
+    let (disk, copied) = copy_onto(rt.alloc(), broker, disk, change);
+    match copied {
         Ok(()) => Ok(()),
         Err(why) => {
             place.give_back(rt, new.path, &disk.into_file());
             Err(CopyingError::Copy(why))
         }
     }
+}
+
+// How many events a broker holds.
+fn count_events<D: Disk>(broker: &Broker<D>) -> Result<usize, AllocError> {
+    Ok(broker.table().snapshot()?.rows.as_slice().len())
+}
+
+// Judges a copy of a broker, and makes it.
+fn copy_broker<R, D>(
+    rt: &R,
+    broker: &Broker<D>,
+    new: &NewCopy<'_>,
+    change: &Change,
+    sectors: u64,
+) -> Result<Copied, CopyingError>
+where
+    R: Files<File = File> + Eprint + AllocGlobal + Copy + Drop,
+    D: Disk,
+{
+    check_change(broker.table().settings(), change, sectors)?;
+    let events = count_events(broker)?;
+    copy_to_place(rt, broker, new, change, sectors)?;
+    Ok(Copied { events, sectors })
+}
+
+// Copies what is on a disk, which is given up.
+fn copy_on<R, D>(
+    rt: &R,
+    disk: D,
+    new: &NewCopy<'_>,
+    change: &Change,
+) -> Result<Copied, CopyingError>
+where
+    R: Files<File = File> + Eprint + AllocGlobal + Copy + Drop,
+    D: Disk + Drop,
+{
+    let sectors = new.sectors.unwrap_or(disk.sectors());
+    let broker = open(rt.alloc(), disk)?;
+    copy_broker(rt, &broker, new, change, sectors)
 }
 
 /// Makes a new disk with every event of an old one. The old disk is opened and read, and nobody else has it meanwhile. Then the new
@@ -175,10 +228,5 @@ where
 {
     let change = change_for(rt.alloc(), &new.limits)?;
     let disk = open_device(rt, new.old)?;
-    let sectors = new.sectors.unwrap_or(disk.sectors());
-    let broker = open(rt.alloc(), disk)?;
-    check_change(broker.table().settings(), &change, sectors)?;
-    let events = broker.table().snapshot()?.rows.as_slice().len();
-    copy_to_place(rt, &broker, new, &change, sectors)?;
-    Ok(Copied { events, sectors })
+    copy_on(rt, disk, new, &change)
 }
