@@ -121,16 +121,14 @@ fn check_settings(settings: &Settings, sectors: u64) -> Result<(), NewDiskError>
 // Whether so many bytes at the front of a file are zeros.
 fn are_zeros<L: FaultLog + Drop>(file: &mut LoggedFile<L>, size: u64) -> Result<bool, FileError> {
     let mut piece = [0; SECTOR_SIZE];
-    let mut at = 0;
-    while at < size {
-        match file.read_at(at, &mut piece) {
-            Ok(count) if count > 0 => {
-                if piece[..count].iter().any(|byte| *byte != 0) {
-                    return Ok(false);
-                }
-                at = at.saturating_add(count as u64);
-            }
-            _ => return Err(FileError::Fault),
+    for place in 0..=size / SECTOR_SIZE as u64 {
+        let at = place.saturating_mul(SECTOR_SIZE as u64);
+        let count = file.read_at(at, &mut piece)?;
+        if (count as u64) < size.saturating_sub(at).min(SECTOR_SIZE as u64) {
+            return Err(FileError::Fault);
+        }
+        if piece[..count].iter().any(|byte| *byte != 0) {
+            return Ok(false);
         }
     }
     Ok(true)
