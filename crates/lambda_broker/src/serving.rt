@@ -68,33 +68,31 @@ impl ServingError {
     }
 }
 
-// Issues an Interrupt for each attempt that the last stop cut off: how many.
+// Issues an Interrupt for each attempt that the last stop cut off.
 fn interrupt_attempts<R: Clock + Wait, D: Disk>(
     rt: &R,
     broker: &mut Broker<D>,
-) -> Result<u64, ServingError>
+) -> Result<(), ServingError>
     ensures settings { settings_of broker.new ≡ settings_of broker.old }
     ensures rest { ForEachHistory D.view broker.old (λ history. OnOk result (ComesToRest D.view history broker.new)) }
 {
     let now = now(rt)?;
-    let mut count: u64 = 0;
     for _ in rt.forever() {
         if broker.resume(now)?.is_none() {
             break;
         }
-        count = count.saturating_add(1);
     }
-    Ok(count)
+    Ok(())
 }
 
-// Issues an Interrupt for each attempt that the last stop cut off, and makes that durable: nothing runs then. It tells how many.
-fn resume<R: Clock + Wait, D: Disk>(rt: &R, broker: &mut Broker<D>) -> Result<u64, ServingError>
+// Issues an Interrupt for each attempt that the last stop cut off, and makes that durable: nothing runs then.
+fn resume<R: Clock + Wait, D: Disk>(rt: &R, broker: &mut Broker<D>) -> Result<(), ServingError>
     ensures durable { OnOk result (pending_of broker.new ≡ []) }
     ensures rest { ForEachHistory D.view broker.old (λ history. OnOk result (ComesToRest D.view history broker.new)) }
 {
-    let count = interrupt_attempts(rt, broker)?;
+    interrupt_attempts(rt, broker)?;
     match broker.commit() {
-        Ok(_) => Ok(count),
+        Ok(_) => Ok(()),
         Err(why) => Err(ServingError::Commit(why)),
     }
 }
@@ -214,7 +212,9 @@ where
 {
     let mut broker = broker;
     let held = broker.table().snapshot()?.rows.as_slice().len();
-    let interrupted = resume(rt, &mut broker)?;
+    let before = broker.table().number();
+    resume(rt, &mut broker)?;
+    let interrupted = broker.table().number().saturating_sub(before);
     note_opening(rt, at, Opening { held, interrupted }, start);
     hall_over(rt.alloc(), broker, at)
 }
