@@ -58,7 +58,7 @@ def an_audit_that_is_refused_memory_ends_and_says_so(broker):
 
 @case()
 def a_format_that_is_refused_memory_ends_and_says_so(broker):
-    words = ["--sectors", "64", "--name", "f", "--handler", "h", "--arn", "a", "--events", "4", "--payload", "16", "--response", "16"]
+    words = ["--sectors", "64", "--name", "f", "--handler", "h", "--arn", "f", "--events", "4", "--payload", "16", "--response", "16"]
     counts = each_request_is_refused(broker, "format", "DISK", *words, made="DISK")
     assert counts[1] > 100 and set(counts) <= {0, 1}, counts
 
