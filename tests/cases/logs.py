@@ -1,7 +1,7 @@
-"""What `serve` says on standard error for who keeps a log: how it opened, and how it ended."""
+"""What `serve` says on standard error for who keeps a log: how it opened, which environments were reset, and how it ended."""
 import re
 
-from harness import case, same, until
+from harness import EXTENSION, RUNTIME, case, same, until
 
 STOPPED = (202, 0, "")
 
@@ -57,3 +57,41 @@ def payloads_and_answers_are_in_no_log(broker):
     same(broker.delete(broker.live('"the payload"', "the answer", path="error")).status, 409)
     same(broker.stop(), STOPPED)
     same(lines_with(broker, "the payload|the answer"), [])
+
+
+# The header that some clients send with an error.
+TYPE = {"Lambda-Extension-Function-Error-Type": "Extension.Failed"}
+
+# What a broker tells of environments that were reset.
+RESET = r"^(an )?environment\b.* was reset: "
+
+
+@case({"timeout": 1, "retries": 0})
+def an_environment_that_did_not_answer_in_time_is_told_with_its_event(broker):
+    broker.serve()
+    event = broker.invoke("{}").id
+    same(broker.next().id, event)
+    same(until_told(broker, RESET), [f"an environment was reset: event {event} was not answered in time"])
+    # What comes late resets nothing any more, and an answer in time nothing at all.
+    same(broker.respond(event, "late").type, "InvalidRequestID")
+    same(broker.delete(event).status, 204)
+    broker.live("{}", "in time")
+    same(broker.stop(), STOPPED)
+    same(len(lines_with(broker, RESET)), 1)
+
+
+@case({"environments": 3})
+def a_report_that_resets_an_environment_is_told_with_its_cause(broker):
+    broker.serve()
+    same(broker.ask("POST", f"{RUNTIME}/init/error", "{}", environment=2).status, 202)
+    starts, ends = broker.extension(environment=3), broker.extension(environment=1)
+    same(broker.ask("POST", f"{EXTENSION}/init/error", "{}", {**starts, **TYPE}, 3).status, 202)
+    same(broker.ask("POST", f"{EXTENSION}/exit/error", "{}", {**ends, **TYPE}, 1).status, 202)
+    # The environment was reset, so the extension is not known any more: what is refused resets nothing.
+    same(broker.ask("POST", f"{EXTENSION}/exit/error", "{}", {**ends, **TYPE}, 1).type, "UnknownExtension")
+    same(broker.stop(), STOPPED)
+    same(sorted(lines_with(broker, RESET)), [
+        "environment 1 was reset: an extension ended",
+        "environment 2 was reset: its runtime could not start",
+        "environment 3 was reset: an extension could not start",
+    ])

@@ -6,12 +6,14 @@ ghost use Rattle.http_front.specs.Refusals.{IsArrivalError};
 
 use crate::drawing::words;
 use crate::error::ArrivalError;
+use crate::resets::{Report, note_timeout};
 use api_core::Call;
 use hall_core::HallError;
 use long_poll::{Arrived, Port};
 use port_meters::Moment;
 use receipts::Trace;
 use std::io;
+use std::io::Eprint;
 use std::random::RandomSource;
 use std::sync::Wait;
 use std::sync::ledger::Ledger;
@@ -37,15 +39,24 @@ fn words_for<R: RandomSource>(rt: &R, call: &Call) -> io::Result<[u64; 2]> {
     if draws(call) { words(rt) } else { Ok([0, 0]) }
 }
 
+/// A call that came to a port.
+#[derive(Drop)]
+pub(crate) struct Handed {
+    pub(crate) arrived: Arrived,
+    /// Whether there is something to commit.
+    pub(crate) has_command: bool,
+}
+
 // Makes the moves that are due: whether there was one.
-fn make_moves<R: Wait, L: Ledger, T: Trace>(rt: &R, port: &Port<L, T>, now: u64) -> bool
+fn make_moves<R: Wait + Eprint, L: Ledger, T: Trace>(rt: &R, port: &Port<L, T>, now: u64) -> bool
     requires { now ≤ greatest_moment }
 {
     let mut moved = false;
     for _ in rt.forever() {
-        if !matches!(port.tick(rt, now).answer, Ok(Some(_))) {
+        let Ok(Some(issued)) = port.tick(rt, now).answer else {
             break;
-        }
+        };
+        note_timeout(rt, Some(issued));
         moved = true;
     }
     moved
@@ -68,20 +79,26 @@ fn hand_over<R: Wait, L: Ledger, T: Trace>(
 /// A call comes to a port now, with two random words, and then the moves that are due are made.
 ///
 /// It is refused: `System` (the clock or the source of random words failed), and as the port refuses it.
-pub(crate) fn arrive<R: Wait + Clock + RandomSource, L: Ledger, T: Trace>(
+pub(crate) fn arrive<R: Wait + Clock + RandomSource + Eprint, L: Ledger, T: Trace>(
     rt: &R,
     port: &Port<L, T>,
     call: Call,
-) -> Result<Arrived, ArrivalError>
-    ensures slot { IfOk result (λ arrived. IsSlot arrived.slot) }
+) -> Result<Handed, ArrivalError>
+    ensures slot { IfOk result (λ handed. IsSlot handed.arrived.slot) }
     ensures refused { IfErr result IsArrivalError }
 {
     let moves = may_move(&call);
     let words = words_for(rt, &call)?;
     let now = Moment::now(rt)?.millis();
-    let mut arrived = hand_over(rt, port, call, now, words)?;
-    if moves && make_moves(rt, port, now) {
-        arrived.has_command = true;
+    let reports = Report::of(&call).is_some();
+    let arrived = hand_over(rt, port, call, now, words)?;
+    if !reports {
+        note_timeout(rt, arrived.issued);
     }
-    Ok(arrived)
+    let moved = moves && make_moves(rt, port, now);
+    let has_command = moved || arrived.issued.is_some();
+    Ok(Handed {
+        arrived,
+        has_command,
+    })
 }

@@ -3,7 +3,7 @@ ghost use Rattle.std.specs.Prelude.{◌≡◌, ◌+◌, IfOk, IfErr, max};
 ghost use Rattle.long_poll.specs.Port.{IsSlot};
 ghost use Rattle.http_front.specs.Refusals.{IsArrivalError};
 
-use crate::arriving::arrive;
+use crate::arriving::{Handed, arrive};
 use crate::error::ArrivalError;
 use crate::wake::Wake;
 use api_core::{Call, Dialect};
@@ -13,6 +13,7 @@ use port_meters::Meters;
 use receipts::{Office, Trace};
 use retry_rules::Settings;
 use std::alloc::{AllocError, Global};
+use std::io::Eprint;
 use std::random::RandomSource;
 use std::sync::ledger::Ledger;
 use std::sync::{Arc, Wait};
@@ -105,7 +106,7 @@ impl<L: Ledger, T: Trace> Front<L, T> {
     /// A call comes to a port. Where there is something to commit, or the broker is to stop, the committer is called.
     ///
     /// It is refused: `System` (the clock or the source of random words failed), and as `Port::arrive` refuses it.
-    pub(crate) fn arrive<R: Wait + Clock + RandomSource>(
+    pub(crate) fn arrive<R: Wait + Clock + RandomSource + Eprint>(
         &self,
         rt: &R,
         port: &Port<L, T>,
@@ -115,8 +116,11 @@ impl<L: Ledger, T: Trace> Front<L, T> {
         ensures refused { IfErr result IsArrivalError }
     {
         let stops = matches!(call, Call::StopBroker);
-        let arrived = arrive(rt, port, call)?;
-        if stops || arrived.has_command {
+        let Handed {
+            arrived,
+            has_command,
+        } = arrive(rt, port, call)?;
+        if stops || has_command {
             self.wake.call(rt);
         }
         Ok(arrived)

@@ -17,6 +17,7 @@ mod gates;
 mod opening;
 mod port_application;
 mod replying;
+mod resets;
 mod serving;
 mod starting;
 mod ticking;

@@ -5,6 +5,7 @@ ghost use Rattle.hall_core.specs.Hall.{slot_told};
 use crate::drawing::new_id;
 use crate::front::Front;
 use crate::replying::{Manner, Telling, refuse};
+use crate::resets::{Report, note_report};
 use api_core::{Audience, Call, Dialect, Refusal, RequestError, read_request};
 use futures::Future;
 use futures::task::{Context, Poll};
@@ -14,6 +15,7 @@ use hyper::StatusCode;
 use long_poll::{Arrived, Port, Waiting};
 use receipts::Trace;
 use std::alloc::Global;
+use std::io::Eprint;
 use std::random::RandomSource;
 use std::sync::ledger::Ledger;
 use std::sync::{Arc, Wait};
@@ -28,11 +30,14 @@ pub(crate) struct Replying<R: Wait, L: Ledger, T: Trace> {
     waiting: Waiting<R, L, T>,
     /// The id of its request, where the reply is to tell one.
     id: Option<[u8; 16]>,
+    /// The port, which is the environment's number, and what the call reports there.
+    number: u16,
+    report: Option<Report>,
     rt: R,
     front: Arc<Front<L, T>>,
 }
 
-impl<R: Wait + Drop, L: Ledger, T: Trace> Future for Replying<R, L, T> {
+impl<R: Wait + Eprint + Drop, L: Ledger, T: Trace> Future for Replying<R, L, T> {
     type Output = Telling;
 
     ghost gives = { λ replying telling. slot_told telling.released ≡ replying.waiting.slot };
@@ -41,7 +46,9 @@ impl<R: Wait + Drop, L: Ledger, T: Trace> Future for Replying<R, L, T> {
         match self.waiting.poll(cx) {
             Poll::Pending => Poll::Pending,
             Poll::Ready(released) => {
-                self.front.meters.note_status(&self.rt, released.status());
+                let status = released.status();
+                self.front.meters.note_status(&self.rt, status);
+                note_report(&self.rt, self.number, self.report, status);
                 Poll::Ready(Telling::new(released, self.id))
             }
         }
@@ -70,7 +77,7 @@ pub(crate) struct PortApplication<R, L: Ledger, T: Trace> {
     pub(crate) port: Arc<Port<L, T>>,
 }
 
-impl<R: Wait + Clock + RandomSource + Copy, L: Ledger, T: Trace> PortApplication<R, L, T> {
+impl<R: Wait + Clock + RandomSource + Eprint + Copy, L: Ledger, T: Trace> PortApplication<R, L, T> {
     // Whom this port answers.
     fn audience(&self) -> Audience {
         if self.number == 0 {
@@ -123,21 +130,20 @@ impl<R: Wait + Clock + RandomSource + Copy, L: Ledger, T: Trace> PortApplication
         }
     }
 
-    // The call of a request comes. What is refused is answered at once.
-    fn hand_over(&self, head: &Parts, body: Vec<u8>) -> Result<Arrived, Refusal> {
-        let call = self.read(head, body)?;
+    // A call comes. What is refused is answered at once.
+    fn hand_over(&self, call: Call) -> Result<Arrived, Refusal> {
         match self.front.arrive(&self.rt, &self.port, call) {
             Ok(arrived) => Ok(arrived),
             Err(_) => Err(Refusal::Unavailable),
         }
     }
 
-    // A request comes; its reply then waits.
-    fn arrive(&self, head: &Parts, body: Vec<u8>) -> Result<Waiting<R, L, T>, Refusal> {
+    // A call comes; its reply then waits.
+    fn arrive(&self, call: Call) -> Result<Waiting<R, L, T>, Refusal> {
         let Ok(port) = Arc::try_clone(&self.port) else {
             return Err(Refusal::Unavailable);
         };
-        let arrived = self.hand_over(head, body)?;
+        let arrived = self.hand_over(call)?;
         Ok(Waiting::new(self.rt, port, arrived))
     }
 
@@ -151,17 +157,21 @@ impl<R: Wait + Clock + RandomSource + Copy, L: Ledger, T: Trace> PortApplication
         let Ok(front) = Arc::try_clone(&self.front) else {
             return Err(Refusal::Unavailable);
         };
-        let waiting = self.arrive(head, body)?;
+        let call = self.read(head, body)?;
+        let report = Report::of(&call);
+        let waiting = self.arrive(call)?;
         Ok(Replying {
             waiting,
             id,
+            number: self.number,
+            report,
             rt: self.rt,
             front,
         })
     }
 }
 
-impl<R: Wait + Clock + RandomSource + Drop + Copy, L: Ledger, T: Trace> Application
+impl<R: Wait + Clock + RandomSource + Eprint + Drop + Copy, L: Ledger, T: Trace> Application
     for PortApplication<R, L, T> {
     type Given = Telling;
 

@@ -22,6 +22,7 @@ use port_meters::{Beside, Machine};
 use receipts::{Desk, SharedOpening, SharedTrace, Trace, desks};
 use retry_rules::Settings;
 use sector_disk::Disk;
+use std::io::Eprint;
 use std::sync::ledger::{Blank, Ledger};
 use std::sync::{Arc, Wait};
 use std::thread::{JoinHandle, Threads};
@@ -68,7 +69,7 @@ fn commit_and_tick<R, L, T, D, G>(
     gate: &G,
 ) -> io::Result<DiskHalf<D>>
 where
-    R: Threads + Wait + Clock + Copy + Drop + Send + 'static,
+    R: Threads + Wait + Clock + Eprint + Copy + Drop + Send + 'static,
     L: Ledger + Send + Sync + 'static,
     T: SharedTrace + 'static,
     T::Opening: SharedOpening + 'static,

@@ -8,10 +8,12 @@ ghost use Rattle.port_meters.specs.Moments.{millis_in};
 ghost use Rattle.http_front.specs.laws.Marked.{marked_nothing, marked_more};
 
 use crate::front::Front;
+use crate::resets::note_timeout;
 use crate::wake::{Called, Slept, pause};
 use commit_loop::{Gate, Ticking};
 use port_meters::{Moment, NoClock};
 use receipts::{Desk, Trace, Witnessed};
+use std::io::Eprint;
 use std::sync::Wait;
 use std::sync::ledger::Ledger;
 use std::time::Clock;
@@ -34,8 +36,9 @@ struct Looked<L: Ledger, T: Trace> {
     at: Moment,
 }
 
-// Makes a move that is due at this moment: whether it made one. The bell is told which parked polls it answered.
-fn make_move<R: Wait, L: Ledger, T: Trace>(
+// Makes a move that is due at this moment: whether it made one. The bell is told which parked polls it answered, and who keeps
+// a log, which environment was reset.
+fn make_move<R: Wait + Eprint, L: Ledger, T: Trace>(
     rt: &R,
     front: &Front<L, T>,
     desk: &mut Desk<L, T>,
@@ -50,6 +53,7 @@ fn make_move<R: Wait, L: Ledger, T: Trace>(
         Ok(Some(number)) => {
             let answered = desk.take_answered();
             front.bell.answer(rt, &answered, number);
+            note_timeout(rt, desk.issued());
             seen.with(true)
         }
         Ok(None) => seen.with(false),
@@ -58,7 +62,7 @@ fn make_move<R: Wait, L: Ledger, T: Trace>(
 }
 
 // Makes a move that is due now: whether it made one, and what shows it. Where the clock cannot be read none is made.
-fn tick<R: Wait + Clock, L: Ledger, T: Trace>(
+fn tick<R: Wait + Clock + Eprint, L: Ledger, T: Trace>(
     rt: &R,
     front: &Front<L, T>,
     desk: &mut Desk<L, T>,
@@ -77,7 +81,7 @@ fn tick<R: Wait + Clock, L: Ledger, T: Trace>(
     }
 }
 
-impl<R: Wait + Clock, L: Ledger, T: Trace> Ticking for AtFront<'_, R, L, T> {
+impl<R: Wait + Clock + Eprint, L: Ledger, T: Trace> Ticking for AtFront<'_, R, L, T> {
     type Counted = Witnessed<(), L, T>;
 
     type Looked = Result<Looked<L, T>, NoClock>;
@@ -121,8 +125,9 @@ impl<R: Wait + Clock, L: Ledger, T: Trace> Ticking for AtFront<'_, R, L, T> {
 }
 
 /// Makes the moves that are due, about every 100 milliseconds, where the gate says `Commit`, and calls the committer; at
-/// `Skip` it only sleeps. At `End` it gives its desk back, with a mark of each move that it made.
-pub fn tick_all<R: Wait + Clock, L: Ledger, T: Trace, G: Gate>(
+/// `Skip` it only sleeps. At `End` it gives its desk back, with a mark of each move that it made. An environment that a move
+/// resets is told on standard error.
+pub fn tick_all<R: Wait + Clock + Eprint, L: Ledger, T: Trace, G: Gate>(
     rt: &R,
     front: &Front<L, T>,
     desk: Desk<L, T>,

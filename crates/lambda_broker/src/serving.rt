@@ -302,7 +302,7 @@ fn serve_on<R, T, D, W>(
     out: &mut W,
 ) -> Result<(), ServingError>
 where
-    R: Files<File = File> + Eprint + Machine,
+    R: Files<File = File> + Machine,
     T: SharedTrace + 'static,
     T::Opening: SharedOpening + 'static,
     D: Disk + Drop,
@@ -320,7 +320,7 @@ where
 /// printed on until the broker is stopped. The file is looked at first, then what is on it, then the ports.
 pub fn serve_disk<R, W>(rt: R, at: &Address<'_>, out: &mut W) -> Result<(), ServingError>
 where
-    R: Files<File = File> + Eprint + Machine,
+    R: Files<File = File> + Machine,
     W: Write,
 {
     let start = Instant::now(&rt);

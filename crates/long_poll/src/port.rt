@@ -5,14 +5,14 @@ ghost use Rattle.hall_core.specs.Hall.{request, IsDone};
 ghost use Rattle.hall_core.specs.Past.{tick};
 ghost use Rattle.receipts.specs.Kept.{hall_in};
 ghost use Rattle.receipts.specs.Told.{TellsPoint, Takes, Forgets};
-ghost use Rattle.receipts.specs.UnderLock.{AnswersItsNumber};
+ghost use Rattle.receipts.specs.UnderLock.{IssuedAt};
 ghost use Rattle.long_poll.specs.Port.{IsSlot, IsRequestRefusal, IsMoveRefusal, IsRequestReason, IsMoveReason};
 
 use crate::bell::Bell;
 use api_core::Call;
 use front_board::Seated;
 use group_commit::{Receipt, Ticket};
-use hall_core::{HallError, Released};
+use hall_core::{HallError, Issued, Released};
 use receipts::{Desk, Mark, Office, Trace, Witnessed};
 use std::sync::ledger::Ledger;
 use std::sync::{Arc, Mutex, Wait};
@@ -24,8 +24,8 @@ pub struct Arrived {
     pub ticket: Ticket,
     /// From which its reply is taken.
     pub slot: u64,
-    /// Whether it issued a command, which has to be committed.
-    pub has_command: bool,
+    /// What it issued, which has to be committed.
+    pub issued: Option<Issued>,
 }
 
 /// One port of the front: a desk of the office and a seat of the board, each behind a lock, for all futures of the port.
@@ -84,48 +84,53 @@ impl<L: Ledger, T: Trace> Port<L, T> {
         // Just this request was done to what was met under the lock, or there is a reason there why it was not.
         ensures done { IfOk result.answer (λ arrived.
             IsDone (hall_in result.met.value.hall) (hall_in result.left.value.hall) (request arrived.slot call now words)) }
+        ensures issued { IfOk result.answer (λ arrived.
+            IssuedAt (hall_in result.met.value.hall) (request arrived.slot call now words) arrived.issued) }
         ensures reason { IfErr result.answer
             (IsRequestReason (hall_in result.met.value.hall) result.met.value.slots call now words) }
     {
         let mut desk = self.desk.lock(rt);
-        let marked = desk.marks().len();
         let (answer, seen) = self.office.arrive(rt, &mut desk, call, now, words).split();
         let (ticket, slot) = match answer {
             Ok(arrived) => arrived,
             Err(why) => return seen.with(Err(why)),
         };
-        let has_command = marked < desk.marks().len();
+        let issued = desk.issued();
         let answered = desk.take_answered();
         drop(desk);
         self.bell.answer(rt, &answered, ticket.number());
         seen.with(Ok(Arrived {
             ticket,
             slot,
-            has_command,
+            issued,
         }))
     }
 
     /// Makes one move that is due, as `Office::tick` says, from the port's desk. The bell is told which parked polls it
-    /// answered. A moment is at most the end of the year 9999.
-    pub fn tick<R: Wait>(&self, rt: &R, now: u64) -> Witnessed<Result<Option<u64>, HallError>, L, T>
+    /// answered. What it issued is answered. A moment is at most the end of the year 9999.
+    pub fn tick<R: Wait>(
+        &self,
+        rt: &R,
+        now: u64,
+    ) -> Witnessed<Result<Option<Issued>, HallError>, L, T>
         requires { now ≤ greatest_moment }
         ensures refused { IfErr result.answer IsMoveRefusal }
 
         // Just this move was made in what was met under the lock, or there is a reason there why it was not.
         ensures done { OnOk result.answer (IsDone (hall_in result.met.value.hall) (hall_in result.left.value.hall) (tick now)) }
-        ensures answer { IfOk result.answer (AnswersItsNumber (hall_in result.met.value.hall) (tick now)) }
+        ensures answer { IfOk result.answer (IssuedAt (hall_in result.met.value.hall) (tick now)) }
         ensures reason { IfErr result.answer (IsMoveReason (hall_in result.met.value.hall) now) }
     {
         let mut desk = self.desk.lock(rt);
         let (answer, seen) = self.office.tick(rt, &mut desk, now).split();
-        let moved = match answer {
-            Ok(moved) => moved,
-            Err(why) => return seen.with(Err(why)),
-        };
+        if let Err(why) = answer {
+            return seen.with(Err(why));
+        }
+        let moved = desk.issued();
         let answered = desk.take_answered();
         drop(desk);
-        if let Some(number) = moved {
-            self.bell.answer(rt, &answered, number);
+        if let Some(issued) = moved {
+            self.bell.answer(rt, &answered, issued.number);
         }
         seen.with(Ok(moved))
     }

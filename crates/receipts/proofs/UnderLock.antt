@@ -29,7 +29,7 @@ use Rattle.receipts.specs.Answers.{IsMismatch}
 use Rattle.receipts.specs.Kept.{number_of}
 use Rattle.receipts.specs.Serving.{IsToldOf}
 use Rattle.receipts.proofs.Running.{same_stands}
-use Rattle.receipts.specs.UnderLock.{DoesAt, AnswersItsNumber, next_slot, Asking, ComesToHall, IsTurnedAway, HallRefuses, IsNotMade, IsNoFault}
+use Rattle.receipts.specs.UnderLock.{DoesAt, AnswersItsNumber, IssuedAt, next_slot, Asking, ComesToHall, IsTurnedAway, HallRefuses, IsNotMade, IsNoFault}
 
 -- ## What was done
 
@@ -55,6 +55,9 @@ module _ (old new : HallView) (call : HallCall) (issued : Option Issued) (does :
 
   pub answers_number : (answer : Option ℕ) → answer ≡ option_map number_of issued → AnswersItsNumber old call answer
   answers_number answer is past stands = is ∙ ap (option_map number_of) (does past stands).0
+
+  pub issued_at : (told : Option Issued) → told ≡ issued → IssuedAt old call told
+  issued_at told is past stands = is ∙ (does past stands).0
 
 -- what hands out the answered polls does nothing
 pub does_still : (old mid new : HallView) (call : HallCall) (issued : Option Issued) → IsSameHall mid new → Does old mid call issued

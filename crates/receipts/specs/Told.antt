@@ -27,7 +27,7 @@ use Rattle.receipts.specs.Answers.{IsArrivalRefusal, IsTickRefusal}
 use Rattle.receipts.specs.Kept.{hall_in, issuer_in, IsToldByLoan, IsNotLentTo}
 use Rattle.receipts.specs.Marks.{KeepsHistories}
 use Rattle.receipts.specs.Serving.{IsToldOf}
-use Rattle.receipts.specs.UnderLock.{DoesAt, AnswersItsNumber, AddBoth, LendsAs, Counts, IsNotMade, IsNotMoved, IsSameUnderLock, IsNoFault}
+use Rattle.receipts.specs.UnderLock.{DoesAt, AnswersItsNumber, IssuedAt, AddBoth, LendsAs, Counts, IsNotMade, IsNotMoved, IsSameUnderLock, IsNoFault}
 
 -- the marks under the lock
 abbrev pub marks_in : {L T O : Type 0} {l : LedgerGhosts L} {g : TraceGhosts T O} {o : OpeningGhosts O}
@@ -68,6 +68,9 @@ pub record Arrives {L T O : Type 0} {l : LedgerGhosts L} {g : TraceGhosts T O} {
   pub reason : IfErr result (IsNotMade (hall_in met.hall) met.slots
       (record { told = desk.told; desk = desk.number; call = call; now = now; words = words }))
   pub same : OnErr result (IsLeftSame met left)
+  -- the desk tells what this request issued
+  pub issued : IfOk result (λ r. IssuedAt (hall_in met.hall) (request r.1 call now words) desk'.issued)
+  pub kept_issued : OnErr result (desk'.issued ≡ desk.issued)
   -- the desk has the slots of just the polls that this request answered
   pub answered : IfOk result (λ r. AnswersPolls (hall_in met.hall) (request r.1 call now words) desk'.answered.items)
   pub kept_answered : OnErr result (desk'.answered.items ≡ desk.answered.items)
@@ -92,6 +95,9 @@ pub record Moves {L T O : Type 0} {l : LedgerGhosts L} {g : TraceGhosts T O} {o 
   pub opening : left.opening ≡ met.opening
   pub reason : IfErr result (IsNotMoved (hall_in met.hall) desk.told now)
   pub same : OnErr result (IsLeftSame met left)
+  -- the desk tells what this move issued
+  pub issued : OnOk result (IssuedAt (hall_in met.hall) (tick now) desk'.issued)
+  pub kept_issued : OnErr result (desk'.issued ≡ desk.issued)
   -- the desk has the slots of just the polls that this move answered
   pub answered : OnOk result (AnswersPolls (hall_in met.hall) (tick now) desk'.answered.items)
   pub kept_answered : OnErr result (desk'.answered.items ≡ desk.answered.items)

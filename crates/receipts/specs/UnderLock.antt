@@ -8,6 +8,7 @@ use Rattle.group_commit.specs.Lending.{CanLend, Lends, SettlesBy}
 use Rattle.group_commit.specs.declared.batch.Written.{Written}
 use Rattle.group_commit.specs.declared.batch.Failed.{Failed}
 use Rattle.hall_core.specs.Halves.{IsNotDurable}
+use Rattle.hall_core.specs.declared.issuing.Issued.{Issued}
 use Rattle.hall_core.specs.declared.error.HallError.{HallError}
 use Rattle.hall_core.specs.declared.error.HallError.TheVariants as error
 use Rattle.hall_core.specs.Past.{HallCall, tick}
@@ -33,6 +34,10 @@ DoesAt old new call desk own own' =
 abbrev pub AnswersItsNumber : HallView → HallCall → Option ℕ → Type 0
 AnswersItsNumber hall call answer =
     ForEachPast hall (λ past. answer ≡ option_map number_of (issued_by (settings_in hall) past call))
+
+-- whatever was done before, this is what the call issued, if it has a command
+abbrev pub IssuedAt : HallView → HallCall → Option Issued → Type 0
+IssuedAt hall call issued = ForEachPast hall (λ past. issued ≡ issued_by (settings_in hall) past call)
 
 -- the same marks came to a desk's and to all
 abbrev pub AddBoth : List Mark → List Mark → List Mark → List Mark → Type 0

@@ -3,6 +3,7 @@ ghost use Rattle.std.specs.Prelude.{◌≡◌, ◌<◌, [], vec_len};
 ghost use Rattle.receipts.specs.Desks.{desk_count};
 
 use crate::mark::{Mark, Trace};
+use hall_core::Issued;
 use retry_rules::Settings;
 use std::mem;
 use std::sync::ledger::{Ledger, Share};
@@ -17,7 +18,7 @@ pub fn desks(settings: &Settings) -> u64
 }
 
 /// A place from which one thread asks the office at a time. It keeps the marks of the commands that its calls issued, the
-/// greatest number that it was told, and which polls its last request or move answered.
+/// greatest number that it was told, and what its last request or move issued and which polls that answered.
 #[derive(Drop)]
 pub struct Desk<L: Ledger, T: Trace = Mark> {
     /// From 0 on.
@@ -30,6 +31,8 @@ pub struct Desk<L: Ledger, T: Trace = Mark> {
     pub(crate) share: Share<L>,
     /// The slots of the polls that its last request or move answered, until they are handed out.
     pub(crate) answered: Vec<u64>,
+    /// What its last request or move issued.
+    pub(crate) issued: Option<Issued>,
     ghost one: { share.parts ≡ 1 },
     ghost counted: { vec_len own ≡ share.amount },
     ghost few: { number < 32 },
@@ -57,6 +60,13 @@ impl<L: Ledger, T: Trace> Desk<L, T> {
         &self.own
     }
 
+    /// What its last request or move that was not refused issued, if it did.
+    pub fn issued(&self) -> Option<Issued>
+        ensures { result ≡ self.now.issued }
+    {
+        self.issued
+    }
+
     /// Hands out the slots of the polls that the desk's last request or move answered, in the order of their replies: none
     /// are left, and nothing else changes. It takes no memory.
     pub fn take_answered(&mut self) -> Vec<u64>
@@ -65,6 +75,7 @@ impl<L: Ledger, T: Trace> Desk<L, T> {
         ensures number { self.new.number ≡ self.old.number }
         ensures told { self.new.told ≡ self.old.told }
         ensures marks { self.new.own ≡ self.old.own }
+        ensures issued { self.new.issued ≡ self.old.issued }
     {
         let none = Vec::new(*self.answered.allocator());
         mem::replace(&mut self.answered, none)

@@ -51,18 +51,20 @@ pub(crate) struct Kept<L: Ledger, T: Trace> {
     ghost runs: { ∥ HasRuns (hall_in hall) (T.Opening.table opening) ∥₁ },
 }
 
-// Marks what a call issued, if it did, where there is room for a mark.
+// Marks what a call issued, if it did, where there is room for a mark, and has the desk tell it.
 fn note<L: Ledger, T: Trace>(marks: &mut Marks<L, T>, desk: &mut Desk<L, T>, issued: Option<Issued>)
     requires room_here { vec_len marks.old.all < vec_capacity marks.old.all }
     requires room_there { vec_len desk.old.own < vec_capacity desk.old.own }
     ensures all { map T.mark marks.new.all.items ≡ map T.mark marks.old.all.items ++ marks_by desk.old.number issued }
     ensures own { map T.mark desk.new.own.items ≡ map T.mark desk.old.own.items ++ marks_by desk.old.number issued }
     ensures desk { (desk.new.number ≡ desk.old.number) × (desk.new.told ≡ desk.old.told) }
+    ensures issued { desk.new.issued ≡ issued }
 {
     if let Some(issued) = issued {
         let mark = Mark::of(issued, desk.number);
         marks.add(desk, mark);
     }
+    desk.issued = issued;
 }
 
 // The number of what a tick issued, if it did, which the desk is told.
@@ -70,6 +72,7 @@ fn told_by<L: Ledger, T: Trace>(desk: &mut Desk<L, T>, issued: Option<Issued>) -
     ensures number { result ≡ option_map number_of issued }
     ensures told { desk.new.told ≡ either_number desk.old.told issued }
     ensures rest { (desk.new.number ≡ desk.old.number) × (desk.new.own.items ≡ desk.old.own.items) }
+    ensures issued { desk.new.issued ≡ desk.old.issued }
 {
     match issued {
         Some(issued) => {

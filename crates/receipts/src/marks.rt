@@ -55,6 +55,7 @@ impl<L: Ledger, T: Trace> Marks<L, T> {
         ensures own { desk.new.own.items ≡ desk.old.own.items }
         ensures desk { (desk.new.number ≡ desk.old.number) × (desk.new.told ≡ desk.old.told) }
         ensures answered { desk.new.answered ≡ desk.old.answered }
+        ensures issued { desk.new.issued ≡ desk.old.issued }
         ensures room_here { OnOk result (vec_len self.new.all < vec_capacity self.new.all) }
         ensures room_there { OnOk result (vec_len desk.new.own < vec_capacity desk.new.own) }
     {

@@ -102,6 +102,7 @@ fn make_desks<L: Ledger, T: Trace>(
             own: Vec::new(alloc),
             share,
             answered: Vec::new(alloc),
+            issued: None,
         });
     }
     desks
@@ -165,7 +166,7 @@ impl<L: Ledger, T: Trace> Office<L, T> {
     /// A request comes to this desk now, with two random words: it is done as `Hall::arrive` says, with a slot of its own,
     /// and the desk gets a mark of the command that was issued, if it has one, and the slots of the polls that it answered
     /// (`Desk::take_answered`). It answers a ticket of all that its reply shows, and the slot, from which `take` gives the
-    /// reply once that is durable.
+    /// reply once that is durable. The desk tells what was issued (`Desk::issued`).
     ///
     /// It is refused, and changes nothing: `Mismatch` (fewer commands were issued than this desk was told), `WornOut` (2^58
     /// slots were counted), `Unfit` (the environment is not there, the text of an answer is above the settings' limit, or
@@ -187,8 +188,8 @@ impl<L: Ledger, T: Trace> Office<L, T> {
     }
 
     /// Makes one move that is due now, as `Hall::tick` does, and answers the number of its command, of which the desk gets
-    /// the mark. None where nothing is due. The desk gets the slots of the polls that it answered (`Desk::take_answered`). A
-    /// moment is at most the end of the year 9999.
+    /// the mark, and tells what it is (`Desk::issued`). None where nothing is due. The desk gets the slots of the polls that it
+    /// answered (`Desk::take_answered`). A moment is at most the end of the year 9999.
     ///
     /// It is refused, and changes nothing: `Mismatch` (fewer commands were issued than this desk was told), `OutOfMemory`,
     /// and as the hall refuses it.

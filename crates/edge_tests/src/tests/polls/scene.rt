@@ -285,7 +285,7 @@ where
     /// The command of the move that is made, 0 where there is none.
     pub fn tick(&self) -> u64 {
         match self.port.tick(&self.rt, NOW).answer {
-            Ok(Some(number)) => number,
+            Ok(Some(issued)) => issued.number,
             _ => 0,
         }
     }

@@ -6,7 +6,7 @@ use Rattle.receipts.proofs.Followed.{numbered_by, reached_by, follows_by, adds_b
 use Rattle.std.proofs.Math.Logic.{∥∥₁_map}
 use Rattle.receipts.proofs.Running.{runs_by, runs_same, same_stands}
 use Rattle.receipts.proofs.Refused.{refused_arrival}
-use Rattle.receipts.proofs.UnderLock.{does_at, does_still, issues_still, not_made_by_fit, not_made_by_hall}
+use Rattle.receipts.proofs.UnderLock.{does_at, does_still, issues_still, issued_at, not_made_by_fit, not_made_by_hall}
 use Rattle.group_commit.specs.IssuerHalf.{half_view}
 use Rattle.hall_core.specs.Hall.{view_of, request, CanBeAsked}
 use Rattle.receipts.proofs.kept.Kept.arrive.Goals as goal
@@ -57,6 +57,8 @@ returns-in-Ok g c =
       opening = search rules;
       reason = search rules;
       same = search rules;
+      issued = issued_at _ _ _ c.in-Ok.issued c.in-Ok.ensures.ok _ (search rules);
+      kept_issued = search rules;
       answered = λ past stands. c.hand_out.ensures.slots ∙ c.in-Ok.ensures.answered past stands;
       kept_answered = search rules;
     }
@@ -86,6 +88,8 @@ returns-then-not-fits g c =
       reason = not_made_by_fit (view_of half_view c.args.self.now.hall) c.args.self.now.slots asking (search rules) (search rules)
           c.in_ok-slot.slot c.in_ok-slot.ensures.next c.fits.result c.fits.ensures.all (search rules);
       same = search rules;
+      issued = search rules;
+      kept_issued = search rules;
       answered = search rules;
       kept_answered = search rules;
     }
@@ -117,6 +121,8 @@ returns-in-Err g c =
           c.in_ok-slot.slot c.in_ok-slot.ensures.next can c.in-Err.why
           (record { first = c.in-Err.ensures.refused; reason = c.in-Err.ensures.reason });
       same = search rules;
+      issued = search rules;
+      kept_issued = search rules;
       answered = search rules;
       kept_answered = search rules;
     }

@@ -5,7 +5,7 @@ use Rattle.receipts.proofs.Followed.{numbered_by, reached_by, follows_by, adds_a
 use Rattle.std.proofs.Math.Logic.{∥∥₁_map}
 use Rattle.receipts.proofs.Running.{runs_by, runs_same, same_stands}
 use Rattle.receipts.proofs.Refused.{refused_tick}
-use Rattle.receipts.proofs.UnderLock.{does_at, does_still, issues_still, answers_number}
+use Rattle.receipts.proofs.UnderLock.{does_at, does_still, issues_still, issued_at, answers_number}
 use Rattle.group_commit.specs.IssuerHalf.{half_view}
 use Rattle.hall_core.specs.Hall.{view_of}
 use Rattle.receipts.proofs.kept.Kept.tick.Goals as goal
@@ -53,6 +53,8 @@ returns-in-Ok g c =
       opening = search rules;
       reason = search rules;
       same = search rules;
+      issued = issued_at _ _ _ c.in-Ok.issued c.in-Ok.ensures.ok _ (search rules);
+      kept_issued = search rules;
       answered = λ past stands. c.hand_out.ensures.slots ∙ c.in-Ok.ensures.answered past stands;
       kept_answered = search rules;
     }
@@ -76,6 +78,8 @@ returns-in-Err g c =
       opening = search rules;
       reason = inr (search rules, inr (record { first = c.in-Err.ensures.refused; reason = c.in-Err.ensures.reason }));
       same = search rules;
+      issued = search rules;
+      kept_issued = search rules;
       answered = search rules;
       kept_answered = search rules;
     }

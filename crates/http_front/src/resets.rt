@@ -1,0 +1,71 @@
+// Environments that are reset, told on standard error for whoever keeps a log.
+use api_core::Call;
+use hall_core::Issued;
+use invoke_records::{Cause, Kind};
+use std::io::Eprint;
+use uuid::Uuid;
+
+/// The status of a report that was taken.
+const TAKEN: u16 = 202;
+
+/// What resets an environment once it is reported there (Runtime API, Extensions API).
+#[derive(Clone, Copy, Debug, PartialEq, Eq)]
+pub(crate) enum Report {
+    /// The runtime could not start.
+    RuntimeInit,
+    /// An extension could not start.
+    ExtensionInit,
+    /// An extension ends.
+    ExtensionExit,
+}
+
+impl Report {
+    /// What a call reports, if it does.
+    pub(crate) fn of(call: &Call) -> Option<Report> {
+        match call {
+            Call::RuntimeInitError { .. } => Some(Report::RuntimeInit),
+            Call::ExtensionInitError { .. } => Some(Report::ExtensionInit),
+            Call::ExtensionExitError { .. } => Some(Report::ExtensionExit),
+            _ => None,
+        }
+    }
+
+    fn text(self) -> &'static str {
+        match self {
+            Report::RuntimeInit => "its runtime could not start",
+            Report::ExtensionInit => "an extension could not start",
+            Report::ExtensionExit => "an extension ended",
+        }
+    }
+}
+
+/// Says that this environment was reset, where its report was answered with the status of one that was taken.
+pub(crate) fn note_report<R: Eprint>(
+    rt: &R,
+    environment: u16,
+    report: Option<Report>,
+    status: u16,
+) {
+    let Some(report) = report else {
+        return;
+    };
+    if status == TAKEN {
+        let why = report.text();
+        let _ = eprintln!(rt; "environment {environment} was reset: {why}");
+    }
+}
+
+/// Says that an environment was reset since its event was not answered in time, where that was issued.
+pub(crate) fn note_timeout<R: Eprint>(rt: &R, issued: Option<Issued>) {
+    let Some(issued) = issued else {
+        return;
+    };
+    if issued.kind != Kind::Fail(Cause::Timeout) {
+        return;
+    }
+    let mut buffer = Uuid::encode_buffer();
+    let event = Uuid::from_bytes(issued.id)
+        .hyphenated()
+        .encode_lower(&mut buffer);
+    let _ = eprintln!(rt; "an environment was reset: event {event} was not answered in time");
+}
