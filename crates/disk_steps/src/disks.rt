@@ -2,6 +2,7 @@
 use crate::audits::tell_audit;
 use crate::journals::{append, fits, frames};
 use crate::refusals;
+use crate::sizes::{tell_blank, tell_resized};
 use case_runner::{Reply, Text, Words, number_of};
 use checkpoint::Opened;
 use invoke_records::{Command, Snapshot};
@@ -187,6 +188,8 @@ pub fn disk_step<D: Disk>(
         "faults" => Reply::Number(disk.faults()),
         "recover" => recover(alloc, disk, answer),
         "audit" => tell_audit(alloc, disk, words, answer),
+        "resized" => tell_resized(alloc, disk, answer),
+        "is-blank" => tell_blank(alloc, disk),
         "frames" => frames(alloc, disk, words, answer),
         "fits" => fits(alloc, disk, words),
         "append" => append(alloc, disk, words),

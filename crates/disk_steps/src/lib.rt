@@ -10,6 +10,7 @@ mod journals;
 mod memory;
 mod migrating;
 pub mod refusals;
+mod sizes;
 mod world;
 
 pub use devices::{CaseDisk, SOUND, read_failures, wrapped};

@@ -14,8 +14,6 @@ mod resizing;
 mod searching;
 mod sectors;
 mod segment;
-#[cfg(test)]
-mod tests;
 mod told;
 
 pub use blank::is_blank;
