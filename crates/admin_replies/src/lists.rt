@@ -23,7 +23,8 @@ fn not_there(alloc: Global) -> Result<Reply, AllocError>
 }
 
 /// The next events that stand so, behind the one that is named, at most so many, in the order of acceptance. 404 where that is
-/// not held. Only want of memory is refused.
+/// not held: who reads begins again, since to go on behind its place would need the memory of what is gone. Only want of memory is
+/// refused.
 #[tactic(auto, using(crate::proofs::Told::events_told))]
 pub fn events_reply(
     alloc: Global,

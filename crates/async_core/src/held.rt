@@ -27,7 +27,8 @@ use std::alloc::{AllocError, Global};
 use std::collections::{BTreeMap, BTreeSet};
 use std::marker::Model;
 
-/// The rows of the events that are held. Each has a place, and places ascend in the order of acceptance.
+/// The rows of the events that are held. Each has a place, and places ascend in the order of acceptance. It is not the number of
+/// the acceptance, since a table that was read may have rows out of order, or with equal numbers or ids.
 #[derive(Drop)]
 pub(crate) struct Held {
     rows: BTreeMap<u64, EventRow>,

@@ -1,4 +1,5 @@
-// Indexes of the rows: one ordered set of keys, each with the place of its row.
+// Indexes of the rows: one ordered set of keys, each with the place of its row. So one loop adds and drops an event's keys, and one
+// takes them back where memory is refused. New keys come before the old ones go.
 ghost use Rattle.std.specs.Prelude.{◌≡◌, OnOk, OnErr, Some, None, if◌then◌else◌, ◌==◌, [], ◌∷◌};
 ghost use Rattle.std.specs.BTreeSet as sorted;
 ghost use Rattle.async_core.specs.Keys as meant;

@@ -1,4 +1,5 @@
-// The older segment folded, and compared with the live snapshot.
+// The older segment folded by the live settings, and compared with the live snapshot. Settings differ only in images that no
+// history leaves.
 ghost use Rattle.std.specs.Prelude.{◌≡◌, ◌+◌, ◌≤◌, ◌^◌, Some, IsNone, length, IsErrOf, IfOk, IfErr, OnOk, option_map};
 ghost use Rattle.sector_disk.specs.Disk.{HasRisen};
 ghost use Rattle.invoke_records.specs.declared.snapshot.Snapshot.{Snapshot};

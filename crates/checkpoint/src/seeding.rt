@@ -109,7 +109,8 @@ fn write_alone<D: Disk>(
 ///
 /// The disk is settled first, and each gate that is open is closed and settled; a closed one is not written. Then segment A
 /// is written with generation 1, the snapshot in pieces of 64 sectors and a closed first gate, and settled, and then its gate
-/// is opened and settled. So at no moment the disk is formatted and lacks the table.
+/// is opened and settled. So a disk that was not formatted is at no
+/// moment formatted without the table.
 ///
 /// `TooSmall` names the least number of sectors. `BadKind` comes exactly where the disk is large enough, and the snapshot has
 /// no spelling or is past the limits of the settings. They and `OutOfMemory` come before any call of the disk.

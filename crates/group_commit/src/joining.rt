@@ -22,7 +22,8 @@ fn copy_ahead(issue: &IssueHalf, issued: u64) -> Result<Vec<Command>, AllocError
     copy_commands(issue.alloc, ahead)
 }
 
-// Hands to the broker what is pending in the issue half and it does not have, and compares the tables.
+// Hands to the broker what is pending in the issue half and it does not have, and then compares the tables: to compare first would
+// hide `Backlog` and `OutOfMemory` behind `Mismatch`.
 fn hand_over<D: Disk>(issue: &IssueHalf, broker: &mut Broker<D>) -> Result<(), JoinError>
     requires { is_broken broker.old ≡ false }
     ensures takes { Takes broker.old broker.new (ahead_of issue.now broker.old) (issued_of broker.new - issued_of broker.old) }

@@ -8,11 +8,13 @@ use std::time::Duration;
 /// What a connection waits for.
 #[derive(Clone, Copy, Debug, PartialEq, Eq)]
 pub(crate) enum Phase {
-    /// The first byte of the next request.
+    /// The first byte of the next request, or a client that does not read its reply: nothing is due of it but that.
     Idle,
-    /// The first byte of all.
+    /// The first byte of all. It has the time of a head: else a crowd that sends nothing would keep a caller behind it waiting
+    /// four times as long.
     First,
-    /// The rest of a head.
+    /// The rest of a head. One whose first bytes came with the end of the request before it is late only that long after its next
+    /// byte, since `hyper` does not tell how much it has read beyond a request.
     Head,
     /// The rest of a body.
     Body,

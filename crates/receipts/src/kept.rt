@@ -83,7 +83,8 @@ fn told_by<L: Ledger, T: Trace>(desk: &mut Desk<L, T>, issued: Option<Issued>) -
     }
 }
 
-// Puts here the slots of the polls that the hall's last request or move answered.
+// Puts here the slots of the polls that the hall's last request or move answered, while the lock is held: the next request of
+// another desk would put its own in their place. They are moved, so nothing fails once a command is issued.
 fn hand_out(hall: &mut Hall<IssueHalf>, answered: &mut Vec<u64>)
     ensures slots { answered.new.items ≡ answered_slots hall.old }
     ensures issuer { hall.new.issuer ≡ hall.old.issuer }
