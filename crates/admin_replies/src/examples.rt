@@ -10,6 +10,8 @@ ghost use Rattle.admin_replies.specs.Examples.{asks, gets, third, numbers, usual
 
 /// Requests that are understood.
 pub fn requests()
+    // claim: The prover computes worked requests, refusals and lines. [refusals: twice, standing, thousand; lines: held,
+    // waits, commits]
     ensures page { gets "/" ≡ Ok asked.Page }
     ensures metrics { gets "/metrics" ≡ Ok asked.Metrics }
     ensures health { gets "/healthz?" ≡ Ok asked.Health }

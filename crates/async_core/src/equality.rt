@@ -101,6 +101,8 @@ impl Table {
 
     /// Whether both have the same settings and the same snapshot. `==` compares the snapshots alone.
     pub fn is_same(&self, other: &Table) -> bool
+        // claim: Tables are the same exactly where settings and snapshots are, and equal where the snapshots are.
+        // [Table::eq: exact]
         ensures { IsTrue result ↔ (self.now ≡ other.now) }
     {
         self.tests_same(other)

@@ -50,6 +50,8 @@ pub trait Committing {
 
     /// How many commands are issued and not durable.
     fn pending(&mut self) -> (usize, Self::Counted)
+        // claim: Each step answers what shows that it was made, with the number that it had. [Committing::ring,
+        // Ticking::pending, Ticking::tick: steps, shown]
         ensures steps { leads self.old (counted result.0 ∷ []) self.new }
         ensures shown { result.0 ≡ count result.1 };
 
@@ -176,6 +178,9 @@ fn turn<G: Gate, C: Committing>(gate: &G, committer: &mut C) -> bool
 /// Where nothing is pending, or a commit failed, the committer sleeps until it is called; where the gate skips what is
 /// pending, it is asked again.
 pub fn commit_all<R: Wait, G: Gate, C: Committing>(rt: &R, gate: &G, committer: &mut C)
+    // claim: At each turn a committer counts what is pending and does what its gate says of that number. A commit is
+    // followed by the raise of the board to its number, then the ring. A failure that broke the hall is said, then rung for
+    // all; then it sleeps.
     ensures { IsRun C.leads (G.says gate.now) committer.old committer.new }
 {
     for _ in rt.forever() {

@@ -40,6 +40,10 @@ pub trait Issuer {
     /// It is refused, and then changes nothing: `Broken`, `WornOut` (2^62 commands were issued), `Illegal` with the first
     /// check that fails, `Backlog` (256 commands are pending), `OutOfMemory`, in that order.
     fn issue(&mut self, command: Command) -> Result<Ticket, IssueError>
+        // claim: Whatever issues, a broker or a half, promises the same of issuing, without a disk. [Issuer::issued,
+        // Issuer::durable, Issuer::ticket, Issuer::table; : broken, worn_out, illegal, backlog, accepted, reason, no_call,
+        // ok, err, stands, refused; Issuer: laws, goes_on; IssueHalf::issue: reason, ok, stands, refused; Broker,
+        // IssueHalf: laws]
         ensures broken { IsTrue (view self.old).broken → result ≡ Err issue_error.Broken }
         ensures worn_out { (view self.old).broken ≡ false → 2 ^ 62 ≤ issued_in (view self.old) → result ≡ Err issue_error.WornOut }
         ensures illegal { OnUsable (view self.old) ((why : Illegal) → Fails (view self.old) command why

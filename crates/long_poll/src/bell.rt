@@ -57,6 +57,8 @@ impl Bell {
         number: u64,
         cx: &mut Context<'_>,
     ) -> Registered
+        // claim: Who registers or parks is heard by the bell's own source. [: under, armed, heard; Bell::park: under,
+        // armed, heard]
         ensures under { IsUnder result slot number }
         ensures armed { IsArmed cx.new }
         ensures heard { Hears cx.new (source_of self.now) }
@@ -106,6 +108,7 @@ impl Bell {
     /// Wakes the tasks that wait for what is durable now. A waker wakes its task when it is dropped, which happens outside
     /// the lock.
     pub fn ring<R: Wait>(&self, rt: &R, durable: Durable) -> Rung
+        // claim: A ring tells up to which number it rang. [Bell::ring_all]
         ensures { result.up_to ≡ durable }
     {
         self.ring_up_to(rt, durable.number())

@@ -78,10 +78,13 @@ impl<L: Ledger, T: Trace> Port<L, T> {
         now: u64,
         words: [u64; 2],
     ) -> Witnessed<Result<Arrived, HallError>, L, T>
+        // claim: A request at a port gets a slot of some desk, and is refused as an office refuses it. So is a tick. [:
+        // slot, refused; Port::tick: refused]
         ensures slot { IfOk result.answer (λ arrived. IsSlot arrived.slot) }
         ensures refused { IfErr result.answer IsRequestRefusal }
 
-        // Just this request was done to what was met under the lock, or there is a reason there why it was not.
+        // claim: Just that call was done to the hall that was met under the lock, or has its reason there. [: done, reason;
+        // Port::tick: done, answer, reason]
         ensures done { IfOk result.answer (λ arrived.
             IsDone (hall_in result.met.value.hall) (hall_in result.left.value.hall) (request arrived.slot call now words)) }
         ensures reason { IfErr result.answer
@@ -132,6 +135,7 @@ impl<L: Ledger, T: Trace> Port<L, T> {
 
     /// The reply of a slot, as `Office::take` gives it.
     pub(crate) fn take<R: Wait>(&self, rt: &R, slot: u64) -> Witnessed<Option<Released>, L, T>
+        // claim: A take, a point and a forgetting do what the office's do. [Port::point; Port::forget]
         ensures { Takes result.met.value result.left.value slot result.answer }
     {
         let mut desk = self.desk.lock(rt);

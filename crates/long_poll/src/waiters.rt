@@ -62,6 +62,7 @@ impl Waiters {
         number: u64,
         cx: &mut Context<'_>,
     ) -> Registered
+        // claim: Who registers for a number waits for it, not rung, or is polled again. [: under, waits]
         ensures under { IsUnder result slot number }
         ensures armed { IsArmed cx.new }
         ensures heard { Hears cx.new source.now.id }
@@ -108,6 +109,7 @@ impl Waiters {
     /// The poll of this slot was answered, which may be told at this number: it waits for that from now on. Where the number
     /// was rung, or there is no memory, its waker is handed out.
     pub(crate) fn answer(&mut self, slot: u64, number: u64) -> Option<Waker>
+        // claim: A parked poll that was answered waits for its answer's number, not rung, or is woken.
         ensures gone { tree.get nat_cmp self.new.parked slot ≡ None }
         ensures goes_on { GoesOn self.old self.new slot number result }
     {
@@ -146,6 +148,7 @@ impl Waiters {
 
     /// Takes all wakers of this number and below. One for which there is no room wakes its task here.
     pub(crate) fn take_wakers(&mut self, number: u64) -> Vec<Waker>
+        // claim: After a ring nobody waits for its number or one below.
         ensures above { AreAbove number (tree.keys self.new.numbered) }
         ensures rung { self.new.rung ≡ max self.old.rung number }
         ensures parked { self.new.parked ≡ self.old.parked }

@@ -128,6 +128,8 @@ impl<R: Wait, L: Ledger, T: Trace> Waiting<R, L, T> {
     // Looks again, after the task has registered for its number.
     fn look_again(&mut self, registered: Registered) -> Option<Cause>
         requires { IsUnder registered self.old.slot (number_for self.old.progress) }
+        // claim: Its last look comes after it has registered: it wants what only the bell makes. [: same, number;
+        // Waiting::register_again: under, covers]
         ensures same { (self.new.slot ≡ self.old.slot) × (self.new.port ≡ self.old.port) }
         ensures number { number_at self.new.progress ≡ number_at self.old.progress }
     {
@@ -240,8 +242,10 @@ impl<R: Wait + Drop, L: Ledger, T: Trace> Future for Waiting<R, L, T> {
 
     ghost use Rattle.long_poll.specs.Bell.{source_of};
 
+    // claim: Where the future of a reply is pending it has registered at the bell, or is polled again.
     ghost needs = { λ waiting source. source ≡ source_of waiting.port.value.bell.value };
 
+    // claim: It gives the reply of its own slot.
     ghost gives = { λ waiting released. slot_told released ≡ waiting.slot };
 
     fn poll(&mut self, cx: &mut Context<'_>) -> Poll<Released> {

@@ -44,10 +44,14 @@ pub(crate) struct Kept<L: Ledger, T: Trace> {
     pub(crate) slots: u64,
     /// How many desks there are.
     pub(crate) desk_count: DeskCount<L>,
+    // claim: Whenever the lock is free, the marks are numbered without a gap up to all that was issued. The opening's table
+    // leads to the table by them, bytes and environments aside.
     ghost numbered: { AreNumbered (T.Opening.table opening).number (map T.mark marks.all.items) },
     ghost reached: { issued_in (issuer_in hall) ≡ (T.Opening.table opening).number + length (map T.mark marks.all.items) },
     ghost followed: { Follows (issuer_in hall).settings (T.Opening.table opening) (map T.mark marks.all.items)
         (issuer_in hall).table },
+    // claim: Whenever the lock is free, each history that leaves the opening's table has a run, no call of it refused, that
+    // the hall stands for.
     ghost runs: { ∥ HasRuns (hall_in hall) (T.Opening.table opening) ∥₁ },
 }
 
@@ -184,6 +188,8 @@ impl<L: Ledger, T: Trace> Kept<L, T> {
 
     /// What is there to write, which is then out; where nothing is, the desk is told how much is durable.
     pub(crate) fn lend(&mut self, desk: &mut Desk<L, T>) -> Result<Loan, HallError>
+        // claim: Nothing is lent where nothing is pending, and else all that is. A refusal has its reason. [: lends,
+        // refused, same]
         ensures { LendsTo self.old self.new desk.old desk.new result }
     {
         self.check(desk)?;
@@ -205,6 +211,8 @@ impl<L: Ledger, T: Trace> Kept<L, T> {
         outcome: Result<Written, Failed>,
     ) -> Result<Durable, HallError>
         requires { desk.old.told ≤ last_in outcome }
+        // claim: A settlement makes just the batch that is out durable, or says why not. [: settles, stands, parts,
+        // refused]
         ensures { Settles self.old self.new desk.old desk.new outcome result }
     {
         match self.hall.settle(outcome) {
