@@ -28,7 +28,6 @@ pub enum Refused {
 impl Refused {
     /// The status that it is answered with.
     pub fn status(&self) -> u16
-        // claim: Each refusal has its status.
         ensures { result ≡ status_of self.now }
     {
         match self {

@@ -19,7 +19,6 @@ pub enum Media {
 impl Media {
     /// The value of the header `Content-Type`.
     pub fn content_type(self) -> &'static str
-        // claim: A reply says of its body what it is, and a line is told with its status. [Reply::line: status, body]
         ensures { result.now ≡ content_type_of self }
     {
         match self {

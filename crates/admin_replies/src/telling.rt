@@ -25,7 +25,6 @@ pub struct Facts {
 impl Facts {
     /// Of a broker that is opened with this table.
     pub fn of(table: &Table) -> Result<Facts, AllocError>
-        // claim: From the opening on, the settings and the number of ended events are those of its table.
         ensures settings { IfOk result (λ facts. facts.settings ≡ table.now.settings) }
         ensures ended { IfOk result (λ facts. CountsEnded table.now.table.rows facts.ended_before) }
     {
@@ -95,8 +94,8 @@ pub fn tell(
     measures: &Measures,
     now: u64,
 ) -> Result<Reply, AllocError>
-    // claim: What is told is of the table that was seen: a list, an event or records, as asked for. What is not held is
-    // 404. [events_reply; event_reply; records_reply]
+    // claim: What is told is of the table that was seen, as asked for. What is not held is 404. [events_reply; event_reply;
+    // records_reply]
     ensures { IfOk result (TellsOf facts.now sight.now measures.now now asked.now) }
 {
     let rows = sight.look.table.rows.as_slice();

@@ -52,7 +52,6 @@ pub enum Refusal {
 impl Refusal {
     /// The status of the reply that tells it.
     pub fn status(self) -> u16
-        // claim: A refusal's status is that of its reply.
         ensures { result ≡ (fault_of self).status }
     {
         match self {

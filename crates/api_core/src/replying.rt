@@ -117,7 +117,7 @@ pub fn reply_text(
     settings: &Settings,
 ) -> Result<Reply, AllocError>
     requires { IsTellable answer.now }
-    // claim: In each dialect a reply is, byte for byte, that of the definitions.
+    // claim: A reply, and a refusal's status, is byte for byte that of the definitions, in each dialect. [Refusal::status]
     ensures { IfOk result (λ reply. reply ≡ reply_text dialect settings.now answer.now) }
 {
     match answer {

@@ -138,8 +138,8 @@ impl Table {
     /// Where an event stands.
     #[tactic(auto, unfolding(crate::specs::Rules::standing_at))]
     pub fn standing(&self, id: &[u8; 16]) -> Standing
-        // claim: Where an event stands, how it ended, when it was accepted, its payload and its counts are those of the
-        // history. [Table::outcome, Table::accepted, Table::payload, Table::counts, Table::ended]
+        // claim: An event's standing, outcome, acceptance, payload and counts are those of the history. [Table::outcome,
+        // Table::accepted, Table::payload, Table::counts, Table::ended]
         ensures by_row { result ≡ standing_at self.now.table id.now }
         ensures by_history { ForEachLegalHistory self.now (λ s history. result ≡ standing_in s history id.now) }
     {
@@ -187,8 +187,8 @@ impl Table {
         ensures refused { (why : _) → result ≡ Err (apply_error.Illegal why) → refusal_by self.old command.now ≡ Some why }
         ensures illegal { (why : _) → refusal_by self.old command.now ≡ Some why → result ≡ Err (apply_error.Illegal why) }
         ensures err { OnErr result (self.new ≡ self.old) }
-        // claim: Where the settings are good and the table stands for a legal history, the command is legal after it, by
-        // the policy in force at its event's acceptance, and the table then stands for both.
+        // claim: Under good settings the command is then legal after the table's legal history, and the table stands for
+        // both.
         ensures by_history { ForEachGoodHistory self.old (λ s history. OnOk result (StandsForMore s history command.now self.new.table)) }
     {
         if let Err(why) = self.judge(command) {

@@ -84,7 +84,6 @@ impl fmt::Display for Report {
 /// What is in force on a disk for the events that are accepted next, in one line without an end: `in force retries R age A`.
 /// Only want of memory is refused.
 pub fn in_force_line(alloc: Global, report: &Report) -> Result<String, AllocError>
-    // claim: What is in force has a line of its own.
     ensures { IfOk result (λ text. string_bytes text ≡ in_force_text report.now) }
 {
     let retries = report.retries;

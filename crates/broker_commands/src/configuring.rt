@@ -120,8 +120,8 @@ fn configure<D: Disk>(
     new: &NewPolicy<'_>,
     now: u64,
 ) -> Result<(u8, u32), ConfiguringError>
-    // claim: A `configure` that is not refused issued one Configure behind the history, with the values asked for, for an
-    // absent one those in force. All is durable. A refusal is that of issuing or committing.
+    // claim: Unless refused, one Configure was issued behind the history, with the values asked for, or those in force, and
+    // all is durable. A refusal is that of issuing or committing.
     ensures told { IfOk result (λ pair. pair ≡ pair_of (policy_for (table_in broker.old).policy new.now)) }
     ensures reason { IfErr result (IsRefusal broker.old (configure_at (table_in broker.old) new.now now)) }
     ensures durable { OnOk result (pending_of broker.new ≡ []) }

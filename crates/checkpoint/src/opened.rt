@@ -74,8 +74,6 @@ impl Opened {
         ensures same { IsSameDisk (D.view disk.old) (D.view disk.new) }
         ensures later { D.fault_count disk.old ≤ D.fault_count disk.new }
         ensures fault { IsErrOf result AppendError.Fault → HasRisen (D.fault_count disk.old) (D.fault_count disk.new) }
-        // claim: Want of memory, and a frame that does not fit, come before any call of the disk. [: no_room, no_call,
-        // no_call_either]
         ensures no_room { IsErrOf result AppendError.NoRoom ↔ (fits self.old (length (commands_text commands.now)) ≡ false) }
         ensures no_call { IsErrOf result AppendError.NoRoom → disk.new ≡ disk.old }
         ensures no_call_either { IsErrOf result AppendError.OutOfMemory → disk.new ≡ disk.old }
@@ -87,10 +85,11 @@ impl Opened {
         ensures end { end_of self.new ≡ end_of self.old }
         ensures number { OnOk result (number_of self.new ≡ number_of self.old + length commands.now) }
 
-        // claim: After Ok an honest, live disk has the whole batch.
+        // claim: After Ok the whole batch is there. A frame that does not fit, and want of memory, come before any call. [:
+        // acknowledged, no_room, no_call, no_call_either]
         ensures acknowledged { Acknowledges (D.view disk.old) (D.view disk.new) self.old self.new commands.now result }
 
-        // claim: A crash at any moment leaves the table from before, or after the whole batch.
+        // claim: A crash meanwhile leaves the table from before, or after the whole batch.
         ensures any_moment { LeavesBeforeOrAfter (D.view disk.old) (D.view disk.new) self.old commands.now }
     {
         self.journal.append(alloc, disk, commands)

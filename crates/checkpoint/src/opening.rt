@@ -196,8 +196,7 @@ pub fn open_either<D: Disk>(
     ensures below { IfOk result (λ r. r.1.number + length r.2.items ≤ 2 ^ 62) }
     ensures legal { IfOk result (λ r. IsSome (replay (settings_of r.0) r.1 r.2.items)) }
 
-    // claim: A disk of either version is opened by what its bytes say in its version, or refused by what is wrong and
-    // where.
+    // claim: A disk of either version is opened by what its bytes say in its version, or refused by what is wrong.
     ensures live { (D.view disk.old).honest → IfOk result (λ r. IsReadIn (D.view disk.old) (D.view disk.new) r.0 r.1 r.2.items) }
     ensures parts { (D.view disk.old).honest → IfOk result (λ r. AreLiveParts (D.view disk.old).content r.1 r.2.items) }
     ensures refused { TellsUnread (D.view disk.old) result }
@@ -215,10 +214,10 @@ pub fn open<D: Disk>(
     ensures same { IsSameDisk (D.view disk.old) (D.view disk.new) }
     ensures later { D.fault_count disk.old ≤ D.fault_count disk.new }
     ensures fault { IsErrOf result OpenError.Fault → HasRisen (D.fault_count disk.old) (D.fault_count disk.new) }
-    // claim: Opening an honest disk changes no byte.
     ensures content { (D.view disk.old).honest → (D.view disk.new).content ≡ (D.view disk.old).content }
 
-    // claim: A crash meanwhile leaves an image from before. [open_either]
+    // claim: Opening changes no byte. A crash meanwhile leaves an image from before. [: content, any_moment; open_either:
+    // content, any_moment]
     ensures any_moment { (D.view disk.old).honest → LeavesOnly (D.view disk.old) (D.view disk.new) (D.view disk.old).may_leave }
 
     ensures settings { IfOk result (λ r. bad_field (settings_of r.0) ≡ None) }
@@ -227,8 +226,8 @@ pub fn open<D: Disk>(
     ensures below { IfOk result (λ r. r.1.number + length r.2.items ≤ 2 ^ 62) }
     ensures legal { IfOk result (λ r. IsSome (replay (settings_of r.0) r.1 r.2.items)) }
 
-    // claim: An honest disk opens as what its bytes recover to, by both segments. It is called not formatted, damaged at a
-    // sector, or old, only where they say so.
+    // claim: A disk opens as what its bytes recover to, by both segments. It is not formatted, damaged or old only where
+    // they say so.
     ensures live { (D.view disk.old).honest → IfOk result (λ r. IsRecovered (D.view disk.old) (D.view disk.new) r.0 r.1 r.2.items) }
     ensures parts { (D.view disk.old).honest → IfOk result (λ r. AreLiveParts (D.view disk.old).content r.1 r.2.items) }
     ensures not_formatted { TellsNotFormatted (D.view disk.old) result }

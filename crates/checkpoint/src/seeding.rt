@@ -123,8 +123,7 @@ pub fn seed<D: Disk>(
     ensures same { IsSameDisk (D.view disk.old) (D.view disk.new) }
     ensures later { D.fault_count disk.old ≤ D.fault_count disk.new }
     ensures fault { IsErrOf result SeedError.Fault → HasRisen (D.fault_count disk.old) (D.fault_count disk.new) }
-    // claim: Too small a disk, and a table that may not stand on it, are refused as such. Neither, nor want of memory, has
-    // called it.
+    // claim: Too small a disk, a table that may not stand on it, and want of memory are refused before any call.
     ensures least { TellsLeastToSeed (D.view disk.old) settings.now result }
     ensures too_small { IsTooSmall (D.view disk.old) settings.now → result ≡ Err (seed_error.TooSmall (least_sectors settings.now)) }
     ensures bad { IsErrOf result SeedError.BadKind ↔ IsBadToSeed (D.view disk.old) settings.now snapshot.now }
@@ -135,12 +134,12 @@ pub fn seed<D: Disk>(
     // claim: A crash meanwhile leaves what was there but for the gates, no formatted disk, or the whole table.
     ensures any_moment { LeavesSeeding (D.view disk.old) (D.view disk.new) settings.now snapshot.now }
 
-    // claim: Where the disk read as not formatted, a crash leaves an image from before, no formatted disk, or the whole
-    // table. Where no image was a formatted disk, none is but with the whole table.
+    // claim: Where no image was a formatted disk, none is but with the whole table. One that read as not formatted keeps
+    // its image, reads so still, or has the whole table.
     ensures old_or_whole { LeavesOldOrWhole (D.view disk.old) (D.view disk.new) settings.now snapshot.now }
     ensures none_or_whole { LeavesNoneOrWhole (D.view disk.old) (D.view disk.new) settings.now snapshot.now }
 
-    // claim: After Ok an honest disk recovers to the whole table, in generation 1.
+    // claim: After Ok the disk recovers to the whole table, in generation 1.
     ensures generation { (D.view disk.old).honest → OnOk result (HasGeneration 1 (D.view disk.new).content) }
     ensures seeded { (D.view disk.old).honest → OnOk result (IsSeeded (D.view disk.new) settings.now snapshot.now) }
 {

@@ -178,9 +178,8 @@ fn turn<G: Gate, C: Committing>(gate: &G, committer: &mut C) -> bool
 /// Where nothing is pending, or a commit failed, the committer sleeps until it is called; where the gate skips what is
 /// pending, it is asked again.
 pub fn commit_all<R: Wait, G: Gate, C: Committing>(rt: &R, gate: &G, committer: &mut C)
-    // claim: At each turn a committer counts what is pending and does what its gate says of that number. A commit is
-    // followed by the raise of the board to its number, then the ring. A failure that broke the hall is said, then rung for
-    // all; then it sleeps.
+    // claim: Each turn counts what is pending and does what its gate says of that. A commit's number is raised on the
+    // board, then rung. A failure that broke the hall is said, then rung for all; then it sleeps.
     ensures { IsRun C.leads (G.says gate.now) committer.old committer.new }
 {
     for _ in rt.forever() {

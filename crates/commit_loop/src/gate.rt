@@ -27,7 +27,8 @@ pub trait Gate {
 
     /// What the loop does next, with so many commands issued and not durable.
     fn turn(&self, pending: usize) -> (Turn, Self::Seen)
-        // claim: What a gate says is led to by what it saw.
+        // claim: What a gate says is led to by what it saw. `WhenPending` says `Commit` exactly where something is pending.
+        // [: says, seen; WhenPending: says]
         ensures says { says self.now pending result.0 }
         ensures seen { leads_to result.1 result.0 };
 }
@@ -39,7 +40,6 @@ pub struct WhenPending;
 impl Gate for WhenPending {
     type Seen = ();
 
-    // claim: A gate that says `Commit` exactly where something is pending.
     ghost says = { λ _ pending said. said ≡ (if nat_lt 0 pending then turn.Commit else turn.Skip) };
 
     fn turn(&self, pending: usize) -> (Turn, ()) {

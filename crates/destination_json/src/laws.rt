@@ -14,7 +14,7 @@ pub fn dates_are_those_of_the_calendar()
 /// The record of what a table says of an event is the record of that event after the whole history, and where the
 /// settings are good the event ended at a moment that `record` takes.
 pub fn records_are_those_of_histories()
-    // claim: What a table tells of an ended event gives the record of that event by the whole history.
+    // claim: What a table tells of an ended event gives its record by the whole history.
     ensures same { (t : State) (id : List ℕ) (ended : Option Ended) → IsEnded t id ended → HasRecordOfHistory t id ended }
     ensures moment { (t : State) (id : List ℕ) (ended : Option Ended) → IsEnded t id ended → EndedInTime t ended }
 {}

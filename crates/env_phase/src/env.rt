@@ -126,8 +126,8 @@ impl Env {
     /// waits for, and the runtime and each of them wait.
     #[tactic(auto, using(crate::specs::laws::States::is_ready_kept))]
     pub fn ready(&self) -> bool
-        // claim: Whether it is ready, what runs in it, its phase and its parked parties are those of the list. A copy is
-        // equal. [: by_state, by_calls; Env::running; Env::phase; Env::parked; Env::copy]
+        // claim: Its readiness, running event, phase and parked parties are those of its calls. A copy is equal. [:
+        // by_state, by_calls; Env::running; Env::phase; Env::parked; Env::copy]
         ensures by_state { result ≡ is_ready_in self.now }
         ensures by_calls { ForEachList self.now (λ calls. result ≡ is_ready self.now.wanted calls) }
     {

@@ -90,8 +90,8 @@ impl<N: Numbers> Board<N> {
     pub fn check(&self, seat: &mut Seat, ticket: Ticket) -> Result<Receipt, Ticket>
         requires sits { SitsAt self.now seat.old }
         ensures sits { SitsAt self.now seat.new }
-        // claim: The number that is found was given to the board, and the seat never sees less than before. [: shown,
-        // rises, known; Board::raise: shown, rises]
+        // claim: The number found was given to the board, and a seat never sees less than before. [: shown, rises, known;
+        // Board::raise: shown, rises]
         ensures shown { N.given (seen_from seat.new) }
         ensures rises { seen_from seat.old ≤ seen_from seat.new }
         // claim: A ticket becomes a receipt exactly where that number is at least its own. By its type the call waits for

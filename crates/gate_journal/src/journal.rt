@@ -70,7 +70,6 @@ impl Journal {
         ensures same { IsSameDisk (D.view disk.old) (D.view disk.new) }
         ensures later { D.fault_count disk.old ≤ D.fault_count disk.new }
         ensures fault { IsErrOf result ReadError.Fault → HasRisen (D.fault_count disk.old) (D.fault_count disk.new) }
-        // claim: Reading changes nothing.
         ensures untouched { (D.view disk.old).honest → IsUntouched (D.view disk.old) (D.view disk.new) }
 
         ensures generation { IfOk result (λ r. generation_of r.0 ≡ area.generation) }
@@ -78,8 +77,8 @@ impl Journal {
         ensures numbers { IfOk result (λ r. number_of r.0 ≡ area.number + length r.1.items) }
         ensures below { IfOk result (λ r. number_of r.0 ≤ 2 ^ 62 + 1) }
 
-        // claim: On an honest disk it reads just the commands of the frames that the bytes hold. Damage is told where, and
-        // only where, an open gate has no frame, with the first such sector.
+        // claim: It reads just the frames that the bytes hold, and changes nothing. Damage is told only with the first open
+        // gate that has no frame. [: read, damaged, untouched]
         ensures read { (D.view disk.old).honest → IfOk result (λ r. IsFound (D.view disk.old) area r.0 r.1.items) }
         ensures damaged { TellsDamage (D.view disk.old) area result }
     {
@@ -116,7 +115,7 @@ impl Journal {
         ensures later { D.fault_count disk.old ≤ D.fault_count disk.new }
         ensures fault { IsErrOf result AppendError.Fault → HasRisen (D.fault_count disk.old) (D.fault_count disk.new) }
         // claim: It is refused for room exactly where the frame does not fit. That, and want of memory, come before any
-        // call of the disk.
+        // call.
         ensures no_room { IsErrOf result AppendError.NoRoom ↔ (fits self.old (length (commands_text commands.now)) ≡ false) }
         ensures no_call { IsErrOf result AppendError.NoRoom → disk.new ≡ disk.old }
         ensures no_call_either { IsErrOf result AppendError.OutOfMemory → disk.new ≡ disk.old }

@@ -46,7 +46,6 @@ impl Written {
     ghost use Rattle.group_commit.specs.Batch.{first_written, last_written};
 
     pub(crate) fn new(first: u64, last: u64) -> Written
-        // claim: A `Written` is made in one line of the crate, behind the commit's Ok, and nowhere else.
         ensures first { first_written result ≡ first }
         ensures last { last_written result ≡ last }
     {

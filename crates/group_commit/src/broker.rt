@@ -50,13 +50,13 @@ impl<D: Disk> Broker<D> {
     /// A disk that is not opened is handed back with the cause: `Fault`, `OutOfMemory`, `NotFormatted`, `Damaged` with its
     /// sector, or `OldVersion` where nothing is damaged and the disk has to be migrated first. Nothing is written to the disk.
     pub fn open(alloc: Global, disk: D) -> Result<Broker<D>, OpenFailure<D>>
-        // claim: A disk that is not opened is handed back. A fault is told only where its count rose.
+        // claim: A disk that is not opened is handed back. A fault is told only where the count of faults rose.
         ensures same { IfOk result (λ b. IsSameDisk (D.view disk) (D.view (disk_of b))) }
         ensures same_failed { IfErr result (λ e. IsSameDisk (D.view disk) (D.view e.disk)) }
         ensures fault { IfErr result (λ e. TellsFault (D.fault_count disk) (D.fault_count e.disk) e.cause) }
 
-        // claim: An honest disk opens as what it recovers to, all of it durable. It is called not formatted, damaged or old
-        // only where its bytes say so.
+        // claim: A disk opens as what it recovers to, all of it durable. It is not formatted, damaged or old only where its
+        // bytes say so.
         ensures fresh { IfOk result (λ b. (is_broken b ≡ false) × (pending_of b ≡ []) × (durable_of b ≡ issued_of b)) }
         ensures recovers { (D.view disk).honest → IfOk result (λ b. live.RecoversTo (settings_of b) (table_in b) (D.view disk).content) }
         ensures not_formatted { (D.view disk).honest → IfErr result (λ e. TellsNotFormatted (D.view disk).content e.cause) }
@@ -67,8 +67,8 @@ impl<D: Disk> Broker<D> {
         ensures any_moment { (D.view disk).honest → IfOk result (λ b. LeavesWhatWas (D.view disk) (D.view (disk_of b))) }
         ensures any_moment_failed { (D.view disk).honest → IfErr result (λ e. LeavesWhatWas (D.view disk) (D.view e.disk)) }
 
-        // claim: Where each image is a legal stop of a history, the broker stands for a prefix of it with at least the
-        // durable commands, and only the device or want of memory refuses.
+        // claim: Where each image is a legal stop of a history, the broker stands for a prefix with at least the durable
+        // commands. Only the device or want of memory refuses.
         ensures stands { (D.view disk).honest
             → ForEachHistoryOn (D.view disk) (λ s history durable. IfOk result (IsRecovered D.view s history durable)) }
         ensures refused { (D.view disk).honest
@@ -143,7 +143,6 @@ impl<D: Disk> Broker<D> {
 
     /// The disk, also of a broken broker. What is pending is given up.
     pub fn close(self) -> D
-        // claim: Closing gives the disk.
         ensures disk { result ≡ disk_of self }
         ensures any_moment { LeavesLegalStops D.view self result }
     {

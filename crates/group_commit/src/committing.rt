@@ -113,15 +113,15 @@ impl<D: Disk> Broker<D> {
         ensures bad { result ≡ Err commit_error.BadKind → HasBadTable self.old × NeedsSwitch self.old }
 
         // claim: After Ok all that was pending is durable. A fault breaks the broker, another refusal changes nothing. It
-        // switches segments just where its frame does not fit.
+        // switches segments just where its frame does not fit. [Broker::switch: ok, switches, breaks, kept]
         ensures ok { IfOk result (λ durable. Commits self.old self.new durable) }
         ensures stays { NeedsNoSwitch self.old → HasSwitched 0 self.old self.new }
         ensures switches { NeedsSwitch self.old → OnOk result (HasSwitched 1 self.old self.new) }
         ensures breaks { result ≡ Err commit_error.Fault → Breaks self.old self.new }
         ensures kept { OnErr result (result ≡ Err commit_error.Fault ⊎ IsSameBroker self.old self.new) }
 
-        // claim: It stands for the same history after any answer, and after Ok all of it is durable. A history's table is
-        // never refused as bad. [Broker::switch]
+        // claim: It stands for the same history after any answer, all of it durable after Ok. A history's table is never
+        // bad. [Broker::switch]
         ensures stands { ForEachHistory D.view self.old (λ history. Stands D.view self.new history) }
         ensures acknowledged { ForEachHistory D.view self.old (λ history. IfOk result (HasAllDurable self.new history)) }
         ensures sound { ForEachHistory D.view self.old (λ history. result ≡ Err commit_error.BadKind → ⊥) }
@@ -148,7 +148,8 @@ impl<D: Disk> Broker<D> {
         ensures worn { is_broken self.old ≡ false → IsWornOut self.old → result ≡ Err commit_error.WornOut }
         ensures bad { result ≡ Err commit_error.BadKind → HasBadTable self.old }
 
-        // claim: The same of a switch, which after Ok has switched.
+        // At Ok it has switched, and all that was pending is durable. A fault breaks the broker, and any other refusal
+        // changes nothing.
         ensures ok { IfOk result (λ durable. Commits self.old self.new durable) }
         ensures switches { OnOk result (HasSwitched 1 self.old self.new) }
         ensures breaks { result ≡ Err commit_error.Fault → Breaks self.old self.new }

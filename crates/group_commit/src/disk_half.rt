@@ -92,7 +92,7 @@ impl<D: Disk> DiskHalf<D> {
         ensures settings { settings_of (broker_of self.new) ≡ settings_of (broker_of self.old) }
         ensures longer { issued_of (broker_of self.old) ≤ issued_of (broker_of self.new) }
 
-        // claim: The half stands for its history with what it took, and a front of a history that ends with the batch stays
+        // claim: The half stands for its history with what it took. A front of a history that ends with the batch stays
         // one.
         ensures stands { ForEachHistory D.view (broker_of self.old) (λ history.
             Stands D.view (broker_of self.new) (history ++ taken_from (broker_of self.old) (broker_of self.new) batch)) }

@@ -40,10 +40,6 @@ pub trait Issuer {
     /// It is refused, and then changes nothing: `Broken`, `WornOut` (2^62 commands were issued), `Illegal` with the first
     /// check that fails, `Backlog` (256 commands are pending), `OutOfMemory`, in that order.
     fn issue(&mut self, command: Command) -> Result<Ticket, IssueError>
-        // claim: Whatever issues, a broker or a half, promises the same of issuing, without a disk. [Issuer::issued,
-        // Issuer::durable, Issuer::ticket, Issuer::table; : broken, worn_out, illegal, backlog, accepted, reason, no_call,
-        // ok, err, stands, refused; Issuer: laws, goes_on; IssueHalf::issue: reason, ok, stands, refused; Broker,
-        // IssueHalf: laws]
         ensures broken { IsTrue (view self.old).broken → result ≡ Err issue_error.Broken }
         ensures worn_out { (view self.old).broken ≡ false → 2 ^ 62 ≤ issued_in (view self.old) → result ≡ Err issue_error.WornOut }
         ensures illegal { OnUsable (view self.old) ((why : Illegal) → Fails (view self.old) command why
@@ -58,7 +54,9 @@ pub trait Issuer {
         ensures ok { IfOk result (λ ticket. Issues (view self.old) (view self.new) command ticket) }
         ensures err { OnErr result (IsSameIssuer (view self.old) (view self.new)) }
 
-        // Where it stands for a history, it accepts what is legal after it, and then stands for it with the command.
+        // claim: Whatever issues, a broker or an issue half, promises the same of issuing, without a disk. [: stands,
+        // refused, ok, reason; Issuer::issued, Issuer::durable, Issuer::ticket, Issuer::table; Issuer: laws, goes_on;
+        // IssueHalf::issue: ok, lent, stands; Broker, IssueHalf: laws]
         ensures stands { ForEachHistory (view self.old) (λ history. IfOk result (Accepts (view self.old) history command (view self.new))) }
         ensures refused { ForEachHistory (view self.old) (λ history. TellsIllegal (view self.old).settings history command result) };
 

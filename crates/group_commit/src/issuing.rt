@@ -82,8 +82,8 @@ impl<D: Disk> Broker<D> {
     /// It is refused, and then changes nothing: `Broken`, `WornOut` (2^62 commands were issued), `Illegal` with the first
     /// check that fails, `Backlog` (256 commands are pending), `OutOfMemory`, in that order. The disk is not called.
     pub fn issue(&mut self, command: Command) -> Result<Ticket, IssueError>
-        // claim: Refusals come in this order: broken, worn out, not legal, 256 pending, no memory. A legal command is
-        // accepted where fewer are pending and memory is there.
+        // claim: Refusals come in this order: broken, worn out, not legal, 256 pending, no memory. None else refuses a
+        // legal command.
         ensures broken { IsTrue (is_broken self.old) → result ≡ Err issue_error.Broken }
         ensures worn_out { is_broken self.old ≡ false → 2 ^ 62 ≤ issued_of self.old → result ≡ Err issue_error.WornOut }
         ensures illegal { OnUsable self.old ((why : Illegal) → Fails self.old command why → result ≡ Err (issue_error.Illegal why)) }
@@ -102,8 +102,8 @@ impl<D: Disk> Broker<D> {
         ensures refused { ForEachHistory D.view self.old (λ history. TellsIllegal (settings_of self.old) history command result) }
         ensures stands_refused { ForEachHistory D.view self.old (λ history. OnErr result (Stands D.view self.new history)) }
 
-        // claim: A crash at any moment leaves a legal stop: a prefix with at least the durable commands. [Broker::commit,
-        // Broker::switch, Broker::resume, Broker::close]
+        // claim: A crash at any moment leaves a legal stop: a prefix with at least the durable commands. [: any_moment;
+        // Broker::commit, Broker::switch, Broker::resume: any_moment; Broker::close: any_moment, disk]
         ensures any_moment { LeavesLegalStops D.view self.old (disk_of self.new) }
     {
         if self.broken {

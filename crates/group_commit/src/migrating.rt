@@ -134,15 +134,15 @@ pub fn migrate<D: Disk>(alloc: Global, disk: D) -> Result<D, MigrateFailure<D>>
     ensures fault { IfErr result (λ e. e.cause ≡ migrate_error.Fault → HasRisen (D.fault_count disk) (D.fault_count e.disk)) }
 
     // claim: After Ok each image recovers, as version 2, to the table held as version 1, in the next generation. Else the
-    // first reason that holds is told.
+    // first reason is told, and never that histories left something bad. [: migrated, reason, sound]
     ensures migrated { (D.view disk).honest → IfOk result (λ d. Migrates (D.view disk) (D.view d)) }
     ensures reason { (D.view disk).honest → IfErr result (λ e. IsMigrateReason (D.view disk) e.cause) }
 
-    // claim: What histories leave is never told as unformatted, damaged or bad.
+    // Where each image reads, as version 1 or 2, to the table of a legal history, it is refused by nothing that it holds.
     ensures sound { (D.view disk).honest → HoldsHistories (D.view disk) → IfErr result (λ e. IsSoundRefusal e.cause) }
 
-    // claim: A crash within one that is refused leaves an image from before, or one that reads, in its version, to the same
-    // table. The disk is handed back. [: any_moment, same_failed]
+    // claim: A refused disk is handed back. A crash meanwhile leaves an image from before, or one that reads, in its
+    // version, to the same table. [: any_moment, same_failed]
     ensures any_moment { (D.view disk).honest → IfErr result (λ e. LeavesMigrating (D.view disk) (D.view e.disk)) }
 {
     let mut disk = disk;

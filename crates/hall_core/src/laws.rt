@@ -41,7 +41,6 @@ pub fn replies()
 
 /// What a slot's reply waits for changes only by a call that names the slot, or that answers the poll that came with it.
 pub fn points()
-    // claim: A point changes only by a call that names its slot, or answers the poll that came with it.
     ensures { (s : Settings) (past : Past) (call : HallCall) (slot : ℕ) → LeavesAlone s past call slot
         → point_of (past_after s past call) slot ≡ point_of past slot }
 {}
@@ -55,8 +54,8 @@ pub fn an_event_runs_in_one_environment()
 /// calls, and what an environment runs runs there by the history. It holds with the facts that an induction needs, at
 /// the opening and after each call.
 pub fn every_run_is_sound()
-    // claim: After every run on a legal history, that is legal, each environment accepted its calls, and what it runs runs
-    // by the history.
+    // claim: After every run on a legal history, it is legal, each environment accepted its calls, and what it runs runs by
+    // the history. [: opened, step, kept, sound; what_a_call_does_is_accepted: command, environment]
     ensures opened { (s : Settings) (wanted : ℕ) (history : List Command) → IsLegal s history → IsKept s (opening wanted history) }
     ensures step { (s : Settings) (past : Past) (call : HallCall) → IsMade s past call → IsKept s (past_after s past call) }
     ensures kept { (s : Settings) (past : Past) (run : List HallCall) → AreMade s past run → IsKept s (after s past run) }
@@ -66,7 +65,6 @@ pub fn every_run_is_sound()
 
 /// What a call does is accepted: its command is legal, and the environment that it calls accepts that call.
 pub fn what_a_call_does_is_accepted()
-    // claim: The command of a call is legal, and the environment that it calls accepts it.
     ensures command { (s : Settings) (past : Past) (call : HallCall) → IsMade s past call → CommandIsLegal s past call }
     ensures environment { (s : Settings) (past : Past) (call : HallCall) → IsMade s past call → CallIsAccepted s past call }
 {}
@@ -75,8 +73,9 @@ pub fn what_a_call_does_is_accepted()
 /// first of them, where it interrupts none there is none, and then what runs by the history runs in an environment, and
 /// the environment that is ready, if one is, runs nothing by the history, as the table asks of it.
 pub fn interrupts()
-    // claim: An Interrupt is only for an event that runs by the history and in no environment. A tick interrupts the first
-    // of these, unless the hall stops.
+    // claim: An Interrupt is only for an event that runs by the history and in no environment. Unless the hall stops, a
+    // tick interrupts the first. No call leaves one behind. [: first, tick, no_other, none, then_all_run;
+    // nothing_is_left_behind: step, run]
     ensures first { (s : Settings) (past : Past) (event : Event) → first_unheld s past ≡ Some event → IsUnheld s past event.1 }
     ensures tick { (s : Settings) (past : Past) (now : ℕ) → is_stopping past ≡ false → InterruptsFirst s past now }
     ensures no_other { (s : Settings) (past : Past) (call : HallCall) → IsMade s past call → InterruptsUnheld s past call }
@@ -88,7 +87,6 @@ pub fn interrupts()
 /// No call leaves an event behind that runs by the history and that no environment holds: what is so after a run was so
 /// at its opening.
 pub fn nothing_is_left_behind()
-    // claim: No call leaves such an event behind.
     ensures step { (s : Settings) (past : Past) (call : HallCall) → IsMade s past call → LeavesNone s past (past_after s past call) }
     ensures run { (s : Settings) (past : Past) (run : List HallCall) → AreMade s past run → LeavesNone s past (after s past run) }
 {}

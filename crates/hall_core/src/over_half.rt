@@ -168,8 +168,8 @@ impl Hall<IssueHalf> {
     /// why the batch was not written, `OtherHalf` where the half over the disk does not go on with it: after `Fault` or
     /// `Broken` the hall is broken, else what was lent is pending again.
     pub fn settle(&mut self, outcome: Result<Written, Failed>) -> Result<Durable, HallError>
-        // claim: A settlement keeps the run, and makes just the batch durable that is out, or says why not. A settled
-        // `Fault` or `Broken` breaks the hall.
+        // claim: A settlement keeps the run, and makes just the batch durable that is out, or says why not. `Fault` and
+        // `Broken` break the hall.
         ensures stands { ForEachPast (view_of half_view self.old) (λ past. StandsFor (view_of half_view self.new) past) }
         ensures parts { HasSameParts (view_of half_view self.old) (view_of half_view self.new) }
         ensures ok { IfOk result (SettlesBy self.old.issuer self.new.issuer outcome) }
@@ -196,8 +196,7 @@ impl Hall<IssueHalf> {
     /// differ). A broken half gives a broken hall, and nothing is compared then: of what was computed before, `take` tells
     /// what the half over the disk has durable, and to every other slot that the broker is not available (`slots`).
     pub fn join<D: Disk>(self, disk: DiskHalf<D>) -> Result<Hall<Broker<D>>, HallJoinFailure<D>>
-        // claim: Joined again, it goes on with its run, unless a half was broken. The disk half has to stand for a front of
-        // its history.
+        // claim: Joined again, a whole hall goes on with its run, where the disk half stood for a front of its history.
         ensures ok { IfOk result (λ hall. Joins self.issuer (broker_of disk) hall.issuer) }
         ensures parts { IfOk result (λ hall. HasSameParts (view_of half_view self) (view_of (issuer_of D.view) hall)) }
         ensures answered { IfOk result (λ hall. answered_slots hall ≡ answered_slots self) }

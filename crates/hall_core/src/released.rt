@@ -34,7 +34,6 @@ impl Released {
 
     /// The HTTP status of the reply.
     pub fn status(&self) -> u16
-        // claim: A reply's status can be asked before it is taken out.
         ensures { result ≡ self.now.reply.status }
     {
         self.reply.status

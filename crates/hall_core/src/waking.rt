@@ -13,7 +13,6 @@ impl<I: Issuer> Hall<I> {
     /// Hands out the slots of the polls that the last request or move answered, in the order of their replies: none are
     /// left, and nothing else changes. It takes no memory.
     pub fn take_answered(&mut self) -> Vec<u64>
-        // claim: They are handed out once. Nothing else changes.
         ensures slots { result.items ≡ answered_slots self.old }
         ensures none_left { answered_slots self.new ≡ [] }
         ensures issuer { self.new.issuer ≡ self.old.issuer }
@@ -26,7 +25,8 @@ impl<I: Issuer> Hall<I> {
     /// How many commands have to be durable before the reply of this slot is told, where it is computed and still wanted.
     /// None where the slot is not open, its reply is not wanted, or it is not computed yet. It takes no memory.
     pub fn point(&self, slot: u64) -> Option<u64>
-        // claim: A slot's point is how many commands have to be durable before its reply is told.
+        // claim: A slot's point is how many commands must be durable before its reply is told. Only a call that names the
+        // slot, or answers its poll, changes it. [: by_past, by_events; points]
         ensures by_past { ForEachPast (view_of I.view self.now) (λ past. result ≡ point_of past slot) }
         ensures by_events { ForEachKept self.now.slots (λ _ events. result ≡ point_in events slot) }
     {

@@ -41,8 +41,8 @@ fn make_move<R: Wait, L: Ledger, T: Trace>(
     desk: &mut Desk<L, T>,
     at: Moment,
 ) -> Witnessed<bool, L, T>
-    // claim: Where it makes no move and the clock told a moment, none was due then in what it met, or there is a reason
-    // there why none is made. [: marked, nothing; tick: marked, nothing]
+    // claim: Where it makes no move though the clock told a moment, none was due in what it met, or there is a reason
+    // there. [: marked, nothing; tick: marked, nothing]
     ensures marked { HasMarked (length (map T.mark desk.old.own.items)) (ticked result.answer ∷ [])
         (length (map T.mark desk.new.own.items)) }
     ensures nothing { result.answer ≡ false → FindsNothing (hall_in result.met.value.hall) desk.old.told (millis_in at.shown) }

@@ -38,7 +38,6 @@ impl Limits {
 
 impl Default for Limits {
     fn default() -> Limits
-        // claim: The limits are 30 seconds for a head and a body, 120 idle, 1100 connections.
         ensures head { as_nanos result.head ≡ 30 * 1000000000 }
         ensures body { as_nanos result.body ≡ 30 * 1000000000 }
         ensures idle { as_nanos result.idle ≡ 120 * 1000000000 }

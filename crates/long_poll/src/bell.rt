@@ -57,8 +57,6 @@ impl Bell {
         number: u64,
         cx: &mut Context<'_>,
     ) -> Registered
-        // claim: Who registers or parks is heard by the bell's own source. [: under, armed, heard; Bell::park: under,
-        // armed, heard]
         ensures under { IsUnder result slot number }
         ensures armed { IsArmed cx.new }
         ensures heard { Hears cx.new (source_of self.now) }

@@ -83,8 +83,8 @@ impl<L: Ledger, T: Trace> Port<L, T> {
         ensures slot { IfOk result.answer (λ arrived. IsSlot arrived.slot) }
         ensures refused { IfErr result.answer IsRequestRefusal }
 
-        // claim: Just that call was done to the hall that was met under the lock, or has its reason there. [: done, reason;
-        // Port::tick: done, answer, reason]
+        // claim: Just that call was done to the hall met, or has its reason there; so of a take, a point, a forgetting. [:
+        // done, reason; Port::tick: done, answer, reason; Port::take; Port::point; Port::forget]
         ensures done { IfOk result.answer (λ arrived.
             IsDone (hall_in result.met.value.hall) (hall_in result.left.value.hall) (request arrived.slot call now words)) }
         ensures reason { IfErr result.answer
@@ -135,7 +135,6 @@ impl<L: Ledger, T: Trace> Port<L, T> {
 
     /// The reply of a slot, as `Office::take` gives it.
     pub(crate) fn take<R: Wait>(&self, rt: &R, slot: u64) -> Witnessed<Option<Released>, L, T>
-        // claim: A take, a point and a forgetting do what the office's do. [Port::point; Port::forget]
         ensures { Takes result.met.value result.left.value slot result.answer }
     {
         let mut desk = self.desk.lock(rt);

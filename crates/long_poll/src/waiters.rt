@@ -62,7 +62,8 @@ impl Waiters {
         number: u64,
         cx: &mut Context<'_>,
     ) -> Registered
-        // claim: Who registers for a number waits for it, not rung, or is polled again. [: under, waits]
+        // claim: Who registers for a number, and a parked poll that was answered, waits for it, not rung, or is woken. [:
+        // under, waits; Waiters::answer: gone, goes_on]
         ensures under { IsUnder result slot number }
         ensures armed { IsArmed cx.new }
         ensures heard { Hears cx.new source.now.id }
@@ -109,7 +110,6 @@ impl Waiters {
     /// The poll of this slot was answered, which may be told at this number: it waits for that from now on. Where the number
     /// was rung, or there is no memory, its waker is handed out.
     pub(crate) fn answer(&mut self, slot: u64, number: u64) -> Option<Waker>
-        // claim: A parked poll that was answered waits for its answer's number, not rung, or is woken.
         ensures gone { tree.get nat_cmp self.new.parked slot ≡ None }
         ensures goes_on { GoesOn self.old self.new slot number result }
     {

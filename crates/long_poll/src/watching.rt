@@ -110,10 +110,9 @@ impl<R: Wait + Drop, L: Ledger, T: Trace> Future for Watching<R, L, T> {
     ghost use Rattle.long_poll.specs.Bell.{source_of};
     ghost use Rattle.long_poll.specs.Watching.{withheld_in, IsOf};
 
-    // claim: Where the future of it is pending it has registered at the bell, or is polled again.
     ghost needs = { λ watching source. source ≡ source_of watching.window.value.bell.value };
 
-    // claim: It gives just what was withheld, or the word that the hall broke before.
+    // claim: The future of it gives just what was withheld, or the word that the hall broke before. [: needs, gives]
     ghost gives = { λ watching told. IsOf (withheld_in watching.glimpse) told };
 
     fn poll(&mut self, cx: &mut Context<'_>) -> Poll<Result<Sight, NotShown>> {

@@ -7,7 +7,8 @@ use invoke_records::{EventRow, Standing};
 
 /// When the first event that waits, for its first attempt or for another, was accepted. Rows stand in the order of acceptance.
 pub fn oldest_waiting(rows: &[EventRow]) -> Option<u64>
-    // claim: The oldest event that waits is the first row that does.
+    // claim: The oldest event that waits is the first row that does. The oldest record is of the row that ended first.
+    // [oldest_record: none, one, least]
     ensures { result ≡ oldest_waiting rows.now }
 {
     rows.iter()
@@ -27,7 +28,6 @@ fn end_of(standing: Standing) -> Option<u64>
 
 /// When the first of the events that ended did so.
 pub fn oldest_record(rows: &[EventRow]) -> Option<u64>
-    // claim: The oldest record is of the row that ended at the least moment.
     ensures none { IsNone result ↔ (ends rows.now ≡ []) }
     ensures one { IfSome result (Contains (ends rows.now)) }
     ensures least { IfSome result (λ least. All (λ at. least ≤ at) (ends rows.now)) }

@@ -112,7 +112,8 @@ impl Counters {
 
     /// A commit took so many microseconds.
     pub fn note_commit(&mut self, took: u64)
-        // claim: A commit is counted once, with its time, in each bucket whose bound is no less.
+        // claim: A commit is counted once, with its time, in each bucket whose bound is no less; a refusal once, by its
+        // status. [: commits, time, buckets; Counters::note_refusal: refused]
         ensures commits { self.new.commits ≡ sum_up_to self.old.commits 1 }
         ensures time { self.new.commit_microseconds ≡ sum_up_to self.old.commit_microseconds took }
         ensures buckets { self.new.buckets ≡ raised_buckets took self.old.buckets }
@@ -137,7 +138,7 @@ impl Counters {
 
     /// The same of a disk that is opened.
     pub fn note_opening(&mut self, generation: u64, sectors: u64, free_sectors: u64)
-        // claim: The disk's figures are those noted last, and switches those since the opening. [Counters::note_disk: disk,
+        // claim: The disk's figures are those noted last, switches those since the opening. [Counters::note_disk: disk,
         // first; Counters::switches]
         ensures disk { (self.new.generation ≡ generation) × (self.new.sectors ≡ sectors) × (self.new.free_sectors ≡ free_sectors) }
         ensures first { self.new.first_generation ≡ generation }
@@ -149,7 +150,6 @@ impl Counters {
 
     /// A request was refused with this status.
     pub fn note_refusal(&mut self, status: u16)
-        // claim: A refusal is counted once, by its status.
         ensures refused { self.new.refused ≡ refused_more self.old.refused status }
         ensures disk { HasSameDisk self.old self.new }
         ensures commits { (self.new.commits ≡ self.old.commits) × (self.new.buckets ≡ self.old.buckets) }

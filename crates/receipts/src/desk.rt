@@ -60,7 +60,6 @@ impl<L: Ledger, T: Trace> Desk<L, T> {
     /// Hands out the slots of the polls that the desk's last request or move answered, in the order of their replies: none
     /// are left, and nothing else changes. It takes no memory.
     pub fn take_answered(&mut self) -> Vec<u64>
-        // claim: A desk hands out its answered slots once.
         ensures slots { result.items ≡ self.old.answered.items }
         ensures none_left { self.new.answered.items ≡ [] }
         ensures number { self.new.number ≡ self.old.number }

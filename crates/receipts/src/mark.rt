@@ -46,7 +46,6 @@ pub trait Trace: Drop {
 
     /// What is kept of this mark.
     fn of(made: &Mark) -> Self
-        // claim: What is kept of a mark, or of the opening's table, shows it to proofs. [OpeningTrace::of]
         ensures { mark result ≡ made.now };
 }
 

@@ -18,7 +18,6 @@ pub(crate) struct Marks<L: Ledger, T: Trace> {
     pub(crate) book: Book<L>,
     /// How many of them are of which kind.
     pub(crate) tally: Tally,
-    // claim: Whenever the lock is free, the desks' shares add up to all marks. [: counted; Desk: one, counted]
     ghost counted: { vec_len all ≡ book.total },
     ghost tallied: { tally ≡ tally_of (map T.mark all.items) },
 }

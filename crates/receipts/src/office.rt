@@ -181,20 +181,19 @@ impl<L: Ledger, T: Trace> Office<L, T> {
         now: u64,
         words: [u64; 2],
     ) -> Witnessed<Result<(Ticket, u64), HallError>, L, T>
-        // claim: A request or a tick does just that call to the hall that it met under the lock. Its command, and no other,
-        // is marked at its desk and under the lock. Each desk keeps its list. [: done, counts, both, histories, ticket;
-        // Office::tick: done, answer, both, histories, counted]
+        // claim: A request or a tick does just that call to the hall met under the lock. Its command, and no other, is
+        // marked at its desk and there. Each desk keeps its list. Nothing becomes durable, and no disk is called. [: done,
+        // counts, both, histories, ticket, kept, no_call; Office::tick: done, answer, both, histories, counted, kept,
+        // no_call]
         // claim: A request marks at most one command, which it may have by itself. A tick marks that whose number it
         // answers. [: marks, asked; Office::tick: marks]
-        // claim: Nothing becomes durable by either, and the disk is not called. [: kept, no_call; Office::tick: kept,
-        // no_call]
-        // claim: The slot is the desk's next. The desk gets the slots of just the polls that were answered. [: slot,
-        // answered, kept_answered; Office::tick: answered, kept_answered]
+        // claim: The slot is the desk's next. The desk gets the slots of just the polls answered, and hands them out once.
+        // [: slot, answered, kept_answered; Office::tick: answered, kept_answered; Desk::take_answered: slots, none_left]
         // claim: A desk is never told less than before. A refusal changes neither that nor its marks. [: told, err;
         // Office::tick: told, err; Office::commit: told, err, marks]
         // claim: A refusal is the first of these: fewer commands than the desk was told, no slot left, unfit, no memory for
-        // a mark, the hall's own. A tick is refused by the first and the last two. Nothing under the lock changes. [:
-        // refused, reason, same; Office::tick: refused, reason, same]
+        // a mark, the hall's own. It changes nothing under the lock. A tick has the first and the last two. [: refused,
+        // reason, same; Office::tick: refused, reason, same]
         ensures { Arrives result.met.value result.left.value desk.old desk.new call now words result.answer }
     {
         let mut kept = self.kept.lock(rt);
@@ -275,13 +274,13 @@ impl<L: Ledger, T: Trace> Office<L, T> {
         ensures answered { desk.new.answered ≡ desk.old.answered }
         ensures err { OnErr result.answer (desk.new.told ≡ desk.old.told) }
         ensures refused { IfErr result.answer (IsCommitRefusal desk.old.told) }
-        // claim: A commit leaves the disk half alone, or hands it one batch, all of it durable at Ok. A crash at any moment
-        // leaves a legal stop of the half's history with what it took. A fault is told only where the count of faults rose.
+        // claim: A commit leaves the disk half alone, or hands it one batch, all durable at Ok. A crash at any moment
+        // leaves a legal stop of the half's history with what it took. A fault was counted.
         ensures disk { CommitsTo D.view D.fault_count (broker_of disk.old) (broker_of disk.new) result.answer }
         ensures fault { result.answer ≡ Err HallError.Fault → FaultsHaveRisen D.fault_count (broker_of disk.old) (broker_of disk.new) }
 
-        // claim: Its last step met nothing pending, or settled a batch as written. One that is refused lent nothing, or
-        // settled a batch as not written, with its reason. [: committed, reason, refused]
+        // claim: Its last step met nothing pending, or settled a batch as written. One refused lent nothing, or settled one
+        // as not written, with its reason. [: committed, reason, refused]
         ensures committed { IfOk result.answer
             (IsCommitted result.met.value.hall.issuer result.left.value.hall.issuer) }
         ensures reason { IfErr result.answer
@@ -319,8 +318,8 @@ impl<L: Ledger, T: Trace> Office<L, T> {
         slot: u64,
     ) -> Witnessed<Option<Released>, L, T>
         ensures desk { desk.new ≡ desk.old }
-        // claim: A take gives the reply that the hall which it met gives, to the slot that asked. One that gives none does
-        // nothing. [: slot, gives, by_events, done, none]
+        // claim: A take gives the reply that the hall met gives, to the slot that asked, and does just that; so does a
+        // forgetting. [: slot, gives, by_events, done, none; Office::forget: done]
         ensures takes { Takes result.met.value result.left.value slot result.answer }
     {
         let _ = desk;
@@ -351,7 +350,6 @@ impl<L: Ledger, T: Trace> Office<L, T> {
     /// The reply of a slot is not wanted any more, as `Hall::forget` says. It takes no memory.
     pub fn forget<R: Wait>(&self, rt: &R, desk: &mut Desk<L, T>, slot: u64) -> Witnessed<(), L, T>
         ensures desk { desk.new ≡ desk.old }
-        // claim: A forgetting does just that to the hall that it met. [: done]
         ensures forgets { Forgets result.met.value result.left.value slot }
     {
         let _ = desk;

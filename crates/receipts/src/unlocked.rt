@@ -88,8 +88,8 @@ impl<L: Ledger> Unlocked<L> {
         disk: DiskHalf<D>,
     ) -> Result<(Hall<Broker<D>>, Vec<Mark>), UnlockedFailure<D, L>>
         // claim: It is closed only where each desk is there once with its own marks and the halves join, and answers just
-        // its marks. A refusal tells what is wanting. [: all, marks, sum, joined, refused, not_joined; Unlocked::marks;
-        // Unlocked::hall; Unlocked::opening]
+        // its marks. A refusal tells why. [: all, marks, sum, joined, refused, not_joined; Unlocked::marks; Unlocked::hall;
+        // Unlocked::opening]
         ensures all { OnOk result (AreAll (λ d. d.number) (λ d. d.own.items) L.parts self.kept.marks.all.items desks.items) }
         ensures marks { IfOk result (λ r. r.1.items ≡ self.kept.marks.all.items) }
         ensures sum { OnOk result (sum_of_lists (λ d. d.own.items) desks.items ≡ length self.kept.marks.all.items) }
