@@ -216,8 +216,7 @@ pub fn open<D: Disk>(
     ensures fault { IsErrOf result OpenError.Fault → HasRisen (D.fault_count disk.old) (D.fault_count disk.new) }
     ensures content { (D.view disk.old).honest → (D.view disk.new).content ≡ (D.view disk.old).content }
 
-    // claim: Opening changes no byte. A crash meanwhile leaves an image from before. [: content, any_moment; open_either:
-    // content, any_moment]
+    // claim: Opening changes no byte. A crash meanwhile leaves an image from before. [: content, any_moment; open_either]
     ensures any_moment { (D.view disk.old).honest → LeavesOnly (D.view disk.old) (D.view disk.new) (D.view disk.old).may_leave }
 
     ensures settings { IfOk result (λ r. bad_field (settings_of r.0) ≡ None) }

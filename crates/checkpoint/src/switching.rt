@@ -138,10 +138,10 @@ pub fn switch<D: Disk>(
     ensures generation { OnOk result (generation_of opened.new ≡ generation_of opened.old + 1) }
     ensures number { OnOk result (number_of opened.new ≡ snapshot.now.number + 1) }
 
-    // claim: After Ok the disk recovers to the snapshot, in the other segment.
+    // claim: After Ok a live disk recovers to the snapshot, in the other segment.
     ensures switched { Switches (D.view disk.old) (D.view disk.new) opened.old opened.new snapshot.now result }
 
-    // claim: A crash meanwhile leaves the table from before, or the snapshot.
+    // claim: A crash meanwhile leaves it with the table from before, or the snapshot.
     ensures any_moment { LeavesBeforeOrSnapshot (D.view disk.old) (D.view disk.new) opened.old snapshot.now }
 
     // claim: The same from a live segment of version 1. The snapshot is written in version 2.

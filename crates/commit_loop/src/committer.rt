@@ -51,7 +51,7 @@ pub trait Committing {
     /// How many commands are issued and not durable.
     fn pending(&mut self) -> (usize, Self::Counted)
         // claim: Each step answers what shows that it was made, with the number that it had. [Committing::ring,
-        // Ticking::pending, Ticking::tick: steps, shown]
+        // Ticking::pending, Ticking::tick]
         ensures steps { leads self.old (counted result.0 ∷ []) self.new }
         ensures shown { result.0 ≡ count result.1 };
 

@@ -106,7 +106,7 @@ impl Env {
         requires { IsMoment (moment_by call) }
         // claim: A call is accepted only where the calls before allow it. The environment then stands for all, and answers
         // just the polls that they say. [Env::runtime_next, Env::register, Env::extension_next, Env::give, Env::answer,
-        // Env::init_error, Env::extension_error, Env::timeout, Env::shutdown: ok]
+        // Env::init_error, Env::extension_error, Env::timeout, Env::shutdown]
         ensures ok { IfOk result (λ answers. Accepts self.old call self.new answers.items) }
         // claim: A refusal is the first failing check, or want of memory. It changes nothing. A shutdown is refused for
         // memory alone. [: refused, shutdown, err; Env::runtime_next, Env::register, Env::extension_next, Env::give,

@@ -125,7 +125,7 @@ impl Journal {
         ensures generation { generation_of self.new ≡ generation_of self.old }
         ensures number { OnOk result (number_of self.new ≡ number_of self.old + length commands.now) }
 
-        // claim: After Ok the batch is there, and nothing outside the log has changed.
+        // claim: After Ok the batch is there, if nothing waited for a flush, and nothing outside the log has changed.
         ensures acknowledged { Acknowledges (D.view disk.old) (D.view disk.new) self.old self.new commands.now result }
 
         // claim: A crash at any moment leaves the frames from before, or those and the whole batch.

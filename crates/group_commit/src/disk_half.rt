@@ -82,7 +82,7 @@ impl<D: Disk> DiskHalf<D> {
         ensures first { first_in result ≡ first_of batch }
         ensures last { last_in result ≡ last_of batch }
 
-        // claim: After Ok the whole batch is durable. A refusal makes nothing durable, and has its reason.
+        // claim: After Ok the whole batch is durable. A refusal makes nothing durable, and has its reason, memory aside.
         ensures ok { OnOk result (Writes batch (broker_of self.new)) }
         ensures broken { is_broken (broker_of self.old) ≡ true → IsRefusedAs result write_error.Broken }
         ensures apart { is_broken (broker_of self.old) ≡ false → IsApart (broker_of self.old) batch

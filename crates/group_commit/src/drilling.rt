@@ -141,7 +141,7 @@ pub fn drill(alloc: Global, disk: MemDisk, steps: &[Step]) -> Result<Drill, Dril
     // answers of one history.
     ensures run { ForEachHistoryOn (memory_view disk) (λ s history durable. IfOk result (IsDrillOf s history durable steps.now)) }
     // claim: Only the device or want of memory cuts it off. It tells where, and the steps before have such answers. [:
-    // refused, failed, place; drill_split: refused, failed, place]
+    // refused, failed, place; drill_split]
     ensures refused { ForEachHistoryOn (memory_view disk) (λ s history durable. IfErr result (λ failure. IsCutOff (cause_in failure))) }
     ensures failed { ForEachHistoryOn (memory_view disk) (λ s history durable. IfErr result (IsDrillFailure s history durable steps.now)) }
     ensures place { IfErr result (IsAtOneOf (length steps.now)) }

@@ -103,7 +103,7 @@ impl<D: Disk> Broker<D> {
         ensures stands_refused { ForEachHistory D.view self.old (λ history. OnErr result (Stands D.view self.new history)) }
 
         // claim: A crash at any moment leaves a legal stop: a prefix with at least the durable commands. [: any_moment;
-        // Broker::commit, Broker::switch, Broker::resume: any_moment; Broker::close: any_moment, disk]
+        // Broker::commit, Broker::switch, Broker::resume; Broker::close: any_moment, disk]
         ensures any_moment { LeavesLegalStops D.view self.old (disk_of self.new) }
     {
         if self.broken {

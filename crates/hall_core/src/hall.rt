@@ -179,20 +179,19 @@ impl<I: Issuer> Hall<I> {
         // run with that call. [: ok, asked; Hall::tick: ok]
         ensures ok { IfOk result (Does (view_of I.view self.old) (view_of I.view self.new) (request slot call now words)) }
         ensures asked { IfOk result (IsAsked (drawn_by words) call) }
-        // claim: With no run known too, at most one command is issued, a legal one, and told. Nothing becomes durable, and
-        // no disk is called. [Hall::tick: issues, kept, no_call]
+        // claim: Whether a run is known or not, at most one command is issued, a legal one, and told. Nothing becomes
+        // durable, and no disk is called. [Hall::tick]
         ensures issues { IfOk result (IssuesAtMostOne (I.view self.old.issuer) (I.view self.new.issuer)) }
         ensures kept { OnOk result (IsAsDurable (view_of I.view self.old) (view_of I.view self.new)) }
         ensures no_call { I.is_untouched self.old.issuer self.new.issuer }
         // claim: A call is refused wherever a check fails, by the first, or for want of memory. Each refusal has its reason
-        // in what the hall keeps, and changes nothing. [: passes, refused, reason, err; Hall::tick: passes, refused,
-        // reason, err]
+        // in what the hall keeps, and changes nothing. [: passes, refused, reason, err; Hall::tick]
         ensures passes { IfOk result (Passes (view_of I.view self.old) (request slot call now words)) }
         ensures refused { IfErr result (Refuses (view_of I.view self.old) (request slot call now words)) }
         ensures reason { IfErr result (KeepsReason (view_of I.view self.old) (request slot call now words)) }
         // claim: An Ok leaves the slots of just the polls that it answered, in order, to be handed out once. Other calls
-        // keep them. [: answered, kept_answered; Hall::tick: answered, kept_answered; Hall::take_answered: slots,
-        // none_left, same; Hall::take, Hall::forget, Hall::commit, Hall::lend, Hall::settle: kept_answered]
+        // keep them. [: answered, kept_answered; Hall::tick; Hall::take_answered: slots, none_left, same; Hall::take,
+        // Hall::forget, Hall::commit, Hall::lend, Hall::settle: kept_answered]
         ensures answered { OnOk result (AnswersPolls (view_of I.view self.old) (request slot call now words) (answered_slots self.new)) }
         ensures kept_answered { OnErr result (answered_slots self.new ≡ answered_slots self.old) }
         ensures err { OnErr result (IsSameHall (view_of I.view self.old) (view_of I.view self.new)) }

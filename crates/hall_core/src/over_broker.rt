@@ -69,7 +69,7 @@ impl<D: Disk> Hall<Broker<D>> {
         extensions: u8,
     ) -> Result<Hall<Broker<D>>, HallFailure<D>>
         // claim: Replies are told in the dialect, and environments wait for as many extensions, as it is made for. [:
-        // wanted, dialect; Hall::new: wanted, dialect; Hall::dialect; Hall::split, Hall::join: parts; runs: wait]
+        // wanted, dialect; Hall::new; Hall::dialect; Hall::split, Hall::join: parts; runs: wait]
         ensures stands { (history : List Command) → Stands D.view broker history
             → IfOk result (λ hall. StandsFor (view_of (issuer_of D.view) hall) (opening extensions history)) }
         ensures wanted { IfOk result (λ hall. (view_of (issuer_of D.view) hall).wanted ≡ extensions) }
@@ -112,12 +112,12 @@ impl<D: Disk> Hall<Broker<D>> {
         ensures stands { ForEachPast (view_of (issuer_of D.view) self.old) (λ past. StandsFor (view_of (issuer_of D.view) self.new) past) }
         ensures sound { OnOk result (is_broken self.new.issuer ≡ is_broken self.old.issuer) }
         ensures fault { is_broken self.old.issuer ≡ false → is_broken self.new.issuer ≡ true → result ≡ Err HallError.Fault }
-        // claim: A crash at any moment leaves a legal stop. [: any_moment; Hall::close: any_moment]
+        // claim: A crash at any moment leaves a legal stop. [: any_moment; Hall::close]
         ensures any_moment { LeavesLegalStops D.view self.old.issuer (disk_of self.new.issuer) }
         ensures kept_answered { answered_slots self.new ≡ answered_slots self.old }
 
-        // claim: With no run known too, only the broker changes, after Ok only in what is durable. Refusals have reasons.
-        // `Broken` comes exactly of a broken hall, and calls no disk.
+        // claim: Whether a run is known or not, only the broker changes, after Ok only in what is durable. Refusals have
+        // reasons. `Broken` comes exactly of a broken hall, and calls no disk.
         ensures parts { HasSameParts (view_of (issuer_of D.view) self.old) (view_of (issuer_of D.view) self.new) }
         ensures ok { IfOk result (λ durable. Commits self.old.issuer self.new.issuer durable) }
         ensures err { IfErr result (IsNotCommitted self.old.issuer self.new.issuer) }

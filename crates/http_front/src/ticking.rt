@@ -42,7 +42,7 @@ fn make_move<R: Wait, L: Ledger, T: Trace>(
     at: Moment,
 ) -> Witnessed<bool, L, T>
     // claim: Where it makes no move though the clock told a moment, none was due in what it met, or there is a reason
-    // there. [: marked, nothing; tick: marked, nothing]
+    // there. [: marked, nothing; tick]
     ensures marked { HasMarked (length (map T.mark desk.old.own.items)) (ticked result.answer ∷ [])
         (length (map T.mark desk.new.own.items)) }
     ensures nothing { result.answer ≡ false → FindsNothing (hall_in result.met.value.hall) desk.old.told (millis_in at.shown) }

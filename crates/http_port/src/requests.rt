@@ -89,8 +89,8 @@ impl<A: Application, I: Drop> Serving<A, I> {
     fn poll_body(&mut self, cx: &mut Context<'_>) -> Poll<Result<A::Reply, Refused>>
         requires { IfSome self.old.reply A.Reply.can_poll }
         ensures value { IfReady result (λ answered. IfOk answered A.Reply.can_poll) }
-        // claim: What a browser sends for a web page, or a host not of this machine, is answered 403, its body unread, the
-        // application unasked. [: forbidden, unasked; Serving: gives; Requests: calls]
+        // claim: What is forbidden by its head is answered 403, its body unread, the application unasked. [: forbidden,
+        // unasked; Serving: gives; Requests: calls]
         ensures forbidden { IsSome self.old.forbidden → result ≡ Poll.Ready (Err 403) }
         ensures unasked { IsSome self.old.forbidden → (self.new.reading ≡ self.old.reading) × (self.new.application ≡ self.old.application) }
         ensures same { self.new.forbidden ≡ self.old.forbidden }

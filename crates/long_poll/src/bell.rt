@@ -106,7 +106,6 @@ impl Bell {
     /// Wakes the tasks that wait for what is durable now. A waker wakes its task when it is dropped, which happens outside
     /// the lock.
     pub fn ring<R: Wait>(&self, rt: &R, durable: Durable) -> Rung
-        // claim: A ring tells up to which number it rang. [Bell::ring_all]
         ensures { result.up_to ≡ durable }
     {
         self.ring_up_to(rt, durable.number())

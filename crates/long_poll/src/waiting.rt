@@ -128,8 +128,6 @@ impl<R: Wait, L: Ledger, T: Trace> Waiting<R, L, T> {
     // Looks again, after the task has registered for its number.
     fn look_again(&mut self, registered: Registered) -> Option<Cause>
         requires { IsUnder registered self.old.slot (number_for self.old.progress) }
-        // claim: Its last look comes after it has registered: it wants what only the bell makes. [: same, number;
-        // Waiting::register_again: under, covers]
         ensures same { (self.new.slot ≡ self.old.slot) × (self.new.port ≡ self.old.port) }
         ensures number { number_at self.new.progress ≡ number_at self.old.progress }
     {

@@ -192,8 +192,8 @@ impl<L: Ledger, T: Trace> Office<L, T> {
         // claim: A desk is never told less than before. A refusal changes neither that nor its marks. [: told, err;
         // Office::tick: told, err; Office::commit: told, err, marks]
         // claim: A refusal is the first of these: fewer commands than the desk was told, no slot left, unfit, no memory for
-        // a mark, the hall's own. It changes nothing under the lock. A tick has the first and the last two. [: refused,
-        // reason, same; Office::tick: refused, reason, same]
+        // a mark, the hall's own. A tick has the first and last two. Nothing under the lock changes. [: refused, reason,
+        // same; Office::tick: refused, reason, same]
         ensures { Arrives result.met.value result.left.value desk.old desk.new call now words result.answer }
     {
         let mut kept = self.kept.lock(rt);

@@ -133,8 +133,7 @@ impl<F: RandomAccessFile> FileDisk<F> {
 impl<F: RandomAccessFile> Disk for FileDisk<F> {
     ghost use Rattle.sector_disk.specs.File.{view_of, faults_of, disk_laws};
 
-    // claim: A disk in a file does what a disk has to: it is honest exactly where its file is. [FileDisk: view,
-    // fault_count, laws]
+    // claim: A disk in a file does what a disk has to: it is honest exactly where its file is. [: view, fault_count, laws]
     ghost view = { view_of F.view };
 
     ghost fault_count = { faults_of };

@@ -150,7 +150,7 @@ impl Disk for MemDisk {
         requires { IsOnDisk (memory_view self.old).sectors at (length out.old) }
         ensures same { IsSameDisk (memory_view self.old) (memory_view self.new) }
         ensures cause { HasCause (faults_of self.old) (faults_of self.new) result }
-        // claim: The disk in memory does all this. It fails no read. [: read, works; MemDisk::write: write;
+        // claim: All that a disk has to, the disk in memory does. It fails no read. [: read, works; MemDisk::write: write;
         // MemDisk::barrier: barrier; MemDisk: laws]
         ensures read { IsRead (memory_view self.old) (memory_view self.new) (512 * at) (length out.old) out.new result }
         ensures barriers { barriers_of self.new ≡ barriers_of self.old }
