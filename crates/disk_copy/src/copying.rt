@@ -55,7 +55,8 @@ pub fn copy<D: Disk, E: Disk>(
     ensures later { E.fault_count disk.old ≤ E.fault_count disk.new }
     ensures fault { IsErrOf result CopyError.Fault → HasRisen (E.fault_count disk.old) (E.fault_count disk.new) }
 
-    // claim: The first refusal that holds is told, before any call of the new disk. Only a fault comes later.
+    // claim: The first refusal that holds, or want of memory, is told before any call of the new disk. Only a fault comes
+    // later.
     ensures granted { OnOk result (refusal_for (E.view disk.old).sectors broker.now change.now ≡ None) }
     ensures refused { IfErr result (IsCopyReason (refusal_for (E.view disk.old).sectors broker.now change.now)) }
     ensures no_call { OnErr result (result ≡ Err copy_error.Fault ⊎ disk.new ≡ disk.old) }
@@ -73,8 +74,8 @@ pub fn copy<D: Disk, E: Disk>(
     // claim: A crash meanwhile leaves the new disk as it was but for the gates, no formatted disk, or the whole copy.
     ensures any_moment { LeavesSeeding (E.view disk.old) (E.view disk.new) (settings_for broker.now change.now) (table_in broker.now) }
 
-    // claim: Where no image was a formatted disk, none is but with the whole copy. One not formatted keeps its image, reads
-    // so still, or has the whole copy.
+    // claim: Where no image was a formatted disk, none is but with the whole copy. One that read as not formatted keeps its
+    // image, reads so still, or has the whole copy.
     ensures old_or_whole { LeavesOldOrWhole (E.view disk.old) (E.view disk.new) (settings_for broker.now change.now) (table_in broker.now) }
     ensures none_or_whole { LeavesNoneOrWhole (E.view disk.old) (E.view disk.new) (settings_for broker.now change.now) (table_in broker.now) }
 {

@@ -49,8 +49,8 @@ impl<D: Disk> Broker<D> {
     /// It is refused, and hands both halves back: `Lent` (a batch is out), `Backlog` (256 commands would be pending),
     /// `OutOfMemory`, `Mismatch` (the tables differ). What the disk half took stays pending in it.
     pub fn join(issue: IssueHalf, disk: DiskHalf<D>) -> Result<Broker<D>, JoinFailure<D>>
-        // claim: Whole halves with no batch out are joined only where their tables agree. Else, if one is broken, the
-        // broker is broken.
+        // claim: Whole halves with no batch out are joined only where their tables agree. If one is broken, so is the
+        // broker.
         ensures ok { IfOk result (λ broker. Joins issue (broker_of disk) broker) }
         ensures err { IfErr result (λ failure. IsNotJoined issue failure.issue (broker_of disk) (broker_of failure.disk) failure.cause) }
 

@@ -138,8 +138,6 @@ impl Counters {
 
     /// The same of a disk that is opened.
     pub fn note_opening(&mut self, generation: u64, sectors: u64, free_sectors: u64)
-        // claim: The disk's figures are those noted last, switches those since the opening. [Counters::note_disk: disk,
-        // first; Counters::switches]
         ensures disk { (self.new.generation ≡ generation) × (self.new.sectors ≡ sectors) × (self.new.free_sectors ≡ free_sectors) }
         ensures first { self.new.first_generation ≡ generation }
         ensures counts { HasSameCounts self.old self.new }
