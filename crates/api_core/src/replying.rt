@@ -166,7 +166,7 @@ fn with_id(alloc: Global, mut headers: Headers, id: &[u8; 16]) -> Headers
 /// The reply with the id of its request, where it does not tell one: an accepted event's is its own, any other request's is
 /// this one. Where memory is wanting the reply stays as it is.
 pub fn with_request_id(alloc: Global, reply: Reply, id: &[u8; 16]) -> Reply
-    // claim: A reply that tells no request's id is given one. Where memory is wanting it stays as it is.
+    // claim: A reply that tells no request's id is given one, or stays as it is.
     ensures { (result ≡ with_request_id id.now reply) ⊎ (result ≡ reply) }
 {
     if reply.headers.has(REQUEST_ID) {

@@ -175,8 +175,8 @@ impl<I: Issuer> Hall<I> {
         requires free { is_slot_open (view_of I.view self.old) slot ≡ false }
         requires environment { IsToOneOf self.old.environments call }
         requires fit { IsFit (settings_in (view_of I.view self.old)) (request slot call now words) }
-        // claim: After Ok the definitions' command is issued, one or none, which the call may have. The hall stands for its
-        // run with that call. [: ok, asked; Hall::tick: ok]
+        // claim: After Ok the definitions' command is issued, one or none; a request may have it by itself. The hall stands
+        // for its run with that call. [: ok, asked; Hall::tick: ok]
         ensures ok { IfOk result (Does (view_of I.view self.old) (view_of I.view self.new) (request slot call now words)) }
         ensures asked { IfOk result (IsAsked (drawn_by words) call) }
         // claim: Whether a run is known or not, at most one command is issued, a legal one, and told. Nothing becomes

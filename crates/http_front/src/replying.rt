@@ -64,8 +64,8 @@ impl Telling {
 }
 
 impl Told for Telling {
-    // claim: A reply is told with its own status and bytes, to the slot that asked, or not at all for want of memory. [:
-    // status; response_of: status, body; Replying: gives]
+    // claim: A reply is told with its own status and bytes, to the slot that asked, or not at all. [: status; response_of:
+    // status, body; Replying: gives]
     ghost status = { λ telling. telling.released.reply.status };
 
     fn into_response(self, alloc: Global) -> Option<Answered> {

@@ -22,7 +22,7 @@ pub trait Told: Drop {
 
     /// The response that tells it. None where memory is wanting.
     fn into_response(self, alloc: Global) -> Option<Answered>
-        // claim: What is told is sent with its own status, or 503 where memory is wanting. [tell]
+        // claim: What is told is sent with its own status, or 503. [tell]
         ensures { IfSome result (λ response. status_of response ≡ status self) };
 }
 
