@@ -88,8 +88,9 @@ def figures(top):
 
 
 def documents(top):
-    names = ["README.md", "CONTRIBUTING.md"] + sorted(f"docs/{name}" for name in os.listdir(os.path.join(top, "docs")))
-    return [name for name in names if name.endswith(".md") and name not in NOT_READ]
+    found = glob.glob(os.path.join(top, "docs", "**", "*.md"), recursive=True)
+    names = ["README.md", "CONTRIBUTING.md"] + sorted(os.path.relpath(path, top) for path in found)
+    return [name for name in names if name not in NOT_READ]
 
 
 def check(top, is_writing, say):

@@ -25,6 +25,8 @@ impl<R: Wait + Clock + Drop, L: Ledger, T: Trace> Future for Showing<R, L, T> {
     ghost use Rattle.long_poll.specs.Watching.{withheld_in};
     ghost use Rattle.admin_port.specs.Watching.{TellsOfWithheld};
 
+    // claim: A reply tells of what its own future withheld, for what was asked, or is 503 where the hall broke before. [:
+    // gives; Lookout::tell; Shown: status]
     ghost gives = { λ showing shown. TellsOfWithheld showing.lookout.value.facts showing.asked
         (withheld_in showing.watching.glimpse) shown.reply };
 

@@ -10,6 +10,7 @@ ghost use Rattle.admin_replies.specs.Examples.{asks, gets, third, numbers, usual
 
 /// Requests that are understood.
 pub fn requests()
+    // claim: The prover computes worked requests, refusals and lines. [: behind; refusals: twice; lines: waits]
     ensures page { gets "/" ≡ Ok asked.Page }
     ensures metrics { gets "/metrics" ≡ Ok asked.Metrics }
     ensures health { gets "/healthz?" ≡ Ok asked.Health }

@@ -125,6 +125,7 @@ fn process_told(measures: &Measures, is_stopping: bool) -> Process
 /// The numbers of a broker that was seen so, of which so much was counted and measured, now, in milliseconds since 1970. At the
 /// opening so many events had ended.
 pub(crate) fn figures(before: u64, sight: &Sight, measures: &Measures, now: u64) -> Figures
+    // claim: The numbers are of what was seen: a census of rows, environments by phase, what ended since the opening.
     ensures { AreFigures before sight.now measures.now now result }
 {
     let look = &sight.look;

@@ -32,6 +32,7 @@ pub(crate) fn metrics(
     figures: &Figures,
     settings: &Settings,
 ) -> Result<Vec<u8>, AllocError>
+    // claim: The numbers' text is, byte for byte, that of the definitions, or memory is wanting.
     ensures { IfOk result (λ text. text.items ≡ metrics_text figures.now settings.now) }
 {
     let mut out = Vec::new(alloc);

@@ -93,6 +93,8 @@ fn asked_at(place: Place, query: &str) -> Result<Asked, Refused>
 ///
 /// A query is `NAME=VALUE` with `&` between; a part without bytes says nothing. Nothing is decoded.
 pub fn read(method: &str, target: &str) -> Result<Asked, Refused>
+    // claim: A request asks for what the definition reads in method and target, or is refused by the first failing check.
+    // [Refused::status]
     ensures { result ≡ asked_of method.now target.now }
 {
     if method != "GET" {

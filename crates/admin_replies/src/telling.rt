@@ -94,6 +94,8 @@ pub fn tell(
     measures: &Measures,
     now: u64,
 ) -> Result<Reply, AllocError>
+    // claim: What is told is of the table that was seen, as asked for. What is not held is 404. [events_reply; event_reply;
+    // records_reply]
     ensures { IfOk result (TellsOf facts.now sight.now measures.now now asked.now) }
 {
     let rows = sight.look.table.rows.as_slice();

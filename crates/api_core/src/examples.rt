@@ -15,6 +15,8 @@ use async_core::Side;
 
 /// One of each line of the table of requests.
 pub fn requests()
+    // claim: The prover computes worked requests and replies in both dialects. [: invoke; bodies: nine; replies: next;
+    // refusals_aws: not_found]
     ensures invoke { invoke (codes "[1]") ≡ Ok (Call.Invoke (codes "[1]")) }
     ensures oldest_success { asks 0 "GET" "/broker/destinations/success" ≡ Ok (Call.Oldest Side.Success) }
     ensures oldest_failure { asks 0 "GET" "/broker/destinations/failure" ≡ Ok (Call.Oldest Side.Failure) }

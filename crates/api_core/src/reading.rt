@@ -62,7 +62,10 @@ pub fn read_request(
     headers: &HeaderMap,
     body: Vec<u8>,
 ) -> Result<Call, RequestError>
+    // claim: In each dialect a request is the call of the definitions, or is refused by the first failing check, or for
+    // want of memory.
     ensures call { Says (call_of dialect settings.now port method.now target.now headers.now body.items) result }
+    // claim: A call keeps to the settings, where these allow a payload of two bytes.
     ensures within { IfOk result (λ call. 2 ≤ settings.now.payload → IsWithin settings.now call) }
 {
     read_call(

@@ -117,6 +117,7 @@ pub fn reply_text(
     settings: &Settings,
 ) -> Result<Reply, AllocError>
     requires { IsTellable answer.now }
+    // claim: A reply, and a refusal's status, is byte for byte that of the definitions, in each dialect. [Refusal::status]
     ensures { IfOk result (λ reply. reply ≡ reply_text dialect settings.now answer.now) }
 {
     match answer {
@@ -165,6 +166,7 @@ fn with_id(alloc: Global, mut headers: Headers, id: &[u8; 16]) -> Headers
 /// The reply with the id of its request, where it does not tell one: an accepted event's is its own, any other request's is
 /// this one. Where memory is wanting the reply stays as it is.
 pub fn with_request_id(alloc: Global, reply: Reply, id: &[u8; 16]) -> Reply
+    // claim: A reply that tells no request's id is given one, or stays as it is.
     ensures { (result ≡ with_request_id id.now reply) ⊎ (result ≡ reply) }
 {
     if reply.headers.has(REQUEST_ID) {

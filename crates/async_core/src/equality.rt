@@ -101,6 +101,7 @@ impl Table {
 
     /// Whether both have the same settings and the same snapshot. `==` compares the snapshots alone.
     pub fn is_same(&self, other: &Table) -> bool
+        // claim: Tables are the same where settings and snapshots are, and equal where snapshots are. [Table::eq: exact]
         ensures { IsTrue result ↔ (self.now ≡ other.now) }
     {
         self.tests_same(other)

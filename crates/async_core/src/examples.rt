@@ -11,6 +11,8 @@ use invoke_records::{Cause, Kind, Outcome, Standing};
 /// Where an event stands after attempts that fail, that are cut off, and too late.
 #[tactic(auto, unfolding(crate::specs::History::standing_in, crate::specs::Lives::life, crate::specs::Policies::judged_by, crate::specs::Policies::in_force))]
 pub fn standings()
+    // claim: The prover computes worked lives, refusals, policies and moves. [: retried; refusals: full; policies:
+    // by_the_last; tables: timed_out]
     ensures waits { standing_in usual accepted_late (id 1) ≡ Standing.Waiting 1000000 }
     ensures retried { standing_in usual failed_once (id 1) ≡ Standing.DueAgain 1060500 }
     ensures retried_again { standing_in usual failed_twice (id 1) ≡ Standing.DueAgain 1181000 }

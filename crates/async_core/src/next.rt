@@ -127,6 +127,8 @@ impl Table {
     /// The running event that was accepted first after this command number: the number of the command that accepted
     /// it, and its id.
     pub fn next_running(&self, after: u64) -> Option<(u64, [u8; 16])>
+        // claim: The running event accepted first, and the event that ended first on a side, are those of the history.
+        // [Table::oldest_ended]
         ensures by_row { IsChosenAs (Order.Running after) self.now.table.rows (λ (r : EventRow). (r.number, r.id)) result }
         ensures by_history { ForEachHistory self.now (λ s history. IsFirstRunning s history after result) }
     {
@@ -144,6 +146,7 @@ impl Table {
     /// What is to be done next at this moment, where this environment is ready or none is: the move of the event that
     /// has something to do since the earliest moment, and of those the one that was accepted first.
     pub fn next_move(&self, now: u64, ready_env: Option<u16>) -> Option<Move>
+        // claim: The next move is that of the history. It is legal no earlier than the last command, in a free environment.
         ensures by_row { IsNextAt self.now.settings self.now.table.rows now ready_env result }
         ensures by_history { ForEachHistory self.now (λ s history. IsNextMove s history now ready_env result) }
         ensures legal { ForEachHistory self.now (λ s history. IsLegalIfFree s history now ready_env result) }

@@ -90,6 +90,7 @@ impl Table {
     /// The retries and the age, in seconds, that are in force for the events that are accepted next: those of the last
     /// Configure, or of the settings where there was none. It takes no memory.
     pub fn in_force(&self) -> (u8, u32)
+        // claim: What is in force is that of the last Configure in the history, or of the settings.
         ensures by_table { result ≡ pair_of self.now.table.policy }
         ensures by_history { ForEachLegalHistory self.now (λ s history. result ≡ pair_of (in_force s history)) }
     {
@@ -134,6 +135,7 @@ impl Table {
 
     /// The retries and the age, in seconds, by which an event is judged: what was in force just before it was accepted.
     pub fn judged_by(&self, id: &[u8; 16]) -> Option<(u8, u32)>
+        // claim: What an event is judged by is what was in force at its acceptance.
         ensures by_row { result ≡ judge_at (row_at self.now.table id.now) }
         ensures by_history { ForEachLegalHistory self.now (λ s history. result ≡ judge_after s id.now history) }
     {

@@ -74,6 +74,7 @@ impl Table {
         snapshot: Snapshot,
         settings: Settings,
     ) -> Result<Table, AllocError>
+        // claim: A table can be taken as a snapshot and made of one again. [Table::snapshot]
         ensures { IfOk result (λ table. table ≡ record { settings = settings; table = snapshot }) }
     {
         let Snapshot {
@@ -137,6 +138,8 @@ impl Table {
     /// Where an event stands.
     #[tactic(auto, unfolding(crate::specs::Rules::standing_at))]
     pub fn standing(&self, id: &[u8; 16]) -> Standing
+        // claim: An event's standing, outcome, acceptance, payload and counts are those of the history. [Table::outcome,
+        // Table::accepted, Table::payload, Table::counts, Table::ended]
         ensures by_row { result ≡ standing_at self.now.table id.now }
         ensures by_history { ForEachLegalHistory self.now (λ s history. result ≡ standing_in s history id.now) }
     {
@@ -161,6 +164,7 @@ impl Table {
     /// Why a command is refused now, if it is: the first check that fails.
     #[tactic(auto, unfolding(crate::specs::Rules::refusal_at))]
     pub fn judge(&self, command: &Command) -> Result<(), Illegal>
+        // claim: Judging a command gives that same check, and applies nothing.
         ensures exact { result_err result ≡ refusal_by self.now command.now }
         ensures legal { OnOk result (refusal_by self.now command.now ≡ None) }
         ensures refused { IfErr result (λ why. refusal_by self.now command.now ≡ Some why) }
@@ -174,12 +178,17 @@ impl Table {
     /// that, also where memory is short.
     pub fn apply(&mut self, command: &Command) -> Result<(), ApplyError>
         requires { self.old.table.number < 2 ^ 62 }
+        // claim: A command is applied only if it is legal. The number then rises by one.
         ensures legal { OnOk result (refusal_by self.old command.now ≡ None) }
         ensures applied { OnOk result (self.new ≡ state_after self.old command.now) }
         ensures number { OnOk result (self.new.table.number ≡ self.old.table.number + 1) }
+        // claim: An illegal one is refused by the first check that fails, also where memory is short. No refusal changes
+        // anything.
         ensures refused { (why : _) → result ≡ Err (apply_error.Illegal why) → refusal_by self.old command.now ≡ Some why }
         ensures illegal { (why : _) → refusal_by self.old command.now ≡ Some why → result ≡ Err (apply_error.Illegal why) }
         ensures err { OnErr result (self.new ≡ self.old) }
+        // claim: Under good settings the command is then legal after the table's legal history, and the table stands for
+        // both.
         ensures by_history { ForEachGoodHistory self.old (λ s history. OnOk result (StandsForMore s history command.now self.new.table)) }
     {
         if let Err(why) = self.judge(command) {

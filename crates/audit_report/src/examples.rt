@@ -6,6 +6,7 @@ ghost use Rattle.audit_report.specs.Examples.{used, used_text, fresh, fresh_text
 
 /// Known lines.
 pub fn lines()
+    // claim: The prover computes known lines, which are JSON. [: used_is_json]
     ensures used { figures_text used ≡ used_text }
     ensures used_is_json { IsTrue (is_json used_text) }
     ensures fresh { figures_text fresh ≡ fresh_text }

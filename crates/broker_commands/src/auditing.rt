@@ -147,6 +147,7 @@ fn told_of(alloc: Global, table: &Table, report: &Report, asked: Asked) -> Resul
 
 // What a disk holds, and what else is asked for.
 fn with_more<D: Disk>(alloc: Global, disk: &mut D, asked: Asked) -> Result<Audit, AuditError>
+    // claim: An audit tells what is asked for: report and event, numbers, or records. [told_of]
     ensures { (D.view disk.old).honest → IfOk result (Answers (D.view disk.old).content asked) }
 {
     let (table, report) = inspect(alloc, disk)?;

@@ -120,6 +120,8 @@ fn configure<D: Disk>(
     new: &NewPolicy<'_>,
     now: u64,
 ) -> Result<(u8, u32), ConfiguringError>
+    // claim: Unless refused, one Configure was issued behind the history, with the values asked for, or those in force, and
+    // all is durable. A refusal is that of issuing or committing.
     ensures told { IfOk result (λ pair. pair ≡ pair_of (policy_for (table_in broker.old).policy new.now)) }
     ensures reason { IfErr result (IsRefusal broker.old (configure_at (table_in broker.old) new.now now)) }
     ensures durable { OnOk result (pending_of broker.new ≡ []) }
@@ -153,6 +155,7 @@ fn configure_on<D: Disk + Drop>(
 pub fn configure_disk<R>(rt: &R, new: &NewPolicy<'_>) -> Result<(u8, u32), ConfiguringError>
 where
     R: Files<File = File> + Clock + Eprint + AllocGlobal + Copy + Drop,
+    // claim: A value out of range is refused first, retries before age. Of one that was asked for, just that is told.
     ensures asked { IfOk result (IsAsked new.now) }
     ensures bad { (field : Field) → bad_option new.now ≡ Some field → result ≡ Err (refused_for field) }
 {

@@ -36,6 +36,8 @@ pub fn print_job<R, W>(rt: &R, job: &Job<'_>, out: &mut W) -> io::Result<u8>
 where
     R: Files<File = File> + Clock + Eprint + AllocGlobal + Copy + Drop,
     W: Write,
+    // claim: A command that waits for nobody ends with status 0 to 3, where its printing does not fail. [print_usage;
+    // print_fault]
     ensures { IfOk result (λ status. status ≤ 3) }
 {
     match job {

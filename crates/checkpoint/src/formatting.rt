@@ -47,14 +47,16 @@ pub fn format<D: Disk>(alloc: Global, disk: &mut D, settings: &Settings) -> Resu
     ensures same { IsSameDisk (D.view disk.old) (D.view disk.new) }
     ensures later { D.fault_count disk.old ≤ D.fault_count disk.new }
     ensures fault { IsErrOf result FormatError.Fault → HasRisen (D.fault_count disk.old) (D.fault_count disk.new) }
+    // claim: Too small a disk is refused with the least number of sectors. That, and want of memory, come before any call.
     ensures least { TellsLeast (D.view disk.old) settings.now result }
     ensures too_small { IsTooSmall (D.view disk.old) settings.now → result ≡ Err (format_error.TooSmall (least_sectors settings.now)) }
     ensures no_call { (least : ℕ) → result ≡ Err (format_error.TooSmall least) → disk.new ≡ disk.old }
     ensures no_call_either { IsErrOf result FormatError.OutOfMemory → disk.new ≡ disk.old }
 
-    // A stop at any moment of the call leaves the old disk but for its gates, no formatted disk, or a disk with the empty table.
+    // claim: A crash meanwhile leaves what was there but for the gates, no formatted disk, or the empty table.
     ensures any_moment { LeavesFormatting (D.view disk.old) (D.view disk.new) settings.now }
 
+    // claim: After Ok the disk recovers to the empty table.
     ensures generation { (D.view disk.old).honest → OnOk result (HasGeneration 1 (D.view disk.new).content) }
     ensures formatted { (D.view disk.old).honest → OnOk result (IsFormatted (D.view disk.new) settings.now) }
 {

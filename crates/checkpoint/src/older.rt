@@ -55,6 +55,8 @@ pub fn read_older<D: Disk>(
     ensures fault { IsErrOf result OpenError.Fault → HasRisen (D.fault_count disk.old) (D.fault_count disk.new) }
     ensures below { IfOk result (λ r. IfSome r (λ s. s.0.number + length s.1.items ≤ 2 ^ 62)) }
 
+    // claim: Of the older segment is told what its bytes hold; on a live disk, what its image says. [: exact, refused,
+    // live]
     ensures exact { (D.view disk.old).honest
         → IfOk result (λ r. older_parts (D.view disk.old) opened.now ≡ Ok (option_map told_parts r)) }
     ensures refused { (D.view disk.old).honest → IfErr result (λ why. Refuses why (older_parts (D.view disk.old) opened.now)) }

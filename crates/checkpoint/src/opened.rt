@@ -43,6 +43,7 @@ impl Opened {
 
     /// The generation of the live segment: one more with each switch, from 1 on.
     pub fn generation(&self) -> u64
+        // claim: The live segment's generation and free sectors are told exactly. [Opened::free_sectors]
         ensures { result ≡ generation_of self.now }
     {
         self.generation
@@ -84,9 +85,11 @@ impl Opened {
         ensures end { end_of self.new ≡ end_of self.old }
         ensures number { OnOk result (number_of self.new ≡ number_of self.old + length commands.now) }
 
+        // claim: After Ok a live disk has the whole batch. A frame that does not fit, and want of memory, come before any
+        // call. [: acknowledged, no_room, no_call, no_call_either]
         ensures acknowledged { Acknowledges (D.view disk.old) (D.view disk.new) self.old self.new commands.now result }
 
-        // A stop at any moment of the call leaves the table from before it, or after the whole batch.
+        // claim: A crash meanwhile leaves a live disk with the table from before, or after the whole batch.
         ensures any_moment { LeavesBeforeOrAfter (D.view disk.old) (D.view disk.new) self.old commands.now }
     {
         self.journal.append(alloc, disk, commands)

@@ -196,6 +196,7 @@ pub fn open_either<D: Disk>(
     ensures below { IfOk result (λ r. r.1.number + length r.2.items ≤ 2 ^ 62) }
     ensures legal { IfOk result (λ r. IsSome (replay (settings_of r.0) r.1 r.2.items)) }
 
+    // claim: A disk of either version is opened by what its bytes say in its version, or refused by what is wrong.
     ensures live { (D.view disk.old).honest → IfOk result (λ r. IsReadIn (D.view disk.old) (D.view disk.new) r.0 r.1 r.2.items) }
     ensures parts { (D.view disk.old).honest → IfOk result (λ r. AreLiveParts (D.view disk.old).content r.1 r.2.items) }
     ensures refused { TellsUnread (D.view disk.old) result }
@@ -215,7 +216,7 @@ pub fn open<D: Disk>(
     ensures fault { IsErrOf result OpenError.Fault → HasRisen (D.fault_count disk.old) (D.fault_count disk.new) }
     ensures content { (D.view disk.old).honest → (D.view disk.new).content ≡ (D.view disk.old).content }
 
-    // A stop at any moment of the call leaves an image from before it.
+    // claim: Opening changes no byte. A crash meanwhile leaves an image from before. [: content, any_moment; open_either]
     ensures any_moment { (D.view disk.old).honest → LeavesOnly (D.view disk.old) (D.view disk.new) (D.view disk.old).may_leave }
 
     ensures settings { IfOk result (λ r. bad_field (settings_of r.0) ≡ None) }
@@ -224,6 +225,8 @@ pub fn open<D: Disk>(
     ensures below { IfOk result (λ r. r.1.number + length r.2.items ≤ 2 ^ 62) }
     ensures legal { IfOk result (λ r. IsSome (replay (settings_of r.0) r.1 r.2.items)) }
 
+    // claim: A disk opens as what its bytes recover to, by both segments. It is not formatted, damaged or old only where
+    // they say so.
     ensures live { (D.view disk.old).honest → IfOk result (λ r. IsRecovered (D.view disk.old) (D.view disk.new) r.0 r.1 r.2.items) }
     ensures parts { (D.view disk.old).honest → IfOk result (λ r. AreLiveParts (D.view disk.old).content r.1 r.2.items) }
     ensures not_formatted { TellsNotFormatted (D.view disk.old) result }

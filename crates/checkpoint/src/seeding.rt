@@ -124,6 +124,7 @@ pub fn seed<D: Disk>(
     ensures same { IsSameDisk (D.view disk.old) (D.view disk.new) }
     ensures later { D.fault_count disk.old ≤ D.fault_count disk.new }
     ensures fault { IsErrOf result SeedError.Fault → HasRisen (D.fault_count disk.old) (D.fault_count disk.new) }
+    // claim: Too small a disk, a table that may not stand on it, and want of memory are refused before any call.
     ensures least { TellsLeastToSeed (D.view disk.old) settings.now result }
     ensures too_small { IsTooSmall (D.view disk.old) settings.now → result ≡ Err (seed_error.TooSmall (least_sectors settings.now)) }
     ensures bad { IsErrOf result SeedError.BadKind ↔ IsBadToSeed (D.view disk.old) settings.now snapshot.now }
@@ -131,14 +132,15 @@ pub fn seed<D: Disk>(
     ensures no_call_bad { IsErrOf result SeedError.BadKind → disk.new ≡ disk.old }
     ensures no_call_either { IsErrOf result SeedError.OutOfMemory → disk.new ≡ disk.old }
 
-    // A stop at any moment of the call leaves the old disk but for its gates, no formatted disk, or a disk with the whole table.
+    // claim: A crash meanwhile leaves what was there but for the gates, no formatted disk, or the whole table.
     ensures any_moment { LeavesSeeding (D.view disk.old) (D.view disk.new) settings.now snapshot.now }
 
-    // Where the disk reads as not formatted, a stop leaves an image from before the call, no formatted disk, or one with the
-    // whole table. Where no image of it is one of a formatted disk, a stop leaves it so, or with the whole table.
+    // claim: Where no image was a formatted disk, none is but with the whole table. One that read as not formatted keeps
+    // its image, reads so still, or has the whole table.
     ensures old_or_whole { LeavesOldOrWhole (D.view disk.old) (D.view disk.new) settings.now snapshot.now }
     ensures none_or_whole { LeavesNoneOrWhole (D.view disk.old) (D.view disk.new) settings.now snapshot.now }
 
+    // claim: After Ok the disk recovers to the whole table, in generation 1.
     ensures generation { (D.view disk.old).honest → OnOk result (HasGeneration 1 (D.view disk.new).content) }
     ensures seeded { (D.view disk.old).honest → OnOk result (IsSeeded (D.view disk.new) settings.now snapshot.now) }
 {

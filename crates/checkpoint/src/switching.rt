@@ -126,6 +126,7 @@ pub fn switch<D: Disk>(
     ensures same { IsSameDisk (D.view disk.old) (D.view disk.new) }
     ensures later { D.fault_count disk.old ≤ D.fault_count disk.new }
     ensures fault { IsErrOf result SwitchError.Fault → HasRisen (D.fault_count disk.old) (D.fault_count disk.new) }
+    // claim: A snapshot is bad exactly where it may not stand on the disk. That, and want of memory, come before any call.
     ensures bad { IsErrOf result SwitchError.BadKind ↔ (may_stand (settings_of opened.old) snapshot.now ≡ false) }
     ensures no_call { IsErrOf result SwitchError.BadKind → disk.new ≡ disk.old }
     ensures no_call_either { IsErrOf result SwitchError.OutOfMemory → disk.new ≡ disk.old }
@@ -137,12 +138,13 @@ pub fn switch<D: Disk>(
     ensures generation { OnOk result (generation_of opened.new ≡ generation_of opened.old + 1) }
     ensures number { OnOk result (number_of opened.new ≡ snapshot.now.number + 1) }
 
+    // claim: After Ok a live disk recovers to the snapshot, in the other segment.
     ensures switched { Switches (D.view disk.old) (D.view disk.new) opened.old opened.new snapshot.now result }
 
-    // A stop at any moment of the call leaves the table from before it, or the snapshot.
+    // claim: A crash meanwhile leaves it with the table from before, or the snapshot.
     ensures any_moment { LeavesBeforeOrSnapshot (D.view disk.old) (D.view disk.new) opened.old snapshot.now }
 
-    // The same of a live segment of either version.
+    // claim: The same from a live segment of version 1. The snapshot is written in version 2.
     ensures switched_either { SwitchesEither (D.view disk.old) (D.view disk.new) opened.old opened.new snapshot.now result }
     ensures any_moment_either { LeavesOldOrSnapshot (D.view disk.old) (D.view disk.new) opened.old snapshot.now }
 {

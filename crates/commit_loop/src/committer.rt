@@ -50,6 +50,8 @@ pub trait Committing {
 
     /// How many commands are issued and not durable.
     fn pending(&mut self) -> (usize, Self::Counted)
+        // claim: Each step answers what shows that it was made, with the number that it had. [Committing::ring,
+        // Ticking::pending, Ticking::tick]
         ensures steps { leads self.old (counted result.0 ∷ []) self.new }
         ensures shown { result.0 ≡ count result.1 };
 
@@ -176,6 +178,8 @@ fn turn<G: Gate, C: Committing>(gate: &G, committer: &mut C) -> bool
 /// Where nothing is pending, or a commit failed, the committer sleeps until it is called; where the gate skips what is
 /// pending, it is asked again.
 pub fn commit_all<R: Wait, G: Gate, C: Committing>(rt: &R, gate: &G, committer: &mut C)
+    // claim: Each turn counts what is pending and does what its gate says of that. A commit's number is raised on the
+    // board, then rung. A failure that broke the hall is said, then rung for all; then it sleeps.
     ensures { IsRun C.leads (G.says gate.now) committer.old committer.new }
 {
     for _ in rt.forever() {

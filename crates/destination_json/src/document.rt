@@ -75,6 +75,7 @@ fn room(ended: &Ended<'_>, settings: &Settings) -> usize {
 /// order. Only want of memory is refused. The moment, in milliseconds since 1970, is at most the end of the year 9999.
 pub fn record(alloc: Global, ended: &Ended<'_>, settings: &Settings) -> Result<Vec<u8>, AllocError>
     requires { ended.now.at ≤ greatest_moment }
+    // claim: An ended event's record is, byte for byte, that of the definitions: JSON is copied, any other answer quoted.
     ensures { IfOk result (λ bytes. bytes.items ≡ record_text settings.now (told ended.now)) }
 {
     let at = stamp(alloc, ended.at)?;

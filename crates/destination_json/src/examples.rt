@@ -10,6 +10,7 @@ ghost use Rattle.destination_json.specs.Examples.{pushed_back, cut_off, failed, 
 
 /// Known moments.
 pub fn stamps()
+    // claim: The prover computes known moments, records and answers. [: leap_day; records: exhausted; answers: too_large]
     ensures first { stamp_text 0 ≡ codes "1970-01-01T00:00:00.000Z" }
     ensures last { stamp_text 253402300799999 ≡ codes "9999-12-31T23:59:59.999Z" }
     ensures accepted { stamp_text 1573755365568 ≡ codes "2019-11-14T18:16:05.568Z" }

@@ -33,6 +33,7 @@ fn put_time(out: &mut String, ms: u32) -> Result<(), AllocError>
 #[tactic(auto, unfolding(crate::specs::Stamp::stamp_text))]
 pub fn stamp(alloc: Global, ms: u64) -> Result<String, AllocError>
     requires { ms ≤ greatest_moment }
+    // claim: The text of a moment up to the year 9999 is that of the definitions.
     ensures { IfOk result (λ text. string_bytes text ≡ stamp_text ms) }
 {
     let (year, month, day) = date_of((ms / DAY) as u32);

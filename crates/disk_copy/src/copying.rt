@@ -55,25 +55,27 @@ pub fn copy<D: Disk, E: Disk>(
     ensures later { E.fault_count disk.old ≤ E.fault_count disk.new }
     ensures fault { IsErrOf result CopyError.Fault → HasRisen (E.fault_count disk.old) (E.fault_count disk.new) }
 
+    // claim: The first refusal that holds, or want of memory, is told before any call of the new disk. Only a fault comes
+    // later.
     ensures granted { OnOk result (refusal_for (E.view disk.old).sectors broker.now change.now ≡ None) }
     ensures refused { IfErr result (IsCopyReason (refusal_for (E.view disk.old).sectors broker.now change.now)) }
     ensures no_call { OnErr result (result ≡ Err copy_error.Fault ⊎ disk.new ≡ disk.old) }
 
-    // After Ok on an honest disk it has one image, which recovers to the new settings and the broker's table.
+    // claim: After Ok the new disk has one image, which recovers to the broker's whole table, in generation 1.
     ensures generation { (E.view disk.old).honest → OnOk result (HasGeneration 1 (E.view disk.new).content) }
     ensures copied { (E.view disk.old).honest
         → OnOk result (IsSeeded (E.view disk.new) (settings_for broker.now change.now) (table_in broker.now)) }
 
-    // It goes on with each history that the broker stands for. The table of a history is never bad.
+    // claim: It goes on with each history of the broker, with all of it durable. A history's table is never refused.
     ensures goes_on { (E.view disk.old).honest → ForEachHistory D.view broker.now (λ history.
         OnOk result (GoesOnWith (E.view disk.new) (settings_for broker.now change.now) history)) }
     ensures sound { ForEachHistory D.view broker.now (λ history. result ≡ Err copy_error.BadTable → ⊥) }
 
-    // A stop at any moment of the call leaves the new disk as it was but for its gates, no formatted disk, or the whole copy.
+    // claim: A crash meanwhile leaves the new disk as it was but for the gates, no formatted disk, or the whole copy.
     ensures any_moment { LeavesSeeding (E.view disk.old) (E.view disk.new) (settings_for broker.now change.now) (table_in broker.now) }
 
-    // Where that disk reads as not formatted, a stop leaves an image from before the call, no formatted disk, or the whole
-    // copy. Where no image of it is one of a formatted disk, a stop leaves it so, or with the whole copy.
+    // claim: Where no image was a formatted disk, none is but with the whole copy. One that read as not formatted keeps its
+    // image, reads so still, or has the whole copy.
     ensures old_or_whole { LeavesOldOrWhole (E.view disk.old) (E.view disk.new) (settings_for broker.now change.now) (table_in broker.now) }
     ensures none_or_whole { LeavesNoneOrWhole (E.view disk.old) (E.view disk.new) (settings_for broker.now change.now) (table_in broker.now) }
 {

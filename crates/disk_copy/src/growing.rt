@@ -78,9 +78,11 @@ fn check_change(old: &Settings, new: &Settings) -> Result<(), ChangeError>
 /// each history that was legal stays legal and leaves the same table, and each table that may stand on the old disk may
 /// stand on the new one.
 pub fn grown_settings(old: &Settings, change: &Change) -> Result<Settings, ChangeError>
+    // claim: A copy's settings are the old ones with what is changed, in range, and allow all that the old ones do.
     ensures settings { IfOk result (λ new. new ≡ settings_with change.now old.now) }
     ensures good { IfOk result (λ new. bad_field new ≡ None) }
     ensures allows { IfOk result (AllowsAll old.now) }
+    // claim: They are refused by the first field out of range, then the first smaller limit, or for want of memory.
     ensures granted { OnOk result (refusal_between old.now (settings_with change.now old.now) ≡ None) }
     ensures refused { IfErr result (IsChangeReason old.now (settings_with change.now old.now)) }
 {

@@ -104,7 +104,14 @@ impl Env {
     #[tactic(auto, using(crate::specs::laws::States::is_accepted, crate::specs::laws::States::is_refused))]
     pub fn call(&mut self, call: EnvCall) -> Result<Answered, EnvError>
         requires { IsMoment (moment_by call) }
+        // claim: A call is accepted only where the calls before allow it. The environment then stands for all, and answers
+        // just the polls that they say. [Env::runtime_next, Env::register, Env::extension_next, Env::give, Env::answer,
+        // Env::init_error, Env::extension_error, Env::timeout, Env::shutdown]
         ensures ok { IfOk result (λ answers. Accepts self.old call self.new answers.items) }
+        // claim: A refusal is the first failing check, or want of memory. It changes nothing. A shutdown is refused for
+        // memory alone. [: refused, shutdown, err; Env::runtime_next, Env::register, Env::extension_next, Env::give,
+        // Env::answer, Env::init_error, Env::extension_error, Env::timeout: refused, err; Env::shutdown: refused, memory,
+        // err]
         ensures refused { IfErr result (λ why. Refuses self.old call why) }
         ensures shutdown { (now : ℕ) → call ≡ Shutdown now → IfErr result (λ why. why ≡ OutOfMemory) }
         ensures err { OnErr result (self.new ≡ self.old) }

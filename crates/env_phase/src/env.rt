@@ -50,6 +50,7 @@ impl Env {
     /// The environment of this number, in which nobody has asked for anything. It waits for no extension: it is ready once
     /// the runtime and each extension that registered before wait. It takes no memory.
     pub fn new(alloc: Global, number: u16) -> Env
+        // claim: A new environment waits for as many extensions as it is made for, by default none. [Env::waiting_for]
         ensures number { result.number ≡ number }
         ensures wanted { result.wanted ≡ 0 }
         ensures stands { StandsFor result [] }
@@ -125,6 +126,8 @@ impl Env {
     /// waits for, and the runtime and each of them wait.
     #[tactic(auto, using(crate::specs::laws::States::is_ready_kept))]
     pub fn ready(&self) -> bool
+        // claim: Its readiness, running event, phase and parked parties are those of its calls. A copy is equal. [:
+        // by_state, by_calls; Env::running; Env::phase; Env::parked; Env::copy]
         ensures by_state { result ≡ is_ready_in self.now }
         ensures by_calls { ForEachList self.now (λ calls. result ≡ is_ready self.now.wanted calls) }
     {

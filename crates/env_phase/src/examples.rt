@@ -16,6 +16,8 @@ use crate::{Reason, Refusal};
 pub fn one_event()
     ensures nobody { phase_of 0 [] ≡ init }
     ensures asked { phase_of 0 (RuntimeNext 1 ∷ []) ≡ ready }
+    // claim: The prover computes worked environments. [: late; two_extensions: two_polls; one_is_waited_for: has_asked;
+    // ends: timeout_tells]
     ensures taken { answered_by (RuntimeNext 1 ∷ []) (Give (id 1) 4000) ≡ event_on 1 (id 1) 4000 ∷ [] }
     ensures runs { unanswered alone ≡ Some (id 1) }
     ensures works { phase_of 0 alone ≡ busy }

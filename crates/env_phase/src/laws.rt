@@ -14,6 +14,7 @@ ghost use Rattle.env_phase.specs.laws.Calls.{more};
 /// Each poll that came on a slot was answered once or waits: none is answered twice, and none is lost.
 #[tactic(auto, using(crate::specs::laws::Slots::each_poll_is_answered_once_or_waits))]
 pub fn each_poll_is_answered_once_or_waits()
+    // claim: Each poll was answered once or waits: none is answered twice, none lost.
     ensures { (wanted : ℕ) (calls : List EnvCall) → IsLegal wanted calls → (slot : ℕ)
         → polled slot calls ≡ times_answered slot calls + waiting slot calls }
 {}
@@ -22,6 +23,7 @@ pub fn each_poll_is_answered_once_or_waits()
 /// of them wait.
 #[tactic(auto, using(crate::specs::laws::Running::ready_runs_nothing, crate::specs::laws::Running::ready_all_wait, crate::specs::laws::Waiting::ready_enough))]
 pub fn all_wait_where_one_is_ready()
+    // claim: A ready environment runs nothing, has as many extensions as it waits for, and all its parties wait.
     ensures runs_nothing { (wanted : ℕ) (calls : List EnvCall) → IsReady wanted calls → unanswered calls ≡ None }
     ensures enough { (wanted : ℕ) (calls : List EnvCall) → IsReady wanted calls → wanted ≤ length (registered calls) }
     ensures all_wait { (wanted : ℕ) (calls : List EnvCall) → IsReady wanted calls
@@ -33,6 +35,8 @@ pub fn all_wait_where_one_is_ready()
 /// is never ready.
 #[tactic(auto, using(crate::specs::laws::Waiting::waiting_is_in_init, crate::specs::laws::Waiting::waiting_registers, crate::specs::laws::Waiting::is_met_zero, crate::specs::laws::Waiting::more_are_never_ready,))]
 pub fn it_waits_for_its_extensions()
+    // claim: With fewer it is in Init and takes registrations, until it is shut down. One that waits for more than ten is
+    // never ready.
     ensures in_init { (wanted : ℕ) (calls : List EnvCall) → IsWaiting wanted calls → phase_of wanted calls ≡ init }
     ensures open { (wanted : ℕ) (calls : List EnvCall) (identifier : List ℕ) (events end : Bool) → IsWaiting wanted calls → wanted ≤ 10
         → is_known identifier (registered calls) ≡ false → refusal_of wanted calls (Register identifier events end) ≡ None }
@@ -45,6 +49,7 @@ pub fn it_waits_for_its_extensions()
 /// timeout.
 #[tactic(auto, using(crate::specs::laws::Running::busy_while_running, crate::specs::laws::Running::answer_is_accepted, crate::specs::laws::Running::timeout_is_accepted,))]
 pub fn busy_while_an_event_runs()
+    // claim: While an event runs, its answer and its timeout are accepted, unless it was shut down.
     ensures is_busy { (wanted : ℕ) (calls : List EnvCall) (id : List ℕ) → RunsOpen wanted calls id → phase_of wanted calls ≡ busy }
     ensures takes_the_answer { (wanted : ℕ) (calls : List EnvCall) (id : List ℕ) → RunsOpen wanted calls id
         → refusal_of wanted calls (Answer id) ≡ None }

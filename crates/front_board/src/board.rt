@@ -30,6 +30,7 @@ impl<N: Numbers> Board<N> {
         seats: usize,
     ) -> Result<(Board<N>, Vec<Seat>), AllocError>
         requires given { N.given durable }
+        // claim: A new board has as many seats as were asked for, which have seen its first number.
         ensures count { IfOk result (λ made. vec_len made.1 ≡ seats) }
         ensures seats { IfOk result (λ made. All (IsNewSeat made.0 durable) made.1.items) }
     {
@@ -74,6 +75,7 @@ impl<N: Numbers> Board<N> {
         requires sits { SitsAt self.now seat.old }
         requires given { N.given durable }
         ensures sits { SitsAt self.now seat.new }
+        // claim: From the seat that raised it, it is not seen below that.
         ensures raised { durable ≤ seen_from seat.new }
         ensures rises { seen_from seat.old ≤ seen_from seat.new }
         ensures shown { N.given (seen_from seat.new) }
@@ -88,8 +90,12 @@ impl<N: Numbers> Board<N> {
     pub fn check(&self, seat: &mut Seat, ticket: Ticket) -> Result<Receipt, Ticket>
         requires sits { SitsAt self.now seat.old }
         ensures sits { SitsAt self.now seat.new }
+        // claim: The number found was given to the board, and a seat never sees less than before. [: shown, rises, known;
+        // Board::raise: shown, rises]
         ensures shown { N.given (seen_from seat.new) }
         ensures rises { seen_from seat.old ≤ seen_from seat.new }
+        // claim: A ticket becomes a receipt exactly where that number is at least its own. By its type the call waits for
+        // nobody.
         ensures receipt { IfOk result (λ receipt. (receipt ≡ ticket) × (ticket ≤ seen_from seat.new)) }
         ensures waits { IfErr result (λ kept. (kept ≡ ticket) × (seen_from seat.new < ticket)) }
         ensures known { ticket ≤ seen_from seat.old → IsOk result }

@@ -45,6 +45,8 @@ impl Seated {
     /// Looks at the number: a receipt exactly where it is at least the ticket's, else the ticket is handed back. The number
     /// is at least each that was raised or seen from the seat.
     pub fn check(&mut self, ticket: Ticket) -> Result<Receipt, Ticket>
+        // claim: A seat that stands beside its board says the same. [: rises, receipt, waits, known; Seated::raise: raised,
+        // rises; Seated::open: count, seen]
         ensures rises { seen_by self.old ≤ seen_by self.new }
         ensures receipt { IfOk result (λ receipt. (receipt ≡ ticket) × (ticket ≤ seen_by self.new)) }
         ensures waits { IfErr result (λ kept. (kept ≡ ticket) × (seen_by self.new < ticket)) }

@@ -41,6 +41,7 @@ impl Journal {
 
     /// How many sectors are free behind the last frame, from where the next frame would begin up to the area's end.
     pub fn free_sectors(&self) -> u64
+        // claim: How many sectors are free, and whether a size fits, is told exactly. [Journal::fits]
         ensures { result ≡ free_sectors_of self.now }
     {
         self.end.saturating_sub(self.next)
@@ -76,6 +77,8 @@ impl Journal {
         ensures numbers { IfOk result (λ r. number_of r.0 ≡ area.number + length r.1.items) }
         ensures below { IfOk result (λ r. number_of r.0 ≤ 2 ^ 62 + 1) }
 
+        // claim: It reads just the frames that the bytes hold, and changes nothing. Damage is told only with the first open
+        // gate that has no frame. [: read, damaged, untouched]
         ensures read { (D.view disk.old).honest → IfOk result (λ r. IsFound (D.view disk.old) area r.0 r.1.items) }
         ensures damaged { TellsDamage (D.view disk.old) area result }
     {
@@ -111,6 +114,8 @@ impl Journal {
         ensures same { IsSameDisk (D.view disk.old) (D.view disk.new) }
         ensures later { D.fault_count disk.old ≤ D.fault_count disk.new }
         ensures fault { IsErrOf result AppendError.Fault → HasRisen (D.fault_count disk.old) (D.fault_count disk.new) }
+        // claim: It is refused for room exactly where the frame does not fit. That, and want of memory, come before any
+        // call.
         ensures no_room { IsErrOf result AppendError.NoRoom ↔ (fits self.old (length (commands_text commands.now)) ≡ false) }
         ensures no_call { IsErrOf result AppendError.NoRoom → disk.new ≡ disk.old }
         ensures no_call_either { IsErrOf result AppendError.OutOfMemory → disk.new ≡ disk.old }
@@ -120,9 +125,10 @@ impl Journal {
         ensures generation { generation_of self.new ≡ generation_of self.old }
         ensures number { OnOk result (number_of self.new ≡ number_of self.old + length commands.now) }
 
+        // claim: After Ok the batch is there, if nothing waited for a flush, and nothing outside the log has changed.
         ensures acknowledged { Acknowledges (D.view disk.old) (D.view disk.new) self.old self.new commands.now result }
 
-        // A stop at any moment of the call leaves the commands from before it, or those and the whole batch.
+        // claim: A crash at any moment leaves the frames from before, or those and the whole batch.
         ensures any_moment { LeavesBeforeOrAfter (D.view disk.old) (D.view disk.new) self.old commands.now }
     {
         let size = batch_size(commands);

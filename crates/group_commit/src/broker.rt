@@ -50,22 +50,25 @@ impl<D: Disk> Broker<D> {
     /// A disk that is not opened is handed back with the cause: `Fault`, `OutOfMemory`, `NotFormatted`, `Damaged` with its
     /// sector, or `OldVersion` where nothing is damaged and the disk has to be migrated first. Nothing is written to the disk.
     pub fn open(alloc: Global, disk: D) -> Result<Broker<D>, OpenFailure<D>>
+        // claim: A disk that is not opened is handed back. A fault is told only where the count of faults rose.
         ensures same { IfOk result (λ b. IsSameDisk (D.view disk) (D.view (disk_of b))) }
         ensures same_failed { IfErr result (λ e. IsSameDisk (D.view disk) (D.view e.disk)) }
         ensures fault { IfErr result (λ e. TellsFault (D.fault_count disk) (D.fault_count e.disk) e.cause) }
 
+        // claim: A disk opens as what it recovers to, all of it durable. It is not formatted, damaged or old only where its
+        // bytes say so.
         ensures fresh { IfOk result (λ b. (is_broken b ≡ false) × (pending_of b ≡ []) × (durable_of b ≡ issued_of b)) }
         ensures recovers { (D.view disk).honest → IfOk result (λ b. live.RecoversTo (settings_of b) (table_in b) (D.view disk).content) }
         ensures not_formatted { (D.view disk).honest → IfErr result (λ e. TellsNotFormatted (D.view disk).content e.cause) }
         ensures damaged { (D.view disk).honest → IfErr result (λ e. TellsDamage (D.view disk).content e.cause) }
         ensures old_version { (D.view disk).honest → IfErr result (λ e. TellsOld (D.view disk).content e.cause) }
 
-        // A stop at any moment of the call leaves an image from before it.
+        // claim: A crash within an opening leaves an image from before it.
         ensures any_moment { (D.view disk).honest → IfOk result (λ b. LeavesWhatWas (D.view disk) (D.view (disk_of b))) }
         ensures any_moment_failed { (D.view disk).honest → IfErr result (λ e. LeavesWhatWas (D.view disk) (D.view e.disk)) }
 
-        // Where each image is a legal stop of a history, only the device and memory refuse, and the broker stands for a
-        // prefix of that history with at least the durable commands.
+        // claim: Where each image is a legal stop of a history, the broker stands for a prefix with at least the durable
+        // commands. Only the device or want of memory refuses.
         ensures stands { (D.view disk).honest
             → ForEachHistoryOn (D.view disk) (λ s history durable. IfOk result (IsRecovered D.view s history durable)) }
         ensures refused { (D.view disk).honest
@@ -127,6 +130,7 @@ impl<D: Disk> Broker<D> {
     /// A receipt for a ticket whose command is durable. It speaks of the number: a ticket is meant for the opening that
     /// gave it.
     pub fn redeem(&self, ticket: &Ticket) -> Option<Receipt>
+        // claim: A receipt is given exactly where the ticket's number is durable.
         ensures { MatchOption result (durable_of self.now < ticket.now) (IsReceiptFor self.now ticket.now) }
     {
         let number = ticket.number();

@@ -103,6 +103,8 @@ impl<D: Disk> Broker<D> {
     pub fn commit(&mut self) -> Result<Durable, CommitError>
         ensures same { IsSameDisk (D.view (disk_of self.old)) (D.view (disk_of self.new)) }
         ensures later { D.fault_count (disk_of self.old) ≤ D.fault_count (disk_of self.new) }
+        // claim: A fault is told only where the count of faults rose. `Broken`, `WornOut` and `BadKind` have their reason.
+        // [Broker::switch: fault, broken, worn_out, worn, bad]
         ensures fault { IsErrOf result CommitError.Fault → FaultsHaveRisen D.fault_count self.old self.new }
         ensures broken { (result ≡ Err commit_error.Broken) ↔ (is_broken self.old ≡ true) }
         ensures nothing { is_broken self.old ≡ false → pending_of self.old ≡ [] → AnswersAtOnce self.old self.new result }
@@ -110,16 +112,16 @@ impl<D: Disk> Broker<D> {
         ensures worn { is_broken self.old ≡ false → IsWornOut self.old → NeedsSwitch self.old → result ≡ Err commit_error.WornOut }
         ensures bad { result ≡ Err commit_error.BadKind → HasBadTable self.old × NeedsSwitch self.old }
 
-        // At Ok all that was pending is durable. A fault breaks the broker, and any other refusal changes nothing. It
-        // switches just where it has to.
+        // claim: After Ok all that was pending is durable. A fault breaks the broker, another refusal changes nothing. It
+        // switches segments just where its frame does not fit. [Broker::switch: ok, switches, breaks, kept]
         ensures ok { IfOk result (λ durable. Commits self.old self.new durable) }
         ensures stays { NeedsNoSwitch self.old → HasSwitched 0 self.old self.new }
         ensures switches { NeedsSwitch self.old → OnOk result (HasSwitched 1 self.old self.new) }
         ensures breaks { result ≡ Err commit_error.Fault → Breaks self.old self.new }
         ensures kept { OnErr result (result ≡ Err commit_error.Fault ⊎ IsSameBroker self.old self.new) }
 
-        // The broker stands for the same history after it, also after a fault, and after an Ok with all of it durable. The
-        // table of a history is never bad.
+        // claim: It stands for the same history after any answer, all of it durable after Ok. A history's table is never
+        // bad. [Broker::switch]
         ensures stands { ForEachHistory D.view self.old (λ history. Stands D.view self.new history) }
         ensures acknowledged { ForEachHistory D.view self.old (λ history. IfOk result (HasAllDurable self.new history)) }
         ensures sound { ForEachHistory D.view self.old (λ history. result ≡ Err commit_error.BadKind → ⊥) }

@@ -82,7 +82,7 @@ impl<D: Disk> DiskHalf<D> {
         ensures first { first_in result ≡ first_of batch }
         ensures last { last_in result ≡ last_of batch }
 
-        // At Ok the whole batch is durable. A refusal keeps what was taken, in order.
+        // claim: After Ok the whole batch is durable. A refusal makes nothing durable, and has its reason, memory aside.
         ensures ok { OnOk result (Writes batch (broker_of self.new)) }
         ensures broken { is_broken (broker_of self.old) ≡ true → IsRefusedAs result write_error.Broken }
         ensures apart { is_broken (broker_of self.old) ≡ false → IsApart (broker_of self.old) batch
@@ -92,14 +92,14 @@ impl<D: Disk> DiskHalf<D> {
         ensures settings { settings_of (broker_of self.new) ≡ settings_of (broker_of self.old) }
         ensures longer { issued_of (broker_of self.old) ≤ issued_of (broker_of self.new) }
 
-        // The half stands for its list with what it took, also after a fault; the table of a history is never bad. Where its
-        // list is the front of a list that ends with the batch, it stays so.
+        // claim: The half stands for its history with what it took. A front of a history that ends with the batch stays
+        // one.
         ensures stands { ForEachHistory D.view (broker_of self.old) (λ history.
             Stands D.view (broker_of self.new) (history ++ taken_from (broker_of self.old) (broker_of self.new) batch)) }
         ensures sound { ForEachHistory D.view (broker_of self.old) (λ history. IsRefusedAs result write_error.BadKind → ⊥) }
         ensures front { StaysInFront D.view (broker_of self.old) (broker_of self.new) batch }
 
-        // A stop at any moment of the call leaves a legal stop of that list.
+        // claim: A crash at any moment leaves a legal stop of that.
         ensures any_moment { LeavesStopsWith D.view (broker_of self.old) (broker_of self.new) batch }
     {
         let (first, last) = (batch.first, batch.last);

@@ -105,6 +105,8 @@ impl IssueHalf {
     ///
     /// It is refused, and then changes nothing: `Broken`, `Lent` (a batch is out), `OutOfMemory`, in that order.
     pub fn lend(&mut self) -> Result<Option<Batch>, LendError>
+        // claim: What is lent is all that is pending, with its numbers. While it is out nothing else is lent. Refusals have
+        // reasons.
         ensures same { IsSameIssuer (half_view self.old) (half_view self.new) }
         ensures could { IfOk result (λ batch. CanLend self.old) }
         ensures ok { IfOk result (Lends self.old self.new) }
@@ -138,7 +140,10 @@ impl IssueHalf {
     /// `Mismatch`: no batch is out, or the numbers are not those of the batch that is out; nothing changes. `NotWritten`: the
     /// batch was not written; after `Fault` or `Broken` the half is broken, else the commands are pending and not lent.
     pub fn settle(&mut self, outcome: Result<Written, Failed>) -> Result<Durable, SettleError>
+        // claim: The durable number moves only where a written batch is settled, to its last number. What came since stays
+        // pending.
         ensures ok { IfOk result (SettlesBy self.old self.new outcome) }
+        // claim: A fault breaks the half, as does a broken disk half. After another failure the commands are pending again.
         ensures err { IfErr result (IsNotSettled self.old self.new outcome) }
     {
         let (first, last) = match &outcome {

@@ -54,7 +54,9 @@ pub trait Issuer {
         ensures ok { IfOk result (λ ticket. Issues (view self.old) (view self.new) command ticket) }
         ensures err { OnErr result (IsSameIssuer (view self.old) (view self.new)) }
 
-        // Where it stands for a history, it accepts what is legal after it, and then stands for it with the command.
+        // claim: Whatever issues, a broker or an issue half, promises what `Broker::issue` does, without a disk. [: stands,
+        // refused, ok, reason; Issuer::issued, Issuer::durable, Issuer::ticket, Issuer::table; Issuer: laws, goes_on;
+        // IssueHalf::issue: ok, lent, stands; Broker, IssueHalf: laws]
         ensures stands { ForEachHistory (view self.old) (λ history. IfOk result (Accepts (view self.old) history command (view self.new))) }
         ensures refused { ForEachHistory (view self.old) (λ history. TellsIllegal (view self.old).settings history command result) };
 

@@ -82,6 +82,8 @@ impl<D: Disk> Broker<D> {
     /// It is refused, and then changes nothing: `Broken`, `WornOut` (2^62 commands were issued), `Illegal` with the first
     /// check that fails, `Backlog` (256 commands are pending), `OutOfMemory`, in that order. The disk is not called.
     pub fn issue(&mut self, command: Command) -> Result<Ticket, IssueError>
+        // claim: Refusals come in this order: broken, worn out, not legal, 256 pending, no memory. None else refuses a
+        // legal command.
         ensures broken { IsTrue (is_broken self.old) → result ≡ Err issue_error.Broken }
         ensures worn_out { is_broken self.old ≡ false → 2 ^ 62 ≤ issued_of self.old → result ≡ Err issue_error.WornOut }
         ensures illegal { OnUsable self.old ((why : Illegal) → Fails self.old command why → result ≡ Err (issue_error.Illegal why)) }
@@ -89,17 +91,19 @@ impl<D: Disk> Broker<D> {
         ensures accepted { OnUsable self.old (IsLegalNow self.old command → HasPlace self.old
             → IsOkUnless result issue_error.OutOfMemory) }
 
+        // claim: Each refusal has its reason, and changes nothing. Issuing does not call the disk.
         ensures reason { IfErr result (IsReason self.old command) }
         ensures no_call { disk_of self.new ≡ disk_of self.old }
         ensures ok { IfOk result (λ ticket. Issues self.old self.new command ticket) }
         ensures err { OnErr result (IsSameBroker self.old self.new) }
 
-        // Where the broker stands for a history, it accepts what is legal after it, and then stands for it with the command.
+        // claim: A command that is issued was legal after the history. The broker then stands for both.
         ensures stands { ForEachHistory D.view self.old (λ history. IfOk result (Accepts D.view self.old history command self.new)) }
         ensures refused { ForEachHistory D.view self.old (λ history. TellsIllegal (settings_of self.old) history command result) }
         ensures stands_refused { ForEachHistory D.view self.old (λ history. OnErr result (Stands D.view self.new history)) }
 
-        // A stop at any moment of the call leaves a legal stop of the history.
+        // claim: A crash at any moment leaves a legal stop: a prefix with at least the durable commands. [: any_moment;
+        // Broker::commit, Broker::switch, Broker::resume; Broker::close: any_moment, disk]
         ensures any_moment { LeavesLegalStops D.view self.old (disk_of self.new) }
     {
         if self.broken {

@@ -133,14 +133,16 @@ pub fn migrate<D: Disk>(alloc: Global, disk: D) -> Result<D, MigrateFailure<D>>
     ensures later { IfErr result (λ e. D.fault_count disk ≤ D.fault_count e.disk) }
     ensures fault { IfErr result (λ e. e.cause ≡ migrate_error.Fault → HasRisen (D.fault_count disk) (D.fault_count e.disk)) }
 
-    // At Ok every image recovers to the table that the disk held in version 1, in the next generation.
+    // claim: After Ok each image recovers, as version 2, to the table held as version 1, in the next generation. Else the
+    // first reason is told. What histories leave is never unformatted, damaged or bad. [: migrated, reason, sound]
     ensures migrated { (D.view disk).honest → IfOk result (λ d. Migrates (D.view disk) (D.view d)) }
     ensures reason { (D.view disk).honest → IfErr result (λ e. IsMigrateReason (D.view disk) e.cause) }
 
     // Where each image reads, as version 1 or 2, to the table of a legal history, it is refused by nothing that it holds.
     ensures sound { (D.view disk).honest → HoldsHistories (D.view disk) → IfErr result (λ e. IsSoundRefusal e.cause) }
 
-    // A stop at any moment of a call that was refused leaves an image from before it, or one that reads to the same table.
+    // claim: A refused disk is handed back. A crash meanwhile leaves an image from before, or one that reads, in its
+    // version, to the same table. [: any_moment, same_failed]
     ensures any_moment { (D.view disk).honest → IfErr result (λ e. LeavesMigrating (D.view disk) (D.view e.disk)) }
 {
     let mut disk = disk;

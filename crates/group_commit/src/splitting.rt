@@ -25,6 +25,8 @@ impl<D: Disk> Broker<D> {
     /// It is refused, and hands the broker back: `Broken`, `OutOfMemory`.
     pub fn split(self) -> Result<(IssueHalf, DiskHalf<D>), SplitFailure<D>>
         requires { pending_of self ≡ [] }
+        // claim: A broker with nothing pending is split into halves with equal tables, which stand for its history, or is
+        // handed back.
         ensures ok { IfOk result (λ halves. Splits self halves.0 halves.1) }
         ensures stands { ForEachHistory D.view self (λ history. IfOk result (λ halves. (half_view halves.0).stands history)) }
         ensures same { IfErr result (λ failure. failure.broker ≡ self) }

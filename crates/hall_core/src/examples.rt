@@ -37,6 +37,8 @@ use invoke_records::{Cause, Kind, Standing};
 
 /// Ids, commands and moments.
 pub fn commands()
+    // claim: The prover computes worked runs. [: cut_off; attempts: late; faults: broken; outbox: told;
+    // extensions_that_are_waited_for: has_asked]
     ensures drawn { id_of (0, 1) ≡ id 1 }
     ensures accepted { makes (invokes 1 t 1 ∷ []) ≡ accept 1 t ∷ [] }
     ensures started { makes (one_runs t) ≡ starts_at t }

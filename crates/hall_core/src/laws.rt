@@ -35,6 +35,7 @@ pub fn runs()
 
 /// A reply that was computed stays, whatever is called then, until another request comes with its slot.
 pub fn replies()
+    // claim: A reply that was computed stays until another request comes with its slot.
     ensures { (s : Settings) (past : Past) (call : HallCall) (slot : ℕ) → comes_with slot call ≡ false → ReplyStays s past call slot }
 {}
 
@@ -53,6 +54,8 @@ pub fn an_event_runs_in_one_environment()
 /// calls, and what an environment runs runs there by the history. It holds with the facts that an induction needs, at
 /// the opening and after each call.
 pub fn every_run_is_sound()
+    // claim: After every run on a legal history, it is legal, each environment accepted its calls, and what it runs runs by
+    // the history. [: opened, step, kept, sound; what_a_call_does_is_accepted: command, environment]
     ensures opened { (s : Settings) (wanted : ℕ) (history : List Command) → IsLegal s history → IsKept s (opening wanted history) }
     ensures step { (s : Settings) (past : Past) (call : HallCall) → IsMade s past call → IsKept s (past_after s past call) }
     ensures kept { (s : Settings) (past : Past) (run : List HallCall) → AreMade s past run → IsKept s (after s past run) }
@@ -70,6 +73,9 @@ pub fn what_a_call_does_is_accepted()
 /// first of them, where it interrupts none there is none, and then what runs by the history runs in an environment, and
 /// the environment that is ready, if one is, runs nothing by the history, as the table asks of it.
 pub fn interrupts()
+    // claim: An Interrupt is only for an event that runs by the history and in no environment. Unless the hall stops, a
+    // tick interrupts the first. No call leaves one behind. [: first, tick, no_other, none, then_all_run;
+    // nothing_is_left_behind: step, run]
     ensures first { (s : Settings) (past : Past) (event : Event) → first_unheld s past ≡ Some event → IsUnheld s past event.1 }
     ensures tick { (s : Settings) (past : Past) (now : ℕ) → is_stopping past ≡ false → InterruptsFirst s past now }
     ensures no_other { (s : Settings) (past : Past) (call : HallCall) → IsMade s past call → InterruptsUnheld s past call }

@@ -51,6 +51,7 @@ impl<I: Issuer> Hall<I> {
     /// slots and environments. It changes nothing, and the bytes of payloads are shared and not copied. It is refused by
     /// want of memory alone.
     pub fn look(&self) -> Result<Look, AllocError>
+        // claim: An operator is shown its table, durable number, slots and stop, and each environment by its calls.
         ensures { IfOk result (Shows (view_of I.view self.now)) }
     {
         let table = self.issuer.table().snapshot()?;

@@ -44,6 +44,8 @@ impl<D: Disk> Hall<Broker<D>> {
     /// A hall over a broker, in which nothing has come yet, which tells its replies in this broker's own words, and whose
     /// environments wait for no extension; over a broken broker it is broken. Want of memory hands the broker back.
     pub fn new(alloc: Global, broker: Broker<D>) -> Result<Hall<Broker<D>>, HallFailure<D>>
+        // claim: A new hall stands for the empty run on its broker's history; nothing has come to it. A refusal hands the
+        // broker back. [Hall::in_dialect]
         ensures stands { (history : List Command) → Stands D.view broker history
             → IfOk result (λ hall. StandsFor (view_of (issuer_of D.view) hall) (opening 0 history)) }
         ensures wanted { IfOk result (λ hall. (view_of (issuer_of D.view) hall).wanted ≡ 0) }
@@ -66,6 +68,8 @@ impl<D: Disk> Hall<Broker<D>> {
         dialect: Dialect,
         extensions: u8,
     ) -> Result<Hall<Broker<D>>, HallFailure<D>>
+        // claim: Replies are told in the dialect, and environments wait for as many extensions, as it is made for. [:
+        // wanted, dialect; Hall::new; Hall::dialect; Hall::split, Hall::join: parts; runs: wait]
         ensures stands { (history : List Command) → Stands D.view broker history
             → IfOk result (λ hall. StandsFor (view_of (issuer_of D.view) hall) (opening extensions history)) }
         ensures wanted { IfOk result (λ hall. (view_of (issuer_of D.view) hall).wanted ≡ extensions) }
@@ -102,14 +106,18 @@ impl<D: Disk> Hall<Broker<D>> {
     /// broker is not available, and every slot whose reply is not wanted is closed. What the disk may hold then is said by
     /// `any_moment`. A broken hall does not call the disk.
     pub fn commit(&mut self) -> Result<Durable, HallError>
+        // claim: A commit keeps the run. After Ok all that was issued is durable. Only a fault of its commit breaks the
+        // hall. [: durable, stands, sound, fault, cause]
         ensures durable { IfOk result (λ durable. IsAllDurable (view_of (issuer_of D.view) self.new) durable) }
         ensures stands { ForEachPast (view_of (issuer_of D.view) self.old) (λ past. StandsFor (view_of (issuer_of D.view) self.new) past) }
         ensures sound { OnOk result (is_broken self.new.issuer ≡ is_broken self.old.issuer) }
         ensures fault { is_broken self.old.issuer ≡ false → is_broken self.new.issuer ≡ true → result ≡ Err HallError.Fault }
+        // claim: A crash at any moment leaves a legal stop. [: any_moment; Hall::close]
         ensures any_moment { LeavesLegalStops D.view self.old.issuer (disk_of self.new.issuer) }
         ensures kept_answered { answered_slots self.new ≡ answered_slots self.old }
 
-        // Whether a history is known or not: the issuer alone changes, at Ok only in what is durable.
+        // claim: Whether a run is known or not, only the broker changes, after Ok only in what is durable. Refusals have
+        // reasons. `Broken` comes exactly of a broken hall, and calls no disk.
         ensures parts { HasSameParts (view_of (issuer_of D.view) self.old) (view_of (issuer_of D.view) self.new) }
         ensures ok { IfOk result (λ durable. Commits self.old.issuer self.new.issuer durable) }
         ensures err { IfErr result (IsNotCommitted self.old.issuer self.new.issuer) }

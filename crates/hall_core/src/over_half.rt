@@ -81,6 +81,7 @@ impl<D: Disk> Hall<Broker<D>> {
     /// writes what is lent. It is refused, and handed back: `Broken`, `OutOfMemory`.
     pub fn split(self) -> Result<(Hall<IssueHalf>, DiskHalf<D>), HallSplitFailure<Hall<Broker<D>>>>
         requires { pending_of self.issuer ≡ [] }
+        // claim: A hall that is split goes on with its run, over the issue half. A refusal hands it back.
         ensures ok { IfOk result (λ halves. Splits self.issuer halves.0.issuer halves.1) }
         ensures parts { IfOk result (λ halves. HasSameParts (view_of (issuer_of D.view) self) (view_of half_view halves.0)) }
         ensures answered { IfOk result (λ halves. answered_slots halves.0 ≡ answered_slots self) }
@@ -146,6 +147,7 @@ impl Hall<IssueHalf> {
     ///
     /// It is refused, and then changes nothing: `Broken`, `Lent` (a batch is out), `OutOfMemory`, in this order.
     pub fn lend(&mut self) -> Result<Option<Batch>, HallError>
+        // claim: Lending changes nothing of the hall. A refusal has its reason.
         ensures same { IsSameHall (view_of half_view self.old) (view_of half_view self.new) }
         ensures could { IfOk result (λ batch. CanLend self.old.issuer) }
         ensures ok { IfOk result (Lends self.old.issuer self.new.issuer) }
@@ -166,6 +168,8 @@ impl Hall<IssueHalf> {
     /// why the batch was not written, `OtherHalf` where the half over the disk does not go on with it: after `Fault` or
     /// `Broken` the hall is broken, else what was lent is pending again.
     pub fn settle(&mut self, outcome: Result<Written, Failed>) -> Result<Durable, HallError>
+        // claim: A settlement keeps the run, and makes just the batch durable that is out, or says why not. `Fault` and
+        // `Broken` break the hall.
         ensures stands { ForEachPast (view_of half_view self.old) (λ past. StandsFor (view_of half_view self.new) past) }
         ensures parts { HasSameParts (view_of half_view self.old) (view_of half_view self.new) }
         ensures ok { IfOk result (SettlesBy self.old.issuer self.new.issuer outcome) }
@@ -192,12 +196,15 @@ impl Hall<IssueHalf> {
     /// differ). A broken half gives a broken hall, and nothing is compared then: of what was computed before, `take` tells
     /// what the half over the disk has durable, and to every other slot that the broker is not available (`slots`).
     pub fn join<D: Disk>(self, disk: DiskHalf<D>) -> Result<Hall<Broker<D>>, HallJoinFailure<D>>
+        // claim: Joined again, a whole hall goes on with its run, where the disk half stood for a front of its history.
         ensures ok { IfOk result (λ hall. Joins self.issuer (broker_of disk) hall.issuer) }
         ensures parts { IfOk result (λ hall. HasSameParts (view_of half_view self) (view_of (issuer_of D.view) hall)) }
         ensures answered { IfOk result (λ hall. answered_slots hall ≡ answered_slots self) }
         ensures stands { ForEachPast (view_of half_view self) (λ past.
             Stands D.view (broker_of disk) (take (issued_of (broker_of disk)) past.history)
             → IfOk result (λ hall. is_broken hall.issuer ≡ false → StandsFor (view_of (issuer_of D.view) hall) past)) }
+        // claim: Joined from a broken half, it tells what the disk half has durable, and 503 to every other wanted slot. [:
+        // slots, ok; Hall::take: kept]
         ensures slots { IfOk result (λ hall. KeepsSlotsOf (view_of half_view self) (view_of (issuer_of D.view) hall)) }
         ensures same { IfErr result (λ failure. failure.hall.issuer ≡ self.issuer) }
         ensures same_parts { IfErr result (λ failure. HasSameParts (view_of half_view self) (view_of half_view failure.hall)) }

@@ -36,6 +36,8 @@ pub(crate) fn ask<D: Disk, L: Ledger, T: Trace, R: Wait>(
     desk: &mut Desk<L, T>,
     half: &mut DiskHalf<D>,
 ) -> Witnessed<Result<Durable, NotCommitted>, L, T>
+    // claim: A refused commit is the office's refusal, with its reason. `Fault` and `Broken` are those that end a hall. [:
+    // told, err, refused, committed, reason; NotCommitted::is_last]
     ensures told { IfOk result.answer (IsToldMore desk.old.told desk.new.told) }
     ensures err { OnErr result.answer (desk.new.told ≡ desk.old.told) }
     ensures refused { IfErr result.answer (λ refused. IsCommitRefusal desk.old.told refused.why) }

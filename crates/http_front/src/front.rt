@@ -80,6 +80,8 @@ impl<L: Ledger, T: Trace> Front<L, T> {
         durable: Durable,
         settings: Settings,
     ) -> Result<Front<L, T>, AllocError>
+        // claim: A front has the office, settings and dialect that it was given: those of its hall. [: office, settings,
+        // dialect; open: dialect, settings]
         ensures office { IfOk result (λ front. front.office ≡ office) }
         ensures settings { IfOk result (λ front. front.settings ≡ settings) }
         ensures dialect { IfOk result (λ front. front.dialect ≡ dialect) }
@@ -112,6 +114,8 @@ impl<L: Ledger, T: Trace> Front<L, T> {
         port: &Port<L, T>,
         call: Call,
     ) -> Result<Arrived, ArrivalError>
+        // claim: A request gets a slot of some desk, and is refused as an office refuses one, or since clock or random
+        // source failed.
         ensures slot { IfOk result (λ arrived. IsSlot arrived.slot) }
         ensures refused { IfErr result IsArrivalError }
     {

@@ -64,6 +64,8 @@ impl Telling {
 }
 
 impl Told for Telling {
+    // claim: A reply is told with its own status and bytes, to the slot that asked, or not at all. [: status; response_of:
+    // status, body; Replying: gives]
     ghost status = { λ telling. telling.released.reply.status };
 
     fn into_response(self, alloc: Global) -> Option<Answered> {
@@ -93,6 +95,7 @@ fn refusal_of(alloc: Global, settings: &Settings, manner: Manner, why: Refusal) 
 /// A refusal. Where memory is wanting, 503 alone.
 #[tactic(auto, using(crate::proofs::Refusing::refuses))]
 pub(crate) fn refuse(alloc: Global, settings: &Settings, manner: Manner, why: Refusal) -> Refused
+    // claim: A refusal is told with its own status, or 503.
     ensures { (result ≡ (fault_of why).status) ⊎ (result ≡ 503) }
 {
     match refusal_of(alloc, settings, manner, why) {

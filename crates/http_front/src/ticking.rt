@@ -44,6 +44,8 @@ fn make_move<R: Wait + Eprint, L: Ledger, T: Trace>(
     desk: &mut Desk<L, T>,
     at: Moment,
 ) -> Witnessed<bool, L, T>
+    // claim: Where it makes no move though the clock told a moment, none was due in what it met, or there is a reason
+    // there. [: marked, nothing; tick]
     ensures marked { HasMarked (length (map T.mark desk.old.own.items)) (ticked result.answer ∷ [])
         (length (map T.mark desk.new.own.items)) }
     ensures nothing { result.answer ≡ false → FindsNothing (hall_in result.met.value.hall) desk.old.told (millis_in at.shown) }
@@ -133,6 +135,7 @@ pub fn tick_all<R: Wait + Clock + Eprint, L: Ledger, T: Trace, G: Gate>(
     desk: Desk<L, T>,
     gate: &G,
 ) -> Desk<L, T>
+    // claim: A ticker did at each turn what its gate said. Its desk has a mark more for each move, and no other.
     ensures { IsRun HasMarked (G.says gate.now) (length (map T.mark desk.own.items)) (length (map T.mark result.own.items)) }
 {
     let mut at = AtFront { rt, front, desk };

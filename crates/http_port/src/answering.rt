@@ -22,6 +22,7 @@ pub trait Told: Drop {
 
     /// The response that tells it. None where memory is wanting.
     fn into_response(self, alloc: Global) -> Option<Answered>
+        // claim: What is told is sent with its own status, or 503. [tell]
         ensures { IfSome result (λ response. status_of response ≡ status self) };
 }
 
@@ -43,6 +44,8 @@ impl Refused {
     /// A refusal with this response, whose status is one that refuses.
     pub fn new(response: Answered) -> Refused
         requires { 400 ≤ status_of response }
+        // claim: A refusal has a status of 400 or above, which is sent. [Refused::bare; Refused::into_response: same,
+        // refuses; Refused: invariant; Refused::late]
         ensures { result ≡ status_of response }
     {
         Refused { response }

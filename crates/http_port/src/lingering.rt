@@ -47,6 +47,7 @@ struct Rest {
 
 impl Rest {
     fn new(alarm: Sleep) -> Rest
+        // claim: What is thrown away of a rest is counted off 8 MiB. [Rest::throw: left, more; Rest::poll: less]
         ensures { result.left ≡ 8388608 }
     {
         Rest {

@@ -117,6 +117,8 @@ impl<I: Drop> Reading<I> {
 
     // What stands for a body that is too large, so that the checks before that of its size come first.
     fn too_large(&mut self) -> Result<Vec<u8>, ReadError>
+        // claim: Of a body too long by its head nothing is asked for. What stands for one too large has as many bytes as
+        // are read at most. [: bytes; Reading::poll: unasked]
         ensures bytes { IfOk result (λ bytes. vec_len bytes ≡ self.old.most) }
         ensures body { self.new.body ≡ self.old.body }
     {

@@ -89,6 +89,8 @@ impl<A: Application, I: Drop> Serving<A, I> {
     fn poll_body(&mut self, cx: &mut Context<'_>) -> Poll<Result<A::Reply, Refused>>
         requires { IfSome self.old.reply A.Reply.can_poll }
         ensures value { IfReady result (λ answered. IfOk answered A.Reply.can_poll) }
+        // claim: What is forbidden by its head is answered 403, its body unread, the application unasked. [: forbidden,
+        // unasked; Serving: gives; Requests: calls]
         ensures forbidden { IsSome self.old.forbidden → result ≡ Poll.Ready (Err 403) }
         ensures unasked { IsSome self.old.forbidden → (self.new.reading ≡ self.old.reading) × (self.new.application ≡ self.old.application) }
         ensures same { self.new.forbidden ≡ self.old.forbidden }
@@ -117,6 +119,7 @@ impl<A: Application, I: Drop> Serving<A, I> {
         cx: &mut Context<'_>,
     ) -> Poll<Result<Answered, Infallible>>
         requires { A.Reply.can_poll reply }
+        // claim: A reply that waited is sent with the status of what it gave, or as 503.
         ensures given { IfReady result (SendsGiven (A.Reply.gives reply) A.Given.status) }
         ensures status { IfReady result (SendsAnswer A.Given.status) }
         ensures waits { OnPending result (IfSome self.new.reply A.Reply.can_poll) }
@@ -136,8 +139,11 @@ impl<A: Application, I: Drop> Serving<A, I> {
 impl<A: Application, I: Drop> Future for Serving<A, I> {
     type Output = Result<Answered, Infallible>;
 
+    // claim: A future is polled only where it may be. [: can_poll; Served: can_poll; Connections: yields;
+    // Application::answer]
     ghost can_poll = { λ s. IfSome s.reply A.Reply.can_poll };
 
+    // claim: What is sent has the status of something that the application told, or one of 400 or above.
     ghost gives = { λ s sent. SendsAnswer A.Given.status sent × SendsForbidden s.forbidden sent };
 
     fn poll(&mut self, cx: &mut Context<'_>) -> Poll<Result<Answered, Infallible>> {

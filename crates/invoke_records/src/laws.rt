@@ -8,6 +8,7 @@ ghost use Rattle.invoke_records.specs.Records.{AreApart, AreSettings, HasCommand
 
 /// No spelling of a record begins another, and each is the spelling of one value.
 pub fn spellings_are_apart()
+    // claim: No spelling is the beginning of another one of its kind.
     ensures commands { AreApart IsCommand command_text }
     ensures settings { AreApart AreSettings settings_text }
     ensures rows { AreApart IsRow row_text }

@@ -89,6 +89,7 @@ impl Snapshot {
         version: Version,
         bytes: &[u8],
     ) -> Result<Snapshot, RecordError>
+        // claim: A snapshot that is all of the bytes is read by the rules of its version.
         ensures exact { Gives (λ snapshot. snapshot) result (whole_at version bytes.now) }
         ensures number { IfOk result (λ snapshot. snapshot.number ≤ 2 ^ 62) }
     {

@@ -78,10 +78,13 @@ impl<L: Ledger, T: Trace> Port<L, T> {
         now: u64,
         words: [u64; 2],
     ) -> Witnessed<Result<Arrived, HallError>, L, T>
+        // claim: A request at a port gets a slot of some desk, and is refused as an office refuses it. So is a tick. [:
+        // slot, refused; Port::tick: refused]
         ensures slot { IfOk result.answer (λ arrived. IsSlot arrived.slot) }
         ensures refused { IfErr result.answer IsRequestRefusal }
 
-        // Just this request was done to what was met under the lock, or there is a reason there why it was not.
+        // claim: Just that call was done to the hall met, or has its reason there; so of a take, a point, a forgetting. [:
+        // done, reason; Port::tick: done, answer, reason; Port::take; Port::point; Port::forget]
         ensures done { IfOk result.answer (λ arrived.
             IsDone (hall_in result.met.value.hall) (hall_in result.left.value.hall) (request arrived.slot call now words)) }
         ensures issued { IfOk result.answer (λ arrived.

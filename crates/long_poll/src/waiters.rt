@@ -62,6 +62,8 @@ impl Waiters {
         number: u64,
         cx: &mut Context<'_>,
     ) -> Registered
+        // claim: Who registers for a number, and a parked poll that was answered, waits for it, not rung, or is woken. [:
+        // under, waits; Waiters::answer: gone, goes_on]
         ensures under { IsUnder result slot number }
         ensures armed { IsArmed cx.new }
         ensures heard { Hears cx.new source.now.id }
@@ -146,6 +148,7 @@ impl Waiters {
 
     /// Takes all wakers of this number and below. One for which there is no room wakes its task here.
     pub(crate) fn take_wakers(&mut self, number: u64) -> Vec<Waker>
+        // claim: After a ring nobody waits for its number or one below. [: above, rung; Bell::ring; Bell::ring_all]
         ensures above { AreAbove number (tree.keys self.new.numbered) }
         ensures rung { self.new.rung ≡ max self.old.rung number }
         ensures parked { self.new.parked ≡ self.old.parked }

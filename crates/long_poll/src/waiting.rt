@@ -240,8 +240,11 @@ impl<R: Wait + Drop, L: Ledger, T: Trace> Future for Waiting<R, L, T> {
 
     ghost use Rattle.long_poll.specs.Bell.{source_of};
 
+    // claim: Where the future of a reply is pending it has registered at the bell, or is polled again. [: needs;
+    // Bell::register, Bell::park: under, armed, heard]
     ghost needs = { λ waiting source. source ≡ source_of waiting.port.value.bell.value };
 
+    // claim: It gives the reply of its own slot.
     ghost gives = { λ waiting released. slot_told released ≡ waiting.slot };
 
     fn poll(&mut self, cx: &mut Context<'_>) -> Poll<Released> {

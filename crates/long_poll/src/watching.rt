@@ -112,6 +112,7 @@ impl<R: Wait + Drop, L: Ledger, T: Trace> Future for Watching<R, L, T> {
 
     ghost needs = { λ watching source. source ≡ source_of watching.window.value.bell.value };
 
+    // claim: The future of it gives just what was withheld, or the word that the hall broke before. [: needs, gives]
     ghost gives = { λ watching told. IsOf (withheld_in watching.glimpse) told };
 
     fn poll(&mut self, cx: &mut Context<'_>) -> Poll<Result<Sight, NotShown>> {

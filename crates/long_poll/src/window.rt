@@ -89,6 +89,7 @@ impl<L: Ledger, T: Trace> Window<L, T> {
 
     /// What is to be seen of the office now, as `Office::look` says. It changes nothing, and is refused only for want of memory.
     pub fn look<R: Wait>(&self, rt: &R) -> Witnessed<Result<Glimpse, AllocError>, L, T>
+        // claim: What is seen through a window is what the office shows there, withheld. It changes nothing.
         ensures shows { IfOk result.answer (λ glimpse.
             Withholds (hall_in result.met.value.hall) (map T.mark result.met.value.marks.all.items) glimpse.withheld) }
         ensures same { result.left.value ≡ result.met.value }

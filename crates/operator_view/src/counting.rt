@@ -36,6 +36,7 @@ fn count_ended(rows: &[EventRow], outcome: Outcome) -> usize
 
 /// How many events stand where. It takes no memory.
 pub fn census(rows: &[EventRow]) -> Census
+    // claim: A census counts how many of the rows stand where.
     ensures { IsCensus rows.now result }
 {
     Census {

@@ -55,6 +55,7 @@ impl<L: Ledger, T: Trace> Unlocked<L, T> {
     /// just opened has no marks, and the desk at each place has the number of the place.
     pub fn drill(&mut self, desks: &mut Vec<Desk<L, T>>, steps: Vec<Step>)
         requires { AreHistories (λ d. d.number) (λ d. map T.mark d.own.items) (map T.mark self.old.kept.marks.all.items) desks.old.items }
+        // claim: Desks that ask in any order each keep their list.
         ensures { AreHistories (λ d. d.number) (λ d. map T.mark d.own.items) (map T.mark self.new.kept.marks.all.items) desks.new.items }
     {
         for step in steps {

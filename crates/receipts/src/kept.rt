@@ -44,10 +44,15 @@ pub(crate) struct Kept<L: Ledger, T: Trace> {
     pub(crate) slots: u64,
     /// How many desks there are.
     pub(crate) desk_count: DeskCount<L>,
+    // claim: Whenever the lock is free, the marks are numbered without a gap up to all that was issued, as many as the
+    // desks have. By them the opening's table leads to the table, bytes and environments aside. [: numbered, reached,
+    // followed; Marks: counted; Desk: one, counted]
     ghost numbered: { AreNumbered (T.Opening.table opening).number (map T.mark marks.all.items) },
     ghost reached: { issued_in (issuer_in hall) ≡ (T.Opening.table opening).number + length (map T.mark marks.all.items) },
     ghost followed: { Follows (issuer_in hall).settings (T.Opening.table opening) (map T.mark marks.all.items)
         (issuer_in hall).table },
+    // claim: Whenever the lock is free, the hall stands for a run, no call refused, on each history that leaves the
+    // opening's table.
     ghost runs: { ∥ HasRuns (hall_in hall) (T.Opening.table opening) ∥₁ },
 }
 
@@ -188,6 +193,8 @@ impl<L: Ledger, T: Trace> Kept<L, T> {
 
     /// What is there to write, which is then out; where nothing is, the desk is told how much is durable.
     pub(crate) fn lend(&mut self, desk: &mut Desk<L, T>) -> Result<Loan, HallError>
+        // claim: Nothing is lent where nothing is pending, else all that is. A settlement makes just the batch that is out
+        // durable, or says why not. [: lends, refused, same; Kept::settle: settles, stands, parts, refused]
         ensures { LendsTo self.old self.new desk.old desk.new result }
     {
         self.check(desk)?;

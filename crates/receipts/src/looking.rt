@@ -41,6 +41,9 @@ impl<L: Ledger, T: Trace> Office<L, T> {
 
     /// How many slots are open.
     pub fn open_slots<R: Wait>(&self, rt: &R) -> Witnessed<usize, L, T>
+        // claim: Open slots, pending commands, a reply's point, and whether the hall is broken or stops are those of the
+        // hall met, which stays so. [Office::pending: is, few, same; Office::is_broken: is, same; Office::rest: stops,
+        // pending, open, same; Office::point: by_past, by_events, same]
         ensures by_parts { result.answer ≡ open_slot_count (hall_in result.met.value.hall) }
         ensures by_past { ForEachPast (hall_in result.met.value.hall)
             (λ past. result.answer ≡ length (open_slots (issuer_in result.met.value.hall).broken past)) }
@@ -54,6 +57,8 @@ impl<L: Ledger, T: Trace> Office<L, T> {
     /// What an operator is shown of the office, withheld until all of it is durable, with a ticket of that. It changes nothing,
     /// copies no byte of a payload, and is refused only for want of memory.
     pub fn look<R: Wait>(&self, rt: &R) -> Witnessed<Result<(Withheld, Ticket), AllocError>, L, T>
+        // claim: An operator is shown the hall met and its marks by kind, withheld by a ticket of all that was issued.
+        // Nothing changes.
         ensures shows { IfOk result.answer (λ r.
             Withholds (hall_in result.met.value.hall) (map T.mark result.met.value.marks.all.items) r.0) }
         ensures ticket { IfOk result.answer (λ r. r.1 ≡ issued_in (issuer_in result.met.value.hall)) }

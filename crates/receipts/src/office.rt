@@ -124,9 +124,12 @@ impl<L: Ledger, T: Trace> Office<L, T> {
         requires name { blank.name ≡ L.name }
         requires parts { blank.parts ≡ L.parts }
         requires count { L.parts ≡ desk_count (settings_of hall.issuer) }
+        // claim: A new office has as many desks as its settings want, numbered from 0, without marks. [: numbers, none,
+        // untold; desks]
         ensures numbers { IfOk result (λ r. map (λ d. d.number) r.1.items ≡ range_with_len 0 L.parts) }
         ensures none { IfOk result (λ r. All (λ d. d.own.items ≡ []) r.1.items) }
         ensures untold { IfOk result (λ r. All (λ d. d.told ≡ 0) r.1.items) }
+        // claim: Its disk half is that of its hall. A refusal hands that back, with its reason.
         ensures half { IfOk result (λ r. broker_of r.2 ≡ hall.issuer) }
         ensures reason { IfErr result (λ failure. IsSplitReason hall.issuer failure.cause) }
         ensures same { IfErr result (λ failure. failure.hall.issuer ≡ hall.issuer) }
@@ -179,6 +182,19 @@ impl<L: Ledger, T: Trace> Office<L, T> {
         now: u64,
         words: [u64; 2],
     ) -> Witnessed<Result<(Ticket, u64), HallError>, L, T>
+        // claim: A request or a tick does just that call to the hall met under the lock. Its command, and no other, is
+        // marked at its desk and there. Each desk keeps its list. Nothing becomes durable, and no disk is called. [: done,
+        // counts, both, histories, ticket, kept, no_call; Office::tick: done, answer, both, histories, counted, kept,
+        // no_call]
+        // claim: A request marks at most one command, which it may have by itself. A tick marks that whose number it
+        // answers. [: marks, asked; Office::tick: marks]
+        // claim: The slot is the desk's next. The desk gets the slots of just the polls answered, and hands them out once.
+        // [: slot, answered, kept_answered; Office::tick: answered, kept_answered; Desk::take_answered: slots, none_left]
+        // claim: A desk is never told less than before. A refusal changes neither that nor its marks. [: told, err;
+        // Office::tick: told, err; Office::commit: told, err, marks]
+        // claim: A refusal is the first of these: fewer commands than the desk was told, no slot left, unfit, no memory for
+        // a mark, the hall's own. A tick has the first and last two. Nothing under the lock changes. [: refused, reason,
+        // same; Office::tick: refused, reason, same]
         ensures { Arrives result.met.value result.left.value desk.old desk.new call now words result.answer }
     {
         let mut kept = self.kept.lock(rt);
@@ -259,11 +275,13 @@ impl<L: Ledger, T: Trace> Office<L, T> {
         ensures answered { desk.new.answered ≡ desk.old.answered }
         ensures err { OnErr result.answer (desk.new.told ≡ desk.old.told) }
         ensures refused { IfErr result.answer (IsCommitRefusal desk.old.told) }
+        // claim: A commit leaves the disk half alone, or hands it one batch, all durable at Ok. A crash at any moment
+        // leaves a legal stop of the half's history with what it took. A fault is told only where it was counted.
         ensures disk { CommitsTo D.view D.fault_count (broker_of disk.old) (broker_of disk.new) result.answer }
         ensures fault { result.answer ≡ Err HallError.Fault → FaultsHaveRisen D.fault_count (broker_of disk.old) (broker_of disk.new) }
 
-        // What was lent or settled, or why nothing was, is told of what the call's last step met under the lock. The hall stands
-        // for what it stood for, and nothing is marked or counted.
+        // claim: Its last step met nothing pending, or settled a batch as written. One refused lent nothing, or settled one
+        // as not written, with its reason. [: committed, reason, refused]
         ensures committed { IfOk result.answer
             (IsCommitted result.met.value.hall.issuer result.left.value.hall.issuer) }
         ensures reason { IfErr result.answer
@@ -301,6 +319,8 @@ impl<L: Ledger, T: Trace> Office<L, T> {
         slot: u64,
     ) -> Witnessed<Option<Released>, L, T>
         ensures desk { desk.new ≡ desk.old }
+        // claim: A take gives the reply that the hall met gives, to the slot that asked, and does just that; so does a
+        // forgetting. [: slot, gives, by_events, done, none; Office::forget: done]
         ensures takes { Takes result.met.value result.left.value slot result.answer }
     {
         let _ = desk;

@@ -24,6 +24,7 @@ pub struct Withheld {
 impl Withheld {
     /// What was withheld, where this is the receipt of all that it shows. None where fewer commands are durable by it.
     pub fn open(self, receipt: Receipt) -> Option<Sight>
+        // claim: It is opened exactly by a receipt of at least that number, and is then what was seen.
         ensures some { IfSome result (λ sight. (sight ≡ self.sight) × (self.number ≤ receipt)) }
         ensures none { IfNone result (receipt < self.number) }
     {

@@ -63,6 +63,7 @@ impl RetryPolicy {
 impl Settings {
     /// Whether each field is within its range. The first that is not is named. It takes no memory.
     pub fn check(&self) -> Result<(), BadSettings>
+        // claim: Settings are refused exactly where a field is out of range, by the first such field.
         ensures good { IsOk result ↔ (bad_field self.now ≡ None) }
         ensures bad { IfErr result (λ bad. bad_field self.now ≡ Some bad.field) }
     {

@@ -5,6 +5,7 @@ ghost use Rattle.std.specs.Prelude.{◌≡◌, ◌+◌, ◌-◌, ◌*◌, ◌^�
 ///
 /// The settings allow at most two retries, so no event of theirs waits after a third one.
 pub fn after_failure(n: u32) -> u64
+    // claim: After its n-th function error an event waits n minutes.
     ensures { result ≡ 60000 * n }
 {
     60000 * n as u64
@@ -14,6 +15,7 @@ pub fn after_failure(n: u32) -> u64
 /// then twice as long each time, and never more than five minutes.
 pub fn after_pushback(k: u32) -> u64
     requires { 1 ≤ k }
+    // claim: After its k-th push-back it waits a second, doubled each time, five minutes at most.
     ensures { result ≡ 1000 * min (2 ^ (k - 1)) 300 }
 {
     if 9 < k {
@@ -36,6 +38,7 @@ pub fn after_pushback(k: u32) -> u64
 ///
 /// The moments are milliseconds since 1970, the age is in seconds.
 pub fn too_old(accepted: u64, age_seconds: u32, now: u64) -> bool
+    // claim: It is too old once its greatest age has passed since its acceptance.
     ensures { IsTrue result ↔ (accepted + 1000 * age_seconds ≤ now) }
 {
     now >= accepted && now - accepted >= 1000 * age_seconds as u64

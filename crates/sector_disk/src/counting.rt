@@ -26,6 +26,9 @@ impl<D: Disk> CountingDisk<D> {
 
     /// A disk of which no byte was counted. What it counts is shown by `written`.
     pub fn over(inner: D, written: Written) -> Self
+        // claim: A disk that counts does what the disk within does. The bytes of writes count, of failed ones too; nothing
+        // else. [CountingDisk::count, CountingDisk::into_inner; CountingDisk::read, CountingDisk::write,
+        // CountingDisk::barrier: honest, count]
         ensures inner { inner_of result ≡ inner }
         ensures count { written_to result ≡ 0 }
     {

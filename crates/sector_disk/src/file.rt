@@ -103,6 +103,8 @@ impl<F: RandomAccessFile> FileDisk<F> {
     pub fn over(file: F) -> Result<FileDisk<F>, FileError>
     where
         F: Drop,
+        // claim: Over an honest file lies an honest disk of just its bytes. Else its size is no multiple of 512, or is not
+        // told.
         ensures opened { IfOk result (λ disk. (F.view file).honest → IsOpened (F.view file) (view_of F.view disk)) }
         ensures faults { IfOk result (λ disk. faults_of disk ≡ 0) }
         ensures refused { IfErr result (λ why. (F.view file).honest → IsNoDisk (F.view file) why) }
@@ -131,6 +133,7 @@ impl<F: RandomAccessFile> FileDisk<F> {
 impl<F: RandomAccessFile> Disk for FileDisk<F> {
     ghost use Rattle.sector_disk.specs.File.{view_of, faults_of, disk_laws};
 
+    // claim: A disk in a file does what a disk has to: it is honest exactly where its file is. [: view, fault_count, laws]
     ghost view = { view_of F.view };
 
     ghost fault_count = { faults_of };

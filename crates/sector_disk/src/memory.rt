@@ -55,6 +55,8 @@ impl MemDisk {
     /// The disk after a stop. A listed sector that is unsettled takes the listed bytes, the last entry's if it is
     /// listed twice, and another unsettled sector keeps what was last written. Other entries are ignored.
     pub fn stop(self, choice: &[(u64, [u8; 512])]) -> MemDisk
+        // claim: A crash can be played: chosen bytes in sectors that were not flushed. It leaves an image that the disk
+        // might have left.
         ensures image { IsTorn (is_unsettled self) choice.now (memory_view self).content (memory_view result).content }
         ensures possible { (memory_view self).may_leave (memory_view result).content }
         ensures settled { HasOneImage (memory_view result) }
@@ -148,6 +150,8 @@ impl Disk for MemDisk {
         requires { IsOnDisk (memory_view self.old).sectors at (length out.old) }
         ensures same { IsSameDisk (memory_view self.old) (memory_view self.new) }
         ensures cause { HasCause (faults_of self.old) (faults_of self.new) result }
+        // claim: All that a disk has to, the disk in memory does. It fails no read. [: read, works; MemDisk::write: write;
+        // MemDisk::barrier: barrier; MemDisk: laws]
         ensures read { IsRead (memory_view self.old) (memory_view self.new) (512 * at) (length out.old) out.new result }
         ensures barriers { barriers_of self.new ≡ barriers_of self.old }
         ensures works { IsOk result }

@@ -26,6 +26,8 @@ impl MemFile {
 
     /// A file of so many zeros, all of them durable.
     pub fn new(alloc: Global, size: usize) -> Result<MemFile, AllocError>
+        // claim: A file in memory begins as zeros, and is honest. [MemFile::size, MemFile::read_at, MemFile::write_at:
+        // honest; MemFile: laws]
         ensures content { IfOk result (λ file. (memory_view file).content ≡ replicate size 0) }
         ensures durable { IfOk result (λ file. IsDurable (memory_view file)) }
     {

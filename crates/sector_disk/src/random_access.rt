@@ -14,6 +14,8 @@ pub trait RandomAccessFile {
     /// How many bytes it has, which never changes.
     fn size(&mut self) -> Result<u64, Fault>
         ensures same { IsSameFile (view self.old) (view self.new) }
+        // claim: An honest file tells its size, reads what stands there and writes what it was given, as far as each went.
+        // [RandomAccessFile::read_at, RandomAccessFile::write_at]
         ensures honest { SizesHonestly (view self.old) (view self.new) result };
 
     /// Reads from the place `at` on, in bytes, and tells how many bytes it read. The rest of `out` may be any, and all of
@@ -33,6 +35,8 @@ pub trait RandomAccessFile {
 
     /// Once it has succeeded, a stop leaves what a read gives.
     fn sync(&mut self) -> Result<(), Fault>
+        // claim: Until the next flush a crash leaves any bytes where a write was; after one that succeeded, just what a
+        // read gives. [RandomAccessFile::write_at: honest; RandomAccessFile: laws]
         ensures same { IsSameFile (view self.old) (view self.new) }
         ensures honest { SyncsHonestly (view self.old) (view self.new) result };
 
