@@ -126,3 +126,30 @@ returns-in-Err g c =
       answered = search rules;
       kept_answered = search rules;
     }
+
+pub returns-in_err-reserve : goal.returns-in_err-reserve
+returns-in_err-reserve g c =
+    record {
+      marks = search rules;
+      told = search rules;
+      slot = search rules;
+      number = search rules;
+      err = search rules;
+      asked = search rules;
+      refused = search rules;
+      done = search rules;
+      both = search rules;
+      histories = search rules;
+      unmarked = search rules;
+      counts = search rules;
+      ticket = search rules;
+      kept = search rules;
+      no_call = search rules;
+      opening = search rules;
+      reason = search rules;
+      same = search rules;
+      issued = search rules;
+      kept_issued = search rules;
+      answered = search rules;
+      kept_answered = search rules;
+    }
