@@ -126,10 +126,10 @@ impl<L: Ledger, T: Trace> Port<L, T> {
     {
         let mut desk = self.desk.lock(rt);
         let (answer, seen) = self.office.tick(rt, &mut desk, now).split();
-        if let Err(why) = answer {
-            return seen.with(Err(why));
-        }
-        let moved = desk.issued();
+        let moved = match answer {
+            Ok(_) => desk.issued(),
+            Err(why) => return seen.with(Err(why)),
+        };
         let answered = desk.take_answered();
         drop(desk);
         if let Some(issued) = moved {
