@@ -1,6 +1,5 @@
 -- One mark more is counted beside those before it.
-use Rattle.std.proofs.Common.{◌≡◌, ℕ, ◌+◌, ◌<◌, ◌≤◌, ◌^◌, Bool, List, [], ◌∷◌, ◌++◌, cond, length, refl, ap, sym, ◌∙◌, arith}
-use Rattle.std.specs.List.{count_by}
+use Rattle.std.proofs.Common.{◌≡◌, ◌+◌, ◌<◌, ◌^◌, Bool, List, [], ◌∷◌, ◌++◌, cond, length, arith}
 use Rattle.std.proofs.lemmas.List.Sums.{sum_by-append, count_by-le-length}
 use Rattle.invoke_records.specs.declared.command.Kind.{Kind}
 use Rattle.invoke_records.specs.declared.command.Kind.TheVariants.{Accept, Start, Succeed, Fail, Throttle, Interrupt, Expire, Collect, Configure}

@@ -1,5 +1,5 @@
 -- What an operator is shown of an office, once all of it is durable.
-use Rattle.std.specs.Prelude.{◌≡◌, ℕ, List}
+use Rattle.std.specs.Prelude.{◌≡◌, List}
 use Rattle.group_commit.specs.Issuer.{issued_in}
 use Rattle.hall_core.specs.Hall.{HallView}
 use Rattle.hall_core.specs.Look.{Shows}
