@@ -79,6 +79,25 @@ def a_configure_that_is_refused_memory_leaves_what_was_in_force(broker):
 
 
 @case()
+def a_copy_that_is_refused_memory_leaves_the_old_disk_and_no_other(broker):
+    disk_with_records(broker)
+    old, held, made, wrong = broker.content(), broker.audit()[1], [], []
+
+    def look(disk):
+        with open(disk, "rb") as kept:
+            if kept.read() != old:
+                wrong.append("the old disk was changed")
+        if os.path.exists(f"{disk}.copy"):
+            made.append(broker.said("audit", f"{disk}.copy")[1].splitlines()[1])
+            os.remove(f"{disk}.copy")
+
+    counts = each_request_is_refused(broker, "copy", broker.disk, f"{broker.disk}.copy", made=broker.disk, behind=look)
+    assert counts[1] > 100 and set(counts) <= {0, 1}, counts
+    # Twice it had all of its memory: where its requests were counted, and where they were looked for.
+    same((wrong, made), ([], (counts.get(0, 0) + 2) * [held]))
+
+
+@case()
 def a_migration_that_is_refused_memory_is_done_by_the_next_one(broker):
     with open(os.path.join(HERE, "old_disks", "audits.txt")) as audits:
         for name, told in (line.split(" ", 1) for line in audits):
