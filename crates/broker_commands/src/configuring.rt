@@ -121,7 +121,7 @@ fn configure<D: Disk>(
     now: u64,
 ) -> Result<(u8, u32), ConfiguringError>
     // claim: Unless refused, one Configure was issued behind the history, with the values asked for, or those in force, and
-    // all is durable. A refusal is that of issuing or committing.
+    // all is durable. Refused issuing has its reason, refused committing none.
     ensures told { IfOk result (λ pair. pair ≡ pair_of (policy_for (table_in broker.old).policy new.now)) }
     ensures reason { IfErr result (IsRefusal broker.old (configure_at (table_in broker.old) new.now now)) }
     ensures durable { OnOk result (pending_of broker.new ≡ []) }

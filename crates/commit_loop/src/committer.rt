@@ -9,8 +9,8 @@ use crate::gate::{Gate, Turn};
 use std::sync::Wait;
 use std::thread;
 
-/// What a committer works on, by the steps that it makes. Each step answers what shows that it was made, so that a step that
-/// does nothing cannot be written where only the real one gives that.
+/// What a committer works on, by the steps that it makes. A step of which no clause speaks answers what shows that it was made, so
+/// that one that does nothing cannot be written where only the real one gives that.
 pub trait Committing {
     /// What a commit made durable.
     type Durable: Drop;
@@ -50,7 +50,7 @@ pub trait Committing {
 
     /// How many commands are issued and not durable.
     fn pending(&mut self) -> (usize, Self::Counted)
-        // claim: Each step answers what shows that it was made, with the number that it had. [Committing::ring,
+        // claim: A count, a ring and a tick answer what shows that they were made, and how. [Committing::ring,
         // Ticking::pending, Ticking::tick]
         ensures steps { leads self.old (counted result.0 ∷ []) self.new }
         ensures shown { result.0 ≡ count result.1 };

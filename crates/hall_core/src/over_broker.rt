@@ -68,8 +68,8 @@ impl<D: Disk> Hall<Broker<D>> {
         dialect: Dialect,
         extensions: u8,
     ) -> Result<Hall<Broker<D>>, HallFailure<D>>
-        // claim: Replies are told in the dialect, and environments wait for as many extensions, as it is made for. [:
-        // wanted, dialect; Hall::new; Hall::dialect; Hall::split, Hall::join: parts; runs: wait]
+        // claim: A hall is made in its dialect, for its number of extensions. Splitting and joining keep both. [: wanted,
+        // dialect; Hall::new; Hall::dialect; Hall::split, Hall::join: parts; runs: wait]
         ensures stands { (history : List Command) → Stands D.view broker history
             → IfOk result (λ hall. StandsFor (view_of (issuer_of D.view) hall) (opening extensions history)) }
         ensures wanted { IfOk result (λ hall. (view_of (issuer_of D.view) hall).wanted ≡ extensions) }

@@ -147,7 +147,7 @@ impl Hall<IssueHalf> {
     ///
     /// It is refused, and then changes nothing: `Broken`, `Lent` (a batch is out), `OutOfMemory`, in this order.
     pub fn lend(&mut self) -> Result<Option<Batch>, HallError>
-        // claim: Lending changes nothing of the hall. A refusal has its reason.
+        // claim: Lending changes just what is lent. A refusal has its reason.
         ensures same { IsSameHall (view_of half_view self.old) (view_of half_view self.new) }
         ensures could { IfOk result (λ batch. CanLend self.old.issuer) }
         ensures ok { IfOk result (Lends self.old.issuer self.new.issuer) }

@@ -29,8 +29,8 @@ pub(crate) enum Phase {
 impl Phase {
     /// How long it may take. None where there is no limit: that of a reply alone.
     pub(crate) fn limit(self, limits: &Limits) -> Option<Duration>
-        // claim: Each phase has its limit: 30 seconds for a head and a body, 120 idle, none while a reply is awaited. At
-        // most 1100 connect. [: idle, first, head, body, late, reply, rest; Timer::deadline_of; Timer::poll: limited;
+        // claim: The limits are by default 30 seconds for a head and a body, 120 idle, 1100 connections; an awaited reply
+        // has none. [: idle, first, head, body, late, reply, rest; Timer::deadline_of; Timer::poll: limited;
         // Limits::default: head, body, idle, connections]
         ensures idle { self ≡ Phase.Idle → result ≡ Some limits.now.idle }
         ensures first { self ≡ Phase.First → result ≡ Some limits.now.head }

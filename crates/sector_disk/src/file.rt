@@ -103,8 +103,8 @@ impl<F: RandomAccessFile> FileDisk<F> {
     pub fn over(file: F) -> Result<FileDisk<F>, FileError>
     where
         F: Drop,
-        // claim: Over an honest file lies an honest disk of just its bytes. Else its size is no multiple of 512, or is not
-        // told.
+        // claim: Over an honest file lies an honest disk of just its bytes. Else its size is no multiple of 512, or
+        // `Fault` is told.
         ensures opened { IfOk result (λ disk. (F.view file).honest → IsOpened (F.view file) (view_of F.view disk)) }
         ensures faults { IfOk result (λ disk. faults_of disk ≡ 0) }
         ensures refused { IfErr result (λ why. (F.view file).honest → IsNoDisk (F.view file) why) }
