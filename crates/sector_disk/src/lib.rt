@@ -2,7 +2,8 @@
 //!
 //! A disk is seen as a `DiskView`: its content, the images that a stop may leave now and at each moment since an earlier
 //! one, and whether it is honest. The crates above rest on `Disk` alone, with honesty as the premise of each clause on
-//! bytes, and state their promises on stops as `LeavesOnly`. `MemDisk` is honest, and can tear. Of three wrappers two fail, and `CountingDisk` counts what is written.
+//! bytes, and state their promises on stops as `LeavesOnly`. `MemDisk` is honest, and can tear. Of three wrappers two fail,
+//! and `CountingDisk` counts what is written.
 //! `FileDisk` is honest where its `RandomAccessFile` is: `MemFile` is, and of a file of the system nothing proves it.
 #![tactic(auto)]
 
