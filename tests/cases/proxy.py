@@ -1,0 +1,93 @@
+"""nginx before a broker, as `deploy/nginx.conf` sets it up: but for its ports, and the name of its first function, it is that file."""
+import contextlib
+import os
+import re
+import socket
+import subprocess
+import tempfile
+from urllib.parse import quote
+
+from cases.dialect import by_boto3, called, in_dialect
+from cases.limits import CAUSE
+from harness import ARN, EVENT, HERE, RUNTIME, Asked, Ports, case, needs, same, until
+
+# What stands around the file: one process, which writes below its own folder alone.
+AROUND = """daemon off; master_process off; pid nginx.pid; error_log stderr; events {} http { access_log off;
+client_body_temp_path body; proxy_temp_path proxy; fastcgi_temp_path fastcgi; uwsgi_temp_path uwsgi; scgi_temp_path scgi;
+"""
+
+
+class Proxy:
+    """The proxy of a broker that is served, and of a second one, which is down."""
+
+    def __init__(self, broker, folder):
+        self.ports = Ports()
+        self.port, self.runtimes, down = range(self.ports.first, self.ports.first + 3)
+        places = {"8080": self.port, "8081": self.runtimes, "9000": broker.port, "9001": broker.port + 1, "9100": down}
+        with open(os.path.join(HERE, "..", "deploy", "nginx.conf")) as file:
+            text = re.sub("(127[.]0[.]0[.]1):([0-9]+)", lambda found: f"{found[1]}:{places[found[2]]}", file.read())
+        with open(os.path.join(folder, "nginx.conf"), "w") as file:
+            file.write(AROUND + text.replace("resize-image", "my-function") + "}\n")
+        self.told = os.path.join(folder, "stderr")
+        with open(self.told, "wb") as stderr:
+            self.nginx = subprocess.Popen(["nginx", "-p", folder, "-c", "nginx.conf", "-e", "stderr"], stderr=stderr)
+
+    def listens(self):
+        if self.nginx.poll() is not None:
+            with open(self.told) as told:
+                raise AssertionError(f"nginx ended: {told.read()}")
+        with socket.socket() as probe:
+            return probe.connect_ex(("127.0.0.1", self.port)) == 0
+
+    def invoke(self, name):
+        return Asked(self.port, "POST", f"/2015-03-31/functions/{name}/invocations", "{}", EVENT).done()
+
+    def close(self):
+        self.nginx.kill()
+        self.nginx.wait()
+        self.ports.close()
+
+
+@contextlib.contextmanager
+def before(broker):
+    """The proxy of this broker."""
+    needs("nginx")
+    with tempfile.TemporaryDirectory(prefix="lambda_broker.") as folder, contextlib.closing(Proxy(broker, folder)) as proxy:
+        until("nginx", proxy.listens)
+        yield proxy
+
+
+def refusal(told):
+    return told.status, told.headers["X-Amzn-ErrorType"], told.headers["Content-Type"], told.json
+
+
+@case({"events": 64})
+def nginx_leads_each_name_of_a_function_to_its_broker(broker):
+    names = "my-function", "function:my-function", "123456789012:my-function", "123456789012:function:my-function", ARN
+    with before(in_dialect(broker)) as proxy:
+        for n, name in enumerate([name + end for name in names for end in ("", ":$LATEST")]):
+            told = [proxy.invoke(spelling) for spelling in (name, quote(name, safe=""))]
+            same((name, [reply.status for reply in told]), (name, [202, 202]))
+            same(broker.number("events_accepted_total"), 2 * (n + 1))
+        # Of a broker that is there each unknown name is told alike, by it or by nginx.
+        for name in "other", "my-function:prod", "123456789013:my-function", ARN.replace("east", "west"), "function:", "a%2Fb":
+            same((name, refusal(proxy.invoke(name))), (name, refusal(broker.ask("POST", "/x"))))
+        same(proxy.invoke("send-mail").status, 502)
+        client = by_boto3(proxy)
+        same([called(client, name=name) for name in names], 5 * [202])
+        same(called(client, name="other"), ("ResourceNotFoundException", 404, "no such path or function"))
+        same(called(client, name="send-mail"), ("ServiceException", 502, "broker is not available"))
+
+
+@case({"retries": 0})
+def a_runtime_behind_nginx_tells_a_long_cause_of_an_error(broker):
+    with before(broker.serve()) as proxy:
+        poll = Asked(proxy.runtimes, "GET", f"{RUNTIME}/invocation/next")
+        broker.until_parked(1)
+        event = broker.invoke("{}").id
+        same(poll.done().id, event)
+        told = Asked(proxy.runtimes, "POST", f"{RUNTIME}/invocation/{event}/error", "1", {CAUSE: 1000000 * "y"}).done()
+        same((told.status, broker.record("failure").json["responsePayload"]), (202, 1))
+        broker.kill()
+        told = Asked(proxy.runtimes, "GET", f"{RUNTIME}/invocation/next").done()
+        same(refusal(told)[:3], (502, "ServiceException", "application/json"))
