@@ -57,6 +57,10 @@ class Skipped(Exception):
     """A case that cannot be run on this machine."""
 
 
+class Apart(Skipped):
+    """The same, for want of what stands before a broker and no machine has to have."""
+
+
 def same(found, wanted):
     assert found == wanted, f"{found!r}, not {wanted!r}"
 
@@ -554,12 +558,14 @@ def raise_open_files():
 
 
 def judge(run, settings):
-    """Runs a case: `ok`, `skipped` or `FAILED`, why, and how long it took."""
+    """Runs a case: `ok`, `apart`, `skipped` or `FAILED`, why, and how long it took."""
     began, broker = time.monotonic(), None
     try:
         broker = Broker(**settings)
         run(broker)
         return "ok", "", time.monotonic() - began
+    except Apart as why:
+        return "apart", str(why), time.monotonic() - began
     except Skipped as why:
         return "skipped", str(why), time.monotonic() - began
     except Exception as why:

@@ -2,6 +2,7 @@
 import contextlib
 import os
 import re
+import shutil
 import socket
 import subprocess
 import tempfile
@@ -9,7 +10,7 @@ from urllib.parse import quote
 
 from cases.dialect import by_boto3, called, in_dialect
 from cases.limits import CAUSE
-from harness import ARN, EVENT, HERE, RUNTIME, Asked, Ports, case, needs, same, until
+from harness import ARN, EVENT, HERE, RUNTIME, Apart, Asked, Ports, case, same, until
 
 # What stands around the file: one process, which writes below its own folder alone.
 AROUND = """daemon off; master_process off; pid nginx.pid; error_log stderr; events {} http { access_log off;
@@ -51,7 +52,8 @@ class Proxy:
 @contextlib.contextmanager
 def before(broker):
     """The proxy of this broker."""
-    needs("nginx")
+    if not shutil.which("nginx"):
+        raise Apart("there is no nginx")
     with tempfile.TemporaryDirectory(prefix="lambda_broker.") as folder, contextlib.closing(Proxy(broker, folder)) as proxy:
         until("nginx", proxy.listens)
         yield proxy
