@@ -1,4 +1,4 @@
-"""nginx before a broker, as `deploy/nginx.conf` sets it up: but for its ports, and the name of its first function, it is that file."""
+"""nginx before a broker, as `deploy/nginx.conf` sets it up: but for its ports, and where its functions stand, it is that file."""
 import contextlib
 import os
 import re
@@ -17,6 +17,12 @@ AROUND = """daemon off; master_process off; pid nginx.pid; error_log stderr; eve
 client_body_temp_path body; proxy_temp_path proxy; fastcgi_temp_path fastcgi; uwsgi_temp_path uwsgi; scgi_temp_path scgi;
 """
 
+# The functions, as lambda-broker-ctl writes them.
+FUNCTIONS = """map $function $broker {{ default ""; "~^my-function$" broker-{0}; "~^send-mail$" broker-{1}; }}
+upstream broker-{0} {{ server 127.0.0.1:{0}; keepalive 64; }}
+upstream broker-{1} {{ server 127.0.0.1:{1}; keepalive 64; }}
+"""
+
 
 class Proxy:
     """The proxy of a broker that is served, and of a second one, which is down."""
@@ -24,11 +30,14 @@ class Proxy:
     def __init__(self, broker, folder):
         self.ports = Ports()
         self.port, self.runtimes, down = range(self.ports.first, self.ports.first + 3)
-        places = {"8080": self.port, "8081": self.runtimes, "9000": broker.port, "9001": broker.port + 1, "9100": down}
+        places = {"8080": self.port, "8081": self.runtimes, "20001": broker.port + 1}
         with open(os.path.join(HERE, "..", "deploy", "nginx.conf")) as file:
             text = re.sub("(127[.]0[.]0[.]1):([0-9]+)", lambda found: f"{found[1]}:{places[found[2]]}", file.read())
+        functions = os.path.join(folder, "functions.conf")
+        with open(functions, "w") as file:
+            file.write(FUNCTIONS.format(broker.port, down))
         with open(os.path.join(folder, "nginx.conf"), "w") as file:
-            file.write(AROUND + text.replace("resize-image", "my-function") + "}\n")
+            file.write(AROUND + text.replace("/etc/lambda_broker/nginx.conf", functions) + "}\n")
         self.told = os.path.join(folder, "stderr")
         with open(self.told, "wb") as stderr:
             self.nginx = subprocess.Popen(["nginx", "-p", folder, "-c", "nginx.conf", "-e", "stderr"], stderr=stderr)
