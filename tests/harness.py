@@ -58,7 +58,7 @@ class Skipped(Exception):
 
 
 class Apart(Skipped):
-    """The same, for want of what stands before a broker and no machine has to have."""
+    """The same, for want of what no machine has to have."""
 
 
 def same(found, wanted):

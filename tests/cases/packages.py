@@ -1,0 +1,248 @@
+"""`deploy/lambda-broker-ctl` over a folder of its own, with the words of the units, and the package that `deploy/package` makes."""
+import contextlib
+import filecmp
+import gzip
+import json
+import os
+import re
+import shutil
+import subprocess
+import sys
+import tempfile
+
+from cases.proxy import FUNCTIONS
+from harness import ARN, DEADLINE, EVENT, HERE, INVOKE, Apart, Asked, Beside, Built, Ports, case, line_of, matches, same
+
+DEPLOY = os.path.join(HERE, "..", "deploy")
+CTL = os.path.join(DEPLOY, "lambda-broker-ctl")
+ADD = "--handler", "app.main", "--arn", ARN, "--events", 16, "--payload", 1024, "--response", 1024
+ETC, UNITS = "etc/lambda_broker", "etc/systemd/system"
+
+
+def run(*words, env={}):
+    """Status, standard output and standard error of a command."""
+    more = {"capture_output": True, "text": True, "timeout": 4 * DEADLINE, "env": {**os.environ, **env}}
+    done = subprocess.run([*map(str, words)], **more)
+    return done.returncode, done.stdout, done.stderr
+
+
+def ctl(root, *words):
+    return run(sys.executable, CTL, "--root", root, "--program", Built.program, *words)
+
+
+def done(root, *words):
+    """The lines of what has to be done."""
+    status, told, why = ctl(root, *words)
+    same((status, why), (0, ""))
+    return told.splitlines()
+
+
+def text_of(*path):
+    with open(os.path.join(*path)) as file:
+        return file.read()
+
+
+def values_of(root, name):
+    return dict(re.findall("^([A-Z_]+)=(.*)$", text_of(root, name), re.M))
+
+
+def tree(root):
+    """Each file and folder, what it has, and when it was changed."""
+    found = {}
+    for at, folders, files in os.walk(root):
+        for name in folders:
+            found[os.path.relpath(os.path.join(at, name), root)] = None
+        for name in files:
+            path = os.path.join(at, name)
+            with open(path, "rb") as file:
+                found[os.path.relpath(path, root)] = file.read(), os.stat(path).st_mtime_ns, os.stat(path).st_mode & 0o777
+    return found
+
+
+def without_times(root):
+    return {name: what and (what[0], what[2]) for name, what in tree(root).items()}
+
+
+@contextlib.contextmanager
+def a_root():
+    with tempfile.TemporaryDirectory(prefix="lambda_broker.") as root:
+        yield root
+
+
+def ephemeral():
+    return int(text_of("/proc/sys/net/ipv4/ip_local_port_range").split()[0])
+
+
+@case()
+def a_function_is_added_once(broker):
+    url = "http://127.0.0.1:1/x?a=$b"
+    more = "--environments", 2, "--runtime", "/usr/bin/my-runtime --fast", "--forward-failure", url, "--dialect", "aws"
+    with a_root() as root:
+        told = done(root, "add", "my-function", *ADD, *more)
+        port = int(matches("my-function: callers ([0-9]+), .*", told[-1])[0])
+        assert 2000 <= port <= ephemeral() - 20, port
+        there = tree(root)
+        envs = [f"{ETC}/my-function.env", "etc/lambda_forward/my-function:failure.env"]
+        envs += [f"etc/lambda_runtime/my-function:{n}.env" for n in (1, 2)]
+        drop_in = f"{UNITS}/lambda_broker@my-function.service.d/function.conf"
+        disk, shared = "var/lib/lambda_broker/my-function/disk", {f"{ETC}/{name}" for name in ("ports", "nginx.conf", "prometheus.json")}
+        same({name for name, what in there.items() if what}, {*envs, drop_in, disk, *shared})
+        same({there[name][2] for name in (*envs, disk)}, {0o600})
+        wanted = {"PORT": str(port), "ADDRESS": "127.0.0.1", "ADMIN": str(port + 19), "WORDS": "--dialect aws"}
+        same(values_of(root, envs[0]), wanted)
+        same(values_of(root, envs[1]), {"PORT": str(port), "SIDE": "failure", "URL": url, "WORDS": f"--admin {port + 19}"})
+        wanted = {"RUNTIME": "/usr/bin/my-runtime --fast", "EXTENSIONS": "", "AWS_LAMBDA_RUNTIME_API": f"127.0.0.1:{port + 2}"}
+        same(values_of(root, envs[3]), wanted)
+        parts = {f"lambda_runtime@my-function:{n}.service" for n in (1, 2)} | {"lambda_forward@my-function:failure.service"}
+        same([{*line.split("=")[1].split()} for line in text_of(root, drop_in).splitlines() if "=" in line], 3 * [parts])
+        same(done(root, "add", "my-function", *ADD, *more), ["my-function is there already: nothing was changed"])
+        same(tree(root), there)
+        status, told, why = ctl(root, "add", "my-function", *ADD)
+        same((status, told, why.splitlines()[1]), (1, "", "nothing was changed"))
+        same(tree(root), there)
+
+
+@case()
+def each_function_has_ports_of_its_own(broker):
+    with a_root() as root:
+        for name in "my-function", "send-mail", "My-Function":
+            done(root, "add", name, *ADD)
+        lines = done(root, "list")
+        ports = {name: int(port) for name, port in (matches("(.*): callers ([0-9]+), .*", line) for line in lines)}
+        same(sorted(ports), ["My-Function", "my-function", "send-mail"])
+        assert all(abs(one - other) >= 20 for one in ports.values() for other in ports.values() if one != other), ports
+        same(len(set(ports.values())), 3)
+        told = json.loads(text_of(root, ETC, "prometheus.json"))
+        same({each["labels"]["broker"]: each["targets"] for each in told}, {x: [f"127.0.0.1:{p + 19}"] for x, p in ports.items()})
+        status, _, why = ctl(root, "add", "other", *ADD, "--port", ports["send-mail"])
+        same((status, f"send-mail has ports from {ports['send-mail']} on" in why), (1, True))
+        status, _, why = ctl(root, "add", "other", *ADD, "--port", ephemeral() - 10)
+        same((status, "where on the system gives ports away" in why), (1, True))
+        told = done(root, "remove", "My-Function")
+        disk = os.path.join(root, "var/lib/lambda_broker/My-Function/disk")
+        wanted = f"My-Function is removed; its disk stays: {disk}, held 0 waiting 0 running 0 success 0 failure 0"
+        same(told[-1], wanted)
+        text = "".join(line for line in text_of(root, ETC, "nginx.conf").splitlines(True) if not line.startswith("#"))
+        same(text.split(), FUNCTIONS.format(ports["my-function"], ports["send-mail"]).split())
+        assert os.path.exists(disk) and not os.path.exists(os.path.join(root, ETC, "My-Function.env"))
+        same(ctl(root, "remove", "My-Function")[0], 1)
+        assert f"kept {disk}, as it was formatted" in done(root, "add", "My-Function", *ADD)
+
+
+@case()
+def a_step_that_fails_is_undone(broker):
+    with a_root() as root:
+        done(root, "add", "my-function", *ADD)
+        there = without_times(root)
+        # The program refuses; and what comes behind the disk cannot be written.
+        for words, blocked, why in ((("--retries", 3), None, "bad settings: retries"), ((), "x.env.new", "Is a directory")):
+            if blocked:
+                os.mkdir(os.path.join(root, ETC, blocked))
+            status, told, error = ctl(root, "add", "x", *ADD, *words)
+            if blocked:
+                assert "undone: formatted" in told, told
+                os.rmdir(os.path.join(root, ETC, blocked))
+            same((status, why in error, error.splitlines()[-1]), (1, True, "all that was done before is undone"))
+            same(without_times(root), there)
+        for words in (), ("add", "a/b", *ADD), ("add", "x"), ("add", "x", *ADD, "--environments", 17), ("remove",), ("x",):
+            same(ctl(root, *words)[0], 2)
+        same(done(root, "list")[0].split(":")[0], "my-function")
+
+
+def started(root):
+    """A function whose broker is served by the words of its unit: the program, its ports, and its environment."""
+    unit = text_of(DEPLOY, "lambda_broker@.service")
+    for _ in range(20):
+        ports = Ports()
+        done(root, "add", "my-function", *ADD, "--port", ports.first, "--dialect", "aws")
+        env = {"DISK": os.path.join(root, "var/lib/lambda_broker/my-function/disk"), **values_of(root, f"{ETC}/my-function.env")}
+        words = re.search("^ExecStart=/usr/bin/lambda_broker (.*)$", unit, re.M)[1].replace("$WORDS", env["WORDS"])
+        words = re.sub(r"\$\{(\w+)\}", lambda found: env[found[1]], words).split()
+        served = subprocess.Popen([Built.program, *words], stdout=subprocess.PIPE, stderr=subprocess.DEVNULL, bufsize=0)
+        line = line_of(served)
+        if line != "refused: port in use\n":
+            same(line, f"serving on 127.0.0.1:{ports.first}\n")
+            return served, ports, {"PORT": env["PORT"], "MAINPID": str(served.pid)}
+        served.communicate()
+        ports.close()
+        done(root, "remove", "my-function")
+    raise AssertionError("no free ports")
+
+
+@case()
+def a_broker_is_served_and_ended_by_its_unit(broker):
+    with a_root() as root:
+        served, ports, env = started(root)
+        try:
+            same(run(sys.executable, CTL, "unit", "serving", env=env), (0, "", ""))
+            status, _, why = run(sys.executable, CTL, "unit", "free", env=env)
+            same((status, why), (1, f"lambda-broker-ctl: another program listens on port {ports.first}\n"))
+            same(Asked(ports.first, "POST", INVOKE, "{}", EVENT).done().status, 202)
+            status, told, _ = ctl(root, "status")
+            same((status, matches("my-function: serves, ([0-9]+) held, oldest wait .*\n", told)), (0, ("1",)))
+            ends = Beside(served.communicate)
+            same(run(sys.executable, CTL, "unit", "end", env=env), (0, "", ""))
+            ends.done()
+            same(served.returncode, 0)
+            # What has ended does not serve, and needs no end.
+            same(run(sys.executable, CTL, "unit", "serving", env=env)[0], 1)
+            same(run(sys.executable, CTL, "unit", "end", env={**env, "MAINPID": ""})[0], 0)
+            same(ctl(root, "status")[0], 1)
+            told = done(root, "remove", "my-function")
+            assert told[-1].endswith("held 1 waiting 1 running 0 success 0 failure 0"), told
+        finally:
+            served.kill()
+            served.wait()
+            ports.close()
+
+
+FILES = """usr/bin/lambda_broker usr/bin/lambda-broker-ctl usr/lib/lambda_broker/forward.py usr/lib/sysusers.d/lambda_broker.conf
+usr/lib/systemd/system/lambda_broker@.service usr/lib/systemd/system/lambda_runtime@.service
+usr/lib/systemd/system/lambda_forward@.service usr/lib/tmpfiles.d/lambda_broker.conf usr/share/lambda_broker/nginx.conf
+usr/share/lambda_broker/prometheus.yml usr/share/lambda_broker/alerts.yml usr/share/lambda_broker/alerts.test.yml
+usr/share/man/man8/lambda_broker.8.gz usr/share/man/man8/lambda-broker-ctl.8.gz usr/share/doc/lambda-broker/copyright
+usr/share/doc/lambda-broker/changelog.gz usr/share/bash-completion/completions/lambda_broker
+usr/share/bash-completion/completions/lambda-broker-ctl usr/share/zsh/vendor-completions/_lambda_broker
+usr/share/zsh/vendor-completions/_lambda-broker-ctl""".split()
+
+
+def completed(root, *words):
+    """What bash completes the last of these words to."""
+    script = 'source "$0"; COMP_WORDS=("$@"); COMP_CWORD=$(($# - 1)); "_${1//-/_}"; printf "%s\\n" "${COMPREPLY[@]}"'
+    status, told, why = run("bash", "-c", script, os.path.join(root, "usr/share/bash-completion/completions", words[0]), *words)
+    same((status, why), (0, ""))
+    return told.split()
+
+
+@case()
+def the_package_has_what_an_operator_needs(broker):
+    if not shutil.which("dpkg-deb"):
+        raise Apart("there is no dpkg-deb")
+    version = matches("lambda_broker (.*)\n", broker.said("--version")[1])[0]
+    with a_root() as folder, a_root() as root:
+        status, told, why = run(sys.executable, os.path.join(DEPLOY, "package"), Built.program, folder)
+        same((status, told.startswith(f"{folder}/lambda-broker_{version}_")), (0, True))
+        made = told.strip()
+        told = dict(re.findall("^([A-Z][A-Za-z-]+): (.*)$", run("dpkg-deb", "-f", made)[1], re.M))
+        same((told["Package"], told["Version"]), ("lambda-broker", version))
+        matches(r"libc6 \(>= 2\.[0-9]+\), libgcc-s1, python3, systemd", told["Depends"])
+        same(run("dpkg-deb", "-R", made, root)[0], 0)
+        scripts = ["DEBIAN/postinst", "DEBIAN/prerm", "DEBIAN/postrm"]
+        same({name for name, what in tree(root).items() if what}, {*FILES, *scripts, "DEBIAN/control"})
+        same([run("sh", "-n", os.path.join(root, name))[0] for name in scripts], [0, 0, 0])
+        same(filecmp.cmp(os.path.join(root, "usr/bin/lambda_broker"), Built.program, shallow=False), True)
+        units = "".join(text_of(root, name) for name in FILES if name.endswith(".service"))
+        run_by_units = {path[1:] for path in re.findall("^Exec[A-Z][A-Za-z]*=(/[^ ]+)", units, re.M)} - {"bin/sh"}
+        same(run_by_units - {*FILES}, set())
+        commands = {"trial", "format", "audit", "configure", "migrate", "copy", "serve"}
+        with gzip.open(os.path.join(root, "usr/share/man/man8/lambda_broker.8.gz"), "rt") as file:
+            page = file.read().replace("\\-", "-")
+        same({*re.findall("^[.]SS (.*)$", page, re.M)}, commands)
+        same({*completed(root, "lambda_broker", "")}, {*commands, "--help"})
+        for command in commands:
+            options = {*re.findall("^ +(?:-., )?(--[a-z-]+)", broker.said(command, "--help")[1], re.M)}
+            same({*completed(root, "lambda_broker", command, "--")}, options)
+            assert all(f".B {option}" in page for option in options - {"--help"}), command
+        same(completed(root, "lambda_broker", "serve", "--dialect", ""), ["profile", "aws"])
+        same({*completed(root, "lambda-broker-ctl", "")}, {"add", "remove", "list", "status", "--help"})
+        assert "--forward-success" in completed(root, "lambda-broker-ctl", "add", "--f")
