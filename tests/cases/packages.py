@@ -201,7 +201,7 @@ usr/lib/systemd/system/lambda_broker@.service usr/lib/systemd/system/lambda_runt
 usr/lib/systemd/system/lambda_forward@.service usr/lib/tmpfiles.d/lambda_broker.conf usr/share/lambda_broker/nginx.conf
 usr/share/lambda_broker/prometheus.yml usr/share/lambda_broker/alerts.yml usr/share/lambda_broker/alerts.test.yml
 usr/share/man/man8/lambda_broker.8.gz usr/share/man/man8/lambda-broker-ctl.8.gz usr/share/doc/lambda-broker/copyright
-usr/share/doc/lambda-broker/changelog.gz usr/share/bash-completion/completions/lambda_broker
+usr/share/doc/lambda-broker/CHANGELOG.md.gz usr/share/bash-completion/completions/lambda_broker
 usr/share/bash-completion/completions/lambda-broker-ctl usr/share/zsh/vendor-completions/_lambda_broker
 usr/share/zsh/vendor-completions/_lambda-broker-ctl""".split()
 
