@@ -15,7 +15,8 @@ from harness import ARN, DEADLINE, EVENT, HERE, INVOKE, Apart, Asked, Beside, Bu
 
 DEPLOY = os.path.join(HERE, "..", "deploy")
 CTL = os.path.join(DEPLOY, "lambda-broker-ctl")
-ADD = "--handler", "app.main", "--arn", ARN, "--events", 16, "--payload", 1024, "--response", 1024
+SMALL = "--handler", "app.main", "--events", 16, "--payload", 1024, "--response", 1024
+ADD = *SMALL, "--arn", ARN
 ETC, UNITS = "etc/lambda_broker", "etc/systemd/system"
 
 
@@ -106,7 +107,7 @@ def a_function_is_added_once(broker):
 def each_function_has_ports_of_its_own(broker):
     with a_root() as root:
         for name in "my-function", "send-mail", "My-Function":
-            done(root, "add", name, *ADD)
+            done(root, "add", name, *SMALL, "--arn", ARN.replace("my-function", name))
         lines = done(root, "list")
         ports = {name: int(port) for name, port in (matches("(.*): callers ([0-9]+), .*", line) for line in lines)}
         same(sorted(ports), ["My-Function", "my-function", "send-mail"])
@@ -127,12 +128,16 @@ def each_function_has_ports_of_its_own(broker):
         assert os.path.exists(disk) and not os.path.exists(os.path.join(root, ETC, "My-Function.env"))
         same(ctl(root, "remove", "My-Function")[0], 1)
         assert f"kept {disk}, as it was formatted" in done(root, "add", "My-Function", *ADD)
+        # What the program warns of is told.
+        same(ctl(root, "add", "x", *ADD)[2].split(":")[0], "warning")
 
 
 @case()
 def a_step_that_fails_is_undone(broker):
     with a_root() as root:
-        done(root, "add", "my-function", *ADD)
+        done(root, "add", "my-function", *ADD, "--retries", 0)
+        told = broker.said("audit", os.path.join(root, "var/lib/lambda_broker/my-function/disk"), "--in-force")[1]
+        same(told.splitlines()[-1], "in force retries 0 age 21600")
         there = without_times(root)
         # The program refuses; and what comes behind the disk cannot be written.
         for words, blocked, why in ((("--retries", 3), None, "bad settings: retries"), ((), "x.env.new", "Is a directory")):
@@ -144,7 +149,8 @@ def a_step_that_fails_is_undone(broker):
                 os.rmdir(os.path.join(root, ETC, blocked))
             same((status, why in error, error.splitlines()[-1]), (1, True, "all that was done before is undone"))
             same(without_times(root), there)
-        for words in (), ("add", "a/b", *ADD), ("add", "x"), ("add", "x", *ADD, "--environments", 17), ("remove",), ("x",):
+        wrong = ("--environments", 17), ("--host", "a b"), ("--address", "x"), ("--runtime", "x"), ("--forward-success", "/x")
+        for words in (), ("add", "a/b", *ADD), ("add", "x"), *(("add", "x", *ADD, *more) for more in wrong), ("remove",), ("x",):
             same(ctl(root, *words)[0], 2)
         same(done(root, "list")[0].split(":")[0], "my-function")
 
@@ -221,8 +227,8 @@ def the_package_has_what_an_operator_needs(broker):
     version = matches("lambda_broker (.*)\n", broker.said("--version")[1])[0]
     with a_root() as folder, a_root() as root:
         status, told, why = run(sys.executable, os.path.join(DEPLOY, "package"), Built.program, folder)
-        same((status, told.startswith(f"{folder}/lambda-broker_{version}_")), (0, True))
-        made = told.strip()
+        same((status, status and why), (0, 0))
+        made = matches(f"({re.escape(folder)}/lambda-broker_{re.escape(version)}_[a-z0-9]+[.]deb)\n", told)[0]
         told = dict(re.findall("^([A-Z][A-Za-z-]+): (.*)$", run("dpkg-deb", "-f", made)[1], re.M))
         same((told["Package"], told["Version"]), ("lambda-broker", version))
         matches(r"libc6 \(>= 2\.[0-9]+\), libgcc-s1, python3, systemd", told["Depends"])
