@@ -51,6 +51,50 @@ def the_python_runtime_and_extension(broker):
     same([json.loads(body).get("requestId") for _, body in told[:2]], [good.id, bad.id])
 
 
+HANDLER = """
+def main(event, context):
+    return {"id": context.aws_request_id, "twice": 2 * event["name"]}
+"""
+
+
+def serve_with_handler(broker):
+    with open(os.path.join(broker.folder, "app.py"), "w") as file:
+        file.write(HANDLER)
+    broker.serve()
+
+
+@case({"retries": 0})
+def the_runtime_of_a_handler_in_a_folder(broker):
+    serve_with_handler(broker)
+    function = run("function.py", broker.port + 1, broker.folder, "app.main", stderr=subprocess.DEVNULL)
+    good, raises, long = (broker.invoke(json.dumps(event)).id for event in ({"name": "a"}, {}, {"name": 900 * "a"}))
+
+    def ended(side, event):
+        record = until("a record", lambda: broker.record(side).status == 200 and broker.record(side).json)
+        same((record["requestContext"]["requestId"], broker.delete(event).status), (event, 204))
+        return record["responsePayload"]
+
+    same(ended("success", good), {"id": good, "twice": "aa"})
+    told = ended("failure", raises)
+    same((told["errorMessage"], told["errorType"], len(told["stackTrace"])), ("'name'", "KeyError", 1))
+    assert f'{broker.folder}/app.py", line 3, in main' in told["stackTrace"][0], told
+    same(ended("failure", long)["errorType"], "Function.ResponseSizeTooLarge")
+    same(broker.stop(), (202, 0, ""))
+    assert function.wait(DEADLINE), "it did not end as a failure"
+
+
+@case()
+def the_runtime_of_a_handler_by_its_variables(broker):
+    serve_with_handler(broker)
+    variables = {"AWS_LAMBDA_RUNTIME_API": f"127.0.0.1:{broker.port + 1}", "LAMBDA_TASK_ROOT": broker.folder}
+    function = run("function.py", env={**variables, "_HANDLER": "app.main"}, stderr=subprocess.DEVNULL)
+    event = broker.invoke('{"name":1}').id
+    until("a record", lambda: broker.record().status == 200)
+    same(broker.record().json["responsePayload"], {"id": event, "twice": 2})
+    broker.kill()
+    assert function.wait(DEADLINE), "it did not end as a failure"
+
+
 class Taker(http.server.BaseHTTPRequestHandler):
     """Takes what is posted to it, but for the first time."""
 

@@ -77,7 +77,7 @@ def ephemeral():
 @case()
 def a_function_is_added_once(broker):
     url = "http://127.0.0.1:1/x?a=$b"
-    more = "--environments", 2, "--runtime", "/usr/bin/my-runtime --fast", "--forward-failure", url, "--dialect", "aws"
+    more = "--environments", 2, "--runtime", "/usr/bin/my-runtime --fast", "--task-root", "/srv/x", "--forward-failure", url, "--dialect", "aws"
     with a_root() as root:
         told = done(root, "add", "my-function", *ADD, *more)
         port = int(matches("my-function: callers ([0-9]+), .*", told[-1])[0])
@@ -93,7 +93,7 @@ def a_function_is_added_once(broker):
         same(values_of(root, envs[0]), wanted)
         same(values_of(root, envs[1]), {"PORT": str(port), "SIDE": "failure", "URL": url, "WORDS": f"--admin {port + 19}"})
         wanted = {"RUNTIME": "/usr/bin/my-runtime --fast", "EXTENSIONS": "", "AWS_LAMBDA_RUNTIME_API": f"127.0.0.1:{port + 2}"}
-        same(values_of(root, envs[3]), wanted)
+        same(values_of(root, envs[3]), {**wanted, "_HANDLER": "app.main", "LAMBDA_TASK_ROOT": "/srv/x"})
         parts = {f"lambda_runtime@my-function:{n}.service" for n in (1, 2)} | {"lambda_forward@my-function:failure.service"}
         same([{*line.split("=")[1].split()} for line in text_of(root, drop_in).splitlines() if "=" in line], 3 * [parts])
         same(done(root, "add", "my-function", *ADD, *more), ["my-function is there already: nothing was changed"])
@@ -202,7 +202,8 @@ def a_broker_is_served_and_ended_by_its_unit(broker):
             ports.close()
 
 
-FILES = """usr/bin/lambda_broker usr/bin/lambda-broker-ctl usr/lib/lambda_broker/forward.py usr/lib/sysusers.d/lambda_broker.conf
+FILES = """usr/bin/lambda_broker usr/bin/lambda-broker-ctl usr/lib/lambda_broker/forward.py usr/lib/lambda_broker/function.py
+usr/lib/sysusers.d/lambda_broker.conf
 usr/lib/systemd/system/lambda_broker@.service usr/lib/systemd/system/lambda_runtime@.service
 usr/lib/systemd/system/lambda_forward@.service usr/lib/tmpfiles.d/lambda_broker.conf usr/share/lambda_broker/nginx.conf
 usr/share/lambda_broker/prometheus.yml usr/share/lambda_broker/alerts.yml usr/share/lambda_broker/alerts.test.yml
