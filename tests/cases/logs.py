@@ -1,4 +1,6 @@
 """What `serve` says on standard error for who keeps a log: how it opened, which environments were reset, and how it ended."""
+import fcntl
+import os
 import re
 
 from harness import EXTENSION, RUNTIME, case, same, until
@@ -95,3 +97,18 @@ def a_report_that_resets_an_environment_is_told_with_its_cause(broker):
         "environment 2 was reset: its runtime could not start",
         "environment 3 was reset: an extension could not start",
     ])
+
+
+@case()
+def a_log_that_nobody_reads_holds_no_port_up(broker):
+    path = os.path.join(broker.folder, "log")
+    os.mkfifo(path)
+    log = os.open(path, os.O_RDWR | os.O_NONBLOCK)
+    fcntl.fcntl(log, fcntl.F_SETPIPE_SZ, 8192)
+    broker.serve(under=["bash", "-c", f'exec "$@" 2> {path}', "bash"])
+    same([broker.ask("POST", f"{RUNTIME}/init/error", "{}", environment=1).status for _ in range(300)], 300 * [202])
+    told = os.read(log, 1 << 16).decode().splitlines()
+    os.close(log)
+    assert 10 < len(told) < 300, told
+    same(set(told[1:]), {"environment 1 was reset: its runtime could not start"})
+    same(broker.stop(), STOPPED)

@@ -1,7 +1,11 @@
-// Environments that are reset, told on standard error for whoever keeps a log.
+// Environments that are reset, told on standard error for whoever keeps a log. Where that does not read, a line is left out, and no
+// port waits for it.
 use api_core::Call;
 use hall_core::Issued;
 use invoke_records::{Cause, Kind};
+use libc::STDERR_FILENO;
+use libc::net::{POLLOUT, poll};
+use libc::types::pollfd;
 use std::io::Eprint;
 use uuid::Uuid;
 
@@ -39,6 +43,18 @@ impl Report {
     }
 }
 
+// Whether standard error takes a line at once: a pipe does as long as it has room for 4,096 bytes, which no line here has.
+fn takes_a_line() -> bool {
+    let mut asked = [pollfd {
+        fd: STDERR_FILENO,
+        events: POLLOUT,
+        revents: 0,
+    }];
+    poll(&mut asked, 0);
+    let [told] = asked;
+    told.revents == POLLOUT
+}
+
 /// Says that this environment was reset, where its report was answered with the status of one that was taken.
 pub(crate) fn note_report<R: Eprint>(
     rt: &R,
@@ -49,7 +65,7 @@ pub(crate) fn note_report<R: Eprint>(
     let Some(report) = report else {
         return;
     };
-    if status == TAKEN {
+    if status == TAKEN && takes_a_line() {
         let why = report.text();
         let _ = eprintln!(rt; "environment {environment} was reset: {why}");
     }
@@ -60,7 +76,7 @@ pub(crate) fn note_timeout<R: Eprint>(rt: &R, issued: Option<Issued>) {
     let Some(issued) = issued else {
         return;
     };
-    if issued.kind != Kind::Fail(Cause::Timeout) {
+    if issued.kind != Kind::Fail(Cause::Timeout) || !takes_a_line() {
         return;
     }
     let mut buffer = Uuid::encode_buffer();
