@@ -20,6 +20,7 @@ use receipts::{Gone, SharedOpening, SharedTrace, desks};
 use sector_disk::{Disk, FileDisk, Written};
 use std::alloc::{AllocGlobal, Global};
 use std::fs::File;
+use std::io::Eprint;
 use std::marker::Brand;
 use std::net::{Net, TcpListener, TcpStream};
 use std::process::Abort;
@@ -87,6 +88,7 @@ where
         + Net<Listener = TcpListener, Stream = TcpStream>
         + RandomSource
         + AllocGlobal
+        + Eprint
         + Copy
         + Drop
         + Send
@@ -137,6 +139,7 @@ where
         + Net<Listener = TcpListener, Stream = TcpStream>
         + RandomSource
         + AllocGlobal
+        + Eprint
         + Copy
         + Drop
         + Send
@@ -165,6 +168,7 @@ where
         + Net<Listener = TcpListener, Stream = TcpStream>
         + RandomSource
         + AllocGlobal
+        + Eprint
         + Copy
         + Drop
         + Send
@@ -193,6 +197,7 @@ where
         + Net<Listener = TcpListener, Stream = TcpStream>
         + RandomSource
         + AllocGlobal
+        + Eprint
         + Copy
         + Drop
         + Send
@@ -314,6 +319,7 @@ where
         + Net<Listener = TcpListener, Stream = TcpStream>
         + RandomSource
         + AllocGlobal
+        + Eprint
         + Copy
         + Drop
         + Send
@@ -338,6 +344,7 @@ where
         + Net<Listener = TcpListener, Stream = TcpStream>
         + RandomSource
         + AllocGlobal
+        + Eprint
         + Copy
         + Drop
         + Send

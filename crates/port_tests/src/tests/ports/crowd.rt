@@ -13,6 +13,7 @@ use receipts::{Gone, SharedOpening, SharedTrace, desks};
 use sector_disk::Disk;
 use std::alloc::{AllocGlobal, Global};
 use std::io;
+use std::io::Eprint;
 use std::marker::Brand;
 use std::net::{Net, TcpListener, TcpStream};
 use std::random::RandomSource;
@@ -48,6 +49,7 @@ where
         + Net<Listener = TcpListener, Stream = TcpStream>
         + RandomSource
         + AllocGlobal
+        + Eprint
         + Copy
         + Drop
         + Send
@@ -85,6 +87,7 @@ where
         + Net<Listener = TcpListener, Stream = TcpStream>
         + RandomSource
         + AllocGlobal
+        + Eprint
         + Copy
         + Drop
         + Send
