@@ -4,7 +4,7 @@ use async_core::Side;
 use operator_view::Which;
 
 /// What a request to the operator's port asks for.
-#[derive(Clone, Copy, Debug, PartialEq, Eq)]
+#[derive(Clone, Copy)]
 pub enum Asked {
     /// `/`: the page for a person.
     Page,

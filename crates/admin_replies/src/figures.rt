@@ -4,7 +4,7 @@ use operator_view::Census;
 use port_meters::Refusals;
 
 /// The numbers that a monitor collects, as they are at one moment.
-#[derive(Clone, Copy, Debug, PartialEq, Eq)]
+#[derive(Clone, Copy)]
 pub struct Figures {
     pub census: Census,
     /// How long ago the oldest event that waits was accepted, in milliseconds.
@@ -27,7 +27,7 @@ pub struct Figures {
 }
 
 /// How many environments are in which phase.
-#[derive(Clone, Copy, Debug, PartialEq, Eq)]
+#[derive(Clone, Copy)]
 pub struct Phases {
     pub init: u64,
     pub ready: u64,
@@ -36,7 +36,7 @@ pub struct Phases {
 }
 
 /// How often something happened to an event.
-#[derive(Clone, Copy, Debug, PartialEq, Eq)]
+#[derive(Clone, Copy)]
 pub struct Tally {
     pub accepted: u64,
     pub success: u64,
@@ -49,7 +49,7 @@ pub struct Tally {
 }
 
 /// What the process does with its disk and its ports.
-#[derive(Clone, Copy, Debug, PartialEq, Eq)]
+#[derive(Clone, Copy)]
 pub struct Process {
     pub commits: u64,
     /// To the other segment of the disk.

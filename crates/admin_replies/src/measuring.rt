@@ -12,7 +12,7 @@ use port_meters::Counters;
 use receipts::Sight;
 
 /// What was counted and measured of a process.
-#[derive(Clone, Copy, Debug)]
+#[derive(Clone, Copy)]
 pub struct Measures {
     pub counters: Counters,
     /// How many bytes were written to the disk.

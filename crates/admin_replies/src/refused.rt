@@ -5,7 +5,7 @@ ghost use Rattle.admin_replies.specs.Requests.{status_of};
 use thiserror::Error;
 
 /// Why a request asks for nothing, in the order in which a request is checked.
-#[derive(Clone, Copy, Debug, PartialEq, Eq, Error)]
+#[derive(Clone, Copy, Debug, Error)]
 pub enum Refused {
     #[error("only GET is understood")]
     Method,

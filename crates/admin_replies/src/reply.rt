@@ -5,7 +5,7 @@ ghost use Rattle.admin_replies.specs.Media.{content_type_of};
 use std::alloc::{AllocError, Global};
 
 /// What a body is.
-#[derive(Clone, Copy, Debug, PartialEq, Eq)]
+#[derive(Clone, Copy)]
 pub enum Media {
     Text,
     /// Prometheus' text format, version 0.0.4.
@@ -32,7 +32,7 @@ impl Media {
 }
 
 /// A reply before it is sent.
-#[derive(Debug, Drop)]
+#[derive(Drop)]
 pub struct Reply {
     pub status: u16,
     pub media: Media,

@@ -15,7 +15,7 @@ use retry_rules::{RetryPolicy, Settings};
 use std::alloc::{AllocError, Global};
 
 /// What is known of a broker from its opening on.
-#[derive(Debug, Drop)]
+#[derive(Drop)]
 pub struct Facts {
     pub settings: Settings,
     /// How many events had ended and were held.

@@ -1,7 +1,7 @@
 // In which words replies are.
 
 /// The words in which requests are read and replies are told.
-#[derive(Clone, Copy, Debug, PartialEq, Eq)]
+#[derive(Clone, Copy)]
 pub enum Dialect {
     /// This broker's own: each error has one type and one message, on every port.
     Profile,
@@ -11,7 +11,7 @@ pub enum Dialect {
 }
 
 /// Whom a refusal is told: callers and environments are told an error in different words in the dialect `Aws`.
-#[derive(Clone, Copy, Debug, PartialEq, Eq)]
+#[derive(Clone, Copy)]
 pub enum Audience {
     /// Who asked on the callers' port.
     Caller,
@@ -20,7 +20,7 @@ pub enum Audience {
 }
 
 /// What an extension may ask to be sent, which this broker does not send.
-#[derive(Clone, Copy, Debug, PartialEq, Eq)]
+#[derive(Clone, Copy)]
 pub enum Stream {
     /// Telemetry API, Subscribe.
     Telemetry,

@@ -7,7 +7,7 @@ use std::alloc::AllocError;
 
 /// Why a call is refused: each has one status, type and message, told as JSON like the errors of AWS's services.
 /// `read_request` answers those of the request itself; the others are the broker's.
-#[derive(Clone, Copy, Debug, PartialEq, Eq)]
+#[derive(Clone, Copy, Debug)]
 pub enum Refusal {
     /// The invocation type is not `Event`: 400.
     UnsupportedInvocationType,
@@ -146,7 +146,7 @@ impl Refusal {
 }
 
 /// Why a request is not read.
-#[derive(Clone, Copy, Debug, PartialEq, Eq)]
+#[derive(Clone, Copy)]
 pub enum RequestError {
     /// The first check that fails refuses it.
     Refused(Refusal),

@@ -8,14 +8,14 @@ use std::alloc::Global;
 use std::marker::Model;
 
 /// A name and a value. The value is bytes, since an ARN is.
-#[derive(Debug, Drop)]
+#[derive(Drop)]
 pub(crate) struct Header {
     pub(crate) name: &'static str,
     pub(crate) value: Bytes,
 }
 
 /// The headers of a reply, in their order: each a name and a value.
-#[derive(Debug, Drop)]
+#[derive(Drop)]
 pub struct Headers {
     list: Vec<Header>,
 }
@@ -82,7 +82,7 @@ impl Headers {
 }
 
 /// A status, headers and a body. `Content-Length` is added by what sends it.
-#[derive(Debug, Drop)]
+#[derive(Drop)]
 pub struct Reply {
     pub status: u16,
     pub headers: Headers,

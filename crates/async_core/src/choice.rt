@@ -8,7 +8,7 @@ use crate::standings::is_running;
 use invoke_records::{Cause, EventRow, Kind, Outcome, Standing};
 
 /// How an event ended, as its record is sent to one destination or the other.
-#[derive(Clone, Copy, Debug, PartialEq, Eq)]
+#[derive(Clone, Copy)]
 pub enum Side {
     Success,
     /// Its retries were exhausted, or it was too old.
@@ -16,7 +16,7 @@ pub enum Side {
 }
 
 /// What the table would do next: a command but for its moment, without bytes.
-#[derive(Clone, Copy, Debug, PartialEq, Eq)]
+#[derive(Clone, Copy)]
 pub struct Move {
     pub kind: Kind,
     pub id: [u8; 16],

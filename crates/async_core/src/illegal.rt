@@ -6,7 +6,7 @@ use std::alloc::AllocError;
 use thiserror::Error;
 
 /// Why a command is not legal now.
-#[derive(Clone, Copy, Debug, PartialEq, Eq, Error)]
+#[derive(Clone, Copy, Debug, Error)]
 pub enum Illegal {
     #[error("a field of the command is out of range")]
     BadKind,
@@ -39,7 +39,7 @@ pub enum Illegal {
 }
 
 /// Why a command was not applied.
-#[derive(Clone, Copy, Debug, PartialEq, Eq, Error)]
+#[derive(Clone, Copy, Debug, Error)]
 pub enum ApplyError {
     #[error("{0}")]
     Illegal(Illegal),

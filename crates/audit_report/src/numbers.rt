@@ -3,7 +3,7 @@ use crate::report::Older;
 use operator_view::Census;
 
 /// The numbers of a disk at rest.
-#[derive(Clone, Copy, Debug, PartialEq, Eq)]
+#[derive(Clone, Copy)]
 pub struct Figures {
     /// The generation of the live segment.
     pub generation: u64,

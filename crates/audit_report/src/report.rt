@@ -6,7 +6,7 @@ use std::alloc::{AllocError, Global};
 use std::fmt;
 
 /// What the older segment tells beside the live one, once its commands are applied to its snapshot.
-#[derive(Clone, Copy, Debug, PartialEq, Eq)]
+#[derive(Clone, Copy)]
 pub enum Older {
     /// One segment is open.
     None,
@@ -19,7 +19,7 @@ pub enum Older {
 }
 
 /// What a disk holds.
-#[derive(Clone, Copy, Debug, PartialEq, Eq)]
+#[derive(Clone, Copy)]
 pub struct Report {
     /// The generation of the live segment.
     pub generation: u64,

@@ -4,7 +4,7 @@ use std::net::IpAddr;
 
 /// A disk that is to be served, where, in which words requests are answered, and for how many extensions an environment waits, 10
 /// at most.
-#[derive(Clone, Copy, Debug)]
+#[derive(Clone, Copy)]
 pub struct Address<'a> {
     /// A file or a block device.
     pub path: &'a str,

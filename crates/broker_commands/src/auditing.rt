@@ -16,7 +16,7 @@ use std::rt::Files;
 use thiserror::Error;
 
 /// A disk that is to be audited.
-#[derive(Clone, Copy, Debug)]
+#[derive(Clone, Copy)]
 pub struct OldDisk<'a> {
     /// A file or a block device.
     pub path: &'a str,
@@ -24,7 +24,7 @@ pub struct OldDisk<'a> {
 }
 
 /// What is asked of a disk.
-#[derive(Clone, Copy, Debug)]
+#[derive(Clone, Copy)]
 pub enum Asked {
     /// A report, for a person to read.
     Report(More),
@@ -35,7 +35,7 @@ pub enum Asked {
 }
 
 /// What is asked for behind a report.
-#[derive(Clone, Copy, Debug)]
+#[derive(Clone, Copy)]
 pub struct More {
     /// What is in force for the events that are accepted next.
     pub in_force: bool,
@@ -44,14 +44,14 @@ pub struct More {
 }
 
 /// What an audit tells.
-#[derive(Debug, Drop)]
+#[derive(Drop)]
 pub struct Audit {
     pub report: Report,
     pub told: Told,
 }
 
 /// What is printed of an audit.
-#[derive(Debug, Drop)]
+#[derive(Drop)]
 pub enum Told {
     /// The report, and these lines behind it.
     Report(String),

@@ -22,7 +22,7 @@ use std::time::Clock;
 use thiserror::Error;
 
 /// What is to be in force on a disk for the events that are accepted next. What is absent stays as it is.
-#[derive(Clone, Copy, Debug)]
+#[derive(Clone, Copy)]
 pub struct NewPolicy<'a> {
     /// A file or a block device.
     pub path: &'a str,

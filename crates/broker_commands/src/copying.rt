@@ -18,7 +18,7 @@ use std::rt::Files;
 use thiserror::Error;
 
 /// What a copy has other than the old disk. What is absent stays as it is.
-#[derive(Clone, Copy, Debug)]
+#[derive(Clone, Copy)]
 pub struct NewLimits<'a> {
     pub environments: Option<u8>,
     pub events: Option<u16>,
@@ -32,7 +32,7 @@ pub struct NewLimits<'a> {
 }
 
 /// A disk whose events are to be copied to a new one.
-#[derive(Clone, Copy, Debug)]
+#[derive(Clone, Copy)]
 pub struct NewCopy<'a> {
     /// The disk that is copied: a file or a block device.
     pub old: &'a str,
@@ -46,7 +46,7 @@ pub struct NewCopy<'a> {
 }
 
 /// What was copied.
-#[derive(Clone, Copy, Debug)]
+#[derive(Clone, Copy)]
 pub struct Copied {
     /// How many events the old disk holds.
     pub events: usize,

@@ -20,7 +20,7 @@ use std::rt::Files;
 use thiserror::Error;
 
 /// The function that a disk is formatted for.
-#[derive(Clone, Copy, Debug)]
+#[derive(Clone, Copy)]
 pub struct Function<'a> {
     pub name: &'a str,
     pub handler: &'a str,
@@ -28,7 +28,7 @@ pub struct Function<'a> {
 }
 
 /// The settings that are numbers, in the units of `Settings`.
-#[derive(Clone, Copy, Debug)]
+#[derive(Clone, Copy)]
 pub struct Numbers {
     pub retries: u8,
     pub age: u32,
@@ -41,7 +41,7 @@ pub struct Numbers {
 }
 
 /// A disk that is to be made.
-#[derive(Clone, Copy, Debug)]
+#[derive(Clone, Copy)]
 pub struct NewDisk<'a> {
     /// A file or a block device.
     pub path: &'a str,

@@ -20,7 +20,7 @@ pub struct OldVersion<'a> {
 }
 
 /// What a disk was migrated to.
-#[derive(Clone, Copy, Debug)]
+#[derive(Clone, Copy)]
 pub struct Migrated {
     /// The generation of its live segment.
     pub generation: u64,

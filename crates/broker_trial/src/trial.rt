@@ -22,7 +22,7 @@ const ACCEPTED_AT: u64 = 1573755365568;
 const SECTORS: u64 = 64;
 
 /// What became of the event.
-#[derive(Clone, Copy, Debug)]
+#[derive(Clone, Copy)]
 pub struct Trial {
     pub id: [u8; 16],
     /// The number of the command that accepted it.

@@ -10,7 +10,7 @@ use crate::header::Header;
 use invoke_records::Version;
 
 /// A segment whose gate is open.
-#[derive(Debug, Drop)]
+#[derive(Drop)]
 pub(crate) struct Found {
     /// The sector where it begins.
     pub(crate) base: u64,

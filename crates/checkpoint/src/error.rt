@@ -12,7 +12,7 @@ use std::alloc::{AllocError, AllocFailed};
 use thiserror::Error;
 
 /// Why a disk was not formatted.
-#[derive(Clone, Copy, Debug, PartialEq, Eq, Error)]
+#[derive(Clone, Copy, Debug, Error)]
 pub enum FormatError {
     /// The disk has fewer sectors than the settings need: the least number.
     #[error("too small, least {least}")]
@@ -41,7 +41,7 @@ impl From<Fault> for FormatError {
 }
 
 /// Why a disk was not formatted with a table.
-#[derive(Clone, Copy, Debug, PartialEq, Eq, Error)]
+#[derive(Clone, Copy, Debug, Error)]
 pub enum SeedError {
     /// The disk has fewer sectors than the settings need: the least number.
     #[error("too small, least {least}")]
@@ -73,7 +73,7 @@ impl From<Fault> for SeedError {
 }
 
 /// Why a disk was not opened.
-#[derive(Clone, Copy, Debug, PartialEq, Eq, Error)]
+#[derive(Clone, Copy, Debug, Error)]
 pub enum OpenError {
     /// The device failed.
     #[error("device fault")]
@@ -128,7 +128,7 @@ impl From<ReadError> for OpenError {
 }
 
 /// Why a switch to the other segment was refused.
-#[derive(Clone, Copy, Debug, PartialEq, Eq, Error)]
+#[derive(Clone, Copy, Debug, Error)]
 pub enum SwitchError {
     /// The snapshot has no spelling, or is past the limits of the settings: no history leaves such a table.
     #[error("bad snapshot")]

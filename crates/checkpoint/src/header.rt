@@ -22,7 +22,7 @@ pub(crate) const MAGIC: [u8; 8] = *b"AINVOKE\x02";
 pub const MOST_GENERATIONS: u64 = 1 << 62;
 
 /// What the header of a segment says.
-#[derive(Debug, Drop)]
+#[derive(Drop)]
 pub(crate) struct Header {
     /// The version of the format that the segment is of.
     pub(crate) version: Version,

@@ -11,7 +11,7 @@ use sector_disk::Disk;
 use std::alloc::Global;
 
 /// The live segment of a disk that was opened.
-#[derive(Debug, Drop)]
+#[derive(Drop)]
 pub struct Opened {
     // The version of the format that it is of. Only what is of version 2 is appended to.
     pub(crate) version: Version,

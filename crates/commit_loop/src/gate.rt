@@ -4,7 +4,7 @@ ghost use Rattle.commit_loop.specs.declared.gate.Turn.{Turn};
 ghost use Rattle.commit_loop.specs.declared.gate.Turn.TheVariants as turn;
 
 /// What a loop does next.
-#[derive(Clone, Copy, Debug, PartialEq, Eq)]
+#[derive(Clone, Copy)]
 pub enum Turn {
     /// The committer commits all that is pending; the ticker makes all moves that are due.
     Commit,
@@ -34,7 +34,7 @@ pub trait Gate {
 }
 
 /// Commits whatever is pending.
-#[derive(Clone, Copy, Debug)]
+#[derive(Clone, Copy)]
 pub struct WhenPending;
 
 impl Gate for WhenPending {

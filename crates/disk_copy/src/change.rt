@@ -26,7 +26,7 @@ pub struct Change {
 }
 
 /// Why settings were refused for a copy. The first that holds is told, in this order; the memory may fail before.
-#[derive(Clone, Copy, Debug, PartialEq, Eq, Error)]
+#[derive(Clone, Copy, Debug, Error)]
 pub enum ChangeError {
     /// A field of the new settings is outside its range: the first, in the order of the fields.
     #[error("bad settings: {field}")]

@@ -10,7 +10,7 @@ use std::alloc::AllocError;
 use thiserror::Error;
 
 /// Why a broker was not copied to a new disk. The first that holds is told, in this order; the memory may fail before.
-#[derive(Clone, Copy, Debug, PartialEq, Eq, Error)]
+#[derive(Clone, Copy, Debug, Error)]
 pub enum CopyError {
     /// A field of the new settings is outside its range: the first, in the order of the fields.
     #[error("bad settings: {field}")]

@@ -1,7 +1,7 @@
 // What an environment tells the polls that wait in it.
 
 /// Why an environment is reset or shut down, as its extensions are told (Extensions API, Shutdown phase).
-#[derive(Clone, Copy, Debug, PartialEq, Eq)]
+#[derive(Clone, Copy)]
 pub enum Reason {
     Spindown,
     Timeout,
@@ -9,7 +9,7 @@ pub enum Reason {
 }
 
 /// What a poll that waits is answered. Deadlines are milliseconds since 1970.
-#[derive(Clone, Copy, Debug, PartialEq, Eq)]
+#[derive(Clone, Copy)]
 pub enum PollAnswer {
     /// To the runtime: an event to run, and until when.
     RuntimeEvent { id: [u8; 16], deadline: u64 },

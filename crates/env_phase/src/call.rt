@@ -1,7 +1,7 @@
 // The calls of an environment, and who makes them.
 
 /// Who polls an environment, and what it is told.
-#[derive(Clone, Copy, Debug, PartialEq, Eq)]
+#[derive(Clone, Copy)]
 pub struct Party {
     /// The runtime has none.
     pub identifier: Option<[u8; 16]>,
@@ -10,14 +10,14 @@ pub struct Party {
 }
 
 /// A party and the slot on which it is parked.
-#[derive(Clone, Copy, Debug, PartialEq, Eq)]
+#[derive(Clone, Copy)]
 pub struct Waiter {
     pub party: Party,
     pub slot: Option<u64>,
 }
 
 /// A call that changes an environment. Slots name requests that wait; moments are milliseconds since 1970.
-#[derive(Clone, Copy, Debug, PartialEq, Eq)]
+#[derive(Clone, Copy)]
 pub enum EnvCall {
     /// The runtime asks for the next event.
     RuntimeNext {

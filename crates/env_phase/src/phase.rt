@@ -1,7 +1,7 @@
 // The phase of an environment.
 
 /// In which phase an environment is.
-#[derive(Clone, Copy, Debug, PartialEq, Eq)]
+#[derive(Clone, Copy)]
 pub enum Phase {
     /// It was not ready since its last reset: extensions may register.
     Init,

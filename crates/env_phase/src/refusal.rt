@@ -6,7 +6,7 @@ use std::alloc::AllocError;
 use thiserror::Error;
 
 /// Why an environment does not accept a call now.
-#[derive(Clone, Copy, Debug, PartialEq, Eq, Error)]
+#[derive(Clone, Copy, Debug, Error)]
 pub enum Refusal {
     #[error("extension is not registered")]
     UnknownExtension,
@@ -21,7 +21,7 @@ pub enum Refusal {
 }
 
 /// Why a call was not made. It changed nothing.
-#[derive(Clone, Copy, Debug, PartialEq, Eq, Error)]
+#[derive(Clone, Copy, Debug, Error)]
 pub enum EnvError {
     #[error("{0}")]
     Refused(Refusal),

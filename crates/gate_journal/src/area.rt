@@ -1,7 +1,7 @@
 // Where a journal lies.
 
 /// Where the frames of a segment lie, and what they begin with.
-#[derive(Clone, Copy, Debug, PartialEq, Eq)]
+#[derive(Clone, Copy)]
 pub struct Area {
     /// The generation of the segment, which each of its frames has.
     pub generation: u64,

@@ -4,7 +4,7 @@ use std::alloc::AllocError;
 use thiserror::Error;
 
 /// Why the frames of an area cannot be read.
-#[derive(Clone, Copy, Debug, PartialEq, Eq, Error)]
+#[derive(Clone, Copy, Debug, Error)]
 pub enum ReadError {
     /// The device failed.
     #[error("device fault")]
@@ -39,7 +39,7 @@ impl From<AllocError> for ReadError {
 }
 
 /// Why a batch was not appended.
-#[derive(Clone, Copy, Debug, PartialEq, Eq, Error)]
+#[derive(Clone, Copy, Debug, Error)]
 pub enum AppendError {
     /// The frame does not fit behind the last one.
     #[error("no room")]

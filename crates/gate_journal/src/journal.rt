@@ -15,7 +15,7 @@ use std::alloc::Global;
 pub const MOST_IN_FRAME: usize = 256;
 
 /// The journal of a segment, at the closed gate after its last frame.
-#[derive(Debug, Drop)]
+#[derive(Drop)]
 pub struct Journal {
     generation: u64,
     number: u64,

@@ -6,7 +6,7 @@ use invoke_records::Command;
 
 /// The commands that were pending when an issue half lent them, in order. The first has the number `first`, the last the
 /// number `last`.
-#[derive(Debug, Drop)]
+#[derive(Drop)]
 pub struct Batch {
     pub(crate) first: u64,
     pub(crate) last: u64,
@@ -36,7 +36,7 @@ impl Batch {
 
 /// That a batch was written: each command up to its last is durable on the disk. Only a `DiskHalf::write` that answers Ok
 /// makes one.
-#[derive(Clone, Copy, Debug, PartialEq, Eq)]
+#[derive(Clone, Copy)]
 pub struct Written {
     first: u64,
     last: u64,
@@ -68,7 +68,7 @@ impl Written {
 }
 
 /// That a batch was not written, and why. Only a `DiskHalf::write` that is refused makes one.
-#[derive(Clone, Copy, Debug, PartialEq, Eq)]
+#[derive(Clone, Copy)]
 pub struct Failed {
     first: u64,
     last: u64,

@@ -6,7 +6,7 @@ use sector_disk::Disk;
 use thiserror::Error;
 
 /// Why a command was not issued.
-#[derive(Clone, Copy, Debug, PartialEq, Eq, Error)]
+#[derive(Clone, Copy, Debug, Error)]
 pub enum IssueError {
     /// The device failed in an earlier call; the disk has to be opened again.
     #[error("the broker is broken")]
@@ -25,7 +25,7 @@ pub enum IssueError {
 }
 
 /// Why what is pending was not committed, or the table was not written to the other segment.
-#[derive(Clone, Copy, Debug, PartialEq, Eq, Error)]
+#[derive(Clone, Copy, Debug, Error)]
 pub enum CommitError {
     /// The device failed in an earlier call; the disk has to be opened again.
     #[error("the broker is broken")]
@@ -45,7 +45,7 @@ pub enum CommitError {
 }
 
 /// A disk that was not opened, and why.
-#[derive(Debug, Drop)]
+#[derive(Drop)]
 pub struct OpenFailure<D> {
     pub cause: OpenError,
     /// The disk, which is handed back.
@@ -53,7 +53,7 @@ pub struct OpenFailure<D> {
 }
 
 /// Why a disk was not migrated. The first that holds is told, in this order; the device and the memory may fail before.
-#[derive(Clone, Copy, Debug, PartialEq, Eq, Error)]
+#[derive(Clone, Copy, Debug, Error)]
 pub enum MigrateError {
     /// No segment's gate is open, or the disk has fewer than 6 sectors.
     #[error("not formatted")]
@@ -81,7 +81,7 @@ pub enum MigrateError {
 }
 
 /// A disk that was not migrated, and why.
-#[derive(Debug, Drop)]
+#[derive(Drop)]
 pub struct MigrateFailure<D> {
     pub cause: MigrateError,
     /// The disk, which is handed back.
@@ -89,7 +89,7 @@ pub struct MigrateFailure<D> {
 }
 
 /// Why nothing was lent.
-#[derive(Clone, Copy, Debug, PartialEq, Eq, Error)]
+#[derive(Clone, Copy, Debug, Error)]
 pub enum LendError {
     /// The device failed in an earlier write; the disk has to be opened again.
     #[error("the issue half is broken")]
@@ -102,7 +102,7 @@ pub enum LendError {
 }
 
 /// Why a batch was not written.
-#[derive(Clone, Copy, Debug, PartialEq, Eq, Error)]
+#[derive(Clone, Copy, Debug, Error)]
 pub enum WriteError {
     /// The device failed in an earlier call; the disk has to be opened again.
     #[error("the disk half is broken")]
@@ -127,7 +127,7 @@ pub enum WriteError {
 }
 
 /// Why a result was not settled, or what it was.
-#[derive(Clone, Copy, Debug, PartialEq, Eq, Error)]
+#[derive(Clone, Copy, Debug, Error)]
 pub enum SettleError {
     /// No batch is out, or the result is that of another.
     #[error("no such batch is out")]
@@ -138,7 +138,7 @@ pub enum SettleError {
 }
 
 /// Why a broker was not split.
-#[derive(Clone, Copy, Debug, PartialEq, Eq, Error)]
+#[derive(Clone, Copy, Debug, Error)]
 pub enum SplitError {
     /// The device failed in an earlier call; the disk has to be opened again.
     #[error("the broker is broken")]

@@ -5,7 +5,7 @@ use invoke_records::Command;
 use sector_disk::MemDisk;
 
 /// A step of a script.
-#[derive(Debug, Drop)]
+#[derive(Drop)]
 pub enum Step {
     Issue(Command),
     Commit,
@@ -19,7 +19,7 @@ pub enum Step {
 }
 
 /// What a step answered.
-#[derive(Clone, Copy, Debug, PartialEq, Eq)]
+#[derive(Clone, Copy)]
 pub enum StepAnswer {
     /// The number of the command that was issued (0 where a resumption found nothing that runs), how many commands are
     /// durable after a commit or a switch, or how many were recovered after a stop.
@@ -37,7 +37,7 @@ pub struct Drill {
 }
 
 /// A script that was cut off, since a disk was not opened or memory ran out.
-#[derive(Clone, Copy, Debug, PartialEq, Eq)]
+#[derive(Clone, Copy)]
 pub enum DrillFailure {
     /// The disk was not opened at first, and no step was begun.
     AtOpening(OpenError),

@@ -4,7 +4,7 @@ use invoke_records::Command;
 use sector_disk::MemDisk;
 
 /// A step of a script.
-#[derive(Debug, Drop)]
+#[derive(Drop)]
 pub enum SplitStep {
     Issue(Command),
     /// The issue half lends what is pending, and the batch is held.
@@ -19,7 +19,7 @@ pub enum SplitStep {
 }
 
 /// What a step answered.
-#[derive(Clone, Copy, Debug, PartialEq, Eq)]
+#[derive(Clone, Copy)]
 pub enum SplitAnswer {
     /// The number of the command that was issued, the last number of the batch that was lent or written, how many commands
     /// are durable after it was settled, or how many were recovered after a stop.

@@ -10,7 +10,7 @@ use invoke_records::Command;
 use sector_disk::Disk;
 
 /// Why a broker did not take all of some commands.
-#[derive(Clone, Copy, Debug, PartialEq, Eq)]
+#[derive(Clone, Copy)]
 pub(crate) enum TakeError {
     /// The next one is not legal.
     Illegal,

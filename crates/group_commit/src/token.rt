@@ -5,7 +5,7 @@ use std::marker::Model;
 
 /// A place in the history: that of an issued command, or the end of all that was issued. It need not be durable yet;
 /// `Broker::redeem` or `settled_by` turn it into a receipt once it is.
-#[derive(Debug, Drop)]
+#[derive(Drop)]
 pub struct Ticket {
     number: u64,
 }
@@ -49,7 +49,7 @@ impl Ticket {
 }
 
 /// That a command is durable, and each before it: no stop of the disk takes them away.
-#[derive(Clone, Copy, Debug, PartialEq, Eq)]
+#[derive(Clone, Copy)]
 pub struct Receipt {
     number: u64,
 }
@@ -80,7 +80,7 @@ impl Receipt {
 }
 
 /// How many commands are durable: the first so many of the history.
-#[derive(Clone, Copy, Debug, PartialEq, Eq)]
+#[derive(Clone, Copy)]
 pub struct Durable {
     number: u64,
 }

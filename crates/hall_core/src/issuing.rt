@@ -9,7 +9,7 @@ use group_commit::{IssueError, Issuer};
 use invoke_records::{Command, Kind};
 
 /// The command that a call issued: its number, kind, event and moment, in milliseconds since 1970.
-#[derive(Clone, Copy, Debug, PartialEq, Eq)]
+#[derive(Clone, Copy)]
 pub struct Issued {
     pub number: u64,
     pub kind: Kind,

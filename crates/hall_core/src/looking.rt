@@ -11,7 +11,7 @@ use invoke_records::Snapshot;
 use std::alloc::AllocError;
 
 /// What is shown of one environment.
-#[derive(Clone, Copy, Debug, PartialEq, Eq)]
+#[derive(Clone, Copy)]
 pub struct EnvironmentLook {
     /// Its number, from 1 on.
     pub number: u16,
@@ -21,7 +21,7 @@ pub struct EnvironmentLook {
 }
 
 /// What is shown of a hall at a moment.
-#[derive(Debug, Drop)]
+#[derive(Drop)]
 pub struct Look {
     /// The table after all that was issued.
     pub table: Snapshot,

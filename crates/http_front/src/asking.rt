@@ -13,7 +13,7 @@ use std::sync::Wait;
 use std::sync::ledger::Ledger;
 
 /// Why an office did not commit. Only asking one makes it: nobody else can say that a commit was refused.
-#[derive(Debug, Drop)]
+#[derive(Drop)]
 pub(crate) struct NotCommitted {
     why: HallError,
 }

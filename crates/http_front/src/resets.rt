@@ -13,7 +13,7 @@ use uuid::Uuid;
 const TAKEN: u16 = 202;
 
 /// What resets an environment once it is reported there (Runtime API, Extensions API).
-#[derive(Clone, Copy, Debug, PartialEq, Eq)]
+#[derive(Clone, Copy)]
 pub(crate) enum Report {
     /// The runtime could not start.
     RuntimeInit,

@@ -30,7 +30,7 @@ use std::time::Clock;
 use std::{io, thread};
 
 /// How a front ended.
-#[derive(Clone, Copy, Debug, PartialEq, Eq)]
+#[derive(Clone, Copy)]
 pub enum Ending {
     /// A request stopped the broker: all that was issued is durable, and every request whose client had stayed was answered.
     Stopped,

@@ -10,7 +10,7 @@ use hyper::StatusCode;
 use std::alloc::Global;
 
 /// Why a request is refused before its body is read and before the application is asked.
-#[derive(Clone, Copy, Debug, PartialEq, Eq)]
+#[derive(Clone, Copy)]
 pub(crate) enum Forbidden {
     /// A browser makes it for a web page.
     CrossOrigin,

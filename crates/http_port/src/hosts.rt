@@ -11,7 +11,7 @@ use std::net::IpAddr;
 const UNDER_LOCALHOST: &[u8] = b".localhost";
 
 /// Which hosts a port answers to. A request that names another one is refused; one that names none is not.
-#[derive(Debug, Drop)]
+#[derive(Drop)]
 pub enum Hosts {
     /// All: the port is reached from other machines, by whatever names they give it.
     All,

@@ -17,7 +17,7 @@ const MOST_CONNECTIONS: usize = 1100;
 
 /// How long a port waits for its clients, and how many connections it has open at once. A request that was read waits for
 /// its reply without a limit.
-#[derive(Clone, Copy, Debug)]
+#[derive(Clone, Copy)]
 pub struct Limits {
     /// From the first byte of a head until it is whole; from the connection, where it is the first.
     pub head: Duration,

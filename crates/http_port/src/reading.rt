@@ -15,7 +15,7 @@ use std::mem;
 const MOST_FRAMES: u32 = 65536;
 
 /// Why a body was not read.
-#[derive(Clone, Copy, Debug, PartialEq, Eq)]
+#[derive(Clone, Copy)]
 pub enum ReadError {
     /// The connection failed in it, or it was no body.
     CutOff,
@@ -24,7 +24,7 @@ pub enum ReadError {
 }
 
 /// What has become of a body.
-#[derive(Clone, Copy, Debug, PartialEq, Eq)]
+#[derive(Clone, Copy)]
 pub(crate) enum State {
     /// Some of it is left, which is still read or is not.
     Left,

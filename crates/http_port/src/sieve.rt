@@ -9,7 +9,7 @@ const LENGTH: &[u8] = b"content-length";
 const CODING: &[u8] = b"transfer-encoding";
 
 /// The name of a header, as far as it was read: by these bytes it may still be that of the value, of a length, or of a coding.
-#[derive(Clone, Copy, Debug)]
+#[derive(Clone, Copy)]
 struct Name {
     read: usize,
     unread: bool,
@@ -25,7 +25,7 @@ const NAME: Name = Name {
 };
 
 /// Where the next byte of a connection stands.
-#[derive(Clone, Copy, Debug)]
+#[derive(Clone, Copy)]
 enum Place {
     /// At the beginning of a line of a head, or in a name there.
     Name(Name),
@@ -91,7 +91,7 @@ fn chunk_of(size: u64) -> Place {
 ///
 /// It knows the end of a body as HTTP does, by its length or its chunks. Where HTTP reads on, they agree on where a head begins.
 /// Where HTTP refuses what it reads, no head follows.
-#[derive(Clone, Copy, Debug)]
+#[derive(Clone, Copy)]
 pub(crate) struct Sieve {
     // Of the value. In small letters.
     name: &'static str,

@@ -6,7 +6,7 @@ use std::cell::Cell;
 use std::time::Duration;
 
 /// What a connection waits for.
-#[derive(Clone, Copy, Debug, PartialEq, Eq)]
+#[derive(Clone, Copy)]
 pub(crate) enum Phase {
     /// The first byte of the next request, or a client that does not read its reply: nothing is due of it but that.
     Idle,

@@ -6,7 +6,7 @@ use retry_rules::RetryPolicy;
 pub const GREATEST_MOMENT: u64 = 253402300799999;
 
 /// Why an attempt failed.
-#[derive(Clone, Copy, Debug, PartialEq, Eq)]
+#[derive(Clone, Copy, PartialEq, Eq)]
 pub enum Cause {
     /// The runtime reported an error.
     Reported,
@@ -17,7 +17,7 @@ pub enum Cause {
 }
 
 /// What a command does to its event.
-#[derive(Clone, Copy, Debug, PartialEq, Eq)]
+#[derive(Clone, Copy, PartialEq, Eq)]
 pub enum Kind {
     /// The event is accepted, with its payload.
     Accept,
@@ -40,7 +40,7 @@ pub enum Kind {
 }
 
 /// One step of the life of an event.
-#[derive(Debug, Drop)]
+#[derive(Drop)]
 pub struct Command {
     pub kind: Kind,
     /// The event's id, which is a UUID's bytes; zeros of a Configure.

@@ -12,7 +12,7 @@ pub const MOST_PAYLOAD: u32 = 1048576;
 pub const MOST_BYTES: u32 = 262144;
 
 /// Bytes that a record carries: a payload, a response or an error body. They never change, and their copies share them.
-#[derive(Debug, Drop)]
+#[derive(Drop)]
 pub struct Bytes {
     shared: SharedBytes,
 }

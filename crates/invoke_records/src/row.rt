@@ -26,7 +26,7 @@ pub enum Standing {
 }
 
 /// What a runtime answered last in the life of an event.
-#[derive(Debug, Drop)]
+#[derive(Drop)]
 pub enum Answer {
     None,
     Response(Bytes),
@@ -34,7 +34,7 @@ pub enum Answer {
 }
 
 /// An event that is held. Moments are milliseconds since 1970.
-#[derive(Debug, Drop)]
+#[derive(Drop)]
 pub struct EventRow {
     pub id: [u8; 16],
     /// When it was accepted.

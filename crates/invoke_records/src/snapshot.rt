@@ -13,7 +13,7 @@ pub const GREATEST_NUMBER: u64 = 4611686018427387904;
 pub const MOST_ROWS: u32 = 1024;
 
 /// Rows of a snapshot.
-#[derive(Debug, Drop)]
+#[derive(Drop)]
 pub struct Rows {
     rows: Vec<EventRow>,
 }
@@ -61,7 +61,7 @@ impl Rows {
 }
 
 /// The table of events after some number of commands.
-#[derive(Debug, Drop)]
+#[derive(Drop)]
 pub struct Snapshot {
     /// How many commands it stands for.
     pub number: u64,

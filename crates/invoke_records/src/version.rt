@@ -9,7 +9,7 @@ use retry_rules::RetryPolicy;
 const MOST_OLD_PAYLOAD: u32 = 262144;
 
 /// The version of the format that a disk's records are read by. What is written is of version 2 alone.
-#[derive(Clone, Copy, Debug, PartialEq, Eq)]
+#[derive(Clone, Copy)]
 pub enum Version {
     /// Rows and snapshots have no retry policy, and are given this one: that of their disk's settings.
     One(RetryPolicy),

@@ -6,7 +6,7 @@ use std::net::SocketAddr;
 use std::time::{Clock, Instant};
 
 /// What was found on a disk that was opened.
-#[derive(Clone, Copy, Debug)]
+#[derive(Clone, Copy)]
 pub struct Opening {
     /// How many events it holds.
     pub held: usize,

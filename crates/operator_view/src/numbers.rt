@@ -1,7 +1,7 @@
 // The numbers of a census.
 
 /// How many events are held, and how many of them stand where.
-#[derive(Clone, Copy, Debug, PartialEq, Eq)]
+#[derive(Clone, Copy)]
 pub struct Census {
     pub held: usize,
     /// For their first attempt.

@@ -5,7 +5,7 @@ ghost use Rattle.operator_view.specs.Page.{id_at, last_id, IsFirst};
 use invoke_records::EventRow;
 
 /// A part of a list of events.
-#[derive(Debug, Drop)]
+#[derive(Drop)]
 pub struct Page {
     /// Where its events stand among the rows, in the order in which they are shown.
     pub places: Vec<usize>,

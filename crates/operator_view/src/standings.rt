@@ -7,7 +7,7 @@ use async_core::Side;
 use invoke_records::{Outcome, Standing};
 
 /// Which events are shown.
-#[derive(Clone, Copy, Debug, PartialEq, Eq)]
+#[derive(Clone, Copy)]
 pub enum Which {
     All,
     /// Those that wait for an attempt, the first or another.

@@ -3,7 +3,7 @@ ghost use Rattle.std.specs.Prelude.{◌≡◌, ◌-◌};
 ghost use Rattle.port_meters.specs.Counting.{sum_up_to, raised, raised_buckets, refused_more, HasSameDisk, HasSameCounts};
 
 /// How many requests were refused, by their status.
-#[derive(Clone, Copy, Debug, PartialEq, Eq)]
+#[derive(Clone, Copy)]
 pub struct Refusals {
     /// 400.
     pub bad_request: u64,
@@ -23,7 +23,7 @@ pub struct Refusals {
 }
 
 /// What the threads of a broker count for its operator since it was opened. Each number stays at its greatest once it is there.
-#[derive(Clone, Copy, Debug, PartialEq, Eq)]
+#[derive(Clone, Copy)]
 pub struct Counters {
     pub commits: u64,
     /// How long all commits took together, in microseconds.

@@ -5,7 +5,7 @@ use std::sync::{Mutex, Wait};
 use std::time::{Clock, Instant};
 
 /// How a disk stands: the generation of its live segment, how many sectors it has, and how many that segment has left.
-#[derive(Clone, Copy, Debug)]
+#[derive(Clone, Copy)]
 pub struct DiskState {
     pub generation: u64,
     pub sectors: u64,

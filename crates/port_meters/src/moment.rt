@@ -8,7 +8,7 @@ use std::io;
 use std::time::{Clock, SystemTime};
 
 /// Why there is no moment: the clock could not be read. Only a look at the clock gives it.
-#[derive(Debug, Drop)]
+#[derive(Drop)]
 pub struct NoClock {
     why: io::Error,
 }

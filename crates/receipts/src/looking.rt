@@ -17,7 +17,7 @@ use std::sync::Wait;
 use std::sync::ledger::Ledger;
 
 /// What is left for an office to do.
-#[derive(Clone, Copy, Debug)]
+#[derive(Clone, Copy)]
 pub struct Rest {
     /// Whether a request asked the broker to stop.
     pub stops: bool,

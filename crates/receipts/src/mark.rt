@@ -8,7 +8,7 @@ use invoke_records::{Kind, Snapshot};
 use std::snapshot::Snapshot as Seen;
 
 /// That a call of a desk issued a command: the command's number, kind, event and moment, in milliseconds since 1970.
-#[derive(Clone, Copy, Debug, PartialEq, Eq)]
+#[derive(Clone, Copy, PartialEq, Eq)]
 pub struct Mark {
     pub number: u64,
     /// The number of the desk.

@@ -5,7 +5,7 @@ ghost use Rattle.receipts.specs.Tallies.{counted, tally_of, HasRoom};
 use invoke_records::Kind;
 
 /// How many commands of which kind were issued since an office was opened.
-#[derive(Clone, Copy, Debug, PartialEq, Eq)]
+#[derive(Clone, Copy)]
 pub struct Tally {
     /// How many events were accepted.
     pub accepted: u64,

@@ -1,6 +1,6 @@
 // What is told of a disk that had another size.
 /// What tells that a disk had another size when it was formatted.
-#[derive(Clone, Copy, Debug, PartialEq, Eq)]
+#[derive(Clone, Copy, Debug)]
 pub enum Resized {
     /// The newer segment stands elsewhere: the disk was formatted with so many sectors, or one more.
     Displaced { sectors: u64 },

@@ -8,7 +8,7 @@ use std::io;
 use std::io::{ErrorKind, Seek, SeekFrom};
 
 /// A call of a file.
-#[derive(Clone, Copy, Debug, PartialEq, Eq)]
+#[derive(Clone, Copy)]
 pub enum FileCall {
     /// It was asked for its size.
     Size,
@@ -25,7 +25,7 @@ pub trait FaultLog {
 }
 
 /// Nobody is told.
-#[derive(Clone, Copy, Debug)]
+#[derive(Clone, Copy)]
 pub(crate) struct Untold;
 
 impl FaultLog for Untold {

@@ -37,7 +37,7 @@ fn write_zeros<L: FaultLog + Drop>(
 }
 
 /// What a path named before it is made a disk.
-#[derive(Clone, Copy, Debug)]
+#[derive(Clone, Copy)]
 pub struct Place {
     /// How many bytes were there.
     size: u64,
