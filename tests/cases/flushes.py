@@ -123,6 +123,7 @@ def those_who_wait_for_a_flush_take_no_processor(broker):
     watch.hold_flush = watch.flushes + 1
     invokes = [broker.send_invoke("{}") for _ in range(2)]
     until("a flush", lambda: watch.flushes == watch.hold_flush)
+    broker.until_read()
     looks = [broker.send_look(path) for path in ("/events", "/metrics", "/events")]
     broker.until_looked()
     before = broker.processor_seconds()
