@@ -220,6 +220,7 @@ def a_device_fault_ends_the_program_though_a_runtime_has_gone(broker):
 def a_device_fault_ends_the_program_though_a_caller_has_gone(broker):
     watch = fails(broker, fail_flush=2, hold_flush=2).watch
     broker.serve()
+    broker.until_all_serve()
     without = until("a number of open files that stays", broker.rests)
     invoke = broker.send_invoke("{}")
     until("a flush", lambda: watch.flushes == 2)
