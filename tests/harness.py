@@ -35,8 +35,8 @@ OK = b'{"status":"OK"}'
 # How long anything may take that has to come.
 DEADLINE = 60
 
-# The limits of a port, in seconds: for a head and for a body, and for an idle connection.
-REQUEST, IDLE = 30, 120
+# The limits of a port, in seconds: for a head and for a body, and for an idle connection; and how many connections it has open.
+REQUEST, IDLE, CONNECTIONS = 30, 120, 1100
 
 # How long a port reads on behind a refusal, in seconds. Who sends the rest later sees a connection that breaks.
 LINGER = 2

@@ -123,6 +123,7 @@ def those_who_wait_for_a_flush_take_no_processor(broker):
     watch.hold_flush = watch.flushes + 1
     invokes = [broker.send_invoke("{}") for _ in range(2)]
     until("a flush", lambda: watch.flushes == watch.hold_flush)
+    broker.until_read()
     looks = [broker.send_look(path) for path in ("/events", "/metrics", "/events")]
     broker.until_looked()
     before = broker.processor_seconds()
@@ -133,6 +134,9 @@ def those_who_wait_for_a_flush_take_no_processor(broker):
     same([one.is_answered() for one in (*invokes, *looks, parked)], 6 * [False])
     watch.let_go()
     same([one.done().status for one in (*invokes, *looks, parked)], [202, 202, 200, 200, 200, 200])
+    # What they looked at is what was there when they asked.
+    for look in looks[0], looks[2]:
+        same({event["id"] for event in look.done().json["events"]}, {invoke.done().id for invoke in invokes})
 
 
 @case()
@@ -210,6 +214,55 @@ def a_device_fault_ends_the_program_though_a_runtime_has_gone(broker):
     broker.park_and_leave(broker.send_next)
     same(broker.invoke("{}").status, 503)
     same(broker.ended(), (3, "device fault\n"))
+
+
+@case()
+def a_device_fault_ends_the_program_though_a_caller_has_gone(broker):
+    watch = fails(broker, fail_flush=2, hold_flush=2).watch
+    broker.serve()
+    broker.until_all_serve()
+    without = until("a number of open files that stays", broker.rests)
+    invoke = broker.send_invoke("{}")
+    until("a flush", lambda: watch.flushes == 2)
+    invoke.leave()
+    until("the end of the connection", lambda: broker.open_files() == without)
+    watch.let_go()
+    same(broker.ended(), (3, "device fault\n"))
+
+
+def ends_though_it_goes(broker, waiting):
+    """The device fails at its next flush, which is held. Who waits goes once a caller was told so, and reads nothing."""
+    invoke = broker.send_invoke("{}")
+    until("a flush", lambda: broker.watch.flushes == 2)
+    for environment in 0, 1:
+        broker.until_read(environment)
+    same((invoke.is_answered(), waiting.is_answered()), (False, False))
+    broker.watch.let_go()
+    same(invoke.done().status, 503)
+    waiting.leave()
+    same(broker.ended(), (3, "device fault\n"))
+
+
+@case()
+def a_device_fault_ends_the_program_though_a_caller_goes_behind_it(broker):
+    fails(broker, fail_flush=2, hold_flush=2).serve()
+    ends_though_it_goes(broker, broker.send_invoke("{}"))
+
+
+@case()
+def a_device_fault_ends_the_program_though_a_runtime_goes_behind_it(broker):
+    fails(broker, fail_flush=2, hold_flush=2).serve()
+    parked = broker.send_next()
+    broker.until_parked(1)
+    ends_though_it_goes(broker, parked)
+
+
+@case()
+def a_device_fault_ends_the_program_though_an_extension_goes_behind_it(broker):
+    fails(broker, fail_flush=2, hold_flush=2).serve()
+    parked = broker.send_extension_next(broker.extension())
+    broker.until_parked(1)
+    ends_though_it_goes(broker, parked)
 
 
 @case()

@@ -3,12 +3,19 @@ import contextlib
 import email.utils
 import http.client
 import os
+import re
+import resource
 import subprocess
 import time
 
 from harness import (
-    DEADLINE, EVENT, FEW_FILES, IDLE, INVOKE, LINGER, REQUEST, RUNTIME, Ports, Skipped, case, crowd, needs, same, sends_much, until
+    CONNECTIONS, DEADLINE, EVENT, FEW_FILES, IDLE, INVOKE, LINGER, REQUEST, RUNTIME, Asked, Ports, Skipped, case, crowd, needs, same,
+    sends_much, until
 )
+
+# The lines of an invoke before those on its body, and a request that ends its connection.
+INVOKES = f"POST {INVOKE} HTTP/1.1\r\nhost: h\r\nx-amz-invocation-type: Event\r\n"
+LAST = "GET /x HTTP/1.1\r\nhost: h\r\nconnection: close\r\n\r\n"
 
 
 def told_to_the_end(client, seconds=DEADLINE):
@@ -29,6 +36,18 @@ def told_until(client, end):
         assert more, f"the connection ended behind {told!r}"
         told += more
     return told
+
+
+def statuses_in(told):
+    """The statuses of the replies of a connection."""
+    return [int(status) for status in re.findall(rb"HTTP/1\.1 ([0-9]+) ", told)]
+
+
+def is_last(told, status):
+    """Just one reply is told. It has this status and a date, and says that its connection ends."""
+    same((statuses_in(told), told[:5]), ([status], b"HTTP/"))
+    head = told.lower().split(b"\r\n\r\n")[0].split(b"\r\n")
+    assert b"connection: close" in head and any(line.startswith(b"date: ") for line in head), told
 
 
 @case()
@@ -78,8 +97,7 @@ def a_body_in_too_many_chunks_is_refused_by_size(broker):
     broker.serve()
     began = time.monotonic()
     with broker.socket() as client:
-        head = f"POST {INVOKE} HTTP/1.1\r\nhost: h\r\nx-amz-invocation-type: Event\r\ntransfer-encoding: chunked\r\n\r\n"
-        client.sendall(head.encode())
+        client.sendall(f"{INVOKES}transfer-encoding: chunked\r\n\r\n".encode())
         with contextlib.suppress(OSError):
             for _ in range(700):
                 client.sendall(b"1\r\n1\r\n" * 100)
@@ -119,6 +137,16 @@ def a_connection_serves_many_requests(broker):
 
 
 @case()
+def requests_that_are_sent_at_once_are_answered_in_turn(broker):
+    broker.serve()
+    with broker.socket() as client:
+        oldest = "GET /broker/destinations/success HTTP/1.1\r\nhost: h\r\n\r\n"
+        client.sendall(f"{INVOKES}content-length: 2\r\n\r\n{{}}{oldest}{LAST}".encode())
+        same(statuses_in(told_to_the_end(client)), [202, 204, 404])
+    same(broker.stop(), (202, 0, ""))
+
+
+@case()
 def a_silent_client_does_not_hold_the_end(broker):
     broker.serve()
     with broker.socket() as half, broker.socket():
@@ -130,16 +158,32 @@ def a_silent_client_does_not_hold_the_end(broker):
 @case()
 def a_body_is_asked_for_where_its_length_is_not_refused(broker):
     broker.serve()
-    head = f"POST {INVOKE} HTTP/1.1\r\nhost: h\r\nx-amz-invocation-type: Event\r\nexpect: 100-continue\r\ncontent-length: "
+    head = f"{INVOKES}expect: 100-continue\r\ncontent-length: "
     with broker.socket() as client:
         client.sendall(f"{head}1048576\r\n\r\n".encode())
-        told = told_to_the_end(client)
-        assert told.startswith(b"HTTP/1.1 413 ") and told.count(b"HTTP/1.1 ") == 1, told
+        is_last(told_to_the_end(client), 413)
     with broker.socket() as client:
         client.sendall(f"{head}2\r\n\r\n".encode())
         same(told_until(client, b"\r\n\r\n"), b"HTTP/1.1 100 Continue\r\n\r\n")
         client.sendall(b"{}")
         assert told_until(client, b"\r\n\r\n").startswith(b"HTTP/1.1 202 ")
+
+
+@case()
+def a_reply_before_a_body_was_read_to_its_end_is_the_last(broker):
+    broker.serve()
+    chunks = 2 * f"1000\r\n{4096 * '1'}\r\n" + "0\r\n\r\n"
+    for sent in (
+        # All of it comes, and a good request behind it;
+        f"{INVOKES}transfer-encoding: chunked\r\n\r\n{chunks}{INVOKES}content-length: 2\r\n\r\n{{}}",
+        # and of this no more comes, which is given up long before an idle connection is.
+        f"{INVOKES}content-length: 100000\r\n\r\n{{}}",
+    ):
+        with broker.socket() as client:
+            client.sendall(sent.encode())
+            is_last(told_to_the_end(client), 413)
+    same(broker.number("commands_issued_total"), 0)
+    same(broker.stop(), (202, 0, ""))
 
 
 @case()
@@ -180,12 +224,34 @@ def an_error_with_a_long_cause_is_reported(broker):
 
 
 @case()
+def a_cause_in_a_body_is_no_part_of_a_head(broker):
+    broker.serve()
+    events = [broker.invoke("{}").id for _ in range(2)]
+    # A body begins and ends as what is left out of a head does, and behind the chunk of one a trailer stands.
+    body = f"\r\n{CAUSE}: x\r"
+    length = f"content-length: {len(body)}\r\n\r\n{body}"
+    chunk = f"transfer-encoding: chunked\r\n\r\n{len(body):x}\r\n{body}\r\n0\r\n{CAUSE}: x\r\n\r\n"
+    sent = ""
+    for event, rest in zip(events, (length, chunk)):
+        sent += f"GET {RUNTIME}/invocation/next HTTP/1.1\r\nhost: h\r\n\r\n"
+        sent += f"POST {RUNTIME}/invocation/{event}/response HTTP/1.1\r\nhost: h\r\n{CAUSE}: {900000 * 'y'}\r\n{rest}"
+    with broker.socket(1) as client:
+        client.sendall(f"{sent}{LAST}".encode())
+        same(statuses_in(told_to_the_end(client)), [200, 202, 200, 202, 404])
+    for event in events:
+        record = broker.record().json
+        same((record["requestContext"]["requestId"], record["responsePayload"]), (event, body))
+        same(broker.delete(event).status, 204)
+
+
+@case()
 def a_head_that_is_too_long_is_told_so(broker):
     broker.serve()
-    for environment in 0, 1:
-        for size in (70000, 5000000):
-            answer = sends_much(broker.ask, "GET", "/x", None, {"x": size * "y"}, environment)
-            same((answer.status, answer.headers["Connection"]), (431, "close"))
+    for environment, name, size in (
+        (0, "x", 70000), (0, "x", 5000000), (1, "x", 70000), (1, "x", 5000000), (1, CAUSE, 1200000)
+    ):
+        answer = sends_much(broker.ask, "GET", "/x", None, {name: size * "y"}, environment)
+        same((answer.status, answer.headers["Connection"]), (431, "close"))
     same(sends_much(broker.ask, "GET", "/x", None, {CAUSE: 70000 * "y"}).status, 431)
     same(broker.ask("GET", "/x", None, {CAUSE: 70000 * "y"}, 1).status, 404)
 
@@ -355,8 +421,8 @@ def java_that_goes_on_after_a_large_body_loses_nothing(broker):
 # Limits of time, and of open files
 
 def ends_at(client, began, limit, fewer=1):
-    """What a client is told up to the end of its connection, which does not come before this limit has passed since then."""
-    told = told_to_the_end(client, limit + 2 * DEADLINE)
+    """What a client is told up to the end of its connection, which comes when this limit has passed since then, and no longer one."""
+    told = told_to_the_end(client, limit + DEADLINE)
     took = time.monotonic() - began
     assert took > limit - fewer, f"it took {took:.1f} s"
     return told
@@ -389,10 +455,8 @@ def a_body_that_is_cut_off_is_answered_408(broker):
     broker.serve()
     began = time.monotonic()
     with broker.socket() as client:
-        head = f"POST {INVOKE} HTTP/1.1\r\nhost: h\r\nx-amz-invocation-type: Event\r\ncontent-length: 9\r\n\r\n"
-        client.sendall(f"{head}{{}}".encode())
-        said = ends_at(client, began, REQUEST)
-        assert said.startswith(b"HTTP/1.1 408 ") and b"\r\nconnection: close\r\n" in said.lower(), said
+        client.sendall(f"{INVOKES}content-length: 9\r\n\r\n{{}}".encode())
+        is_last(ends_at(client, began, REQUEST), 408)
     same(broker.stop(), (202, 0, ""))
 
 
@@ -402,7 +466,8 @@ def an_idle_connection_is_closed(broker):
     began = time.monotonic()
     with broker.socket() as new, broker.socket() as used:
         used.sendall(b"GET /x HTTP/1.1\r\nhost: h\r\n\r\n")
-        assert b" 404 " in told_until(used, b"}")
+        told = told_until(used, b"}")
+        assert told.startswith(b"HTTP/1.1 404 ") and b"\r\nconnection: " not in told.lower(), told
         same(ends_at(new, began, REQUEST), b"")
         same(ends_at(used, began, IDLE), b"")
 
@@ -416,6 +481,29 @@ def a_parked_poll_outlives_all_limits(broker):
     time.sleep(IDLE + 2 * REQUEST)
     accepted = broker.invoke("{}")
     same(parked.done().id, accepted.id)
+
+
+@case()
+def who_comes_when_all_connections_are_taken_waits_for_the_end_of_one(broker):
+    if resource.getrlimit(resource.RLIMIT_NOFILE)[0] < 3 * CONNECTIONS:
+        raise Skipped(f"fewer than {3 * CONNECTIONS} files may be open")
+    broker.serve()
+
+    def served(client):
+        client.sendall(b"GET /x HTTP/1.1\r\nhost: h\r\n\r\n")
+        same(statuses_in(told_until(client, b"}")), [404])
+        return client
+
+    with contextlib.ExitStack() as clients:
+        first, second, *_ = [served(clients.enter_context(broker.socket())) for _ in range(CONNECTIONS)]
+        late = Asked(broker.port, "GET", "/x")
+        for _ in range(2):
+            # Behind its reply the port's thread has seen who came before.
+            served(first)
+        same(late.is_answered(), False)
+        second.close()
+        same(late.done().status, 404)
+    same(broker.stop(), (202, 0, ""))
 
 
 @case({"events": 64})

@@ -4,7 +4,7 @@ import socket
 import threading
 import time
 
-from harness import DEADLINE, INVOKE, case, same, until
+from harness import DEADLINE, EVENT, INVOKE, RUNTIME, case, same, until
 
 
 def all_of(broker, path, key="id"):
@@ -22,7 +22,7 @@ def all_of(broker, path, key="id"):
 def an_operator_is_shown_what_becomes_of_events(broker):
     broker.serve()
     same((broker.look("/healthz").status, broker.look("/healthz").body), (200, b"ok\n"))
-    same(broker.look("/events").json, {"events": [], "next": None})
+    same(broker.look("/events").body, b'{"events":[],"next":null}')
     good, bad, waits = (broker.invoke(body).id for body in ('{"a":1}', '{\n"a":\r\n2}', "3"))
     same(all_of(broker, "/events?limit=2"), [good, bad, waits])
     same(broker.next().id, good)
@@ -37,7 +37,8 @@ def an_operator_is_shown_what_becomes_of_events(broker):
         same(broker.look(f"/events/{id}").json["record"], json.loads(lines[0]))
         same(all_of(broker, f"/events?standing={side}"), [id])
     same(all_of(broker, "/events?standing=waiting"), [waits])
-    same(broker.look(f"/events/{waits}").json["payload"], "3")
+    same([broker.look(f"/events/{waits}").json[name] for name in ("payload", "record")], ["3", None])
+    assert b'\nlambda_broker_events{standing="waiting"} 1\n' in broker.look("/metrics").body
     told = broker.numbers()
     wanted = {
         'events{standing="waiting"}': 1,
@@ -168,6 +169,7 @@ def what_an_operator_may_not_ask_is_refused_by_name(broker):
     unknown = "00000000-0000-4000-8000-000000000009"
     wanted = {
         "/x": 404,
+        f"{RUNTIME}/invocation/next": 404,
         "/events/": 400,
         "/events/x": 400,
         f"/events/{unknown}": 404,
@@ -176,11 +178,14 @@ def what_an_operator_may_not_ask_is_refused_by_name(broker):
         "/events?limit=0": 400,
         "/events?limit=1001": 400,
         "/events?limit=-1": 400,
+        "/events?limit=x": 400,
         "/events?limit=1&limit=2": 400,
         "/events?standing=dead": 400,
         "/events?after=x": 400,
+        "/events?a=b": 400,
         "/metrics?a=b": 400,
         "/records/success?standing=all": 400,
+        "/records": 404,
         "/records/other": 404,
     }
     told = {path: broker.look(path) for path in wanted}
@@ -188,6 +193,9 @@ def what_an_operator_may_not_ask_is_refused_by_name(broker):
     same(all(reply.body.strip() for reply in told.values()), True)
     for method in ("POST", "PUT", "DELETE", "HEAD"):
         same(broker.look("/events", method).status, 405)
+    same(broker.look(INVOKE, "POST", EVENT).status, 405)
+    same((broker.look("/events").json["events"], broker.look("/healthz").body), ([], b"ok\n"))
+    same(broker.number("commands_issued_total"), 0)
     same(broker.invoke("{}").status, 202)
     same(broker.stop(), (202, 0, ""))
 

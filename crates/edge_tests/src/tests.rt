@@ -1,7 +1,6 @@
 // What is tested, by folder or file; `house` opens an office on a disk in memory for a story to happen in.
 mod files;
 mod house;
-mod limits;
 mod meters;
 mod polls;
 mod threads;

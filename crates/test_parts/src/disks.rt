@@ -1,4 +1,4 @@
-// A disk in memory that tells what it does, and halls over it.
+// A disk in memory that tells what it does, and a hall over it.
 ghost use Rattle.std.specs.Prelude.{◌≡◌, [], IfOk};
 ghost use Rattle.group_commit.specs.Broker.{pending_of, settings_of};
 ghost use Rattle.hall_core.specs.Fresh.{IsFresh};
@@ -45,11 +45,11 @@ fn settings(alloc: Global) -> Result<Settings, AllocError> {
     })
 }
 
-/// How many sectors a disk of the tests has.
-pub const SECTORS: u64 = 64;
+// How many sectors a disk of the tests has.
+const SECTORS: u64 = 64;
 
-/// Formats a disk with the settings of all tests.
-pub fn format_disk<D: Disk>(alloc: Global, disk: &mut D) -> Result<(), Fail> {
+// Formats a disk with the settings of all tests.
+fn format_disk<D: Disk>(alloc: Global, disk: &mut D) -> Result<(), Fail> {
     let settings = settings(alloc)?;
     if settings.check().is_err() {
         return Err(Fail::new("the settings are not good"));
@@ -194,8 +194,8 @@ pub fn hall(alloc: Global, watch: &Arc<Watch>) -> Result<Hall<Broker<TestDisk>>,
     hall_over(alloc, WatchedDisk { inner, watch })
 }
 
-/// A hall over a formatted disk.
-pub fn hall_over<D: Disk + Drop>(alloc: Global, disk: D) -> Result<Hall<Broker<D>>, Fail>
+// A hall over a formatted disk.
+fn hall_over<D: Disk + Drop>(alloc: Global, disk: D) -> Result<Hall<Broker<D>>, Fail>
     ensures nothing { IfOk result (λ hall. pending_of hall.issuer ≡ []) }
     ensures fresh { IfOk result (λ hall. IsFresh (settings_of hall.issuer) hall) }
 {

@@ -1,15 +1,10 @@
-//! What the tests of the edge share: a disk that can wait and fail, halls over it, and clients over loopback.
+//! What the tests of the edge share: a disk that can wait and fail, a hall over it, and the paths of their files.
 //!
-//! It stands below `edge_tests` and `port_tests`, which have no code of their own beside tests.
+//! It stands below `edge_tests`, which has no code of its own beside tests.
 #![tactic(auto)]
 
-mod clients;
 mod disks;
 mod paths;
 
-pub use clients::{Doors, Told, ask, hear, listen, send};
-pub use disks::{
-    MOST_TURNS, NO_TROUBLE, SECTORS, TestDisk, Trouble, Watch, WatchedDisk, format_disk, hall,
-    hall_over,
-};
+pub use disks::{MOST_TURNS, NO_TROUBLE, TestDisk, Trouble, Watch, WatchedDisk, hall};
 pub use paths::path_of;

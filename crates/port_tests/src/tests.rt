@@ -1,4 +1,0 @@
-// What is tested, and a gate for a committer.
-mod expecting;
-mod gate;
-mod ports;
