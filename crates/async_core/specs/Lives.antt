@@ -64,6 +64,14 @@ collects id c = kind_is_collect c.kind && names id c
 unfoldable pub life : List ℕ → List Command → List Command
 life id history = filter (names id) (after_last (collects id) history)
 
+abbrev pub has_begun : List Command → Bool
+has_begun [] = false
+has_begun (c ∷ commands) = true
+
+-- the event was accepted, and not collected since: its life has begun
+abbrev pub is_held : List ℕ → List Command → Bool
+is_held id history = has_begun (life id history)
+
 -- ## What a life says of its event
 
 -- when the event was accepted

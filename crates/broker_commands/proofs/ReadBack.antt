@@ -7,7 +7,8 @@ use Rattle.invoke_records.specs.declared.snapshot.Snapshot.{Snapshot}
 use Rattle.invoke_records.specs.declared.version.Version.{Version}
 use Rattle.async_core.specs.State.{State}
 use Rattle.checkpoint.specs.declared.error.OpenError.{OpenError}
-use Rattle.checkpoint.specs.Image.{DiskImage, read_image, live_in, HasGeneration}
+use Rattle.checkpoint.specs.Image.{DiskImage, read_image, HasGeneration}
+use Rattle.checkpoint.specs.ReadSteps.{live_read}
 use Rattle.checkpoint.specs.Live.{RecoversTo, is_new}
 use Rattle.group_commit.specs.Migrating.{Migrates}
 use Rattle.audit_report.specs.declared.report.Report.{Report}
@@ -22,7 +23,7 @@ table_read other (Err why) = other
 table_there : (s : Settings) (table : Snapshot) (bytes : List ℕ) (image : DiskImage) → RecoversTo s table bytes → read_image bytes ≡ Ok image
     → image.live.table ≡ table
 unfolding table_read
-table_there s table bytes image recovers reads = ap (table_read table) (sym (ap live_in reads) ∙ is_new s table bytes recovers)
+table_there s table bytes image recovers reads = ap (table_read table) (sym (ap live_read reads) ∙ is_new s table bytes recovers)
 
 generation_there : (generation : ℕ) (bytes : List ℕ) (image : DiskImage) → HasGeneration generation bytes → read_image bytes ≡ Ok image
     → image.live.generation ≡ generation

@@ -14,7 +14,8 @@ use Rattle.gate_journal.specs.Frames.{is_open, sectors_for, Frames, frames_in, f
 use Rattle.gate_journal.specs.Journal as journal
 use Rattle.checkpoint.specs.declared.header.Header.{Header}
 use Rattle.checkpoint.specs.declared.opened.Opened.{Opened}
-use Rattle.checkpoint.specs.Image.{SegmentImage, DiskImage, half, header_at, snapshot_of, area_of, with_table, segment_at, open_header, read_image, folded, folded_in}
+use Rattle.checkpoint.specs.Image.{SegmentImage, DiskImage, half, header_at, snapshot_of, area_of, segment_at, open_header, read_image, folded, folded_in}
+use Rattle.checkpoint.specs.ReadSteps.{with_table}
 use Rattle.checkpoint.specs.Live.{IsLive, RecoversTo, settings_of, reads_as, as_new}
 use Rattle.checkpoint.proofs.Segments.{snapshot_same, behind_snapshot}
 use Rattle.checkpoint.specs.Held.{AreSides}

@@ -15,7 +15,8 @@ use Rattle.checkpoint.specs.declared.error.OpenError.{OpenError}
 use Rattle.checkpoint.specs.declared.error.OpenError.TheVariants.{NotFormatted}
 use Rattle.async_core.specs.Limits.{most_snapshot, is_within}
 use Rattle.async_core.specs.laws.Limits.{empty_fit}
-use Rattle.checkpoint.specs.Image.{SegmentImage, DiskImage, HasGeneration, segment_sectors, least_sectors, segment_text, open_header, with_older, by_headers, read_image, live_in, if_new, recovered}
+use Rattle.checkpoint.specs.Image.{SegmentImage, DiskImage, HasGeneration, segment_sectors, least_sectors, segment_text, open_header, read_image, recovered}
+use Rattle.checkpoint.specs.ReadSteps.{with_older, by_headers, live_read, new_read}
 use Rattle.sector_disk.specs.Disk.{DiskView}
 use Rattle.checkpoint.specs.Formatting.{IsFormatting}
 use Rattle.checkpoint.specs.FormatSteps.{HoldsFirst, IsClosed, IsBeingFormatted}
@@ -74,7 +75,7 @@ module _ (s : Settings) (good : bad_field s ≡ None) (sectors : ℕ) (room : le
   -- a disk that was formatted recovers to it
   pub empty_recovers : recovered image ≡ Ok (record { settings = s; table = empty_table s })
   unfolding recovered
-  empty_recovers = ap (λ (r : Result DiskImage OpenError). if_new (live_in r)) first_read
+  empty_recovers = ap (λ (r : Result DiskImage OpenError). new_read (live_read r)) first_read
 
   pub empty_generation : HasGeneration 1 image
   empty_generation = subst (λ (r : Result DiskImage OpenError). IsOkAnd r (λ image. image.live.generation ≡ 1)) (sym first_read) refl

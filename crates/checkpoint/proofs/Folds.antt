@@ -9,7 +9,8 @@ use Rattle.gate_journal.specs.Frames.{behind_gate}
 use Rattle.checkpoint.specs.declared.error.OpenError.{OpenError}
 use Rattle.invoke_records.specs.declared.version.Version.{Version}
 use Rattle.invoke_records.specs.declared.version.Version.TheVariants.{Two}
-use Rattle.checkpoint.specs.Image.{legal_or_damaged, folded, next_to, kinds_in, folded_in}
+use Rattle.checkpoint.specs.Image.{folded, kinds_in, folded_in}
+use Rattle.checkpoint.specs.ReadSteps.{legal_or_damaged, next_to}
 
 -- the value of a result that is Ok
 pub value_of : {A E : Type 0} (r : Result A E) → IsOk r → (x : A) × (r ≡ Ok x)

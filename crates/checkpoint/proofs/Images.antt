@@ -8,7 +8,8 @@ use Rattle.checkpoint.specs.declared.header.Header.{Header}
 use Rattle.checkpoint.specs.declared.choosing.Found.{Found}
 use Rattle.checkpoint.specs.declared.error.OpenError.{OpenError}
 use Rattle.checkpoint.specs.declared.error.OpenError.TheVariants.{NotFormatted}
-use Rattle.checkpoint.specs.Image.{SegmentImage, DiskImage, sector_at, header_in, half, or_damaged, open_header, is_later_than, in_order, found_at, chosen, with_older, segments_in, by_headers, segment_at, read_image}
+use Rattle.checkpoint.specs.Image.{SegmentImage, DiskImage, sector_at, header_in, half, open_header, is_later_than, in_order, found_at, chosen, segment_at, read_image}
+use Rattle.checkpoint.specs.ReadSteps.{or_damaged, with_older, segments_in, by_headers}
 use Rattle.checkpoint.specs.Held.{AreSides}
 
 -- the gate at this sector is open

@@ -9,7 +9,8 @@ use Rattle.checkpoint.specs.declared.choosing.Found.{Found}
 use Rattle.checkpoint.specs.declared.error.OpenError.{OpenError}
 use Rattle.checkpoint.specs.declared.segment.Segment.{Segment}
 use Rattle.checkpoint.specs.declared.opened.Opened.{Opened}
-use Rattle.checkpoint.specs.Image.{SegmentImage, DiskImage, with_older, segments_in, area_of, with_table, found_in, read_image, folded_in, live_in, if_new, recovered}
+use Rattle.checkpoint.specs.Image.{SegmentImage, DiskImage, area_of, found_in, read_image, folded_in, recovered}
+use Rattle.checkpoint.specs.ReadSteps.{with_older, segments_in, with_table, live_read, new_read}
 use Rattle.checkpoint.specs.Live.{IsLiveIn}
 use Rattle.checkpoint.specs.Opening.{Refuses}
 use Rattle.checkpoint.specs.OpenSteps.{IsRead, Opens, IsOpened, AreBoth, IsOpenedAs}
@@ -20,7 +21,7 @@ use Rattle.checkpoint.proofs.Segments.{behind_snapshot}
 -- what is wrong with what an image holds is wrong with what it recovers to
 pub image_refused : (content : List ℕ) (why : OpenError) → Refuses why (read_image content) → Refuses why (recovered content)
 unfolding recovered
-image_refused content why = refuses_along why (read_image content) (if_new (live_in (read_image content))) (λ e is. ap (λ (r : Result DiskImage OpenError). if_new (live_in r)) is)
+image_refused content why = refuses_along why (read_image content) (new_read (live_read (read_image content))) (λ e is. ap (λ (r : Result DiskImage OpenError). new_read (live_read r)) is)
 
 pub opened_replays : (segment : Segment) (other_open : Bool) (opened : Opened) (snapshot : Snapshot) (commands : List Command) (opens : Opens segment other_open opened snapshot commands)
     → replay opened.settings snapshot commands ≡ Some opens.table

@@ -15,7 +15,8 @@ use Rattle.gate_journal.specs.Frames.{sectors_for, Frames, frames_in, frames_at}
 use Rattle.checkpoint.specs.declared.header.Header.{Header}
 use Rattle.checkpoint.specs.declared.error.OpenError.{OpenError}
 use Rattle.invoke_records.specs.declared.version.Version.{Version}
-use Rattle.checkpoint.specs.Image.{SegmentImage, are_zeros, most_snapshot_in, segment_sectors_in, allows, version_byte, version_named, header_at, header_with, header_in, snapshot_of, area_of, or_damaged, with_table, with_frames, folded_in, segment_at, open_header}
+use Rattle.checkpoint.specs.Image.{SegmentImage, are_zeros, most_snapshot_in, segment_sectors_in, allows, version_byte, version_named, header_at, header_with, header_in, snapshot_of, area_of, folded_in, segment_at, open_header}
+use Rattle.checkpoint.specs.ReadSteps.{or_damaged, with_table, with_frames}
 use Rattle.checkpoint.proofs.Segments.{snapshot_same}
 use Rattle.checkpoint.proofs.Images.{is_open_at, behind_gate, shut_header, header_or_damage}
 

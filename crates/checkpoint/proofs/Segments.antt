@@ -6,7 +6,8 @@ use Rattle.invoke_records.specs.Reading.{whole_at}
 use Rattle.gate_journal.specs.Frames.{sectors_for, Frames, frames_in}
 use Rattle.checkpoint.specs.declared.header.Header.{Header}
 use Rattle.checkpoint.specs.declared.error.OpenError.TheVariants.{Damaged}
-use Rattle.checkpoint.specs.Image.{within_limits, snapshot_of, area_of, or_damaged, with_frames, segment_at}
+use Rattle.checkpoint.specs.Image.{within_limits, snapshot_of, area_of, segment_at}
+use Rattle.checkpoint.specs.ReadSteps.{or_damaged, with_frames}
 
 -- a snapshot is read from its sectors alone
 pub snapshot_front : (header : Header) (bytes : List ℕ) → snapshot_of header (take (512 * sectors_for header.size) bytes) ≡ snapshot_of header bytes

@@ -16,7 +16,8 @@ use Rattle.checkpoint.specs.declared.header.Header.{Header}
 use Rattle.checkpoint.specs.declared.choosing.Found.{Found}
 use Rattle.checkpoint.specs.declared.error.OpenError.{OpenError}
 use Rattle.checkpoint.specs.declared.error.OpenError.TheVariants.{NotFormatted, Damaged}
-use Rattle.checkpoint.specs.Image.{SegmentImage, DiskImage, or_damaged, legal_or_damaged, folded, next_to, kinds_in, folded_in, area_of, with_table, with_frames, snapshot_in, segment_at, header_in, open_header, found_at, is_later_than, in_order, found_in, with_older, segments_in, by_headers, read_image, live_in, if_new, recovered}
+use Rattle.checkpoint.specs.Image.{SegmentImage, DiskImage, folded, kinds_in, folded_in, area_of, snapshot_in, segment_at, header_in, open_header, found_at, is_later_than, in_order, found_in, read_image, recovered}
+use Rattle.checkpoint.specs.ReadSteps.{or_damaged, legal_or_damaged, next_to, with_table, with_frames, with_older, segments_in, by_headers, live_read, new_read}
 use Rattle.checkpoint.specs.FormatSteps.{IsClosed}
 use Rattle.checkpoint.proofs.Images.{is_open_at, shut_header, behind_gate, header_is_not, by_both}
 
@@ -128,11 +129,11 @@ none_there half image (Ok (Some a)) (Ok (Some b)) one two is = absurd (chosen_te
 
 -- ## What is recovered
 
-state_tells : (version : Version) (state : State) → TellsMore (if_new (Ok (version, state)))
+state_tells : (version : Version) (state : State) → TellsMore (new_read (Ok (version, state)))
 state_tells (One policy) state is = absurd cc
 state_tells Two state is = absurd cc
 
-unread : (read : Result DiskImage OpenError) → if_new (live_in read) ≡ Err NotFormatted → read ≡ Err NotFormatted
+unread : (read : Result DiskImage OpenError) → new_read (live_read read) ≡ Err NotFormatted → read ≡ Err NotFormatted
 unread (Err why) is = same_error why NotFormatted is
 unread (Ok image) is = absurd (state_tells image.live.version (record { settings = image.live.settings; table = image.live.table }) is)
 

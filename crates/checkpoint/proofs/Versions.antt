@@ -10,7 +10,8 @@ use Rattle.async_core.specs.State.{State}
 use Rattle.checkpoint.specs.declared.opened.Opened.{Opened}
 use Rattle.checkpoint.specs.declared.error.OpenError.{OpenError}
 use Rattle.checkpoint.specs.declared.error.OpenError.TheVariants.{NotFormatted, Damaged, OldVersion}
-use Rattle.checkpoint.specs.Image.{read_as, if_new, recovered}
+use Rattle.checkpoint.specs.Image.{read_as, recovered}
+use Rattle.checkpoint.specs.ReadSteps.{new_read}
 use Rattle.checkpoint.specs.Live.{version_of, settings_of, HasRoomFor, HasRoom, ReadsAs, IsLiveIn, as_new}
 use Rattle.checkpoint.specs.Opening.{Refuses, IsReadIn, IsRecovered, TellsNotFormatted, TellsDamage, TellsOld}
 use Rattle.checkpoint.proofs.Refusals.{refuses_along}
@@ -33,7 +34,7 @@ is_recovered old new opened snapshot commands is (table, replays, reads, live) =
   subst (λ (v : Version). IsLiveIn v new opened table) is live,
 )
 
-old_alone : (version : Version) (state : State) → is_old version ≡ true → if_new (Ok (version, state)) ≡ Err OldVersion
+old_alone : (version : Version) (state : State) → is_old version ≡ true → new_read (Ok (version, state)) ≡ Err OldVersion
 old_alone (One policy) state is = refl
 old_alone Two state is = absurd cc
 
@@ -41,12 +42,12 @@ old_alone Two state is = absurd cc
 pub told_old : (old new : DiskView) (opened : Opened) (snapshot : Snapshot) (commands : List Command) → is_old (version_of opened) ≡ true → IsReadIn old new opened snapshot commands
     → recovered old.content ≡ Err OldVersion
 unfolding recovered
-told_old old new opened snapshot commands is (table, replays, reads, live) = ap if_new reads ∙ old_alone (version_of opened) (record { settings = settings_of opened; table = table }) is
+told_old old new opened snapshot commands is (table, replays, reads, live) = ap new_read reads ∙ old_alone (version_of opened) (record { settings = settings_of opened; table = table }) is
 
 -- what refuses a disk of either version refuses its recovery
 refused : (content : List ℕ) (why : OpenError) → Refuses why (read_as content) → Refuses why (recovered content)
 unfolding recovered
-refused content why = refuses_along why (read_as content) (if_new (read_as content)) (λ e is. ap if_new is)
+refused content why = refuses_along why (read_as content) (new_read (read_as content)) (λ e is. ap new_read is)
 
 same_cause : {A : Type 0} (a b : OpenError) → ◌≡◌ {A = Result A OpenError} (Err a) (Err b) → a ≡ b
 same_cause a b is = cc

@@ -1,5 +1,5 @@
 -- What an image of a disk reads to, in either version of the format, and what it recovers to: by its bytes.
-use Rattle.std.specs.Prelude.{◌≡◌, ℕ, ◌+◌, ◌*◌, ◌/◌, ◌^◌, ◌==◌, nat_le, nat_lt, nat_eq, Bool, true, false, not, ◌&&◌, ◌||◌, List, [], ◌∷◌, ◌++◌, length, take, drop, replicate, codes, slice_index, Option, Some, None, Result, Ok, Err, if◌then◌else◌, option_map, map}
+use Rattle.std.specs.Prelude.{◌≡◌, ℕ, ◌+◌, ◌*◌, ◌/◌, ◌^◌, ◌==◌, nat_le, nat_lt, nat_eq, Bool, true, false, not, ◌&&◌, ◌||◌, List, [], ◌∷◌, ◌++◌, length, take, drop, replicate, codes, slice_index, Option, Some, None, is_none, ok_or, Result, Ok, Err, if◌then◌else◌, map}
 use Rattle.std.specs.Result.{IsOkAnd}
 use Rattle.std.specs.List.{list_all, starts_with}
 use Rattle.std.specs.Int.{w32, w64, to_be_bytes, from_be_bytes}
@@ -14,7 +14,6 @@ use Rattle.invoke_records.specs.declared.error.RecordError.{RecordError}
 use Rattle.invoke_records.specs.Spelling.{settings_text, snapshot_text}
 use Rattle.invoke_records.specs.Reading.{settings_at, whole_at}
 use Rattle.invoke_records.specs.Versions.{is_old, most_payload, row_front, snapshot_front, has_kind}
-use Rattle.async_core.specs.declared.illegal.Illegal.{Illegal}
 use Rattle.async_core.specs.State.{State}
 use Rattle.async_core.specs.Rules.{refusal_at, table_after}
 use Rattle.async_core.specs.Limits.{most_snapshot, is_within}
@@ -24,6 +23,12 @@ use Rattle.checkpoint.specs.declared.header.Header.{Header}
 use Rattle.checkpoint.specs.declared.choosing.Found.{Found}
 use Rattle.checkpoint.specs.declared.error.OpenError.{OpenError}
 use Rattle.checkpoint.specs.declared.error.OpenError.TheVariants.{NotFormatted, Damaged, OldVersion}
+
+infixl 10 ◌>>=◌
+-- the rest of a reading, where what comes first went well; else what is wrong there
+abbrev pub ◌>>=◌ : {A B : Type 0} → Result A OpenError → (A → Result B OpenError) → Result B OpenError
+(Ok x) >>= rest = rest x
+(Err why) >>= rest = Err why
 
 -- ## Sizes
 
@@ -132,34 +137,22 @@ abbrev pub segment_text : ℕ → Settings → Snapshot → List ℕ
 segment_text generation s snapshot =
     header_text generation (length (snapshot_text snapshot)) s ++ (padded (snapshot_text snapshot) ++ replicate 512 0)
 
--- a value, or damage at this sector
-abbrev pub or_damaged : {A B : Type 0} → ℕ → Option A → (A → Result B OpenError) → Result B OpenError
-or_damaged sector None rest = Err (Damaged sector)
-or_damaged sector (Some x) rest = rest x
-
--- where the command is legal, the rest, else damage at its gate
-abbrev pub legal_or_damaged : {A : Type 0} → ℕ → Option Illegal → Result A OpenError → Result A OpenError
-legal_or_damaged gate None rest = rest
-legal_or_damaged gate (Some why) rest = Err (Damaged gate)
-
 -- the table after these commands, each behind its gate; where one is not legal after those before it, damage at its gate
 abbrev pub folded : Settings → Snapshot → List (ℕ × Command) → Result Snapshot OpenError
 folded s table [] = Ok table
-folded s table (c ∷ commands) = legal_or_damaged c.0 (refusal_at s table c.1) (folded s (table_after s table c.1) commands)
-
--- where this went well, the rest
-abbrev pub next_to : {A : Type 0} → Result (Unit {0}) OpenError → Result A OpenError → Result A OpenError
-next_to (Err why) rest = Err why
-next_to (Ok done) rest = rest
+folded s table ((gate, command) ∷ later) =
+    if is_none (refusal_at s table command) then folded s (table_after s table command) later else Err (Damaged gate)
 
 -- each command is of a kind that this version has; else the gate of the first that is not is damaged
 abbrev pub kinds_in : Version → List (ℕ × Command) → Result (Unit {0}) OpenError
 kinds_in version [] = Ok tt
-kinds_in version (c ∷ commands) = if has_kind version c.1.kind then kinds_in version commands else Err (Damaged c.0)
+kinds_in version ((gate, command) ∷ later) = if has_kind version command.kind then kinds_in version later else Err (Damaged gate)
 
 -- the table after the commands of a segment of this version
 abbrev pub folded_in : Version → Settings → Snapshot → List (ℕ × Command) → Result Snapshot OpenError
-folded_in version s table commands = next_to (kinds_in version commands) (folded s table commands)
+folded_in version s table commands = do
+  known ← kinds_in version commands
+  folded s table commands
 
 -- what a segment holds: its version, where it begins, its snapshot, its frames, and the table after their commands
 pub record SegmentImage : Type 0 where
@@ -185,34 +178,32 @@ area_of base sectors header snapshot = record {
   end = base + sectors;
 }
 
--- the segment of these parts, where each command of its frames is legal
-abbrev pub with_table : ℕ → Header → Snapshot → Area → Frames → Result Snapshot OpenError → Result SegmentImage OpenError
-with_table base header snapshot area frames (Err why) = Err why
-with_table base header snapshot area frames (Ok table) = Ok (record {
-  version = header.version;
-  base = base;
-  generation = header.generation;
-  settings = header.settings;
-  snapshot = snapshot;
-  area = area;
-  frames = frames;
-  table = table;
-})
-
-abbrev pub with_frames : ℕ → Header → Snapshot → Area → Result Frames ℕ → Result SegmentImage OpenError
-with_frames base header snapshot area (Err sector) = Err (Damaged sector)
-with_frames base header snapshot area (Ok frames) =
-    with_table base header snapshot area frames (folded_in header.version header.settings snapshot frames.commands)
-
 -- the snapshot from this sector of an image on, of which the header speaks
 abbrev pub snapshot_in : ℕ → Header → List ℕ → Option Snapshot
 snapshot_in sector header image = snapshot_of header (drop (512 * sector) image)
 
--- what the segment holds that begins at this sector, has so many, and has this header
+-- what was read, or damage at the sector that is told
+abbrev pub undamaged : {A : Type 0} → Result A ℕ → Result A OpenError
+undamaged (Ok x) = Ok x
+undamaged (Err sector) = Err (Damaged sector)
+
+-- what the segment holds that begins at this sector, has so many, and has this header: its snapshot, the frames behind that, and
+-- the table after their commands
 unfoldable pub segment_at : ℕ → ℕ → Header → List ℕ → Result SegmentImage OpenError
-segment_at base sectors header image =
-    or_damaged (base + 2) (snapshot_in (base + 2) header image) (λ snapshot.
-    with_frames base header snapshot (area_of base sectors header snapshot) (frames_in (area_of base sectors header snapshot) image))
+segment_at base sectors header image = do
+  snapshot ← ok_or (snapshot_in (base + 2) header image) (Damaged (base + 2))
+  frames ← undamaged (frames_in (area_of base sectors header snapshot) image)
+  table ← folded_in header.version header.settings snapshot frames.commands
+  Ok (record {
+    version = header.version;
+    base = base;
+    generation = header.generation;
+    settings = header.settings;
+    snapshot = snapshot;
+    area = area_of base sectors header snapshot;
+    frames = frames;
+    table = table;
+  })
 
 -- ## An image
 
@@ -236,7 +227,9 @@ header_in sector sectors image = header_at sectors (sector_at sector image)
 -- the header of the segment that begins at this sector and has so many, if its gate is open
 unfoldable pub open_header : ℕ → ℕ → List ℕ → Result (Option Header) OpenError
 open_header base sectors image =
-    if is_open (sector_at base image) then or_damaged (base + 1) (header_in (base + 1) sectors image) (λ header. Ok (Some header))
+    if is_open (sector_at base image) then (do
+      header ← ok_or (header_in (base + 1) sectors image) (Damaged (base + 1))
+      Ok (Some header))
     else Ok None
 
 abbrev pub found_at : ℕ → Header → Found
@@ -262,52 +255,51 @@ chosen half (Some a) (Some b) =
     else if nat_lt b.generation a.generation then in_order (found_at 0 a) (found_at half b)
     else in_order (found_at half b) (found_at 0 a)
 
+-- what the segment holds that was found open
 abbrev pub found_in : ℕ → Found → List ℕ → Result SegmentImage OpenError
 found_in sectors found image = segment_at found.base sectors found.header image
 
--- the live segment and the older one: what is wrong with the live one is told first
-abbrev pub with_older : Result SegmentImage OpenError → Option (Result SegmentImage OpenError) → Result DiskImage OpenError
-with_older (Err why) older = Err why
-with_older (Ok live) None = Ok (record { live = live; older = None })
-with_older (Ok live) (Some (Err why)) = Err why
-with_older (Ok live) (Some (Ok older)) = Ok (record { live = live; older = Some older })
+-- what the older one holds, if one was found open
+abbrev pub older_in : ℕ → Option Found → List ℕ → Result (Option SegmentImage) OpenError
+older_in sectors None image = Ok None
+older_in sectors (Some found) image = do
+  segment ← found_in sectors found image
+  Ok (Some segment)
 
--- what the segments hold that were found open
-abbrev pub segments_in : ℕ → List ℕ → Result (Found × Option Found) OpenError → Result DiskImage OpenError
-segments_in sectors image (Err why) = Err why
-segments_in sectors image (Ok found) = with_older (found_in sectors found.0 image) (option_map (λ f. found_in sectors f image) found.1)
-
--- both headers, that of A first, and what is then read
-abbrev pub by_headers : ℕ → List ℕ → Result (Option Header) OpenError → Result (Option Header) OpenError → Result DiskImage OpenError
-by_headers half image (Err why) b = Err why
-by_headers half image (Ok a) (Err why) = Err why
-by_headers half image (Ok a) (Ok b) = segments_in half image (chosen half a b)
-
--- what an image holds: both gates are judged, then the headers of open segments, then the live one, then the older one
+-- what an image holds: the headers of A and of B are read, each behind its gate, if that is open; then it is chosen which one is
+-- live; then the live segment is read, and then the older one
 unfoldable pub read_image : List ℕ → Result DiskImage OpenError
 read_image image =
     if nat_lt (length image / 512) 6 then Err NotFormatted
-    else by_headers (half image) image (open_header 0 (half image) image) (open_header (half image) (half image) image)
+    else do
+      a ← open_header 0 (half image) image
+      b ← open_header (half image) (half image) image
+      found ← chosen (half image) a b
+      live ← found_in (half image) found.0 image
+      older ← older_in (half image) found.1 image
+      Ok (record { live = live; older = older })
 
 -- its live segment has this generation
 abbrev pub HasGeneration : ℕ → List ℕ → Type 0
 HasGeneration generation image = IsOkAnd (read_image image) (λ image. image.live.generation ≡ generation)
 
 -- the version of the live segment, the settings, and the table
-abbrev pub live_in : Result DiskImage OpenError → Result (Version × State) OpenError
-live_in (Err why) = Err why
-live_in (Ok image) = Ok (image.live.version, record { settings = image.live.settings; table = image.live.table })
+abbrev pub live_in : DiskImage → Version × State
+live_in image = (image.live.version, record { settings = image.live.settings; table = image.live.table })
 
 -- what an image reads to, as version 1 or 2: which of them, the settings and the table, or what is wrong and where
 abbrev pub read_as : List ℕ → Result (Version × State) OpenError
-read_as image = live_in (read_image image)
+read_as image = do
+  held ← read_image image
+  Ok (live_in held)
 
 -- version 2 alone is recovered: of a disk of version 1 it is told that it is old
-abbrev pub if_new : Result (Version × State) OpenError → Result State OpenError
-if_new (Err why) = Err why
-if_new (Ok (One policy, state)) = Err OldVersion
-if_new (Ok (Two, state)) = Ok state
+abbrev pub if_new : Version × State → Result State OpenError
+if_new (One policy, state) = Err OldVersion
+if_new (Two, state) = Ok state
 
 -- what an image recovers to: the settings and the table, or what is wrong and where
 unfoldable pub recovered : List ℕ → Result State OpenError
-recovered image = if_new (read_as image)
+recovered image = do
+  found ← read_as image
+  if_new found

@@ -7,5 +7,6 @@ pub mod Older
 pub mod Opening
 pub mod OpenSteps
 pub mod Pieces
+pub mod ReadSteps
 pub mod SeedSteps
 pub mod SwitchSteps

@@ -17,7 +17,8 @@ use Rattle.std.proofs.Common.{ap, ◌∙◌}
 use Rattle.async_core.specs.Limits.{is_within}
 use Rattle.async_core.specs.State.{State}
 use Rattle.checkpoint.specs.declared.error.OpenError.{OpenError}
-use Rattle.checkpoint.specs.Image.{DiskImage, read_image, read_as, live_in, if_new, recovered, segment_sectors_in}
+use Rattle.checkpoint.specs.Image.{DiskImage, read_image, read_as, recovered, segment_sectors_in}
+use Rattle.checkpoint.specs.ReadSteps.{live_read, new_read}
 
 -- the settings of the live segment
 abbrev pub settings_of : Opened → Settings
@@ -143,9 +144,9 @@ LeavesOldOrSnapshot old new was snapshot =
 -- as version 2 it is recovered
 pub as_new : (s : Settings) (table : Snapshot) (image : List ℕ) → ReadsAs Two s table image → RecoversTo s table image
 unfolding recovered
-as_new s table image reads = ap if_new reads
+as_new s table image reads = ap new_read reads
 
-if_new_ok : (read : Result (Version × State) OpenError) (state : State) → if_new read ≡ Ok state → read ≡ Ok (Two, state)
+if_new_ok : (read : Result (Version × State) OpenError) (state : State) → new_read read ≡ Ok state → read ≡ Ok (Two, state)
 if_new_ok (Err why) state is = absurd cc
 if_new_ok (Ok (One policy, other)) state is = absurd cc
 if_new_ok (Ok (Two, other)) state is = let same : other ≡ state = cc in ap (λ (s : State). Ok (Two, s)) same
@@ -160,7 +161,7 @@ pub reads_as :
     (version : Version) (s : Settings) (image : List ℕ) (what : DiskImage) (table : Snapshot) → read_image image ≡ Ok what
     → what.live.version ≡ version → what.live.settings ≡ s → what.live.table ≡ table → ReadsAs version s table image
 reads_as version s image what table reads version_is settings is =
-    ap live_in reads ∙ (λ i. Ok (version_is i, record { settings = settings i; table = is i }))
+    ap live_read reads ∙ (λ i. Ok (version_is i, record { settings = settings i; table = is i }))
 
 -- each image of a live disk reads to its table, in its version
 pub live_reads :

@@ -7,7 +7,8 @@ use Rattle.invoke_records.specs.declared.snapshot.Snapshot.{Snapshot}
 use Rattle.gate_journal.specs.Journal as journal
 use Rattle.retry_rules.specs.Settings.{bad_field}
 use Rattle.gate_journal.specs.Frames.{Frames, sectors_for}
-use Rattle.checkpoint.specs.Image.{SegmentImage, DiskImage, parts_of, segments_in, segment_sectors_in, area_of, snapshot_in, found_in, folded_in}
+use Rattle.checkpoint.specs.Image.{SegmentImage, DiskImage, parts_of, segment_sectors_in, area_of, snapshot_in, found_in, folded_in}
+use Rattle.checkpoint.specs.ReadSteps.{segments_in}
 use Rattle.checkpoint.specs.Live.{version_of, settings_of, IsLiveIn}
 use Rattle.checkpoint.specs.declared.header.Header.{Header}
 use Rattle.checkpoint.specs.declared.choosing.Found.{Found}

@@ -12,8 +12,8 @@ use Rattle.retry_rules.specs.declared.settings.Settings.{Settings}
 use Rattle.retry_rules.specs.Settings.{policy_of}
 use Rattle.invoke_records.specs.declared.command.Command.{Command}
 use Rattle.invoke_records.specs.declared.row.Answer.{Answer}
-use Rattle.async_core.specs.Lives.{is_accept, is_failure, is_push_back, collects, names, life, push_backs, answer_by, answer_after, answer_of}
-use Rattle.async_core.specs.Policies.{policy_by, last_policy, in_force, before_last}
+use Rattle.async_core.specs.Lives.{is_accept, is_failure, is_push_back, collects, accepts, names, life, push_backs, answer_by, answer_after, answer_of}
+use Rattle.async_core.specs.Policies.{policy_by, last_policy, in_force, before_acceptance}
 use Rattle.async_core.specs.History.{held_from, held, last_number, last_moment}
 
 -- ## Lists
@@ -46,19 +46,30 @@ filter_cond : {X : Type 0} (p : X → Bool) (b : Bool) (xs : List X) (c : X) →
 filter_cond p true xs c = refl
 filter_cond p false xs c = filter-append p xs (c ∷ [])
 
--- what stands before the last that passes, after one more
-before_snoc : {X : Type 0} (b : Bool) (k : ℕ) (xs : List X) (c : X) → k ≤ length xs
-    → take ((length xs + 1) - (1 + cond (not b) (1 + k) 0)) (xs ++ c ∷ []) ≡ cond b xs (take (length xs - (1 + k)) xs)
-before_snoc true k xs c le =
-    let e : (length xs + 1) - (1 + 0) ≡ length xs = omega arith in
-    ap (λ n. take n (xs ++ c ∷ [])) e ∙ take-append_seam xs (c ∷ [])
-before_snoc false k xs c le =
-    let e : (length xs + 1) - (1 + (1 + k)) ≡ length xs - (1 + k) = omega arith in
-    ap (λ n. take n (xs ++ c ∷ [])) e ∙ take-append-le (length xs - (1 + k)) xs (c ∷ []) (omega arith)
+-- what came before the event's last acceptance, with one command more in front or at the end
+before_cons : (accepted later : Bool) (c : Command) (h before : List Command) → cond (later || (accepted || false)) (c ∷ cond accepted h before) [] ≡ cond accepted (c ∷ h) (cond later (c ∷ before) [])
+before_cons true true c h before = refl
+before_cons true false c h before = refl
+before_cons false true c h before = refl
+before_cons false false c h before = refl
 
-pub before_last-snoc : {X : Type 0} (p : X → Bool) (xs : List X) (c : X) → before_last p (xs ++ c ∷ []) ≡ cond (p c) xs (before_last p xs)
-before_last-snoc p xs c =
-    rw (length-append xs (c ∷ []), suffix_len-snoc (λ x. not (p x)) xs c) (before_snoc (p c) (suffix_len (λ x. not (p x)) xs) xs c (suffix_len-le-length (λ x. not (p x)) xs))
+no_commands : (b : Bool) → [] ≡ cond {A = List Command} b [] []
+no_commands true = refl
+no_commands false = refl
+
+pub before_acceptance-snoc : (id : List ℕ) (h : List Command) (c : Command) → before_acceptance id (h ++ c ∷ []) ≡ cond (accepts id c) h (before_acceptance id h)
+before_acceptance-snoc id [] c = no_commands (accepts id c)
+before_acceptance-snoc id (x ∷ h) c =
+    rw (list_any-append (accepts id) h (c ∷ []), before_acceptance-snoc id h c) (before_cons (accepts id c) (list_any (accepts id) h) x h (before_acceptance id h))
+
+-- it is a front of the history
+front_cons : (later : Bool) (c : Command) (h before : List Command) → before ≡ take (length before) h → cond later (c ∷ before) [] ≡ take (length (cond later (c ∷ before) [])) (c ∷ h)
+front_cons true c h before is = ap (λ l. c ∷ l) is
+front_cons false c h before is = refl
+
+pub before_acceptance-front : (id : List ℕ) (h : List Command) → before_acceptance id h ≡ take (length (before_acceptance id h)) h
+before_acceptance-front id [] = refl
+before_acceptance-front id (c ∷ h) = front_cons (list_any (accepts id) h) c h (before_acceptance id h) (before_acceptance-front id h)
 
 last_policy-snoc : (before : RetryPolicy) (h : List Command) (c : Command) → last_policy before (h ++ c ∷ []) ≡ policy_by (last_policy before h) c.kind
 last_policy-snoc before [] c = refl

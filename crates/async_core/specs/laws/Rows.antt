@@ -1,11 +1,12 @@
 -- Lemmas: the rows of a legal history after one command more.
-use Rattle.std.proofs.Common.{◌≡◌, ℕ, ◌+◌, ◌≤◌, List, [], ◌∷◌, ◌++◌, length, Bool, true, false, not, ◌&&◌, cond, refl, sym, ap, ◌∙◌, arith, filter, map, add-zero, None, subst}
+use Rattle.std.proofs.Common.{◌≡◌, ℕ, ◌+◌, ◌≤◌, List, [], ◌∷◌, ◌++◌, length, Bool, true, false, not, ◌&&◌, cond, if◌then◌else◌, refl, sym, ap, ◌∙◌, arith, filter, map, add-zero, None, subst}
 use Rattle.std.specs.Str.{bytes_eq}
 use Rattle.std.proofs.lemmas.Bool.{true≢false, ltb-false, or_parts}
 use Rattle.std.proofs.lemmas.List.{map-append, append-nil}
 use Rattle.retry_rules.specs.Settings.{bad_field, is_outside, is_bad_policy}
 use Rattle.retry_rules.specs.declared.policy.RetryPolicy.{RetryPolicy}
 use Rattle.retry_rules.specs.declared.settings.Settings.{Settings}
+use Rattle.invoke_records.specs.Reading.{no_policy}
 use Rattle.invoke_records.specs.declared.command.Command.{Command}
 use Rattle.invoke_records.specs.declared.command.Kind.{Kind}
 use Rattle.invoke_records.specs.declared.command.Kind.TheVariants.{Accept, Start, Succeed, Fail, Throttle, Interrupt, Expire, Collect, Configure}
@@ -13,12 +14,12 @@ use Rattle.invoke_records.specs.declared.row.Outcome.{Outcome}
 use Rattle.invoke_records.specs.declared.row.Outcome.TheVariants.{Success, EventAgeExceeded}
 use Rattle.invoke_records.specs.declared.row.Standing.TheVariants as standing
 use Rattle.invoke_records.specs.declared.row.EventRow.{EventRow}
-use Rattle.async_core.specs.Lives.{kind_is_accept, kind_is_start, kind_is_failure, kind_is_push_back, kind_is_collect, kind_names, is_accept, is_start, is_failure, names, accepts, life, accepted, payload_of, starts, failures, push_backs, answer_of}
+use Rattle.async_core.specs.Lives.{kind_is_accept, kind_is_start, kind_is_failure, kind_is_push_back, kind_is_collect, kind_names, is_accept, is_start, is_failure, names, accepts, life, has_begun, accepted, payload_of, starts, failures, push_backs, answer_of}
 use Rattle.async_core.specs.Standings.{Rules, rules_with, standing_by}
-use Rattle.async_core.specs.Policies.{policy_by, in_force, before_last, of_life, judged_by}
+use Rattle.async_core.specs.Policies.{policy_by, in_force, before_acceptance, judged_by}
 use Rattle.async_core.specs.History.{held, standing_in, standing_of, rules_of, row_of, refusal_of, situation_of, last_moment, last_number, IsLegal}
 use Rattle.async_core.specs.Rules.{one_more, starts_by, failures_by, push_backs_by, accepted_row, row_after, change_row, remove_row, rows_after}
-use Rattle.async_core.specs.laws.Lives.{in_force-snoc, in_force-nil, before_last-snoc, life-snoc, life-nil, last_moment-snoc, last_number-snoc, last_or-snoc, held-snoc, count_by-cons, count_by-snoc, push_backs-snoc, answer_of-snoc}
+use Rattle.async_core.specs.laws.Lives.{in_force-snoc, in_force-nil, before_acceptance-snoc, before_acceptance-front, life-snoc, life-nil, last_moment-snoc, last_number-snoc, last_or-snoc, held-snoc, count_by-cons, count_by-snoc, push_backs-snoc, answer_of-snoc}
 use Rattle.async_core.specs.laws.Refusals.{NoneFails, shape_passes, clock_passes, state_passes}
 use Rattle.async_core.specs.Checks.{shape_checks}
 use Rattle.async_core.specs.laws.Shapes.{limits}
@@ -38,17 +39,21 @@ kept_life false false l c e = append-nil l
 
 -- ## By what an event is judged
 
-judged_by-snoc : (s : Settings) (h : List Command) (c : Command) (id : List ℕ) → judged_by s (h ++ c ∷ []) id ≡ of_life (life id (h ++ c ∷ [])) (cond (accepts id c) (in_force s h) (in_force s (before_last (accepts id) h)))
+-- this policy, where the life has begun
+abbrev where_begun : List Command → RetryPolicy → RetryPolicy
+where_begun l policy = if has_begun l then policy else no_policy
+
+judged_by-snoc : (s : Settings) (h : List Command) (c : Command) (id : List ℕ) → judged_by s (h ++ c ∷ []) id ≡ where_begun (life id (h ++ c ∷ [])) (cond (accepts id c) (in_force s h) (in_force s (before_acceptance id h)))
 unfolding judged_by
-judged_by-snoc s h c id = ap (λ l. of_life (life id (h ++ c ∷ [])) (in_force s l)) (before_last-snoc (accepts id) h c) ∙ ap (of_life (life id (h ++ c ∷ []))) (by_test (accepts id c))
+judged_by-snoc s h c id = ap (λ l. where_begun (life id (h ++ c ∷ [])) (in_force s l)) (before_acceptance-snoc id h c) ∙ ap (where_begun (life id (h ++ c ∷ []))) (by_test (accepts id c))
   where
-    by_test : (b : Bool) → in_force s (cond b h (before_last (accepts id) h)) ≡ cond b (in_force s h) (in_force s (before_last (accepts id) h))
+    by_test : (b : Bool) → in_force s (cond b h (before_acceptance id h)) ≡ cond b (in_force s h) (in_force s (before_acceptance id h))
     by_test true = refl
     by_test false = refl
 
-of_some : (l more : List Command) (p : RetryPolicy) → is_nil l ≡ false → of_life (l ++ more) p ≡ of_life l p
-of_some [] more p h = absurd (true≢false h)
-of_some (x ∷ l) more p h = refl
+begun_on : (l more : List Command) (p : RetryPolicy) → is_nil l ≡ false → where_begun (l ++ more) p ≡ where_begun l p
+begun_on [] more p h = absurd (true≢false h)
+begun_on (x ∷ l) more p h = refl
 
 no_accept : (a named : Bool) → named ≡ false → (a && named) ≡ false
 no_accept true named h = h
@@ -61,7 +66,7 @@ module _ (s : Settings) (h : List Command) (c : Command) (id : List ℕ) where
   judged_kept other =
       judged_by-snoc s h c id
       ∙ rw (no_accept (is_accept c) (names id c) other) refl
-      ∙ ap (λ l. of_life l (in_force s (before_last (accepts id) h))) (life-snoc id h c ∙ kept_life (kind_is_collect c.kind) (names id c) (life id h) c other)
+      ∙ ap (λ l. where_begun l (in_force s (before_acceptance id h))) (life-snoc id h c ∙ kept_life (kind_is_collect c.kind) (names id c) (life id h) c other)
 
   -- and so is one that is held, after another command that leaves it held
   judged_named : is_accept c ≡ false → kind_is_collect c.kind ≡ false → names id c ≡ true → is_nil (life id h) ≡ false → judged_by s (h ++ c ∷ []) id ≡ judged_by s h id
@@ -69,8 +74,8 @@ module _ (s : Settings) (h : List Command) (c : Command) (id : List ℕ) where
   judged_named known stays named some =
       judged_by-snoc s h c id
       ∙ rw (known) refl
-      ∙ ap (λ l. of_life l (in_force s (before_last (accepts id) h))) (life-snoc id h c ∙ rw (stays, named) refl)
-      ∙ of_some (life id h) (c ∷ []) (in_force s (before_last (accepts id) h)) some
+      ∙ ap (λ l. where_begun l (in_force s (before_acceptance id h))) (life-snoc id h c ∙ rw (stays, named) refl)
+      ∙ begun_on (life id h) (c ∷ []) (in_force s (before_acceptance id h)) some
 
   -- one that is accepted is judged by what is in force
   judged_new : is_accept c ≡ true → names id c ≡ true → life id (h ++ c ∷ []) ≡ c ∷ [] → judged_by s (h ++ c ∷ []) id ≡ in_force s h
@@ -99,15 +104,16 @@ in_force_good s h good legal =
 young : (policy : RetryPolicy) → is_bad_policy policy ≡ false → policy.age ≤ 21600
 young policy good = ltb-false _ _ (or_parts _ _ (or_parts (is_outside 0 2 policy.retries) (is_outside 60 21600 policy.age) good).1).1
 
-of_life_young : (l : List Command) (policy : RetryPolicy) → policy.age ≤ 21600 → (of_life l policy).age ≤ 21600
-of_life_young [] policy le = omega arith
-of_life_young (c ∷ l) policy le = le
+young_where_begun : (l : List Command) (policy : RetryPolicy) → policy.age ≤ 21600 → (where_begun l policy).age ≤ 21600
+young_where_begun [] policy le = omega arith
+young_where_begun (c ∷ l) policy le = le
 
 judged_young : (s : Settings) (h : List Command) → bad_field s ≡ None → IsLegal s h → (id : List ℕ) → (judged_by s h id).age ≤ 21600
 unfolding judged_by
 judged_young s h good legal id =
-    let front = before_last (accepts id) h in
-    of_life_young (life id h) (in_force s front) (young (in_force s front) (in_force_good s front good (IsLegal-take s h _ legal)))
+    let front = before_acceptance id h in
+    let legal_front : IsLegal s front = subst (λ l. IsLegal s l) (sym (before_acceptance-front id h)) (IsLegal-take s h (length front) legal) in
+    young_where_begun (life id h) (in_force s front) (young (in_force s front) (in_force_good s front good legal_front))
 
 -- the row of an event, by its life, its last command's number and its policy
 row_by : Settings → RetryPolicy → ℕ × List ℕ → List Command → ℕ → EventRow

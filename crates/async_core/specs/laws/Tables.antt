@@ -1,6 +1,6 @@
 -- Laws: a table that stands for a legal history refuses what is not legal after it, and else stands for the longer one.
 use Rattle.std.proofs.Common.{◌≡◌, ℕ, ◌+◌, ◌*◌, ◌≤◌, ◌<◌, List, [], ◌∷◌, ◌++◌, length, take, drop, Bool, true, false, cond, refl, sym, ap, ◌∙◌, arith, map, Option, Some, None, length-append, subst, append_assoc, ◌⊎◌, inl, inr}
-use Rattle.std.specs.Prelude.{find, slice_get, option_map}
+use Rattle.std.specs.Prelude.{find, slice_get, option_map, if◌then◌else◌}
 use Rattle.std.specs.List.{count_by, list_any}
 use Rattle.std.specs.Str.{bytes_eq}
 use Rattle.std.proofs.lemmas.Bool.{true≢false, cases_lt, ltb-false}
@@ -11,15 +11,16 @@ use Rattle.std.proofs.lemmas.List.Folds.{fold-map}
 use Rattle.retry_rules.specs.Settings.{bad_field}
 use Rattle.retry_rules.specs.declared.settings.Settings.{Settings}
 use Rattle.invoke_records.specs.Spelling.{command_fault, greatest_moment}
+use Rattle.invoke_records.specs.Reading.{no_policy}
 use Rattle.invoke_records.specs.declared.command.Command.{Command}
 use Rattle.invoke_records.specs.declared.command.Kind.{Kind}
 use Rattle.invoke_records.specs.declared.command.Kind.TheVariants.{Accept, Start, Succeed, Fail, Throttle, Interrupt, Expire, Collect, Configure}
 use Rattle.invoke_records.specs.declared.command.Cause.TheVariants.{Reported, Timeout, Exited}
 use Rattle.invoke_records.specs.declared.row.EventRow.{EventRow}
 use Rattle.invoke_records.specs.declared.snapshot.Snapshot.{Snapshot}
-use Rattle.async_core.specs.Lives.{life, accepted, accepts, payload_of}
+use Rattle.async_core.specs.Lives.{life, has_begun, accepted, payload_of}
 use Rattle.async_core.specs.Standings.{is_running, runs_in}
-use Rattle.async_core.specs.Policies.{in_force, judged_by, of_life, before_last, pair_of}
+use Rattle.async_core.specs.Policies.{in_force, judged_by, before_acceptance, pair_of}
 use Rattle.async_core.specs.Checks.{refusal_in, shape_checks}
 use Rattle.async_core.specs.History.{held, standing_in, standing_of, rules_of, too_old_from, row_of, table_of, refusal_of, situation_of, IsLegal}
 use Rattle.async_core.specs.Rules.{has_id, row_at, standing_or_unknown, too_old_or_zero, standing_at, situation_at, refusal_at, table_after, empty_table, replay}
@@ -81,7 +82,7 @@ module _ (s : Settings) (h : List Command) (legal : IsLegal s h) where
   too_old-table_of : (id : List ℕ) → too_old_or_zero (row_at (table_of s h) id) ≡ too_old_from s h id
   unfolding table_of judged_by
   too_old-table_of id =
-      read_row s h id too_old_or_zero (λ l. accepted l + 1000 * (of_life l (in_force s (before_last (accepts id) h))).age) refl (λ n known. refl) (held_once s h legal id) (life id h) refl
+      read_row s h id too_old_or_zero (λ l. accepted l + 1000 * (if has_begun l then in_force s (before_acceptance id h) else no_policy).age) refl (λ n known. refl) (held_once s h legal id) (life id h) refl
 
   -- a command meets in the table what it meets after the history
   pub situation-of_table : (c : Command) → situation_at s (table_of s h) c ≡ situation_of s h c

@@ -1,17 +1,18 @@
 -- Laws: a history that is legal under settings is legal under those that allow all that they do, and stands for the same table.
-use Rattle.std.proofs.Common.{◌≡◌, ℕ, ◌+◌, ◌*◌, ◌<◌, ◌≤◌, List, [], ◌∷◌, length, take, map, Bool, false, not, refl, sym, ap, ◌∙◌, arith, None, nat_lt}
+use Rattle.std.proofs.Common.{◌≡◌, ℕ, ◌+◌, ◌*◌, ◌<◌, ◌≤◌, List, [], ◌∷◌, length, take, map, Bool, false, not, refl, sym, ap, ◌∙◌, arith, None, nat_lt, if◌then◌else◌}
 use Rattle.std.specs.List.{count_by, list_any}
 use Rattle.std.proofs.lemmas.Bool.{ltb-false, le-ltb, leb-false, lt-leb, or_parts, or_from}
 use Rattle.retry_rules.specs.Settings.{policy_of}
 use Rattle.retry_rules.specs.declared.settings.Settings.{Settings}
+use Rattle.invoke_records.specs.Reading.{no_policy}
 use Rattle.invoke_records.specs.declared.command.Command.{Command}
 use Rattle.invoke_records.specs.declared.command.Kind.{Kind}
 use Rattle.invoke_records.specs.declared.command.Kind.TheVariants.{Accept, Start, Succeed, Fail, Throttle, Interrupt, Expire, Collect, Configure}
 use Rattle.invoke_records.specs.declared.command.Cause.TheVariants.{Reported, Timeout, Exited}
 use Rattle.async_core.specs.declared.situation.Situation.{Situation}
-use Rattle.async_core.specs.Lives.{life, accepts, accepted}
+use Rattle.async_core.specs.Lives.{life, is_held, accepted}
 use Rattle.async_core.specs.Standings.{is_running, runs_in}
-use Rattle.async_core.specs.Policies.{in_force, last_policy, judged_by, of_life, before_last}
+use Rattle.async_core.specs.Policies.{in_force, last_policy, judged_by, before_acceptance}
 use Rattle.async_core.specs.Checks.{shape_by, has_environment, shape_checks, clock_check, state_checks, refusal_in}
 use Rattle.async_core.specs.History.{IsLegal, held, last_moment, rules_of, standing_of, standing_in, row_of, table_of, situation_of, refusal_of}
 use Rattle.async_core.specs.laws.Refusals.{NoneFails, first_failed-none, judged_by_state, shape_passes, clock_passes, state_passes}
@@ -35,7 +36,7 @@ module _ (old new : Settings) (allows : AllowsAll old new) where
 
   judged_by-same : (history : List Command) (id : List ℕ) → judged_by new history id ≡ judged_by old history id
   unfolding judged_by
-  judged_by-same history id = ap (of_life (life id history)) (in_force-same (before_last (accepts id) history))
+  judged_by-same history id = ap (λ policy. if is_held id history then policy else no_policy) (in_force-same (before_acceptance id history))
 
   rules_of-same : (history : List Command) (id : List ℕ) → rules_of new history id ≡ rules_of old history id
   rules_of-same history id =

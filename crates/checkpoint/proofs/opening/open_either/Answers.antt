@@ -1,6 +1,7 @@
 use Rattle.std.proofs.Common.{sym, ◌∙◌, ap}
 use Rattle.std.proofs.lemmas.Result.{IfOk-weaker, IfErr-weaker}
-use Rattle.checkpoint.specs.Image.{read_image, read_as, live_in}
+use Rattle.checkpoint.specs.Image.{read_image, read_as}
+use Rattle.checkpoint.specs.ReadSteps.{live_read}
 use Rattle.checkpoint.specs.Live.{live_reads}
 use Rattle.checkpoint.proofs.Refusals.{refuses_along}
 use Rattle.checkpoint.proofs.Lives.{is_live}
@@ -41,5 +42,5 @@ returns-clause-refused g c honest =
     let mid_honest = c.barrier.ensures.same.honest.1 honest in
     let same = (c.in_ok-barrier.ensures.honest honest).content in
     IfErr-weaker c.read_live.result _ _
-    (λ why is. refuses_along why (read_image mid.content) (read_as (g.D.Disk.view c.args.disk.now).content) (λ e err. ap read_as (sym same) ∙ ap live_in err) is)
+    (λ why is. refuses_along why (read_image mid.content) (read_as (g.D.Disk.view c.args.disk.now).content) (λ e err. ap read_as (sym same) ∙ ap live_read err) is)
     (c.read_live.ensures.refused mid_honest)

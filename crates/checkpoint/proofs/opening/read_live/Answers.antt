@@ -2,7 +2,8 @@ use Rattle.std.proofs.Common.{◌≡◌, ◌*◌, ◌/◌, length, Option, Resul
 use Rattle.std.proofs.lemmas.Result.{err_from_is_err_and, IfOk-weaker, IfErr-weaker}
 use Rattle.checkpoint.specs.declared.header.Header.{Header}
 use Rattle.checkpoint.specs.declared.error.OpenError.{OpenError}
-use Rattle.checkpoint.specs.Image.{open_header, by_headers, segments_in, read_image}
+use Rattle.checkpoint.specs.Image.{open_header, read_image}
+use Rattle.checkpoint.specs.ReadSteps.{by_headers, segments_in}
 use Rattle.checkpoint.proofs.Refusals.{reads_more, refuses_along, err_refuses}
 use Rattle.checkpoint.proofs.Images.{too_few, by_both}
 use Rattle.checkpoint.proofs.Lives.{opened_along}
