@@ -3,18 +3,36 @@ import os
 import re
 import socket
 import subprocess
+import sys
 
 import disks
 from disks import ACCEPT, Settings, command, id_of
-from harness import DEADLINE, Built, Ports, case, needs, same, until
+from harness import DEADLINE, HERE, Built, Ports, case, needs, same, until
 
 FUNCTION = ["--name", "f", "--handler", "h", "--arn", "a"]
+
+# Shows what tools/try shows, of this program.
+SHOW = """import sys
+names = {"__name__": "shown", "__file__": sys.argv[1]}
+exec(open(sys.argv[1], encoding="utf-8").read(), names)
+names["PROGRAM"] = sys.argv[2]
+names["show_the_main_job"]()"""
 
 
 @case()
 def the_trial_prints_what_became_of_an_event(broker):
     told = "accepted 1 00000000-0000-4000-8000-000000000001\ndurable 1\nrecovered waiting due 1573755365568\n"
     same(broker.said("trial"), (0, told))
+
+
+@case()
+def tools_try_shows_its_eight_steps(broker):
+    tool = os.path.join(HERE, "..", "tools", "try")
+    done = subprocess.run(
+        [sys.executable, "-c", SHOW, tool, Built.program], stdin=subprocess.DEVNULL, capture_output=True, text=True, timeout=2 * DEADLINE,
+    )
+    same((done.returncode, done.stderr), (0, ""))
+    same(re.findall(r"^(\d)\. ", done.stdout, re.M), list("12345678"))
 
 
 @case()
