@@ -1,4 +1,4 @@
-//! The commands of the program that wait for nobody, `serve` aside: their words, what they do to a disk, and what is printed.
+//! The commands of the program that wait for nobody, `serve` and `stop` aside: their words, what they do to a disk, and what is printed.
 //!
 //! It stands below the program and not above the front, which it need not wait for. The crate above reads a `Task` of the
 //! command line, and uses that what is printed of a job ends with a status of 0 to 3.
