@@ -1,12 +1,12 @@
 // The settings of a case.
 use crate::step_reply::StepReply;
 use crate::words::{Words, number_of};
-use retry_rules::{Settings, TextBuffer};
+use retry_rules::{Settings, Text};
 use std::alloc::Global;
 
-fn text(alloc: Global, bytes: &[u8]) -> Option<TextBuffer> {
+fn text(alloc: Global, bytes: &[u8]) -> Option<Text> {
     match Vec::from_slice(alloc, bytes) {
-        Ok(bytes) => Some(TextBuffer::from_vec(bytes)),
+        Ok(bytes) => Some(Text::from_vec(bytes)),
         Err(_) => None,
     }
 }
@@ -55,7 +55,7 @@ where
     }
 }
 
-fn put_text(alloc: Global, field: &mut TextBuffer, word: &str) -> StepReply {
+fn put_text(alloc: Global, field: &mut Text, word: &str) -> StepReply {
     match text(alloc, word.as_bytes()) {
         Some(text) => {
             *field = text;
