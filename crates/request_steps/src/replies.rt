@@ -30,7 +30,7 @@ const REFUSALS: [Refusal; 19] = [
 
 /// `STATUS NAME: VALUE .. BODY`
 pub fn tell_reply(
-    replied: Result<api_core::StepReply, AllocError>,
+    replied: Result<api_core::Reply, AllocError>,
     answer: &mut TextBuffer,
 ) -> StepReply {
     let Ok(replied) = replied else {
