@@ -18,12 +18,12 @@ mod telltale;
 mod words;
 
 pub use address::Address;
-pub use auditing::{Asked, Audit, AuditError, More, OldDisk, Told, audit_disk};
+pub use auditing::{Audit, AuditError, AuditOutput, AuditRequest, More, OldDisk, audit_disk};
 pub use clock::now;
 pub use configuring::{ConfiguringError, NewPolicy, configure_disk};
 pub use contents::ContentsError;
 pub use copying::{Copied, CopyingError, NewCopy, NewLimits, copy_disk};
-pub use formatting::{Function, NewDisk, NewDiskError, Numbers, make_disk};
+pub use formatting::{Function, NewDisk, NewDiskError, NumericSettings, make_disk};
 pub use migrating::{Migrated, MigratingError, OldVersion, migrate_file};
 pub use opening::{Device, DiskError, check_size, open, open_device};
 pub use printing::{DONE, USAGE, print_fault, print_job, print_usage, refuse_for_memory};

@@ -1,9 +1,9 @@
 // The words of the command line: which command they are, and what it is told.
 use crate::address::Address;
-use crate::auditing::{Asked, More, OldDisk};
+use crate::auditing::{AuditRequest, More, OldDisk};
 use crate::configuring::NewPolicy;
 use crate::copying::{NewCopy, NewLimits};
-use crate::formatting::{Function, NewDisk, Numbers};
+use crate::formatting::{Function, NewDisk, NumericSettings};
 use crate::migrating::OldVersion;
 use api_core::Dialect;
 use clap::builder::ValueParser;
@@ -286,8 +286,8 @@ fn function<'a>(matches: &ArgMatches<'a>) -> Option<Function<'a>> {
     })
 }
 
-fn numbers(matches: &ArgMatches<'_>) -> Option<Numbers> {
-    Some(Numbers {
+fn numbers(matches: &ArgMatches<'_>) -> Option<NumericSettings> {
+    Some(NumericSettings {
         retries: matches.get_one("retries")?,
         age: matches.get_one("age")?,
         timeout: matches.get_one("timeout")?,
@@ -334,14 +334,14 @@ fn more(alloc: Global, matches: &ArgMatches<'_>) -> Result<More, Error> {
 }
 
 // What is asked of a disk that is audited.
-fn asked(alloc: Global, matches: &ArgMatches<'_>) -> Result<Asked, Error> {
+fn asked(alloc: Global, matches: &ArgMatches<'_>) -> Result<AuditRequest, Error> {
     if matches.get_flag("json") {
-        return Ok(Asked::Figures);
+        return Ok(AuditRequest::Figures);
     }
     if matches.get_flag("records") {
-        return Ok(Asked::Records);
+        return Ok(AuditRequest::Records);
     }
-    Ok(Asked::Report(more(alloc, matches)?))
+    Ok(AuditRequest::Report(more(alloc, matches)?))
 }
 
 fn old_disk<'a>(alloc: Global, matches: &ArgMatches<'a>) -> Result<Option<Task<'a>>, Error> {
