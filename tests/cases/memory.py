@@ -6,6 +6,7 @@ import os
 
 import disks
 from disks import ACCEPT, START, SUCCEED, Settings, command, id_of
+from cases.stopping import stranger
 from harness import HERE, Built, Skipped, case, same
 
 LOADER = importlib.machinery.SourceFileLoader("refuse_memory", os.path.join(HERE, "refuse_memory"))
@@ -76,6 +77,20 @@ def a_configure_that_is_refused_memory_leaves_what_was_in_force(broker):
     old, new = ["generation 1 number 7", "in force retries 2 age 21600"], ["generation 1 number 8", "in force retries 1 age 21600"]
     # Twice it had all of its memory: where its requests were counted, and where they were looked for.
     same((was.count(old), was.count(new)), (counts[1], counts.get(0, 0) + 2))
+
+
+@case()
+def a_stop_that_is_refused_memory_ends(broker):
+    # Nobody takes it: it would wait for the end of who does.
+    listener, port = stranger(b"HTTP/1.1 404 Not Found\r\n\r\n")
+    runs = refuse_memory.Runs(Built.refuse_memory, broker.folder, [Built.program, "stop", "--port", str(port)])
+    status, told, asked = runs.run(0)
+    same((status, told), (1, f"refused: 127.0.0.1:{port} does not take it\n"))
+    if not asked:
+        raise Skipped("the program was built with a memory of its own, as `rt try` does it")
+    reached, counts, found = runs.all()
+    listener.close()
+    same((found, reached, set(counts)), ([], sum(counts.values()), {1}))
 
 
 @case()

@@ -2,12 +2,12 @@
 ghost use Rattle.std.specs.Prelude.{◌≡◌, IfOk};
 ghost use Rattle.admin_replies.specs.Telling.{CountsEnded};
 
+use crate::admin_context::AdminContext;
 use crate::application::AdminApplication;
-use crate::lookout::Lookout;
-use admin_replies::Facts;
+use admin_replies::Baseline;
 use async_core::Table;
-use http_port::{Limits, Listening};
-use long_poll::Window;
+use http_port::{HttpLimits, Listening};
+use long_poll::AdminReader;
 use port_meters::{Beside, Machine, Meters};
 use receipts::Trace;
 use sector_disk::Written;
@@ -33,7 +33,7 @@ pub struct Admin {
 pub struct AdminPort {
     admin: Admin,
     /// What is known of the broker from its opening on.
-    facts: Facts,
+    baseline: Baseline,
 }
 
 impl Admin {
@@ -41,63 +41,66 @@ impl Admin {
     pub fn over(self, table: &Table) -> Result<AdminPort, AllocError>
         // claim: The operator's port tells by the settings and ended events of the table that the broker was opened with.
         ensures admin { IfOk result (λ port. port.admin ≡ self) }
-        ensures settings { IfOk result (λ port. port.facts.settings ≡ table.now.settings) }
-        ensures ended { IfOk result (λ port. CountsEnded table.now.table.rows port.facts.ended_before) }
+        ensures settings { IfOk result (λ port. port.baseline.settings ≡ table.now.settings) }
+        ensures ended { IfOk result (λ port. CountsEnded table.now.table.rows port.baseline.ended_before) }
     {
-        let facts = Facts::of(table)?;
-        Ok(AdminPort { admin: self, facts })
+        let baseline = Baseline::of(table)?;
+        Ok(AdminPort {
+            admin: self,
+            baseline,
+        })
     }
 }
 
 /// That an operator's port was served to its end. Only serving it gives that.
 #[derive(Drop)]
-pub struct Watched {
+pub struct AdminServed {
     served: (),
 }
 
 // What the requests of a port share, and where they come.
-fn lookout_of<L: Ledger, T: Trace>(
+fn context_of<L: Ledger, T: Trace>(
     alloc: Global,
     port: AdminPort,
-    window: Arc<Window<L, T>>,
+    reader: Arc<AdminReader<L, T>>,
     meters: Arc<Meters>,
-) -> (Lookout<L, T>, Listening)
-    ensures facts { result.0.facts ≡ port.facts }
-    ensures window { result.0.window ≡ window }
+) -> (AdminContext<L, T>, Listening)
+    ensures baseline { result.0.baseline ≡ port.baseline }
+    ensures reader { result.0.reader ≡ reader }
 {
-    let AdminPort { admin, facts } = port;
+    let AdminPort { admin, baseline } = port;
     let Admin {
         listening,
         written,
         memory,
     } = admin;
-    let lookout = Lookout {
+    let context = AdminContext {
         alloc,
-        window,
-        facts,
+        reader,
+        baseline,
         meters,
         written,
         memory,
     };
-    (lookout, listening)
+    (context, listening)
 }
 
-impl<R: Machine, L: Ledger, T: Trace> Beside<R, Window<L, T>> for AdminPort {
-    type Served = Watched;
+impl<R: Machine, L: Ledger, T: Trace> Beside<R, AdminReader<L, T>> for AdminPort {
+    type Served = AdminServed;
 
     fn serve(
         self,
         rt: R,
-        window: Window<L, T>,
+        reader: AdminReader<L, T>,
         meters: Arc<Meters>,
         ending: &CancellationToken,
-    ) -> io::Result<Watched> {
+    ) -> io::Result<AdminServed> {
         let alloc = rt.alloc();
-        let window = Arc::new(alloc, window)?;
-        let (lookout, listening) = lookout_of(alloc, self, window, meters);
-        let lookout = Arc::new(alloc, lookout)?;
-        let application = AdminApplication { rt, lookout };
-        http_port::serve(rt, application, listening, Limits::default(), ending)?;
-        Ok(Watched { served: () })
+        let reader = Arc::new(alloc, reader)?;
+        let (context, listening) = context_of(alloc, self, reader, meters);
+        let context = Arc::new(alloc, context)?;
+        let application = AdminApplication { rt, context };
+        http_port::serve(rt, application, listening, HttpLimits::default(), ending)?;
+        Ok(AdminServed { served: () })
     }
 }

@@ -1,14 +1,14 @@
 // What the operator's port serves.
+use crate::admin_context::AdminContext;
+use crate::admin_response::AdminResponse;
 use crate::local::is_local;
-use crate::lookout::Lookout;
+use crate::pending_reply::PendingReply;
 use crate::refusing::{refuse, refuse_words};
-use crate::showing::Showing;
-use crate::shown::Shown;
-use admin_replies::{Asked, read};
+use admin_replies::{AdminRequest, read};
 use http::request::Parts;
-use http_port::{Application, ReadError, Refused};
+use http_port::{Application, BodyError, Refused};
 use hyper::StatusCode;
-use long_poll::Watching;
+use long_poll::PendingView;
 use receipts::Trace;
 use std::alloc::AllocError;
 use std::sync::ledger::Ledger;
@@ -24,20 +24,20 @@ const NOT_LOCAL: &str = "this port answers to the hosts 127.0.0.1, localhost and
 #[derive(Drop)]
 pub(crate) struct AdminApplication<R, L: Ledger, T: Trace> {
     pub(crate) rt: R,
-    pub(crate) lookout: Arc<Lookout<L, T>>,
+    pub(crate) context: Arc<AdminContext<L, T>>,
 }
 
 impl<R: Wait + Copy, L: Ledger, T: Trace> AdminApplication<R, L, T> {
     // What is asked for is seen now, and is told once it is durable.
-    fn watch(&self, asked: Asked) -> Result<Showing<R, L, T>, AllocError> {
-        let glimpse = self.lookout.window.look(&self.rt).answer?;
-        let window = Arc::try_clone(&self.lookout.window)?;
-        let lookout = Arc::try_clone(&self.lookout)?;
-        Ok(Showing {
+    fn reply_to(&self, request: AdminRequest) -> Result<PendingReply<R, L, T>, AllocError> {
+        let view = self.context.reader.look(&self.rt).answer?;
+        let reader = Arc::try_clone(&self.context.reader)?;
+        let context = Arc::try_clone(&self.context)?;
+        Ok(PendingReply {
             rt: self.rt,
-            lookout,
-            asked,
-            watching: Watching::new(self.rt, window, glimpse),
+            context,
+            request,
+            view: PendingView::new(self.rt, reader, view),
         })
     }
 }
@@ -48,9 +48,9 @@ where
     L: Ledger,
     T: Trace,
 {
-    type Given = Shown;
+    type Response = AdminResponse;
 
-    type Reply = Showing<R, L, T>;
+    type Future = PendingReply<R, L, T>;
 
     fn most(&self) -> usize {
         MOST_BODY
@@ -63,23 +63,23 @@ where
     fn answer(
         &self,
         head: &Parts,
-        body: Result<Vec<u8>, ReadError>,
-    ) -> Result<Showing<R, L, T>, Refused> {
-        let alloc = self.lookout.alloc;
+        body: Result<Vec<u8>, BodyError>,
+    ) -> Result<PendingReply<R, L, T>, Refused> {
+        let alloc = self.context.alloc;
         drop(body);
         let target = match head.uri.path_and_query() {
             Some(target) => target.as_str(),
             None => "/",
         };
-        let asked = match read(head.method.as_str(), target) {
-            Ok(asked) => asked,
+        let request = match read(head.method.as_str(), target) {
+            Ok(request) => request,
             Err(why) => return Err(refuse_words(alloc, why)),
         };
         if !is_local(head) {
             return Err(refuse(alloc, 403, NOT_LOCAL));
         }
-        match self.watch(asked) {
-            Ok(showing) => Ok(showing),
+        match self.reply_to(request) {
+            Ok(pending) => Ok(pending),
             Err(_) => Err(Refused::bare(alloc, StatusCode::SERVICE_UNAVAILABLE)),
         }
     }

@@ -1,17 +1,17 @@
 //! The operator's port of a broker: HTTP/1.1 on one port, for those who look and change nothing.
 //!
-//! A request is looked for at a window on the office. What was seen there is withheld until all of it is durable, and the reply
+//! A request looks at the office by its reader. What was seen there is unreleased until all of it is durable, and the reply
 //! is made of it then. The crate above hands an `AdminPort` to the front, which serves it beside its own ports, and uses that a
-//! reply tells of what its own future withheld, by what is known of the broker from its opening on.
+//! reply tells of the view that its own future held back, by what is known of the broker from its opening on.
 #![tactic(auto)]
 
 mod admin;
+mod admin_context;
+mod admin_response;
 mod application;
 mod local;
-mod lookout;
 mod memory;
+mod pending_reply;
 mod refusing;
-mod showing;
-mod shown;
 
-pub use admin::{Admin, AdminPort, Watched};
+pub use admin::{Admin, AdminPort, AdminServed};

@@ -1,8 +1,8 @@
 // What an operator may not ask.
 ghost use Rattle.std.specs.Prelude.{◌≤◌};
 
-use crate::shown::response_of;
-use admin_replies::Reply;
+use crate::admin_response::response_of;
+use admin_replies::AdminReply;
 use http_port::Refused;
 use hyper::StatusCode;
 use std::alloc::Global;
@@ -11,7 +11,7 @@ use std::alloc::Global;
 pub(crate) fn refuse(alloc: Global, status: u16, words: &str) -> Refused
     requires { 400 ≤ status }
 {
-    let response = match Reply::line(alloc, status, words) {
+    let response = match AdminReply::line(alloc, status, words) {
         Ok(reply) => response_of(alloc, reply),
         Err(_) => None,
     };
@@ -22,7 +22,7 @@ pub(crate) fn refuse(alloc: Global, status: u16, words: &str) -> Refused
 }
 
 /// Why a request is refused, in words.
-pub(crate) fn refuse_words(alloc: Global, why: admin_replies::Refused) -> Refused {
+pub(crate) fn refuse_words(alloc: Global, why: admin_replies::AdminRefusal) -> Refused {
     match format!(in alloc; "{why}") {
         Ok(words) => refuse(alloc, why.status(), words.as_str()),
         Err(_) => Refused::bare(alloc, StatusCode::SERVICE_UNAVAILABLE),

@@ -2,15 +2,15 @@
 use Rattle.std.specs.Prelude.{ℕ, List, [], ◌∷◌, ◌++◌, false, true, Result, Some, None, codes}
 use Prim.Native.String.{String}
 use Rattle.retry_rules.specs.declared.settings.Settings.{Settings}
-use Rattle.admin_replies.specs.declared.asked.Asked.{Asked}
-use Rattle.admin_replies.specs.declared.refused.Refused.{Refused}
-use Rattle.admin_replies.specs.declared.figures.Figures.{Figures}
+use Rattle.admin_replies.specs.declared.admin_request.AdminRequest.{AdminRequest}
+use Rattle.admin_replies.specs.declared.admin_refusal.AdminRefusal.{AdminRefusal}
+use Rattle.admin_replies.specs.declared.metrics.Metrics.{Metrics}
 use Rattle.admin_replies.specs.Requests.{asked_of}
 
-abbrev pub asks : String → String → Result Asked Refused
+abbrev pub asks : String → String → Result AdminRequest AdminRefusal
 asks method target = asked_of (codes method) (codes target)
 
-abbrev pub gets : String → Result Asked Refused
+abbrev pub gets : String → Result AdminRequest AdminRefusal
 gets target = asks "GET" target
 
 -- 00000000-0000-4000-8000-000000000003
@@ -18,7 +18,7 @@ abbrev pub third : List ℕ
 third = 0 ∷ 0 ∷ 0 ∷ 0 ∷ 0 ∷ 0 ∷ 64 ∷ 0 ∷ 128 ∷ 0 ∷ 0 ∷ 0 ∷ 0 ∷ 0 ∷ 0 ∷ 3 ∷ []
 
 -- each number is another one
-abbrev pub numbers : Figures
+abbrev pub numbers : Metrics
 numbers = record {
   census = record { held = 21; waiting = 1; due_again = 2; running = 3; success = 4; retries_exhausted = 5; event_age_exceeded = 6 };
   oldest_wait_age = Some 61007;
@@ -29,7 +29,7 @@ numbers = record {
   open_slots = 8;
   parked_polls = 9;
   environments = record { init = 10; ready = 11; busy = 12; closing = 13 };
-  tally = record {
+  events = record {
     accepted = 14;
     success = 15;
     retries_exhausted = 16;

@@ -2,7 +2,7 @@ pub mod Examples
 pub mod Lines
 pub mod Lists
 pub mod Media
-pub mod Metrics
+pub mod MetricsText
 pub mod Numbers
 pub mod Requests
 pub mod Table

@@ -1,7 +1,7 @@
 -- One number in Prometheus' text form: its name and labels, a space, and the number; two lines before it where a family begins.
 use Rattle.std.specs.Prelude.{ℕ, zero, suc, ◌/◌, ◌%◌, List, [], ◌++◌, codes, decimal}
-use Rattle.admin_replies.specs.declared.figure.Figure.{Figure}
-use Rattle.admin_replies.specs.declared.figures.Figures.{Figures}
+use Rattle.admin_replies.specs.declared.metric.Metric.{Metric}
+use Rattle.admin_replies.specs.declared.metrics.Metrics.{Metrics}
 use Rattle.admin_replies.specs.declared.table.Row.{Row}
 use Rattle.admin_replies.specs.declared.value.Value.{Value}
 use Rattle.admin_replies.specs.declared.value.Value.TheVariants.{Whole, Milliseconds, Microseconds}
@@ -23,11 +23,11 @@ pub record Line : Type 0 where
   pub head : List ℕ
   -- its name and its labels
   pub name : List ℕ
-  pub figure : Figure
+  pub metric : Metric
 
-unfoldable pub line_text : Figures → Line → List ℕ
-line_text f line = line.head ++ (line.name ++ (codes " " ++ (value_text (value_of f line.figure) ++ codes "\n")))
+unfoldable pub line_text : Metrics → Line → List ℕ
+line_text f line = line.head ++ (line.name ++ (codes " " ++ (value_text (value_of f line.metric) ++ codes "\n")))
 
 -- the line that a row of the program's table is
 abbrev pub line_of : Row → Line
-line_of r = record { head = r.head.now; name = r.name.now; figure = r.figure }
+line_of r = record { head = r.head.now; name = r.name.now; metric = r.metric }

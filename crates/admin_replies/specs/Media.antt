@@ -1,7 +1,7 @@
 -- What the body of a reply is said to be.
 use Rattle.std.specs.Prelude.{ℕ, List, codes}
-use Rattle.admin_replies.specs.declared.reply.Media.{Media}
-use Rattle.admin_replies.specs.declared.reply.Media.TheVariants as media
+use Rattle.admin_replies.specs.declared.admin_reply.Media.{Media}
+use Rattle.admin_replies.specs.declared.admin_reply.Media.TheVariants as media
 
 abbrev pub content_type_of : Media → List ℕ
 content_type_of media.Text = codes "text/plain; charset=utf-8"

@@ -3,15 +3,15 @@ use Rattle.std.specs.Prelude.{◌≡◌, ℕ, ◌+◌, ◌-◌, ◌^◌, ◌≤�
 use Rattle.std.specs.List.{count_by, sum_by}
 use Rattle.env_phase.specs.declared.phase.Phase.{Phase}
 use Rattle.env_phase.specs.declared.phase.Phase.TheVariants.{Init, Ready, Busy, Closing}
-use Rattle.hall_core.specs.declared.looking.EnvironmentLook.{EnvironmentLook}
+use Rattle.hall_core.specs.declared.looking.EnvironmentStatus.{EnvironmentStatus}
 use Rattle.operator_view.specs.declared.numbers.Census.{Census}
 use Rattle.operator_view.specs.Census.{IsCensus, oldest_waiting, ends}
-use Rattle.receipts.specs.declared.sight.Sight.{Sight}
-use Rattle.receipts.specs.declared.tally.Tally.{Tally}
-use Rattle.admin_replies.specs.declared.figures.Figures.{Figures}
-use Rattle.admin_replies.specs.declared.figures.Phases.{Phases}
-use Rattle.admin_replies.specs.declared.figures.Process.{Process}
-use Rattle.admin_replies.specs.declared.figures.Tally.{Tally as Told}
+use Rattle.receipts.specs.declared.view.View.{View}
+use Rattle.receipts.specs.declared.command_counters.CommandCounters.{CommandCounters}
+use Rattle.admin_replies.specs.declared.metrics.Metrics.{Metrics}
+use Rattle.admin_replies.specs.declared.metrics.Phases.{Phases}
+use Rattle.admin_replies.specs.declared.metrics.Process.{Process}
+use Rattle.admin_replies.specs.declared.metrics.EventCounters.{EventCounters}
 use Rattle.admin_replies.specs.declared.measuring.Measures.{Measures}
 use Rattle.port_meters.specs.Counting.{sum_up_to}
 
@@ -39,10 +39,10 @@ is_phase Busy Busy = true
 is_phase Closing Closing = true
 is_phase phase other = false
 
-abbrev pub is_in_phase : Phase → EnvironmentLook → Bool
-is_in_phase phase look = is_phase phase look.phase
+abbrev pub is_in_phase : Phase → EnvironmentStatus → Bool
+is_in_phase phase status = is_phase phase status.phase
 
-abbrev pub phases_of : List EnvironmentLook → Phases
+abbrev pub phases_of : List EnvironmentStatus → Phases
 phases_of environments = record {
   init = count_by (is_in_phase Init) environments;
   ready = count_by (is_in_phase Ready) environments;
@@ -51,8 +51,8 @@ phases_of environments = record {
 }
 
 -- how many polls are parked
-abbrev pub parked_in : List EnvironmentLook → ℕ
-parked_in environments = sum_by (λ (look : EnvironmentLook). look.parked) environments
+abbrev pub parked_in : List EnvironmentStatus → ℕ
+parked_in environments = sum_by (λ (status : EnvironmentStatus). status.parked) environments
 
 -- ## What became of events since the opening
 
@@ -65,8 +65,8 @@ abbrev pub ended_since : (before ended collected : ℕ) → ℕ
 ended_since before ended collected = sum_up_to ended collected - before
 
 -- each that ended neither with success nor by its age had no retries left
-abbrev pub tally_told : ℕ → ℕ → Tally → Told
-tally_told before ended counted = record {
+abbrev pub event_counters : ℕ → ℕ → CommandCounters → EventCounters
+event_counters before ended counted = record {
   accepted = counted.accepted;
   success = counted.succeeded;
   retries_exhausted = ended_since before ended counted.collected - counted.succeeded - counted.expired;
@@ -98,15 +98,15 @@ process_told measures is_stopping = record {
 -- ## All of them
 
 -- the numbers of what was seen: those of its table's rows are the census of these
-pub record AreFigures (before : ℕ) (sight : Sight) (measures : Measures) (now : ℕ) (figures : Figures) : Type 0 where
-  pub census : IsCensus sight.look.table.rows figures.census
-  pub oldest_wait : figures.oldest_wait_age ≡ age_of now (oldest_waiting sight.look.table.rows)
-  pub oldest_record : IsOldestAge now (ends sight.look.table.rows) figures.oldest_record_age
-  pub issued : figures.issued ≡ sight.look.table.number
-  pub durable : figures.durable ≡ sight.look.durable
-  pub pending : figures.pending ≡ sight.look.table.number - sight.look.durable
-  pub open_slots : figures.open_slots ≡ sight.look.open_slots
-  pub parked : figures.parked_polls ≡ min (parked_in sight.look.environments.items) (2 ^ 64 - 1)
-  pub environments : figures.environments ≡ phases_of sight.look.environments.items
-  pub tally : figures.tally ≡ tally_told before (min (ended_in figures.census) (2 ^ 64 - 1)) sight.tally
-  pub process : figures.process ≡ process_told measures sight.look.is_stopping
+pub record AreMetrics (before : ℕ) (view : View) (measures : Measures) (now : ℕ) (metrics : Metrics) : Type 0 where
+  pub census : IsCensus view.hall.table.rows metrics.census
+  pub oldest_wait : metrics.oldest_wait_age ≡ age_of now (oldest_waiting view.hall.table.rows)
+  pub oldest_record : IsOldestAge now (ends view.hall.table.rows) metrics.oldest_record_age
+  pub issued : metrics.issued ≡ view.hall.table.number
+  pub durable : metrics.durable ≡ view.hall.durable
+  pub pending : metrics.pending ≡ view.hall.table.number - view.hall.durable
+  pub open_slots : metrics.open_slots ≡ view.hall.open_slots
+  pub parked : metrics.parked_polls ≡ min (parked_in view.hall.environments.items) (2 ^ 64 - 1)
+  pub environments : metrics.environments ≡ phases_of view.hall.environments.items
+  pub events : metrics.events ≡ event_counters before (min (ended_in metrics.census) (2 ^ 64 - 1)) view.counters
+  pub process : metrics.process ≡ process_told measures view.hall.is_stopping

@@ -7,14 +7,14 @@ use Rattle.async_core.specs.declared.choice.Side.{Side}
 use Rattle.async_core.specs.declared.choice.Side.TheVariants as side
 use Rattle.operator_view.specs.declared.standings.Which.{Which}
 use Rattle.operator_view.specs.declared.standings.Which.TheVariants as which
-use Rattle.admin_replies.specs.declared.asked.Asked.{Asked}
-use Rattle.admin_replies.specs.declared.asked.Asked.TheVariants as asked
+use Rattle.admin_replies.specs.declared.admin_request.AdminRequest.{AdminRequest}
+use Rattle.admin_replies.specs.declared.admin_request.AdminRequest.TheVariants as request
 use Rattle.admin_replies.specs.declared.name.Name.{Name}
 use Rattle.admin_replies.specs.declared.name.Name.TheVariants as name
-use Rattle.admin_replies.specs.declared.place.Place.{Place}
-use Rattle.admin_replies.specs.declared.place.Place.TheVariants as place
-use Rattle.admin_replies.specs.declared.refused.Refused.{Refused}
-use Rattle.admin_replies.specs.declared.refused.Refused.TheVariants as why
+use Rattle.admin_replies.specs.declared.resource.Resource.{Resource}
+use Rattle.admin_replies.specs.declared.resource.Resource.TheVariants as resource
+use Rattle.admin_replies.specs.declared.admin_refusal.AdminRefusal.{AdminRefusal}
+use Rattle.admin_replies.specs.declared.admin_refusal.AdminRefusal.TheVariants as why
 
 -- ## The parts of a target
 
@@ -45,23 +45,23 @@ abbrev pub id_of : List ℕ → Option (List ℕ)
 id_of bytes = if is_utf8 bytes then parsed bytes else None
 
 -- what a path that begins with `/events/` names
-abbrev pub event_at : Option (List ℕ) → Result Place Refused
+abbrev pub event_at : Option (List ℕ) → Result Resource AdminRefusal
 event_at None = Err why.Id
-event_at (Some id) = Ok (place.Event id)
+event_at (Some id) = Ok (resource.Event id)
 
 -- what a path names that is no fixed one
-unfoldable pub named_by : List ℕ → Result Place Refused
+unfoldable pub named_by : List ℕ → Result Resource AdminRefusal
 named_by path = if bytes_eq (take 8 path) (codes "/events/") then event_at (id_of (drop 8 path)) else Err why.Path
 
 -- what is at a path
-abbrev pub place_of : List ℕ → Result Place Refused
-place_of path =
-    if bytes_eq path (codes "/") then Ok place.Page
-    else if bytes_eq path (codes "/metrics") then Ok place.Metrics
-    else if bytes_eq path (codes "/healthz") then Ok place.Health
-    else if bytes_eq path (codes "/events") then Ok place.Events
-    else if bytes_eq path (codes "/records/success") then Ok (place.Records side.Success)
-    else if bytes_eq path (codes "/records/failure") then Ok (place.Records side.Failure)
+abbrev pub resource_of : List ℕ → Result Resource AdminRefusal
+resource_of path =
+    if bytes_eq path (codes "/") then Ok resource.Page
+    else if bytes_eq path (codes "/metrics") then Ok resource.Metrics
+    else if bytes_eq path (codes "/healthz") then Ok resource.Health
+    else if bytes_eq path (codes "/events") then Ok resource.Events
+    else if bytes_eq path (codes "/records/success") then Ok (resource.Records side.Success)
+    else if bytes_eq path (codes "/records/failure") then Ok (resource.Records side.Failure)
     else named_by path
 
 -- ## The query
@@ -91,7 +91,7 @@ given name parts = option_map value_in (find (is_named name) parts)
 
 -- ### Its values
 
-abbrev pub standing_of : Option (List ℕ) → Result Which Refused
+abbrev pub standing_of : Option (List ℕ) → Result Which AdminRefusal
 standing_of None = Ok which.All
 standing_of (Some text) =
     if bytes_eq text (codes "all") then Ok which.All
@@ -102,11 +102,11 @@ standing_of (Some text) =
     else Err why.Standing
 
 -- an id that was read
-abbrev pub behind : Option (List ℕ) → Result (Option (List ℕ)) Refused
+abbrev pub behind : Option (List ℕ) → Result (Option (List ℕ)) AdminRefusal
 behind None = Err why.After
 behind (Some id) = Ok (Some id)
 
-abbrev pub after_of : Option (List ℕ) → Result (Option (List ℕ)) Refused
+abbrev pub after_of : Option (List ℕ) → Result (Option (List ℕ)) AdminRefusal
 after_of None = Ok None
 after_of (Some text) = behind (id_of text)
 
@@ -120,59 +120,59 @@ abbrev pub number_of : ℕ → List ℕ → Option ℕ
 number_of n text = if all_ascii_digits text && nat_le (number_after n text) 1000 then Some (number_after n text) else None
 
 -- a number from 1 on
-abbrev pub positive : Option ℕ → Result ℕ Refused
+abbrev pub positive : Option ℕ → Result ℕ AdminRefusal
 positive None = Err why.Limit
 positive (Some n) = if nat_le 1 n then Ok n else Err why.Limit
 
-abbrev pub limit_of : Option (List ℕ) → Result ℕ Refused
+abbrev pub limit_of : Option (List ℕ) → Result ℕ AdminRefusal
 limit_of None = Ok 100
 limit_of (Some text) = if is_empty text then Err why.Limit else positive (number_of 0 text)
 
 -- ## The request
 
 -- the names that a request has
-abbrev pub names_at : Place → List Name
-names_at place.Events = name.Standing ∷ name.After ∷ name.Limit ∷ []
-names_at (place.Records s) = name.After ∷ name.Limit ∷ []
+abbrev pub names_at : Resource → List Name
+names_at resource.Events = name.Standing ∷ name.After ∷ name.Limit ∷ []
+names_at (resource.Records s) = name.After ∷ name.Limit ∷ []
 names_at other = []
 
-abbrev pub events_asked : Result Which Refused → Result (Option (List ℕ)) Refused → Result ℕ Refused → Result Asked Refused
+abbrev pub events_asked : Result Which AdminRefusal → Result (Option (List ℕ)) AdminRefusal → Result ℕ AdminRefusal → Result AdminRequest AdminRefusal
 events_asked (Err w) after limit = Err w
 events_asked (Ok which) (Err w) limit = Err w
 events_asked (Ok which) (Ok after) (Err w) = Err w
-events_asked (Ok which) (Ok after) (Ok limit) = Ok (asked.Events which after limit)
+events_asked (Ok which) (Ok after) (Ok limit) = Ok (request.Events which after limit)
 
-abbrev pub records_asked : Side → Result (Option (List ℕ)) Refused → Result ℕ Refused → Result Asked Refused
+abbrev pub records_asked : Side → Result (Option (List ℕ)) AdminRefusal → Result ℕ AdminRefusal → Result AdminRequest AdminRefusal
 records_asked s (Err w) limit = Err w
 records_asked s (Ok after) (Err w) = Err w
-records_asked s (Ok after) (Ok limit) = Ok (asked.Records s after limit)
+records_asked s (Ok after) (Ok limit) = Ok (request.Records s after limit)
 
 -- what is asked of a place, by what is given under each name
-abbrev pub told_at : Place → List (List ℕ) → Result Asked Refused
-told_at place.Page parts = Ok asked.Page
-told_at place.Metrics parts = Ok asked.Metrics
-told_at place.Health parts = Ok asked.Health
-told_at (place.Event id) parts = Ok (asked.Event id)
-told_at place.Events parts =
+abbrev pub told_at : Resource → List (List ℕ) → Result AdminRequest AdminRefusal
+told_at resource.Page parts = Ok request.Page
+told_at resource.Metrics parts = Ok request.Metrics
+told_at resource.Health parts = Ok request.Health
+told_at (resource.Event id) parts = Ok (request.Event id)
+told_at resource.Events parts =
     events_asked (standing_of (given name.Standing parts)) (after_of (given name.After parts)) (limit_of (given name.Limit parts))
-told_at (place.Records s) parts =
+told_at (resource.Records s) parts =
     records_asked s (after_of (given name.After parts)) (limit_of (given name.Limit parts))
 
 -- what is asked of a place, with this query
-unfoldable pub asked_at : Place → List ℕ → Result Asked Refused
-asked_at place query = if fits (names_at place) (parts_of query) then told_at place (parts_of query) else Err why.Query
+unfoldable pub asked_at : Resource → List ℕ → Result AdminRequest AdminRefusal
+asked_at resource query = if fits (names_at resource) (parts_of query) then told_at resource (parts_of query) else Err why.Query
 
-abbrev pub asked_of_place : Result Place Refused → List ℕ → Result Asked Refused
-asked_of_place (Err w) query = Err w
-asked_of_place (Ok place) query = asked_at place query
+abbrev pub asked_of_resource : Result Resource AdminRefusal → List ℕ → Result AdminRequest AdminRefusal
+asked_of_resource (Err w) query = Err w
+asked_of_resource (Ok resource) query = asked_at resource query
 
 -- what a request asks for
-abbrev pub asked_of : List ℕ → List ℕ → Result Asked Refused
+abbrev pub asked_of : List ℕ → List ℕ → Result AdminRequest AdminRefusal
 asked_of method target =
-    if bytes_eq method (codes "GET") then asked_of_place (place_of (path_of target)) (query_of target) else Err why.Method
+    if bytes_eq method (codes "GET") then asked_of_resource (resource_of (path_of target)) (query_of target) else Err why.Method
 
 -- the status of a refusal
-abbrev pub status_of : Refused → ℕ
+abbrev pub status_of : AdminRefusal → ℕ
 status_of why.Method = 405
 status_of why.Path = 404
 status_of other = 400

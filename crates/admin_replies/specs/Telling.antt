@@ -5,16 +5,16 @@ use Rattle.retry_rules.specs.declared.settings.Settings.{Settings}
 use Rattle.invoke_records.specs.declared.row.EventRow.{EventRow}
 use Rattle.operator_view.specs.declared.numbers.Census.{Census}
 use Rattle.operator_view.specs.Census.{IsCensus}
-use Rattle.receipts.specs.declared.sight.Sight.{Sight}
-use Rattle.admin_replies.specs.declared.asked.Asked.{Asked}
-use Rattle.admin_replies.specs.declared.asked.Asked.TheVariants as asked
-use Rattle.admin_replies.specs.declared.figures.Figures.{Figures}
-use Rattle.admin_replies.specs.Metrics.{metrics_text}
-use Rattle.admin_replies.specs.declared.telling.Facts.{Facts}
+use Rattle.receipts.specs.declared.view.View.{View}
+use Rattle.admin_replies.specs.declared.admin_request.AdminRequest.{AdminRequest}
+use Rattle.admin_replies.specs.declared.admin_request.AdminRequest.TheVariants as request
+use Rattle.admin_replies.specs.declared.metrics.Metrics.{Metrics}
+use Rattle.admin_replies.specs.MetricsText.{metrics_text}
+use Rattle.admin_replies.specs.declared.telling.Baseline.{Baseline}
 use Rattle.admin_replies.specs.declared.measuring.Measures.{Measures}
-use Rattle.admin_replies.specs.declared.reply.Reply.{Reply}
+use Rattle.admin_replies.specs.declared.admin_reply.AdminReply.{AdminReply}
 use Rattle.admin_replies.specs.Lists.{TellsEvents, TellsEvent, TellsRecords}
-use Rattle.admin_replies.specs.Numbers.{AreFigures, ended_in}
+use Rattle.admin_replies.specs.Numbers.{AreMetrics, ended_in}
 
 -- so many of these events have ended, by their census
 abbrev pub CountsEnded : List EventRow → ℕ → Type 0
@@ -29,18 +29,18 @@ abbrev pub under : RetryPolicy → Settings → Settings
 under policy s = record s { retries = policy.retries; age = policy.age }
 
 -- the text of the numbers of what was seen, and of the settings under what was in force
-abbrev pub TellsNumbers : Facts → Sight → Measures → ℕ → Reply → Type 0
-TellsNumbers facts sight measures now reply =
-    (figures : Figures) × AreFigures facts.ended_before sight measures now figures
-    × (reply.status ≡ 200) × (reply.body.items ≡ metrics_text figures (under sight.look.table.policy facts.settings))
+abbrev pub TellsNumbers : Baseline → View → Measures → ℕ → AdminReply → Type 0
+TellsNumbers baseline view measures now reply =
+    (metrics : Metrics) × AreMetrics baseline.ended_before view measures now metrics
+    × (reply.status ≡ 200) × (reply.body.items ≡ metrics_text metrics (under view.hall.table.policy baseline.settings))
 
 -- each list, event and number is that of the table that was seen
-abbrev pub TellsOf : Facts → Sight → Measures → ℕ → Asked → Reply → Type 0
-TellsOf facts sight measures now asked.Page reply = reply.status ≡ 200
-TellsOf facts sight measures now asked.Metrics reply = TellsNumbers facts sight measures now reply
-TellsOf facts sight measures now asked.Health reply = reply.status ≡ health_status measures.has_fault sight.look.is_stopping
-TellsOf facts sight measures now (asked.Events which after limit) reply =
-    TellsEvents which after limit sight.look.table.rows reply
-TellsOf facts sight measures now (asked.Event id) reply = TellsEvent facts.settings id sight.look.table.rows reply
-TellsOf facts sight measures now (asked.Records side after limit) reply =
-    TellsRecords facts.settings side after limit 4194304 sight.look.table.rows reply
+abbrev pub TellsOf : Baseline → View → Measures → ℕ → AdminRequest → AdminReply → Type 0
+TellsOf baseline view measures now request.Page reply = reply.status ≡ 200
+TellsOf baseline view measures now request.Metrics reply = TellsNumbers baseline view measures now reply
+TellsOf baseline view measures now request.Health reply = reply.status ≡ health_status measures.has_fault view.hall.is_stopping
+TellsOf baseline view measures now (request.Events which after limit) reply =
+    TellsEvents which after limit view.hall.table.rows reply
+TellsOf baseline view measures now (request.Event id) reply = TellsEvent baseline.settings id view.hall.table.rows reply
+TellsOf baseline view measures now (request.Records side after limit) reply =
+    TellsRecords baseline.settings side after limit 4194304 view.hall.table.rows reply

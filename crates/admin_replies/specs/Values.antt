@@ -1,26 +1,26 @@
--- The number that each figure names.
+-- The number that each metric names.
 use Rattle.std.specs.Prelude.{ℕ, Bool, true, false, Option, slice_index, unwrap_or}
 use Rattle.operator_view.specs.declared.numbers.Census.{Census}
-use Rattle.admin_replies.specs.declared.figures.Figures.{Figures}
-use Rattle.admin_replies.specs.declared.figures.Phases.{Phases}
-use Rattle.admin_replies.specs.declared.figures.Process.{Process}
+use Rattle.admin_replies.specs.declared.metrics.Metrics.{Metrics}
+use Rattle.admin_replies.specs.declared.metrics.Phases.{Phases}
+use Rattle.admin_replies.specs.declared.metrics.Process.{Process}
 use Rattle.port_meters.specs.declared.counters.Refusals.{Refusals}
-use Rattle.admin_replies.specs.declared.figure.Figure.{Figure}
-use Rattle.admin_replies.specs.declared.figure.Figure.TheVariants as figure
-use Rattle.admin_replies.specs.declared.figure.Commit.{Commit}
-use Rattle.admin_replies.specs.declared.figure.Commit.TheVariants as commit
-use Rattle.admin_replies.specs.declared.figure.Held.{Held}
-use Rattle.admin_replies.specs.declared.figure.Held.TheVariants as held
-use Rattle.admin_replies.specs.declared.figure.Life.{Life}
-use Rattle.admin_replies.specs.declared.figure.Life.TheVariants as life
-use Rattle.admin_replies.specs.declared.figure.Phase.{Phase}
-use Rattle.admin_replies.specs.declared.figure.Phase.TheVariants as phase
-use Rattle.admin_replies.specs.declared.figure.Refusal.{Refusal}
-use Rattle.admin_replies.specs.declared.figure.Refusal.TheVariants as refusal
-use Rattle.admin_replies.specs.declared.figure.State.{State}
-use Rattle.admin_replies.specs.declared.figure.State.TheVariants as state
-use Rattle.admin_replies.specs.declared.figure.Wait.{Wait}
-use Rattle.admin_replies.specs.declared.figure.Wait.TheVariants as wait
+use Rattle.admin_replies.specs.declared.metric.Metric.{Metric}
+use Rattle.admin_replies.specs.declared.metric.Metric.TheVariants as metric
+use Rattle.admin_replies.specs.declared.metric.CommitMetric.{CommitMetric}
+use Rattle.admin_replies.specs.declared.metric.CommitMetric.TheVariants as commit
+use Rattle.admin_replies.specs.declared.metric.HeldMetric.{HeldMetric}
+use Rattle.admin_replies.specs.declared.metric.HeldMetric.TheVariants as held
+use Rattle.admin_replies.specs.declared.metric.LifeMetric.{LifeMetric}
+use Rattle.admin_replies.specs.declared.metric.LifeMetric.TheVariants as life
+use Rattle.admin_replies.specs.declared.metric.PhaseMetric.{PhaseMetric}
+use Rattle.admin_replies.specs.declared.metric.PhaseMetric.TheVariants as phase
+use Rattle.admin_replies.specs.declared.metric.RefusalMetric.{RefusalMetric}
+use Rattle.admin_replies.specs.declared.metric.RefusalMetric.TheVariants as refusal
+use Rattle.admin_replies.specs.declared.metric.StateMetric.{StateMetric}
+use Rattle.admin_replies.specs.declared.metric.StateMetric.TheVariants as state
+use Rattle.admin_replies.specs.declared.metric.WaitMetric.{WaitMetric}
+use Rattle.admin_replies.specs.declared.metric.WaitMetric.TheVariants as wait
 use Rattle.admin_replies.specs.declared.value.Value.{Value}
 use Rattle.admin_replies.specs.declared.value.Value.TheVariants.{Whole, Milliseconds, Microseconds}
 
@@ -33,7 +33,7 @@ abbrev pub indicator : Bool → ℕ
 indicator true = 1
 indicator false = 0
 
-abbrev pub held_value : Census → Held → ℕ
+abbrev pub held_value : Census → HeldMetric → ℕ
 held_value c held.Waiting = c.waiting
 held_value c held.DueAgain = c.due_again
 held_value c held.Running = c.running
@@ -41,32 +41,32 @@ held_value c held.Success = c.success
 held_value c held.RetriesExhausted = c.retries_exhausted
 held_value c held.EventAgeExceeded = c.event_age_exceeded
 
-abbrev pub wait_value : Figures → Wait → Value
+abbrev pub wait_value : Metrics → WaitMetric → Value
 wait_value f wait.OldestWait = Milliseconds (or_zero f.oldest_wait_age)
 wait_value f wait.OldestRecord = Milliseconds (or_zero f.oldest_record_age)
 wait_value f wait.Pending = Whole f.pending
 wait_value f wait.OpenSlots = Whole f.open_slots
 wait_value f wait.ParkedPolls = Whole f.parked_polls
 
-abbrev pub phase_value : Phases → Phase → ℕ
+abbrev pub phase_value : Phases → PhaseMetric → ℕ
 phase_value p phase.Init = p.init
 phase_value p phase.Ready = p.ready
 phase_value p phase.Busy = p.busy
 phase_value p phase.Closing = p.closing
 
-abbrev pub life_value : Figures → Life → ℕ
+abbrev pub life_value : Metrics → LifeMetric → ℕ
 life_value f life.Issued = f.issued
 life_value f life.Durable = f.durable
-life_value f life.Accepted = f.tally.accepted
-life_value f life.Success = f.tally.success
-life_value f life.RetriesExhausted = f.tally.retries_exhausted
-life_value f life.EventAgeExceeded = f.tally.event_age_exceeded
-life_value f life.Collected = f.tally.collected
-life_value f life.Started = f.tally.started
-life_value f life.Throttled = f.tally.throttled
-life_value f life.Interrupted = f.tally.interrupted
+life_value f life.Accepted = f.events.accepted
+life_value f life.Success = f.events.success
+life_value f life.RetriesExhausted = f.events.retries_exhausted
+life_value f life.EventAgeExceeded = f.events.event_age_exceeded
+life_value f life.Collected = f.events.collected
+life_value f life.Started = f.events.started
+life_value f life.Throttled = f.events.throttled
+life_value f life.Interrupted = f.events.interrupted
 
-abbrev pub refusal_value : Refusals → Refusal → ℕ
+abbrev pub refusal_value : Refusals → RefusalMetric → ℕ
 refusal_value r refusal.BadRequest = r.bad_request
 refusal_value r refusal.NotFound = r.not_found
 refusal_value r refusal.Conflict = r.conflict
@@ -77,12 +77,12 @@ refusal_value r refusal.Unavailable = r.unavailable
 refusal_value r refusal.Other = r.other
 
 -- a bucket counts those of the one before it too
-abbrev pub commit_value : Process → Commit → Value
+abbrev pub commit_value : Process → CommitMetric → Value
 commit_value p (commit.Within index) = Whole (slice_index p.buckets index)
 commit_value p commit.All = Whole p.commits
 commit_value p commit.Time = Microseconds p.commit_microseconds
 
-abbrev pub state_value : Process → State → ℕ
+abbrev pub state_value : Process → StateMetric → ℕ
 state_value p state.Switches = p.switches
 state_value p state.WrittenBytes = p.written_bytes
 state_value p state.Generation = p.generation
@@ -92,11 +92,11 @@ state_value p state.ResidentBytes = p.resident_bytes
 state_value p state.Stopping = indicator p.is_stopping
 state_value p state.Fault = indicator p.has_fault
 
-abbrev pub value_of : Figures → Figure → Value
-value_of f (figure.Held g) = Whole (held_value f.census g)
-value_of f (figure.Wait g) = wait_value f g
-value_of f (figure.Phase g) = Whole (phase_value f.environments g)
-value_of f (figure.Life g) = Whole (life_value f g)
-value_of f (figure.Refusal g) = Whole (refusal_value f.process.refused g)
-value_of f (figure.Commit g) = commit_value f.process g
-value_of f (figure.State g) = Whole (state_value f.process g)
+abbrev pub value_of : Metrics → Metric → Value
+value_of f (metric.Held g) = Whole (held_value f.census g)
+value_of f (metric.Wait g) = wait_value f g
+value_of f (metric.Phase g) = Whole (phase_value f.environments g)
+value_of f (metric.Life g) = Whole (life_value f g)
+value_of f (metric.Refusal g) = Whole (refusal_value f.process.refused g)
+value_of f (metric.Commit g) = commit_value f.process g
+value_of f (metric.State g) = Whole (state_value f.process g)

@@ -2,24 +2,24 @@
 ghost use Rattle.std.specs.Prelude.{◌≡◌, Ok, Err, Some, None};
 ghost use Rattle.async_core.specs.declared.choice.Side.TheVariants as side;
 ghost use Rattle.operator_view.specs.declared.standings.Which.TheVariants as which;
-ghost use Rattle.admin_replies.specs.declared.asked.Asked.TheVariants as asked;
-ghost use Rattle.admin_replies.specs.declared.refused.Refused.TheVariants as why;
+ghost use Rattle.admin_replies.specs.declared.admin_request.AdminRequest.TheVariants as request;
+ghost use Rattle.admin_replies.specs.declared.admin_refusal.AdminRefusal.TheVariants as why;
 ghost use Rattle.admin_replies.specs.declared.table.Section.TheVariants as section;
-ghost use Rattle.admin_replies.specs.Metrics.{section_text, settings_text};
+ghost use Rattle.admin_replies.specs.MetricsText.{section_text, settings_text};
 ghost use Rattle.admin_replies.specs.Examples.{asks, gets, third, numbers, usual, held_text, waits_text, commits_text, usual_text};
 
 /// Requests that are understood.
 pub fn requests()
     // claim: The prover computes worked requests, refusals and lines. [: behind; refusals: twice; lines: waits]
-    ensures page { gets "/" ≡ Ok asked.Page }
-    ensures metrics { gets "/metrics" ≡ Ok asked.Metrics }
-    ensures health { gets "/healthz?" ≡ Ok asked.Health }
-    ensures events { gets "/events" ≡ Ok (asked.Events which.All None 100) }
-    ensures some_events { gets "/events?limit=1000&standing=waiting" ≡ Ok (asked.Events which.Waiting None 1000) }
-    ensures behind { gets "/events?after=00000000-0000-4000-8000-000000000003&standing=failure" ≡ Ok (asked.Events which.Failure (Some third) 100) }
-    ensures event { gets "/events/00000000-0000-4000-8000-000000000003" ≡ Ok (asked.Event third) }
-    ensures success { gets "/records/success?limit=1" ≡ Ok (asked.Records side.Success None 1) }
-    ensures failure { gets "/records/failure?&after=00000000-0000-4000-8000-000000000003" ≡ Ok (asked.Records side.Failure (Some third) 100) }
+    ensures page { gets "/" ≡ Ok request.Page }
+    ensures metrics { gets "/metrics" ≡ Ok request.Metrics }
+    ensures health { gets "/healthz?" ≡ Ok request.Health }
+    ensures events { gets "/events" ≡ Ok (request.Events which.All None 100) }
+    ensures some_events { gets "/events?limit=1000&standing=waiting" ≡ Ok (request.Events which.Waiting None 1000) }
+    ensures behind { gets "/events?after=00000000-0000-4000-8000-000000000003&standing=failure" ≡ Ok (request.Events which.Failure (Some third) 100) }
+    ensures event { gets "/events/00000000-0000-4000-8000-000000000003" ≡ Ok (request.Event third) }
+    ensures success { gets "/records/success?limit=1" ≡ Ok (request.Records side.Success None 1) }
+    ensures failure { gets "/records/failure?&after=00000000-0000-4000-8000-000000000003" ≡ Ok (request.Records side.Failure (Some third) 100) }
 {}
 
 /// Requests that are refused, by the first check that fails.

@@ -5,32 +5,32 @@
 //! and of this crate, and that nothing here changes anything.
 #![tactic(auto)]
 
-mod asked;
+mod admin_refusal;
+mod admin_reply;
+mod admin_request;
 pub mod examples;
-mod figure;
-mod figures;
 mod ids;
 mod lines;
 mod lists;
 mod measuring;
+mod metric;
 mod metrics;
+mod metrics_text;
 mod name;
 mod page;
 mod parameters;
-mod place;
 mod query;
 mod reading;
-mod refused;
-mod reply;
+mod resource;
 mod settings;
 mod table;
 mod telling;
 mod value;
 
-pub use asked::Asked;
+pub use admin_refusal::AdminRefusal;
+pub use admin_reply::{AdminReply, Media};
+pub use admin_request::AdminRequest;
 pub use lists::{event_reply, events_reply, records_reply};
 pub use measuring::Measures;
 pub use reading::read;
-pub use refused::Refused;
-pub use reply::{Media, Reply};
-pub use telling::{Facts, tell};
+pub use telling::{Baseline, tell};

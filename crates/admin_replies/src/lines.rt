@@ -2,9 +2,9 @@
 ghost use Rattle.std.specs.Prelude.{◌≡◌, ◌++◌, OnOk, map, decimal};
 ghost use Rattle.std.specs.List.{flat_map};
 ghost use Rattle.admin_replies.specs.Lines.{last_digits, value_text, line_of, line_text};
-ghost use Rattle.admin_replies.specs.Metrics.{section_text};
+ghost use Rattle.admin_replies.specs.MetricsText.{section_text};
 
-use crate::figures::Figures;
+use crate::metrics::Metrics;
 use crate::table::{Row, Section};
 use crate::value::{Value, value_of};
 use std::alloc::{AllocError, Global};
@@ -52,13 +52,13 @@ fn put_value(alloc: Global, out: &mut Vec<u8>, value: Value) -> Result<(), Alloc
 }
 
 #[tactic(auto, unfolding(crate::specs::Lines::line_text))]
-fn put_row(alloc: Global, out: &mut Vec<u8>, row: &Row, figures: &Figures) -> Result<(), AllocError>
-    ensures { OnOk result (out.new.items ≡ out.old.items ++ line_text figures.now (line_of row.now)) }
+fn put_row(alloc: Global, out: &mut Vec<u8>, row: &Row, metrics: &Metrics) -> Result<(), AllocError>
+    ensures { OnOk result (out.new.items ≡ out.old.items ++ line_text metrics.now (line_of row.now)) }
 {
     out.extend_from_slice(row.head.as_bytes())?;
     out.extend_from_slice(row.name.as_bytes())?;
     out.extend_from_slice(b" ")?;
-    put_value(alloc, out, value_of(figures, row.figure))?;
+    put_value(alloc, out, value_of(metrics, row.metric))?;
     out.extend_from_slice(b"\n")
 }
 
@@ -66,28 +66,28 @@ fn put_rows(
     alloc: Global,
     out: &mut Vec<u8>,
     rows: &[Row],
-    figures: &Figures,
+    metrics: &Metrics,
 ) -> Result<(), AllocError>
-    ensures { OnOk result (out.new.items ≡ out.old.items ++ flat_map (line_text figures.now) (map line_of rows.now)) }
+    ensures { OnOk result (out.new.items ≡ out.old.items ++ flat_map (line_text metrics.now) (map line_of rows.now)) }
 {
     for row in rows {
-        put_row(alloc, out, row, figures)?;
+        put_row(alloc, out, row, metrics)?;
     }
     Ok(())
 }
 
 /// Puts the lines of these parts of the table behind a text.
-#[tactic(auto, unfolding(crate::specs::Metrics::section_text))]
+#[tactic(auto, unfolding(crate::specs::MetricsText::section_text))]
 pub(crate) fn put_sections(
     alloc: Global,
     out: &mut Vec<u8>,
     sections: &[Section],
-    figures: &Figures,
+    metrics: &Metrics,
 ) -> Result<(), AllocError>
-    ensures { OnOk result (out.new.items ≡ out.old.items ++ flat_map (section_text figures.now) sections.now) }
+    ensures { OnOk result (out.new.items ≡ out.old.items ++ flat_map (section_text metrics.now) sections.now) }
 {
     for section in sections {
-        put_rows(alloc, out, section.rows(), figures)?;
+        put_rows(alloc, out, section.rows(), metrics)?;
     }
     Ok(())
 }

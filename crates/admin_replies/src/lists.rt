@@ -3,7 +3,7 @@ ghost use Rattle.std.specs.Prelude.{◌≡◌, IfOk};
 ghost use Rattle.std.specs.Option.{option_copied};
 ghost use Rattle.admin_replies.specs.Lists.{TellsEvents, TellsEvent, TellsRecords};
 
-use crate::reply::{Media, Reply};
+use crate::admin_reply::{AdminReply, Media};
 use async_core::Side;
 use invoke_records::EventRow;
 use operator_view::{
@@ -16,10 +16,10 @@ use std::alloc::{AllocError, Global};
 const MOST_BYTES: usize = 4_194_304;
 
 // That the event behind which a list was to begin is not in it.
-fn not_there(alloc: Global) -> Result<Reply, AllocError>
+fn not_there(alloc: Global) -> Result<AdminReply, AllocError>
     ensures { IfOk result (λ reply. reply.status ≡ 404) }
 {
-    Reply::line(alloc, 404, "no event of this id is in this list")
+    AdminReply::line(alloc, 404, "no event of this id is in this list")
 }
 
 /// The next events that stand so, behind the one that is named, at most so many, in the order of acceptance. 404 where that is
@@ -32,13 +32,13 @@ pub fn events_reply(
     which: Which,
     after: Option<&[u8; 16]>,
     limit: usize,
-) -> Result<Reply, AllocError>
+) -> Result<AdminReply, AllocError>
     ensures { IfOk result (TellsEvents which (option_copied after.entry) limit rows.now) }
 {
     match events_page(alloc, rows, which, after, limit) {
         Ok(page) => {
             let body = events_json(alloc, rows, &page)?;
-            Ok(Reply::shown(Media::Json, body))
+            Ok(AdminReply::shown(Media::Json, body))
         }
         Err(PageError::After) => not_there(alloc),
         Err(PageError::OutOfMemory) => Err(AllocError),
@@ -52,15 +52,15 @@ pub fn event_reply(
     rows: &[EventRow],
     settings: &Settings,
     id: &[u8; 16],
-) -> Result<Reply, AllocError>
+) -> Result<AdminReply, AllocError>
     ensures { IfOk result (TellsEvent settings.now id.now rows.now) }
 {
     match find(rows, id) {
         Some(row) => {
             let body = event_json(alloc, row, settings)?;
-            Ok(Reply::shown(Media::Json, body))
+            Ok(AdminReply::shown(Media::Json, body))
         }
-        None => Reply::line(alloc, 404, "no event of this id is held"),
+        None => AdminReply::line(alloc, 404, "no event of this id is held"),
     }
 }
 
@@ -74,13 +74,13 @@ pub fn records_reply(
     side: Side,
     after: Option<&[u8; 16]>,
     limit: usize,
-) -> Result<Reply, AllocError>
+) -> Result<AdminReply, AllocError>
     ensures { IfOk result (TellsRecords settings.now side (option_copied after.entry) limit 4194304 rows.now) }
 {
     match records_page(alloc, rows, Some(side), after, limit) {
         Ok(page) => {
             let (body, next) = record_lines(alloc, rows, &page, settings, MOST_BYTES)?;
-            Ok(Reply {
+            Ok(AdminReply {
                 status: 200,
                 media: Media::Lines,
                 body,

@@ -1,15 +1,15 @@
 // The numbers of a broker.
 ghost use Rattle.std.specs.Prelude.{◌≡◌, ◌^◌, ◌-◌, min, count_by};
 ghost use Rattle.operator_view.specs.Census.{ends};
-ghost use Rattle.admin_replies.specs.Numbers.{age_of, is_in_phase, phases_of, parked_in, ended_in, tally_told, process_told, IsOldestAge, AreFigures};
+ghost use Rattle.admin_replies.specs.Numbers.{age_of, is_in_phase, phases_of, parked_in, ended_in, event_counters, process_told, IsOldestAge, AreMetrics};
 
-use crate::figures::{Figures, Phases, Process, Tally};
+use crate::metrics::{EventCounters, Metrics, Phases, Process};
 use env_phase::Phase;
-use hall_core::EnvironmentLook;
+use hall_core::EnvironmentStatus;
 use invoke_records::EventRow;
 use operator_view::{Census, census, oldest_record, oldest_waiting};
 use port_meters::Counters;
-use receipts::Sight;
+use receipts::View;
 
 /// What was counted and measured of a process.
 #[derive(Clone, Copy)]
@@ -41,16 +41,16 @@ fn oldest_record_age(now: u64, rows: &[EventRow]) -> Option<u64>
     age_of(now, oldest)
 }
 
-fn count_in_phase(environments: &[EnvironmentLook], phase: Phase) -> u64
+fn count_in_phase(environments: &[EnvironmentStatus], phase: Phase) -> u64
     ensures { result ≡ count_by (is_in_phase phase) environments.now }
 {
     environments
         .iter()
-        .filter(|look| look.phase == phase)
+        .filter(|status| status.phase == phase)
         .count() as u64
 }
 
-fn phases_of(environments: &[EnvironmentLook]) -> Phases
+fn phases_of(environments: &[EnvironmentStatus]) -> Phases
     ensures { result ≡ phases_of environments.now }
 {
     Phases {
@@ -62,12 +62,12 @@ fn phases_of(environments: &[EnvironmentLook]) -> Phases
 }
 
 // How many polls are parked, up to the greatest number.
-fn parked_in(environments: &[EnvironmentLook]) -> u64
+fn parked_in(environments: &[EnvironmentStatus]) -> u64
     ensures { result ≡ min (parked_in environments.now) (2 ^ 64 - 1) }
 {
     match environments {
         [] => 0,
-        [look, more @ ..] => (look.parked as u64).saturating_add(parked_in(more)),
+        [status, more @ ..] => (status.parked as u64).saturating_add(parked_in(more)),
     }
 }
 
@@ -83,14 +83,14 @@ pub(crate) fn ended_in(census: &Census) -> u64
 
 // What became of events since the opening, when so many had ended. An event that ended and is not held was collected; one that
 // ended neither with success nor by its age had no retries left.
-fn tally_told(before: u64, ended: u64, counted: &receipts::Tally) -> Tally
-    ensures { result ≡ tally_told before ended counted.now }
+fn event_counters(before: u64, ended: u64, counted: &receipts::CommandCounters) -> EventCounters
+    ensures { result ≡ event_counters before ended counted.now }
 {
     let all = ended
         .saturating_add(counted.collected)
         .saturating_sub(before);
     let others = all.saturating_sub(counted.succeeded);
-    Tally {
+    EventCounters {
         accepted: counted.accepted,
         success: counted.succeeded,
         retries_exhausted: others.saturating_sub(counted.expired),
@@ -124,25 +124,25 @@ fn process_told(measures: &Measures, is_stopping: bool) -> Process
 
 /// The numbers of a broker that was seen so, of which so much was counted and measured, now, in milliseconds since 1970. At the
 /// opening so many events had ended.
-pub(crate) fn figures(before: u64, sight: &Sight, measures: &Measures, now: u64) -> Figures
+pub(crate) fn metrics_of(before: u64, view: &View, measures: &Measures, now: u64) -> Metrics
     // claim: The numbers are of what was seen: a census of rows, environments by phase, what ended since the opening.
-    ensures { AreFigures before sight.now measures.now now result }
+    ensures { AreMetrics before view.now measures.now now result }
 {
-    let look = &sight.look;
-    let rows = look.table.rows.as_slice();
+    let hall = &view.hall;
+    let rows = hall.table.rows.as_slice();
     let census = census(rows);
-    let issued = look.table.number;
-    Figures {
+    let issued = hall.table.number;
+    Metrics {
         census,
         oldest_wait_age: age_of(now, oldest_waiting(rows)),
         oldest_record_age: oldest_record_age(now, rows),
         issued,
-        durable: look.durable,
-        pending: issued.saturating_sub(look.durable),
-        open_slots: look.open_slots as u64,
-        parked_polls: parked_in(&look.environments),
-        environments: phases_of(&look.environments),
-        tally: tally_told(before, ended_in(&census), &sight.tally),
-        process: process_told(measures, look.is_stopping),
+        durable: hall.durable,
+        pending: issued.saturating_sub(hall.durable),
+        open_slots: hall.open_slots as u64,
+        parked_polls: parked_in(&hall.environments),
+        environments: phases_of(&hall.environments),
+        events: event_counters(before, ended_in(&census), &view.counters),
+        process: process_told(measures, hall.is_stopping),
     }
 }

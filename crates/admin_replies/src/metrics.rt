@@ -1,42 +1,75 @@
-// The text that a monitor collects.
-ghost use Rattle.std.specs.Prelude.{◌≡◌, IfOk};
-ghost use Rattle.admin_replies.specs.Metrics.{metrics_text};
-ghost use Rattle.admin_replies.specs.Table.{sections};
+// The numbers that a monitor collects.
 
-use crate::figures::Figures;
-use crate::lines::put_sections;
-use crate::settings::put_settings;
-use crate::table::Section;
-use retry_rules::Settings;
-use std::alloc::{AllocError, Global};
+use operator_view::Census;
+use port_meters::Refusals;
 
-const SECTIONS: [Section; 7] = [
-    Section::Held,
-    Section::Waits,
-    Section::Environments,
-    Section::Lives,
-    Section::Refusals,
-    Section::Commits,
-    Section::Disk,
-];
-
-fn sections() -> &'static [Section]
-    ensures { result.now ≡ sections }
-{
-    &SECTIONS
+/// The numbers that a monitor collects, as they are at one moment.
+#[derive(Clone, Copy)]
+pub struct Metrics {
+    pub census: Census,
+    /// How long ago the oldest event that waits was accepted, in milliseconds.
+    pub oldest_wait_age: Option<u64>,
+    /// How long ago the oldest record that is held came to be, in milliseconds.
+    pub oldest_record_age: Option<u64>,
+    /// Commands.
+    pub issued: u64,
+    /// Commands.
+    pub durable: u64,
+    /// Commands that are issued and not yet durable.
+    pub pending: u64,
+    /// Requests that wait for their reply.
+    pub open_slots: u64,
+    /// Long polls that wait for something to tell.
+    pub parked_polls: u64,
+    pub environments: Phases,
+    pub events: EventCounters,
+    pub process: Process,
 }
 
-/// The text that a monitor collects, in Prometheus' text form, version 0.0.4. Only want of memory is refused.
-pub(crate) fn metrics(
-    alloc: Global,
-    figures: &Figures,
-    settings: &Settings,
-) -> Result<Vec<u8>, AllocError>
-    // claim: The numbers' text is, byte for byte, that of the definitions, or memory is wanting.
-    ensures { IfOk result (λ text. text.items ≡ metrics_text figures.now settings.now) }
-{
-    let mut out = Vec::new(alloc);
-    put_sections(alloc, &mut out, sections(), figures)?;
-    put_settings(alloc, &mut out, settings)?;
-    Ok(out)
+/// How many environments are in which phase.
+#[derive(Clone, Copy)]
+pub struct Phases {
+    pub init: u64,
+    pub ready: u64,
+    pub busy: u64,
+    pub closing: u64,
+}
+
+/// How often something happened to an event.
+#[derive(Clone, Copy)]
+pub struct EventCounters {
+    pub accepted: u64,
+    pub success: u64,
+    pub retries_exhausted: u64,
+    pub event_age_exceeded: u64,
+    pub collected: u64,
+    pub started: u64,
+    pub throttled: u64,
+    pub interrupted: u64,
+}
+
+/// What the process does with its disk and its ports.
+#[derive(Clone, Copy)]
+pub struct Process {
+    pub commits: u64,
+    /// To the other segment of the disk.
+    pub switches: u64,
+    /// To the disk.
+    pub written_bytes: u64,
+    /// How long the commits took in all.
+    pub commit_microseconds: u64,
+    /// How many commits took at most 0.001, 0.0025, 0.005, 0.01, 0.025, 0.1, 0.5 and 2.5 seconds. Each counts those of the
+    /// one before it too.
+    pub buckets: [u64; 8],
+    /// Of the segment that is written.
+    pub generation: u64,
+    /// Of the disk.
+    pub sectors: u64,
+    /// In the segment that is written.
+    pub free_sectors: u64,
+    pub resident_bytes: u64,
+    pub is_stopping: bool,
+    /// The disk has failed.
+    pub has_fault: bool,
+    pub refused: Refusals,
 }

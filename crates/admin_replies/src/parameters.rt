@@ -3,12 +3,12 @@ ghost use Rattle.std.specs.Prelude.{◌≡◌, ◌≤◌};
 ghost use Rattle.std.specs.Option.{option_copied};
 ghost use Rattle.admin_replies.specs.Requests.{standing_of, after_of, limit_of, number_of};
 
+use crate::admin_refusal::AdminRefusal;
 use crate::ids::read_id;
-use crate::refused::Refused;
 use operator_view::Which;
 
 /// Which events are asked for: all, where nothing is said.
-pub(crate) fn read_standing(text: Option<&str>) -> Result<Which, Refused>
+pub(crate) fn read_standing(text: Option<&str>) -> Result<Which, AdminRefusal>
     ensures { result ≡ standing_of (option_copied text.entry) }
 {
     match text {
@@ -18,18 +18,18 @@ pub(crate) fn read_standing(text: Option<&str>) -> Result<Which, Refused>
         Some("running") => Ok(Which::Running),
         Some("success") => Ok(Which::Success),
         Some("failure") => Ok(Which::Failure),
-        Some(_) => Err(Refused::Standing),
+        Some(_) => Err(AdminRefusal::Standing),
     }
 }
 
 /// The event behind which a list begins, where one is named.
-pub(crate) fn read_after(text: Option<&str>) -> Result<Option<[u8; 16]>, Refused>
+pub(crate) fn read_after(text: Option<&str>) -> Result<Option<[u8; 16]>, AdminRefusal>
     ensures { result ≡ after_of (option_copied text.entry) }
 {
     let Some(text) = text else { return Ok(None) };
     match read_id(text.as_bytes()) {
         Some(id) => Ok(Some(id)),
-        None => Err(Refused::After),
+        None => Err(AdminRefusal::After),
     }
 }
 
@@ -59,15 +59,15 @@ fn read_number(digits: &[u8], so_far: usize) -> Option<usize>
 }
 
 /// How many are asked for at most: a hundred, where nothing is said.
-pub(crate) fn read_limit(text: Option<&str>) -> Result<usize, Refused>
+pub(crate) fn read_limit(text: Option<&str>) -> Result<usize, AdminRefusal>
     ensures { result ≡ limit_of (option_copied text.entry) }
 {
     let Some(text) = text else { return Ok(100) };
     if text.is_empty() {
-        return Err(Refused::Limit);
+        return Err(AdminRefusal::Limit);
     }
     match read_number(text.as_bytes(), 0) {
         Some(limit) if limit >= 1 => Ok(limit),
-        _ => Err(Refused::Limit),
+        _ => Err(AdminRefusal::Limit),
     }
 }

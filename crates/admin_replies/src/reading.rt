@@ -2,12 +2,12 @@
 ghost use Rattle.std.specs.Prelude.{◌≡◌};
 ghost use Rattle.admin_replies.specs.Requests.{path_of, query_of, parts_of, names_at, told_at, asked_at, asked_of};
 
-use crate::asked::Asked;
+use crate::admin_refusal::AdminRefusal;
+use crate::admin_request::AdminRequest;
 use crate::name::Name;
 use crate::parameters::{read_after, read_limit, read_standing};
-use crate::place::{Place, place_of};
 use crate::query::{fits, given};
-use crate::refused::Refused;
+use crate::resource::{Resource, resource_of};
 use async_core::Side;
 
 const OF_EVENTS: [Name; 3] = [Name::Standing, Name::After, Name::Limit];
@@ -33,58 +33,58 @@ fn query_of(target: &str) -> &str
 }
 
 // The names that a request has.
-fn names_at(place: Place) -> &'static [Name]
-    ensures { result.now ≡ names_at place }
+fn names_at(resource: Resource) -> &'static [Name]
+    ensures { result.now ≡ names_at resource }
 {
-    match place {
-        Place::Events => &OF_EVENTS,
-        Place::Records(_) => &OF_RECORDS,
+    match resource {
+        Resource::Events => &OF_EVENTS,
+        Resource::Records(_) => &OF_RECORDS,
         _ => &[],
     }
 }
 
-fn events_asked(query: &str) -> Result<Asked, Refused>
-    ensures { result ≡ told_at Place.Events (parts_of query.now) }
+fn events_asked(query: &str) -> Result<AdminRequest, AdminRefusal>
+    ensures { result ≡ told_at Resource.Events (parts_of query.now) }
 {
     let which = read_standing(given(Name::Standing, query))?;
     let after = read_after(given(Name::After, query))?;
     let limit = read_limit(given(Name::Limit, query))?;
-    Ok(Asked::Events {
+    Ok(AdminRequest::Events {
         which,
         after,
         limit,
     })
 }
 
-fn records_asked(side: Side, query: &str) -> Result<Asked, Refused>
-    ensures { result ≡ told_at (Place.Records side) (parts_of query.now) }
+fn records_asked(side: Side, query: &str) -> Result<AdminRequest, AdminRefusal>
+    ensures { result ≡ told_at (Resource.Records side) (parts_of query.now) }
 {
     let after = read_after(given(Name::After, query))?;
     let limit = read_limit(given(Name::Limit, query))?;
-    Ok(Asked::Records { side, after, limit })
+    Ok(AdminRequest::Records { side, after, limit })
 }
 
-fn told_at(place: Place, query: &str) -> Result<Asked, Refused>
-    ensures { result ≡ told_at place (parts_of query.now) }
+fn told_at(resource: Resource, query: &str) -> Result<AdminRequest, AdminRefusal>
+    ensures { result ≡ told_at resource (parts_of query.now) }
 {
-    match place {
-        Place::Page => Ok(Asked::Page),
-        Place::Metrics => Ok(Asked::Metrics),
-        Place::Health => Ok(Asked::Health),
-        Place::Events => events_asked(query),
-        Place::Event(id) => Ok(Asked::Event(id)),
-        Place::Records(side) => records_asked(side, query),
+    match resource {
+        Resource::Page => Ok(AdminRequest::Page),
+        Resource::Metrics => Ok(AdminRequest::Metrics),
+        Resource::Health => Ok(AdminRequest::Health),
+        Resource::Events => events_asked(query),
+        Resource::Event(id) => Ok(AdminRequest::Event(id)),
+        Resource::Records(side) => records_asked(side, query),
     }
 }
 
 #[tactic(auto, unfolding(crate::specs::Requests::asked_at))]
-fn asked_at(place: Place, query: &str) -> Result<Asked, Refused>
-    ensures { result ≡ asked_at place query.now }
+fn asked_at(resource: Resource, query: &str) -> Result<AdminRequest, AdminRefusal>
+    ensures { result ≡ asked_at resource query.now }
 {
-    if fits(names_at(place), query) {
-        told_at(place, query)
+    if fits(names_at(resource), query) {
+        told_at(resource, query)
     } else {
-        Err(Refused::Query)
+        Err(AdminRefusal::Query)
     }
 }
 
@@ -92,14 +92,14 @@ fn asked_at(place: Place, query: &str) -> Result<Asked, Refused>
 /// in it, the query's names, and then their values in the order `standing`, `after`, `limit`.
 ///
 /// A query is `NAME=VALUE` with `&` between; a part without bytes says nothing. Nothing is decoded.
-pub fn read(method: &str, target: &str) -> Result<Asked, Refused>
+pub fn read(method: &str, target: &str) -> Result<AdminRequest, AdminRefusal>
     // claim: A request asks for what the definition reads in method and target, or is refused by the first failing check.
-    // [Refused::status]
+    // [AdminRefusal::status]
     ensures { result ≡ asked_of method.now target.now }
 {
     if method != "GET" {
-        return Err(Refused::Method);
+        return Err(AdminRefusal::Method);
     }
-    let place = place_of(path_of(target))?;
-    asked_at(place, query_of(target))
+    let resource = resource_of(path_of(target))?;
+    asked_at(resource, query_of(target))
 }

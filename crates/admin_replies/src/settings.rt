@@ -1,6 +1,6 @@
 // The settings as labels.
 ghost use Rattle.std.specs.Prelude.{◌≡◌, ◌++◌, OnOk};
-ghost use Rattle.admin_replies.specs.Metrics.{setting_text, label_of, label_text, labels_text, labels, settings_begin, settings_text};
+ghost use Rattle.admin_replies.specs.MetricsText.{setting_text, label_of, label_text, labels_text, labels, settings_begin, settings_text};
 
 use crate::lines::put_number;
 use retry_rules::{Field, Settings};
@@ -29,7 +29,7 @@ fn labels() -> &'static [Field]
 const BEGIN: &[u8] =
     b"# HELP lambda_broker_settings_info The settings of the function, with the retries and the age in force.\n# TYPE lambda_broker_settings_info gauge\nlambda_broker_settings_info{";
 
-#[tactic(auto, unfolding(crate::specs::Metrics::settings_begin))]
+#[tactic(auto, unfolding(crate::specs::MetricsText::settings_begin))]
 fn begin() -> &'static [u8]
     ensures { result.now ≡ settings_begin }
 {
@@ -78,7 +78,7 @@ fn label_of(field: Field) -> &'static [u8]
     }
 }
 
-#[tactic(auto, unfolding(crate::specs::Metrics::label_text))]
+#[tactic(auto, unfolding(crate::specs::MetricsText::label_text))]
 fn put_label(
     alloc: Global,
     out: &mut Vec<u8>,
@@ -108,7 +108,7 @@ fn put_labels(
 }
 
 /// Puts the settings behind a text.
-#[tactic(auto, unfolding(crate::specs::Metrics::settings_text))]
+#[tactic(auto, unfolding(crate::specs::MetricsText::settings_text))]
 pub(crate) fn put_settings(
     alloc: Global,
     out: &mut Vec<u8>,

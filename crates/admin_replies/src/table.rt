@@ -3,7 +3,10 @@ ghost use Rattle.std.specs.Prelude.{◌≡◌, map};
 ghost use Rattle.admin_replies.specs.Lines.{line_of};
 ghost use Rattle.admin_replies.specs.Table.{lines_of};
 
-use crate::figure::{Commit, Figure, Held, Life, Phase, Refusal, State, Wait};
+use crate::metric::{
+    CommitMetric, HeldMetric, LifeMetric, Metric, PhaseMetric, RefusalMetric, StateMetric,
+    WaitMetric,
+};
 
 /// A number and what stands before it.
 pub(crate) struct Row {
@@ -11,7 +14,7 @@ pub(crate) struct Row {
     pub(crate) head: &'static str,
     /// Its name and its labels.
     pub(crate) name: &'static str,
-    pub(crate) figure: Figure,
+    pub(crate) metric: Metric,
 }
 
 /// A part of the table.
@@ -37,32 +40,32 @@ const HELD: [Row; 6] = [
     Row {
         head: "# HELP lambda_broker_events Events that are held, by where they stand.\n# TYPE lambda_broker_events gauge\n",
         name: "lambda_broker_events{standing=\"waiting\"}",
-        figure: Figure::Held(Held::Waiting),
+        metric: Metric::Held(HeldMetric::Waiting),
     },
     Row {
         head: "",
         name: "lambda_broker_events{standing=\"due_again\"}",
-        figure: Figure::Held(Held::DueAgain),
+        metric: Metric::Held(HeldMetric::DueAgain),
     },
     Row {
         head: "",
         name: "lambda_broker_events{standing=\"running\"}",
-        figure: Figure::Held(Held::Running),
+        metric: Metric::Held(HeldMetric::Running),
     },
     Row {
         head: "",
         name: "lambda_broker_events{standing=\"success\"}",
-        figure: Figure::Held(Held::Success),
+        metric: Metric::Held(HeldMetric::Success),
     },
     Row {
         head: "",
         name: "lambda_broker_events{standing=\"retries_exhausted\"}",
-        figure: Figure::Held(Held::RetriesExhausted),
+        metric: Metric::Held(HeldMetric::RetriesExhausted),
     },
     Row {
         head: "",
         name: "lambda_broker_events{standing=\"event_age_exceeded\"}",
-        figure: Figure::Held(Held::EventAgeExceeded),
+        metric: Metric::Held(HeldMetric::EventAgeExceeded),
     },
 ];
 
@@ -70,27 +73,27 @@ const WAITS: [Row; 5] = [
     Row {
         head: "# HELP lambda_broker_oldest_wait_age_seconds Age of the oldest event that waits, 0 where none does.\n# TYPE lambda_broker_oldest_wait_age_seconds gauge\n",
         name: "lambda_broker_oldest_wait_age_seconds",
-        figure: Figure::Wait(Wait::OldestWait),
+        metric: Metric::Wait(WaitMetric::OldestWait),
     },
     Row {
         head: "# HELP lambda_broker_oldest_record_age_seconds Time since the oldest record that is held was made, 0 where none is.\n# TYPE lambda_broker_oldest_record_age_seconds gauge\n",
         name: "lambda_broker_oldest_record_age_seconds",
-        figure: Figure::Wait(Wait::OldestRecord),
+        metric: Metric::Wait(WaitMetric::OldestRecord),
     },
     Row {
         head: "# HELP lambda_broker_pending_commands Commands that are issued and not yet durable.\n# TYPE lambda_broker_pending_commands gauge\n",
         name: "lambda_broker_pending_commands",
-        figure: Figure::Wait(Wait::Pending),
+        metric: Metric::Wait(WaitMetric::Pending),
     },
     Row {
         head: "# HELP lambda_broker_open_slots Requests that wait for their reply.\n# TYPE lambda_broker_open_slots gauge\n",
         name: "lambda_broker_open_slots",
-        figure: Figure::Wait(Wait::OpenSlots),
+        metric: Metric::Wait(WaitMetric::OpenSlots),
     },
     Row {
         head: "# HELP lambda_broker_parked_polls Long polls that wait for something to tell.\n# TYPE lambda_broker_parked_polls gauge\n",
         name: "lambda_broker_parked_polls",
-        figure: Figure::Wait(Wait::ParkedPolls),
+        metric: Metric::Wait(WaitMetric::ParkedPolls),
     },
 ];
 
@@ -98,22 +101,22 @@ const ENVIRONMENTS: [Row; 4] = [
     Row {
         head: "# HELP lambda_broker_environments Environments, by phase.\n# TYPE lambda_broker_environments gauge\n",
         name: "lambda_broker_environments{phase=\"init\"}",
-        figure: Figure::Phase(Phase::Init),
+        metric: Metric::Phase(PhaseMetric::Init),
     },
     Row {
         head: "",
         name: "lambda_broker_environments{phase=\"ready\"}",
-        figure: Figure::Phase(Phase::Ready),
+        metric: Metric::Phase(PhaseMetric::Ready),
     },
     Row {
         head: "",
         name: "lambda_broker_environments{phase=\"busy\"}",
-        figure: Figure::Phase(Phase::Busy),
+        metric: Metric::Phase(PhaseMetric::Busy),
     },
     Row {
         head: "",
         name: "lambda_broker_environments{phase=\"closing\"}",
-        figure: Figure::Phase(Phase::Closing),
+        metric: Metric::Phase(PhaseMetric::Closing),
     },
 ];
 
@@ -121,52 +124,52 @@ const LIVES: [Row; 10] = [
     Row {
         head: "# HELP lambda_broker_commands_issued_total Commands that were issued.\n# TYPE lambda_broker_commands_issued_total counter\n",
         name: "lambda_broker_commands_issued_total",
-        figure: Figure::Life(Life::Issued),
+        metric: Metric::Life(LifeMetric::Issued),
     },
     Row {
         head: "# HELP lambda_broker_commands_durable_total Commands that are durable.\n# TYPE lambda_broker_commands_durable_total counter\n",
         name: "lambda_broker_commands_durable_total",
-        figure: Figure::Life(Life::Durable),
+        metric: Metric::Life(LifeMetric::Durable),
     },
     Row {
         head: "# HELP lambda_broker_events_accepted_total Events that were accepted.\n# TYPE lambda_broker_events_accepted_total counter\n",
         name: "lambda_broker_events_accepted_total",
-        figure: Figure::Life(Life::Accepted),
+        metric: Metric::Life(LifeMetric::Accepted),
     },
     Row {
         head: "# HELP lambda_broker_events_ended_total Events that ended, by outcome.\n# TYPE lambda_broker_events_ended_total counter\n",
         name: "lambda_broker_events_ended_total{outcome=\"Success\"}",
-        figure: Figure::Life(Life::Success),
+        metric: Metric::Life(LifeMetric::Success),
     },
     Row {
         head: "",
         name: "lambda_broker_events_ended_total{outcome=\"RetriesExhausted\"}",
-        figure: Figure::Life(Life::RetriesExhausted),
+        metric: Metric::Life(LifeMetric::RetriesExhausted),
     },
     Row {
         head: "",
         name: "lambda_broker_events_ended_total{outcome=\"EventAgeExceeded\"}",
-        figure: Figure::Life(Life::EventAgeExceeded),
+        metric: Metric::Life(LifeMetric::EventAgeExceeded),
     },
     Row {
         head: "# HELP lambda_broker_records_collected_total Records that were collected.\n# TYPE lambda_broker_records_collected_total counter\n",
         name: "lambda_broker_records_collected_total",
-        figure: Figure::Life(Life::Collected),
+        metric: Metric::Life(LifeMetric::Collected),
     },
     Row {
         head: "# HELP lambda_broker_attempts_started_total Attempts that were started.\n# TYPE lambda_broker_attempts_started_total counter\n",
         name: "lambda_broker_attempts_started_total",
-        figure: Figure::Life(Life::Started),
+        metric: Metric::Life(LifeMetric::Started),
     },
     Row {
         head: "# HELP lambda_broker_attempts_throttled_total Attempts that were throttled.\n# TYPE lambda_broker_attempts_throttled_total counter\n",
         name: "lambda_broker_attempts_throttled_total",
-        figure: Figure::Life(Life::Throttled),
+        metric: Metric::Life(LifeMetric::Throttled),
     },
     Row {
         head: "# HELP lambda_broker_attempts_interrupted_total Attempts that were interrupted.\n# TYPE lambda_broker_attempts_interrupted_total counter\n",
         name: "lambda_broker_attempts_interrupted_total",
-        figure: Figure::Life(Life::Interrupted),
+        metric: Metric::Life(LifeMetric::Interrupted),
     },
 ];
 
@@ -174,42 +177,42 @@ const REFUSALS: [Row; 8] = [
     Row {
         head: "# HELP lambda_broker_refused_total Requests that were refused, by reason.\n# TYPE lambda_broker_refused_total counter\n",
         name: "lambda_broker_refused_total{reason=\"bad_request\"}",
-        figure: Figure::Refusal(Refusal::BadRequest),
+        metric: Metric::Refusal(RefusalMetric::BadRequest),
     },
     Row {
         head: "",
         name: "lambda_broker_refused_total{reason=\"not_found\"}",
-        figure: Figure::Refusal(Refusal::NotFound),
+        metric: Metric::Refusal(RefusalMetric::NotFound),
     },
     Row {
         head: "",
         name: "lambda_broker_refused_total{reason=\"conflict\"}",
-        figure: Figure::Refusal(Refusal::Conflict),
+        metric: Metric::Refusal(RefusalMetric::Conflict),
     },
     Row {
         head: "",
         name: "lambda_broker_refused_total{reason=\"too_large\"}",
-        figure: Figure::Refusal(Refusal::TooLarge),
+        metric: Metric::Refusal(RefusalMetric::TooLarge),
     },
     Row {
         head: "",
         name: "lambda_broker_refused_total{reason=\"head_too_large\"}",
-        figure: Figure::Refusal(Refusal::HeadTooLarge),
+        metric: Metric::Refusal(RefusalMetric::HeadTooLarge),
     },
     Row {
         head: "",
         name: "lambda_broker_refused_total{reason=\"too_many\"}",
-        figure: Figure::Refusal(Refusal::TooMany),
+        metric: Metric::Refusal(RefusalMetric::TooMany),
     },
     Row {
         head: "",
         name: "lambda_broker_refused_total{reason=\"unavailable\"}",
-        figure: Figure::Refusal(Refusal::Unavailable),
+        metric: Metric::Refusal(RefusalMetric::Unavailable),
     },
     Row {
         head: "",
         name: "lambda_broker_refused_total{reason=\"other\"}",
-        figure: Figure::Refusal(Refusal::Other),
+        metric: Metric::Refusal(RefusalMetric::Other),
     },
 ];
 
@@ -217,57 +220,57 @@ const COMMITS: [Row; 11] = [
     Row {
         head: "# HELP lambda_broker_commit_seconds Time that a commit took.\n# TYPE lambda_broker_commit_seconds histogram\n",
         name: "lambda_broker_commit_seconds_bucket{le=\"0.001\"}",
-        figure: Figure::Commit(Commit::Within(0)),
+        metric: Metric::Commit(CommitMetric::Within(0)),
     },
     Row {
         head: "",
         name: "lambda_broker_commit_seconds_bucket{le=\"0.0025\"}",
-        figure: Figure::Commit(Commit::Within(1)),
+        metric: Metric::Commit(CommitMetric::Within(1)),
     },
     Row {
         head: "",
         name: "lambda_broker_commit_seconds_bucket{le=\"0.005\"}",
-        figure: Figure::Commit(Commit::Within(2)),
+        metric: Metric::Commit(CommitMetric::Within(2)),
     },
     Row {
         head: "",
         name: "lambda_broker_commit_seconds_bucket{le=\"0.01\"}",
-        figure: Figure::Commit(Commit::Within(3)),
+        metric: Metric::Commit(CommitMetric::Within(3)),
     },
     Row {
         head: "",
         name: "lambda_broker_commit_seconds_bucket{le=\"0.025\"}",
-        figure: Figure::Commit(Commit::Within(4)),
+        metric: Metric::Commit(CommitMetric::Within(4)),
     },
     Row {
         head: "",
         name: "lambda_broker_commit_seconds_bucket{le=\"0.1\"}",
-        figure: Figure::Commit(Commit::Within(5)),
+        metric: Metric::Commit(CommitMetric::Within(5)),
     },
     Row {
         head: "",
         name: "lambda_broker_commit_seconds_bucket{le=\"0.5\"}",
-        figure: Figure::Commit(Commit::Within(6)),
+        metric: Metric::Commit(CommitMetric::Within(6)),
     },
     Row {
         head: "",
         name: "lambda_broker_commit_seconds_bucket{le=\"2.5\"}",
-        figure: Figure::Commit(Commit::Within(7)),
+        metric: Metric::Commit(CommitMetric::Within(7)),
     },
     Row {
         head: "",
         name: "lambda_broker_commit_seconds_bucket{le=\"+Inf\"}",
-        figure: Figure::Commit(Commit::All),
+        metric: Metric::Commit(CommitMetric::All),
     },
     Row {
         head: "",
         name: "lambda_broker_commit_seconds_sum",
-        figure: Figure::Commit(Commit::Time),
+        metric: Metric::Commit(CommitMetric::Time),
     },
     Row {
         head: "",
         name: "lambda_broker_commit_seconds_count",
-        figure: Figure::Commit(Commit::All),
+        metric: Metric::Commit(CommitMetric::All),
     },
 ];
 
@@ -275,42 +278,42 @@ const DISK: [Row; 8] = [
     Row {
         head: "# HELP lambda_broker_switches_total Switches to the other segment of the disk.\n# TYPE lambda_broker_switches_total counter\n",
         name: "lambda_broker_switches_total",
-        figure: Figure::State(State::Switches),
+        metric: Metric::State(StateMetric::Switches),
     },
     Row {
         head: "# HELP lambda_broker_written_bytes_total Bytes that were written to the disk.\n# TYPE lambda_broker_written_bytes_total counter\n",
         name: "lambda_broker_written_bytes_total",
-        figure: Figure::State(State::WrittenBytes),
+        metric: Metric::State(StateMetric::WrittenBytes),
     },
     Row {
         head: "# HELP lambda_broker_generation Generation of the segment that is written.\n# TYPE lambda_broker_generation gauge\n",
         name: "lambda_broker_generation",
-        figure: Figure::State(State::Generation),
+        metric: Metric::State(StateMetric::Generation),
     },
     Row {
         head: "# HELP lambda_broker_disk_sectors Sectors of the disk.\n# TYPE lambda_broker_disk_sectors gauge\n",
         name: "lambda_broker_disk_sectors",
-        figure: Figure::State(State::Sectors),
+        metric: Metric::State(StateMetric::Sectors),
     },
     Row {
         head: "# HELP lambda_broker_segment_free_sectors Sectors that are left in the segment that is written.\n# TYPE lambda_broker_segment_free_sectors gauge\n",
         name: "lambda_broker_segment_free_sectors",
-        figure: Figure::State(State::FreeSectors),
+        metric: Metric::State(StateMetric::FreeSectors),
     },
     Row {
         head: "# HELP lambda_broker_process_resident_memory_bytes Memory of the process that is resident.\n# TYPE lambda_broker_process_resident_memory_bytes gauge\n",
         name: "lambda_broker_process_resident_memory_bytes",
-        figure: Figure::State(State::ResidentBytes),
+        metric: Metric::State(StateMetric::ResidentBytes),
     },
     Row {
         head: "# HELP lambda_broker_stopping 1 while the broker stops, else 0.\n# TYPE lambda_broker_stopping gauge\n",
         name: "lambda_broker_stopping",
-        figure: Figure::State(State::Stopping),
+        metric: Metric::State(StateMetric::Stopping),
     },
     Row {
         head: "# HELP lambda_broker_device_fault 1 once the disk has failed, else 0.\n# TYPE lambda_broker_device_fault gauge\n",
         name: "lambda_broker_device_fault",
-        figure: Figure::State(State::Fault),
+        metric: Metric::State(StateMetric::Fault),
     },
 ];
 

@@ -2,36 +2,36 @@
 ghost use Rattle.std.specs.Prelude.{◌≡◌, IfOk};
 ghost use Rattle.admin_replies.specs.Telling.{TellsOf, TellsNumbers, CountsEnded, health_status, under};
 
-use crate::asked::Asked;
+use crate::admin_reply::{AdminReply, Media};
+use crate::admin_request::AdminRequest;
 use crate::lists::{event_reply, events_reply, records_reply};
-use crate::measuring::{Measures, ended_in, figures};
-use crate::metrics::metrics;
+use crate::measuring::{Measures, ended_in, metrics_of};
+use crate::metrics_text::metrics_text;
 use crate::page::PAGE;
-use crate::reply::{Media, Reply};
 use async_core::Table;
 use operator_view::census;
-use receipts::Sight;
+use receipts::View;
 use retry_rules::{RetryPolicy, Settings};
 use std::alloc::{AllocError, Global};
 
 /// What is known of a broker from its opening on.
 #[derive(Drop)]
-pub struct Facts {
+pub struct Baseline {
     pub settings: Settings,
     /// How many events had ended and were held.
     pub ended_before: u64,
 }
 
-impl Facts {
+impl Baseline {
     /// Of a broker that is opened with this table.
-    pub fn of(table: &Table) -> Result<Facts, AllocError>
-        ensures settings { IfOk result (λ facts. facts.settings ≡ table.now.settings) }
-        ensures ended { IfOk result (λ facts. CountsEnded table.now.table.rows facts.ended_before) }
+    pub fn of(table: &Table) -> Result<Baseline, AllocError>
+        ensures settings { IfOk result (λ baseline. baseline.settings ≡ table.now.settings) }
+        ensures ended { IfOk result (λ baseline. CountsEnded table.now.table.rows baseline.ended_before) }
     {
         let settings = table.settings().copy()?;
         let snapshot = table.snapshot()?;
         let census = census(snapshot.rows.as_slice());
-        Ok(Facts {
+        Ok(Baseline {
             settings,
             ended_before: ended_in(&census),
         })
@@ -39,15 +39,19 @@ impl Facts {
 }
 
 // Whether the broker serves.
-fn health_reply(alloc: Global, measures: &Measures, is_stopping: bool) -> Result<Reply, AllocError>
+fn health_reply(
+    alloc: Global,
+    measures: &Measures,
+    is_stopping: bool,
+) -> Result<AdminReply, AllocError>
     ensures { IfOk result (λ reply. reply.status ≡ health_status measures.now.has_fault is_stopping) }
 {
     if measures.has_fault {
-        Reply::line(alloc, 503, "device fault")
+        AdminReply::line(alloc, 503, "device fault")
     } else if is_stopping {
-        Reply::line(alloc, 503, "stopping")
+        AdminReply::line(alloc, 503, "stopping")
     } else {
-        Reply::line(alloc, 200, "ok")
+        AdminReply::line(alloc, 200, "ok")
     }
 }
 
@@ -64,53 +68,53 @@ fn settings_under(settings: &Settings, policy: &RetryPolicy) -> Result<Settings,
 // All numbers and the settings, as text.
 fn metrics_reply(
     alloc: Global,
-    facts: &Facts,
-    sight: &Sight,
+    baseline: &Baseline,
+    view: &View,
     measures: &Measures,
     now: u64,
-) -> Result<Reply, AllocError>
-    ensures { IfOk result (TellsNumbers facts.now sight.now measures.now now) }
+) -> Result<AdminReply, AllocError>
+    ensures { IfOk result (TellsNumbers baseline.now view.now measures.now now) }
 {
-    let figures = figures(facts.ended_before, sight, measures, now);
-    let settings = settings_under(&facts.settings, &sight.look.table.policy)?;
-    let text = metrics(alloc, &figures, &settings)?;
-    Ok(Reply::shown(Media::Metrics, text))
+    let metrics = metrics_of(baseline.ended_before, view, measures, now);
+    let settings = settings_under(&baseline.settings, &view.hall.table.policy)?;
+    let text = metrics_text(alloc, &metrics, &settings)?;
+    Ok(AdminReply::shown(Media::Metrics, text))
 }
 
-fn page_reply(alloc: Global) -> Result<Reply, AllocError>
+fn page_reply(alloc: Global) -> Result<AdminReply, AllocError>
     ensures { IfOk result (λ reply. reply.status ≡ 200) }
 {
     let body = Vec::from_slice(alloc, PAGE.as_bytes())?;
-    Ok(Reply::shown(Media::Html, body))
+    Ok(AdminReply::shown(Media::Html, body))
 }
 
 /// What is told to an operator who asked so, of what was seen of a broker, now, in milliseconds since 1970. Only want of memory
 /// is refused.
 pub fn tell(
     alloc: Global,
-    facts: &Facts,
-    asked: &Asked,
-    sight: &Sight,
+    baseline: &Baseline,
+    request: &AdminRequest,
+    view: &View,
     measures: &Measures,
     now: u64,
-) -> Result<Reply, AllocError>
+) -> Result<AdminReply, AllocError>
     // claim: What is told is of the table that was seen, as asked for. What is not held is 404. [events_reply; event_reply;
     // records_reply]
-    ensures { IfOk result (TellsOf facts.now sight.now measures.now now asked.now) }
+    ensures { IfOk result (TellsOf baseline.now view.now measures.now now request.now) }
 {
-    let rows = sight.look.table.rows.as_slice();
-    let settings = &facts.settings;
-    match asked {
-        Asked::Page => page_reply(alloc),
-        Asked::Metrics => metrics_reply(alloc, facts, sight, measures, now),
-        Asked::Health => health_reply(alloc, measures, sight.look.is_stopping),
-        Asked::Events {
+    let rows = view.hall.table.rows.as_slice();
+    let settings = &baseline.settings;
+    match request {
+        AdminRequest::Page => page_reply(alloc),
+        AdminRequest::Metrics => metrics_reply(alloc, baseline, view, measures, now),
+        AdminRequest::Health => health_reply(alloc, measures, view.hall.is_stopping),
+        AdminRequest::Events {
             which,
             after,
             limit,
         } => events_reply(alloc, rows, *which, after.as_ref(), *limit),
-        Asked::Event(id) => event_reply(alloc, rows, settings, id),
-        Asked::Records { side, after, limit } => {
+        AdminRequest::Event(id) => event_reply(alloc, rows, settings, id),
+        AdminRequest::Records { side, after, limit } => {
             records_reply(alloc, rows, settings, *side, after.as_ref(), *limit)
         }
     }

@@ -1,9 +1,12 @@
-// The number that a figure names.
+// The number that a metric names.
 ghost use Rattle.std.specs.Prelude.{◌≡◌, slice_index};
 ghost use Rattle.admin_replies.specs.Values.{or_zero, indicator, held_value, wait_value, phase_value, life_value, refusal_value, commit_value, state_value, value_of};
 
-use crate::figure::{Commit, Figure, Held, Life, Phase, Refusal, State, Wait};
-use crate::figures::{Figures, Phases, Process};
+use crate::metric::{
+    CommitMetric, HeldMetric, LifeMetric, Metric, PhaseMetric, RefusalMetric, StateMetric,
+    WaitMetric,
+};
+use crate::metrics::{Metrics, Phases, Process};
 use operator_view::Census;
 use port_meters::Refusals;
 
@@ -33,72 +36,72 @@ fn indicator(holds: bool) -> u64
     if holds { 1 } else { 0 }
 }
 
-fn held_value(census: &Census, held: Held) -> u64
+fn held_value(census: &Census, held: HeldMetric) -> u64
     ensures { result ≡ held_value census.now held }
 {
     let number = match held {
-        Held::Waiting => census.waiting,
-        Held::DueAgain => census.due_again,
-        Held::Running => census.running,
-        Held::Success => census.success,
-        Held::RetriesExhausted => census.retries_exhausted,
-        Held::EventAgeExceeded => census.event_age_exceeded,
+        HeldMetric::Waiting => census.waiting,
+        HeldMetric::DueAgain => census.due_again,
+        HeldMetric::Running => census.running,
+        HeldMetric::Success => census.success,
+        HeldMetric::RetriesExhausted => census.retries_exhausted,
+        HeldMetric::EventAgeExceeded => census.event_age_exceeded,
     };
     number as u64
 }
 
-fn wait_value(figures: &Figures, wait: Wait) -> Value
-    ensures { result ≡ wait_value figures.now wait }
+fn wait_value(metrics: &Metrics, wait: WaitMetric) -> Value
+    ensures { result ≡ wait_value metrics.now wait }
 {
     match wait {
-        Wait::OldestWait => Value::Milliseconds(or_zero(figures.oldest_wait_age)),
-        Wait::OldestRecord => Value::Milliseconds(or_zero(figures.oldest_record_age)),
-        Wait::Pending => Value::Whole(figures.pending),
-        Wait::OpenSlots => Value::Whole(figures.open_slots),
-        Wait::ParkedPolls => Value::Whole(figures.parked_polls),
+        WaitMetric::OldestWait => Value::Milliseconds(or_zero(metrics.oldest_wait_age)),
+        WaitMetric::OldestRecord => Value::Milliseconds(or_zero(metrics.oldest_record_age)),
+        WaitMetric::Pending => Value::Whole(metrics.pending),
+        WaitMetric::OpenSlots => Value::Whole(metrics.open_slots),
+        WaitMetric::ParkedPolls => Value::Whole(metrics.parked_polls),
     }
 }
 
-fn phase_value(phases: &Phases, phase: Phase) -> u64
+fn phase_value(phases: &Phases, phase: PhaseMetric) -> u64
     ensures { result ≡ phase_value phases.now phase }
 {
     match phase {
-        Phase::Init => phases.init,
-        Phase::Ready => phases.ready,
-        Phase::Busy => phases.busy,
-        Phase::Closing => phases.closing,
+        PhaseMetric::Init => phases.init,
+        PhaseMetric::Ready => phases.ready,
+        PhaseMetric::Busy => phases.busy,
+        PhaseMetric::Closing => phases.closing,
     }
 }
 
-fn life_value(figures: &Figures, life: Life) -> u64
-    ensures { result ≡ life_value figures.now life }
+fn life_value(metrics: &Metrics, life: LifeMetric) -> u64
+    ensures { result ≡ life_value metrics.now life }
 {
     match life {
-        Life::Issued => figures.issued,
-        Life::Durable => figures.durable,
-        Life::Accepted => figures.tally.accepted,
-        Life::Success => figures.tally.success,
-        Life::RetriesExhausted => figures.tally.retries_exhausted,
-        Life::EventAgeExceeded => figures.tally.event_age_exceeded,
-        Life::Collected => figures.tally.collected,
-        Life::Started => figures.tally.started,
-        Life::Throttled => figures.tally.throttled,
-        Life::Interrupted => figures.tally.interrupted,
+        LifeMetric::Issued => metrics.issued,
+        LifeMetric::Durable => metrics.durable,
+        LifeMetric::Accepted => metrics.events.accepted,
+        LifeMetric::Success => metrics.events.success,
+        LifeMetric::RetriesExhausted => metrics.events.retries_exhausted,
+        LifeMetric::EventAgeExceeded => metrics.events.event_age_exceeded,
+        LifeMetric::Collected => metrics.events.collected,
+        LifeMetric::Started => metrics.events.started,
+        LifeMetric::Throttled => metrics.events.throttled,
+        LifeMetric::Interrupted => metrics.events.interrupted,
     }
 }
 
-fn refusal_value(refused: &Refusals, refusal: Refusal) -> u64
+fn refusal_value(refused: &Refusals, refusal: RefusalMetric) -> u64
     ensures { result ≡ refusal_value refused.now refusal }
 {
     match refusal {
-        Refusal::BadRequest => refused.bad_request,
-        Refusal::NotFound => refused.not_found,
-        Refusal::Conflict => refused.conflict,
-        Refusal::TooLarge => refused.too_large,
-        Refusal::HeadTooLarge => refused.head_too_large,
-        Refusal::TooMany => refused.too_many,
-        Refusal::Unavailable => refused.unavailable,
-        Refusal::Other => refused.other,
+        RefusalMetric::BadRequest => refused.bad_request,
+        RefusalMetric::NotFound => refused.not_found,
+        RefusalMetric::Conflict => refused.conflict,
+        RefusalMetric::TooLarge => refused.too_large,
+        RefusalMetric::HeadTooLarge => refused.head_too_large,
+        RefusalMetric::TooMany => refused.too_many,
+        RefusalMetric::Unavailable => refused.unavailable,
+        RefusalMetric::Other => refused.other,
     }
 }
 
@@ -111,42 +114,42 @@ fn in_bucket(buckets: &[u64; 8], index: u8) -> u64
     }
 }
 
-fn commit_value(process: &Process, commit: Commit) -> Value
+fn commit_value(process: &Process, commit: CommitMetric) -> Value
     ensures { result ≡ commit_value process.now commit }
 {
     match commit {
-        Commit::Within(index) => Value::Whole(in_bucket(&process.buckets, index)),
-        Commit::All => Value::Whole(process.commits),
-        Commit::Time => Value::Microseconds(process.commit_microseconds),
+        CommitMetric::Within(index) => Value::Whole(in_bucket(&process.buckets, index)),
+        CommitMetric::All => Value::Whole(process.commits),
+        CommitMetric::Time => Value::Microseconds(process.commit_microseconds),
     }
 }
 
-fn state_value(process: &Process, state: State) -> u64
+fn state_value(process: &Process, state: StateMetric) -> u64
     ensures { result ≡ state_value process.now state }
 {
     match state {
-        State::Switches => process.switches,
-        State::WrittenBytes => process.written_bytes,
-        State::Generation => process.generation,
-        State::Sectors => process.sectors,
-        State::FreeSectors => process.free_sectors,
-        State::ResidentBytes => process.resident_bytes,
-        State::Stopping => indicator(process.is_stopping),
-        State::Fault => indicator(process.has_fault),
+        StateMetric::Switches => process.switches,
+        StateMetric::WrittenBytes => process.written_bytes,
+        StateMetric::Generation => process.generation,
+        StateMetric::Sectors => process.sectors,
+        StateMetric::FreeSectors => process.free_sectors,
+        StateMetric::ResidentBytes => process.resident_bytes,
+        StateMetric::Stopping => indicator(process.is_stopping),
+        StateMetric::Fault => indicator(process.has_fault),
     }
 }
 
-/// The number that a figure names.
-pub(crate) fn value_of(figures: &Figures, figure: Figure) -> Value
-    ensures { result ≡ value_of figures.now figure }
+/// The number that a metric names.
+pub(crate) fn value_of(metrics: &Metrics, metric: Metric) -> Value
+    ensures { result ≡ value_of metrics.now metric }
 {
-    match figure {
-        Figure::Held(held) => Value::Whole(held_value(&figures.census, held)),
-        Figure::Wait(wait) => wait_value(figures, wait),
-        Figure::Phase(phase) => Value::Whole(phase_value(&figures.environments, phase)),
-        Figure::Life(life) => Value::Whole(life_value(figures, life)),
-        Figure::Refusal(refusal) => Value::Whole(refusal_value(&figures.process.refused, refusal)),
-        Figure::Commit(commit) => commit_value(&figures.process, commit),
-        Figure::State(state) => Value::Whole(state_value(&figures.process, state)),
+    match metric {
+        Metric::Held(held) => Value::Whole(held_value(&metrics.census, held)),
+        Metric::Wait(wait) => wait_value(metrics, wait),
+        Metric::Phase(phase) => Value::Whole(phase_value(&metrics.environments, phase)),
+        Metric::Life(life) => Value::Whole(life_value(metrics, life)),
+        Metric::Refusal(refusal) => Value::Whole(refusal_value(&metrics.process.refused, refusal)),
+        Metric::Commit(commit) => commit_value(&metrics.process, commit),
+        Metric::State(state) => Value::Whole(state_value(&metrics.process, state)),
     }
 }

@@ -12,15 +12,15 @@ use Rattle.audit_report.specs.Explanation.{explanation}
 use Rattle.audit_report.specs.Figures.{AreFigures, figures_text}
 use Rattle.audit_report.specs.Records.{AreRecords}
 use Rattle.audit_report.specs.Report.{IsAudit, in_force_text}
-use Rattle.broker_commands.specs.declared.auditing.Asked.{Asked}
-use Rattle.broker_commands.specs.declared.auditing.Asked.TheVariants as asked
+use Rattle.broker_commands.specs.declared.auditing.AuditRequest.{AuditRequest}
+use Rattle.broker_commands.specs.declared.auditing.AuditRequest.TheVariants as asked
 use Rattle.broker_commands.specs.declared.auditing.Audit.{Audit}
 use Rattle.broker_commands.specs.declared.auditing.AuditError.{AuditError}
 use Rattle.broker_commands.specs.declared.auditing.AuditError.TheVariants.{Disk, Open}
 use Rattle.broker_commands.specs.Opening.{is_disk_fault}
 use Rattle.broker_commands.specs.declared.auditing.More.{More}
-use Rattle.broker_commands.specs.declared.auditing.Told.{Told}
-use Rattle.broker_commands.specs.declared.auditing.Told.TheVariants as told
+use Rattle.broker_commands.specs.declared.auditing.AuditOutput.{AuditOutput}
+use Rattle.broker_commands.specs.declared.auditing.AuditOutput.TheVariants as told
 
 -- the line of an event of this table
 abbrev pub line_of : State → List ℕ → List ℕ
@@ -51,14 +51,14 @@ pub record IsFiguresLine (state : State) (report : Report) (line : List ℕ) : T
   pub text : line ≡ figures_text figures
 
 -- what is told of a table and of the report on its disk where this is asked for
-abbrev pub IsTold : State → Report → Asked → Told → Type 0
+abbrev pub IsTold : State → Report → AuditRequest → AuditOutput → Type 0
 IsTold state report (asked.Report more) (told.Report lines) = string_bytes lines ≡ lines_of state report more
 IsTold state report asked.Figures (told.Figures line) = IsFiguresLine state report (string_bytes line)
 IsTold state report asked.Records (told.Records lines) = AreRecords state.settings state.table.rows lines.items
 IsTold state report asking telling = ⊥
 
 -- what is told of the disk with these bytes
-pub record Answers (bytes : List ℕ) (asking : Asked) (audit : Audit) : Type 0 where
+pub record Answers (bytes : List ℕ) (asking : AuditRequest) (audit : Audit) : Type 0 where
   pub table : State
   pub is_audit : IsAudit bytes table audit.report
   pub is_told : IsTold table audit.report asking audit.told

@@ -4,13 +4,13 @@ use Rattle.sector_disk.specs.declared.file.FileError.TheVariants as file_error
 use Rattle.retry_rules.specs.declared.settings.Settings.{Settings}
 use Rattle.checkpoint.specs.declared.error.FormatError.TheVariants as format_error
 use Rattle.broker_commands.specs.declared.formatting.Function.{Function}
-use Rattle.broker_commands.specs.declared.formatting.Numbers.{Numbers}
+use Rattle.broker_commands.specs.declared.formatting.NumericSettings.{NumericSettings}
 use Rattle.broker_commands.specs.declared.formatting.NewDiskError.{NewDiskError}
 use Rattle.broker_commands.specs.declared.formatting.NewDiskError.TheVariants.{File, Contents, Format}
 use Rattle.broker_commands.specs.Contents.{is_contents_fault}
 
 -- the settings of the function that was told, with these numbers
-abbrev pub settings_for : Function → Numbers → Settings
+abbrev pub settings_for : Function → NumericSettings → Settings
 settings_for function n = record {
   retries = n.retries;
   age = n.age;

@@ -20,12 +20,12 @@ use thiserror::Error;
 pub struct OldDisk<'a> {
     /// A file or a block device.
     pub path: &'a str,
-    pub asked: Asked,
+    pub asked: AuditRequest,
 }
 
 /// What is asked of a disk.
 #[derive(Clone, Copy)]
-pub enum Asked {
+pub enum AuditRequest {
     /// A report, for a person to read.
     Report(More),
     /// The numbers, as JSON.
@@ -47,12 +47,12 @@ pub struct More {
 #[derive(Drop)]
 pub struct Audit {
     pub report: Report,
-    pub told: Told,
+    pub told: AuditOutput,
 }
 
 /// What is printed of an audit.
 #[derive(Drop)]
-pub enum Told {
+pub enum AuditOutput {
     /// The report, and these lines behind it.
     Report(String),
     /// The line of the numbers alone.
@@ -132,21 +132,28 @@ fn lines_of(alloc: Global, table: &Table, report: &Report, more: More) -> Result
 }
 
 // What is told of a table where this is asked for.
-fn told_of(alloc: Global, table: &Table, report: &Report, asked: Asked) -> Result<Told, AllocError>
+fn told_of(
+    alloc: Global,
+    table: &Table,
+    report: &Report,
+    asked: AuditRequest,
+) -> Result<AuditOutput, AllocError>
     ensures { IfOk result (IsTold table.now report.now asked) }
 {
     match asked {
-        Asked::Report(more) => Ok(Told::Report(lines_of(alloc, table, report, more)?)),
-        Asked::Figures => {
+        AuditRequest::Report(more) => Ok(AuditOutput::Report(lines_of(
+            alloc, table, report, more,
+        )?)),
+        AuditRequest::Figures => {
             let numbers = figures(table, report)?;
-            Ok(Told::Figures(json_line(alloc, &numbers)?))
+            Ok(AuditOutput::Figures(json_line(alloc, &numbers)?))
         }
-        Asked::Records => Ok(Told::Records(all_records(alloc, table)?)),
+        AuditRequest::Records => Ok(AuditOutput::Records(all_records(alloc, table)?)),
     }
 }
 
 // What a disk holds, and what else is asked for.
-fn with_more<D: Disk>(alloc: Global, disk: &mut D, asked: Asked) -> Result<Audit, AuditError>
+fn with_more<D: Disk>(alloc: Global, disk: &mut D, asked: AuditRequest) -> Result<Audit, AuditError>
     // claim: An audit tells what is asked for: report and event, numbers, or records. [told_of]
     ensures { (D.view disk.old).honest → IfOk result (Answers (D.view disk.old).content asked) }
 {
@@ -156,9 +163,13 @@ fn with_more<D: Disk>(alloc: Global, disk: &mut D, asked: Asked) -> Result<Audit
 }
 
 // What is asked of a disk, which is given up.
-fn audit_on<D: Disk + Drop>(alloc: Global, disk: D, asked: Asked) -> Result<Audit, AuditError> {
+fn audit_on<D: Disk + Drop>(
+    alloc: Global,
+    disk: D,
+    asked: AuditRequest,
+) -> Result<Audit, AuditError> {
     let mut disk = disk;
-    if let Asked::Report(
+    if let AuditRequest::Report(
         More {
             in_force: false,
             event: None,
@@ -166,7 +177,7 @@ fn audit_on<D: Disk + Drop>(alloc: Global, disk: D, asked: Asked) -> Result<Audi
     ) = asked
     {
         let report = audit(alloc, disk)?;
-        let told = Told::Report(String::new(alloc));
+        let told = AuditOutput::Report(String::new(alloc));
         return Ok(Audit { report, told });
     }
     with_more(alloc, &mut disk, asked)

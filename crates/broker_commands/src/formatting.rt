@@ -29,7 +29,7 @@ pub struct Function<'a> {
 
 /// The settings that are numbers, in the units of `Settings`.
 #[derive(Clone, Copy)]
-pub struct Numbers {
+pub struct NumericSettings {
     pub retries: u8,
     pub age: u32,
     pub timeout: u16,
@@ -47,7 +47,7 @@ pub struct NewDisk<'a> {
     pub path: &'a str,
     pub sectors: u64,
     pub function: Function<'a>,
-    pub numbers: Numbers,
+    pub numbers: NumericSettings,
     /// Whether it is formatted whatever is there.
     pub is_forced: bool,
 }
@@ -88,7 +88,11 @@ pub(crate) fn text(alloc: Global, told: &str) -> Result<Text, AllocError>
 }
 
 // The settings of the function.
-fn settings(alloc: Global, function: &Function<'_>, n: &Numbers) -> Result<Settings, AllocError>
+fn settings(
+    alloc: Global,
+    function: &Function<'_>,
+    n: &NumericSettings,
+) -> Result<Settings, AllocError>
     ensures { IfOk result (λ s. s ≡ settings_for function.now n.now) }
 {
     Ok(Settings {

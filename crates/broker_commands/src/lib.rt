@@ -1,4 +1,4 @@
-//! The commands of the program that wait for nobody, `serve` aside: their words, what they do to a disk, and what is printed.
+//! The commands of the program that wait for nobody, `serve` and `stop` aside: their words, what they do to a disk, and what is printed.
 //!
 //! It stands below the program and not above the front, which it need not wait for. The crate above reads a `Task` of the
 //! command line, and uses that what is printed of a job ends with a status of 0 to 3.
@@ -18,12 +18,12 @@ mod telltale;
 mod words;
 
 pub use address::Address;
-pub use auditing::{Asked, Audit, AuditError, More, OldDisk, Told, audit_disk};
+pub use auditing::{Audit, AuditError, AuditOutput, AuditRequest, More, OldDisk, audit_disk};
 pub use clock::now;
 pub use configuring::{ConfiguringError, NewPolicy, configure_disk};
 pub use contents::ContentsError;
 pub use copying::{Copied, CopyingError, NewCopy, NewLimits, copy_disk};
-pub use formatting::{Function, NewDisk, NewDiskError, Numbers, make_disk};
+pub use formatting::{Function, NewDisk, NewDiskError, NumericSettings, make_disk};
 pub use migrating::{Migrated, MigratingError, OldVersion, migrate_file};
 pub use opening::{Device, DiskError, check_size, open, open_device};
 pub use printing::{DONE, USAGE, print_fault, print_job, print_usage, refuse_for_memory};

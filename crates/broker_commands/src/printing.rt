@@ -3,7 +3,7 @@ ghost use Rattle.std.specs.Prelude.{◌≡◌, ◌≤◌, IfOk, if◌then◌else
 ghost use Rattle.broker_commands.specs.Auditing.{status_for};
 ghost use Rattle.broker_commands.specs.Trial.{status_of};
 
-use crate::auditing::{Audit, OldDisk, Told, audit_disk};
+use crate::auditing::{Audit, AuditOutput, OldDisk, audit_disk};
 use crate::configuring::{NewPolicy, configure_disk};
 use crate::copying::{Copied, NewCopy, copy_disk};
 use crate::formatting::{Function, NewDisk, make_disk};
@@ -164,12 +164,12 @@ where
 fn print_told<W: Write>(audit: &Audit, out: &mut W) -> io::Result<()> {
     let report = audit.report;
     match &audit.told {
-        Told::Report(lines) => {
+        AuditOutput::Report(lines) => {
             writeln!(out, "{report}")?;
             out.write_all(lines.as_bytes())
         }
-        Told::Figures(line) => writeln!(out, "{line}"),
-        Told::Records(lines) => out.write_all(lines.as_slice()),
+        AuditOutput::Figures(line) => writeln!(out, "{line}"),
+        AuditOutput::Records(lines) => out.write_all(lines.as_slice()),
     }
 }
 

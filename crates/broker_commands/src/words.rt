@@ -1,16 +1,16 @@
 // The words of the command line: which command they are, and what it is told.
 use crate::address::Address;
-use crate::auditing::{Asked, More, OldDisk};
+use crate::auditing::{AuditRequest, More, OldDisk};
 use crate::configuring::NewPolicy;
 use crate::copying::{NewCopy, NewLimits};
-use crate::formatting::{Function, NewDisk, Numbers};
+use crate::formatting::{Function, NewDisk, NumericSettings};
 use crate::migrating::OldVersion;
 use api_core::Dialect;
 use clap::builder::ValueParser;
 use clap::error::ErrorKind;
 use clap::{Arg, ArgAction, ArgMatches, Command, Error, value_parser};
 use std::alloc::{AllocError, Global};
-use std::net::IpAddr;
+use std::net::{IpAddr, SocketAddr};
 use uuid::Uuid;
 
 /// A command of the program.
@@ -19,6 +19,8 @@ pub enum Task<'a> {
     Job(Job<'a>),
     /// Serves a disk until it is told to stop.
     Serve(Address<'a>),
+    /// Ends the broker whose callers' port this is, and waits for that.
+    Stop(SocketAddr),
 }
 
 /// A command that waits for nobody.
@@ -197,12 +199,19 @@ fn copy_command<'a>(alloc: Global) -> Result<Command<'a>, AllocError> {
     with_change(alloc, command)
 }
 
+// The option of an IP address.
+fn reach<'a>(alloc: Global, help: &'a str) -> Arg<'a> {
+    option(alloc, "address", help)
+        .value_name("IP")
+        .default_value("127.0.0.1")
+}
+
 fn serve_command<'a>(alloc: Global) -> Result<Command<'a>, AllocError> {
     let help = "Port of the callers, 1024 to 65519; environment n has the port n behind it";
     let port = option(alloc, "port", help);
     let dialect = option(alloc, "dialect", "Whose words errors and names are in");
     let extensions = "Extensions for which an environment waits before its first event, 0 to 10";
-    let reach = "IP address of the callers' and the environments' ports";
+    let address = "IP address of the callers' and the environments' ports";
     let host = "A host name under which the ports are asked, beside localhost and addresses";
     let admin = "Port of the operator, who only looks, 1024 to 65535, on the loopback address";
     Command::new(alloc, "serve")
@@ -224,13 +233,20 @@ fn serve_command<'a>(alloc: Global) -> Result<Command<'a>, AllocError> {
             "0",
             value_parser!(u8).range(0..11),
         ))?
-        .arg(
-            option(alloc, "address", reach)
-                .value_name("IP")
-                .default_value("127.0.0.1"),
-        )?
+        .arg(reach(alloc, address))?
         .arg(option(alloc, "host", host).value_name("NAME"))?
         .arg(option(alloc, "admin", admin).value_parser(value_parser!(u16).range(1024..65536)))
+}
+
+fn stop_command<'a>(alloc: Global) -> Result<Command<'a>, AllocError> {
+    let port = option(alloc, "port", "Port of the broker's callers");
+    Command::new(alloc, "stop")
+        .about("Stop a broker that serves, as POST /broker/stop does, and wait until it has ended")
+        .arg(
+            port.value_parser(value_parser!(u16).range(1..65536))
+                .required(true),
+        )?
+        .arg(reach(alloc, "IP address of the callers' port"))
 }
 
 // A command with one more below it.
@@ -258,7 +274,8 @@ fn commands<'a>(alloc: Global) -> Result<Command<'a>, AllocError> {
     let all = with_command(all, configure_command(alloc))?;
     let all = with_command(all, migrate_command(alloc))?;
     let all = with_command(all, copy_command(alloc))?;
-    with_command(all, serve_command(alloc))
+    let all = with_command(all, serve_command(alloc))?;
+    with_command(all, stop_command(alloc))
 }
 
 fn function<'a>(matches: &ArgMatches<'a>) -> Option<Function<'a>> {
@@ -269,8 +286,8 @@ fn function<'a>(matches: &ArgMatches<'a>) -> Option<Function<'a>> {
     })
 }
 
-fn numbers(matches: &ArgMatches<'_>) -> Option<Numbers> {
-    Some(Numbers {
+fn numbers(matches: &ArgMatches<'_>) -> Option<NumericSettings> {
+    Some(NumericSettings {
         retries: matches.get_one("retries")?,
         age: matches.get_one("age")?,
         timeout: matches.get_one("timeout")?,
@@ -317,14 +334,14 @@ fn more(alloc: Global, matches: &ArgMatches<'_>) -> Result<More, Error> {
 }
 
 // What is asked of a disk that is audited.
-fn asked(alloc: Global, matches: &ArgMatches<'_>) -> Result<Asked, Error> {
+fn asked(alloc: Global, matches: &ArgMatches<'_>) -> Result<AuditRequest, Error> {
     if matches.get_flag("json") {
-        return Ok(Asked::Figures);
+        return Ok(AuditRequest::Figures);
     }
     if matches.get_flag("records") {
-        return Ok(Asked::Records);
+        return Ok(AuditRequest::Records);
     }
-    Ok(Asked::Report(more(alloc, matches)?))
+    Ok(AuditRequest::Report(more(alloc, matches)?))
 }
 
 fn old_disk<'a>(alloc: Global, matches: &ArgMatches<'a>) -> Result<Option<Task<'a>>, Error> {
@@ -380,12 +397,16 @@ fn dialect(name: &str) -> Dialect {
     }
 }
 
-// The fault of an address that is none.
-fn bad_address(alloc: Global, address: &str) -> Result<Error, AllocError> {
+// The fault of an address that is none, of a command.
+fn bad_address(
+    alloc: Global,
+    mut command: Command<'_>,
+    address: &str,
+) -> Result<Error, AllocError> {
     let message = format!(in alloc;
         "invalid value '{address}' for '--address <IP>': no IP address"
     )?;
-    serve_command(alloc)?.error(ErrorKind::ValueValidation, message.as_str())
+    command.error(ErrorKind::ValueValidation, message.as_str())
 }
 
 fn address_at<'a>(matches: &ArgMatches<'a>, reach: IpAddr) -> Option<Address<'a>> {
@@ -406,7 +427,17 @@ fn address<'a>(alloc: Global, matches: &ArgMatches<'a>) -> Result<Option<Task<'a
     };
     match reach.parse::<IpAddr>() {
         Ok(ip) => Ok(address_at(matches, ip).map(Task::Serve)),
-        Err(_) => Err(bad_address(alloc, reach)?),
+        Err(_) => Err(bad_address(alloc, serve_command(alloc)?, reach)?),
+    }
+}
+
+fn stopped<'a>(alloc: Global, matches: &ArgMatches<'_>) -> Result<Option<Task<'a>>, Error> {
+    let (Some(reach), Some(port)) = (matches.get_str("address"), matches.get_one("port")) else {
+        return Ok(None);
+    };
+    match reach.parse::<IpAddr>() {
+        Ok(ip) => Ok(Some(Task::Stop(SocketAddr::new(ip, port)))),
+        Err(_) => Err(bad_address(alloc, stop_command(alloc)?, reach)?),
     }
 }
 
@@ -420,6 +451,7 @@ pub fn read_task<'a>(alloc: Global, words: &'a [String]) -> Result<Option<Task<'
         "trial" => Ok(Some(Task::Job(Job::Trial))),
         "format" => Ok(new_disk(told).map(Job::Format).map(Task::Job)),
         "serve" => address(alloc, told),
+        "stop" => stopped(alloc, told),
         "audit" => old_disk(alloc, told),
         "configure" => Ok(new_policy(told).map(Job::Configure).map(Task::Job)),
         "migrate" => Ok(old_version(told).map(Job::Migrate).map(Task::Job)),

@@ -1,15 +1,15 @@
 // Bytes as a script writes them.
-use crate::reply::Reply;
+use crate::step_reply::StepReply;
 use crate::words::Words;
 use hex::FromHexError;
 use std::alloc::Global;
 
 /// The bytes of hexadecimal digits, or what a step answers where they are none.
-pub fn hex_bytes(alloc: Global, digits: &str) -> Result<Vec<u8>, Reply> {
+pub fn hex_bytes(alloc: Global, digits: &str) -> Result<Vec<u8>, StepReply> {
     match hex::decode(alloc, digits) {
         Ok(bytes) => Ok(bytes),
-        Err(FromHexError::OutOfMemory) => Err(Reply::NoMemory),
-        Err(_) => Err(Reply::Unreadable),
+        Err(FromHexError::OutOfMemory) => Err(StepReply::NoMemory),
+        Err(_) => Err(StepReply::Unreadable),
     }
 }
 
@@ -37,7 +37,7 @@ fn filled(alloc: Global, count: usize, word: &str) -> Option<Vec<u8>> {
 
 /// A payload, response or error body: `N bytes` is so many spaces, `N quoted` a JSON string and `N nested` arrays in arrays
 /// of so many bytes, `hex` and digits are those bytes, and other text is itself.
-pub fn body(alloc: Global, text: &str) -> Result<Vec<u8>, Reply> {
+pub fn body(alloc: Global, text: &str) -> Result<Vec<u8>, StepReply> {
     let mut words = Words::of(text);
     if words.takes("hex") {
         return hex_bytes(alloc, words.rest());
@@ -47,12 +47,12 @@ pub fn body(alloc: Global, text: &str) -> Result<Vec<u8>, Reply> {
     let word = words.rest();
     let is_count = word == "bytes" || word == "quoted" || word == "nested";
     if is_count && words.are_bad() {
-        return Err(Reply::Unreadable);
+        return Err(StepReply::Unreadable);
     }
     let bytes = if is_count {
         filled(alloc, count.min(1 << 21) as usize, word)
     } else {
         Vec::from_slice(alloc, text.as_bytes()).ok()
     };
-    bytes.ok_or(Reply::NoMemory)
+    bytes.ok_or(StepReply::NoMemory)
 }

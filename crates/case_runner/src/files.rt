@@ -1,7 +1,7 @@
 // The files that a program's command line names, and what is told of them.
-use crate::Text;
+use crate::TextBuffer;
 use crate::case::{Line, Purpose, read_lines};
-use crate::running::{Report, Scene, run_case};
+use crate::running::{Fixture, ScriptReport, run_case};
 use std::alloc::{AllocError, Global};
 use std::process::ExitCode;
 use std::rt::{Env, Files};
@@ -15,10 +15,10 @@ struct Tally {
 }
 
 // Runs a script of these lines.
-fn run_lines<'a, S: Scene>(
+fn run_lines<'a, S: Fixture>(
     alloc: Global,
     lines: &'a [Line<'a>],
-    report: &mut Report,
+    report: &mut ScriptReport,
     tally: &mut Tally,
 ) {
     for (index, line) in lines.iter().enumerate() {
@@ -33,19 +33,19 @@ fn run_lines<'a, S: Scene>(
 }
 
 // Runs a script: a line for each answer that is not what it says.
-fn run_script<S: Scene>(
+fn run_script<S: Fixture>(
     alloc: Global,
     name: &str,
     text: &str,
     tally: &mut Tally,
-) -> Result<Text, AllocError> {
+) -> Result<TextBuffer, AllocError> {
     let lines = read_lines(alloc, text)?;
-    let mut report = Report {
+    let mut report = ScriptReport {
         name,
-        text: Text::new(alloc),
+        text: TextBuffer::new(alloc),
     };
     run_lines::<S>(alloc, &lines, &mut report, tally);
-    let Report { text, .. } = report;
+    let ScriptReport { text, .. } = report;
     if text.is_cut() {
         return Err(AllocError);
     }
@@ -53,7 +53,7 @@ fn run_script<S: Scene>(
 }
 
 // Runs the scripts that the command line names, and prints a line for each answer that is not what the script says.
-fn run_named<S: Scene, R: Env + Files + Print + AllocGlobal>(rt: &R) -> io::Result<Tally> {
+fn run_named<S: Fixture, R: Env + Files + Print + AllocGlobal>(rt: &R) -> io::Result<Tally> {
     let alloc = rt.alloc();
     let mut tally = Tally {
         cases: 0,
@@ -71,7 +71,7 @@ fn run_named<S: Scene, R: Env + Files + Print + AllocGlobal>(rt: &R) -> io::Resu
 
 /// Runs the scripts that the command line names, each case on a scene of its own. It prints a line for each answer that is
 /// not what the script says, and then how many cases there are and how many differ: the status is 0 where none does.
-pub fn run_files<S: Scene, R: Env + Files + Print + AllocGlobal>(rt: &R) -> io::Result<ExitCode> {
+pub fn run_files<S: Fixture, R: Env + Files + Print + AllocGlobal>(rt: &R) -> io::Result<ExitCode> {
     let Tally { cases, differ } = run_named::<S, R>(rt)?;
     println!(rt; "{cases} cases, {differ} differ")?;
     Ok(ExitCode::from(if differ == 0 { 0 } else { 1 }))

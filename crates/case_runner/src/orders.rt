@@ -1,7 +1,7 @@
 // Commands as a script writes them: `KIND ID [in ENVIRONMENT] at MOMENT [BYTES]`, after `fail` with its cause, and
 // `configure RETRIES AGE at MOMENT`.
 use crate::bytes::body;
-use crate::reply::Reply;
+use crate::step_reply::StepReply;
 use crate::words::{Words, id_of};
 use invoke_records::{Bytes, Cause, Command, Kind};
 use retry_rules::RetryPolicy;
@@ -9,7 +9,7 @@ use std::alloc::Global;
 
 /// A command for each of the events of a range; a Configure, which is of no event, for the range of 0 alone.
 #[derive(Clone, Copy)]
-pub struct Order<'a> {
+pub struct CommandRange<'a> {
     kind: Kind,
     pub first: u64,
     pub last: u64,
@@ -18,14 +18,14 @@ pub struct Order<'a> {
     body: &'a str,
 }
 
-impl Order<'_> {
+impl CommandRange<'_> {
     /// The command of one of the events.
-    pub fn command(self, alloc: Global, number: u64) -> Result<Command, Reply> {
+    pub fn command(self, alloc: Global, number: u64) -> Result<Command, StepReply> {
         let bytes = if self.body.is_empty() {
             Bytes::empty()
         } else {
             let Ok(bytes) = Bytes::from_vec(body(alloc, self.body)?) else {
-                return Err(Reply::NoMemory);
+                return Err(StepReply::NoMemory);
             };
             bytes
         };
@@ -87,7 +87,7 @@ pub fn read_environment(words: &mut Words, word: &str) -> Option<u16> {
 }
 
 /// Reads a command behind this word of its kind.
-pub fn read_order<'a>(word: &str, words: &mut Words<'a>) -> Order<'a> {
+pub fn read_order<'a>(word: &str, words: &mut Words<'a>) -> CommandRange<'a> {
     let kind = read_kind(word, words);
     let (first, last) = match kind {
         Kind::Configure(_) => (0, 0),
@@ -96,7 +96,7 @@ pub fn read_order<'a>(word: &str, words: &mut Words<'a>) -> Order<'a> {
     let environment = read_environment(words, "in").unwrap_or(0);
     words.expect("at");
     let time = words.number();
-    Order {
+    CommandRange {
         kind,
         first,
         last,
@@ -107,10 +107,10 @@ pub fn read_order<'a>(word: &str, words: &mut Words<'a>) -> Order<'a> {
 }
 
 /// Reads the command of one event.
-pub fn read_command(alloc: Global, words: &mut Words) -> Result<Command, Reply> {
+pub fn read_command(alloc: Global, words: &mut Words) -> Result<Command, StepReply> {
     let order = read_order(words.word(), words);
     if words.are_bad() {
-        return Err(Reply::Unreadable);
+        return Err(StepReply::Unreadable);
     }
     order.command(alloc, order.first)
 }

@@ -1,28 +1,28 @@
 // Running a case: its steps in order, for each choice of its loops' values.
 use crate::case::{Line, Purpose};
-use crate::reply::Reply;
-use crate::text::Text;
+use crate::step_reply::StepReply;
+use crate::text_buffer::TextBuffer;
 use crate::words::{Words, range_of};
 use std::alloc::Global;
 
 /// What the steps of a case are done on.
-pub trait Scene: Drop {
+pub trait Fixture: Drop {
     /// Where a case begins: None where memory is refused.
     fn begin(alloc: Global) -> Option<Self>;
 
     /// Does a step. What its reply does not say itself is added to the answer.
-    fn step(&mut self, alloc: Global, words: &mut Words, answer: &mut Text) -> Reply;
+    fn step(&mut self, alloc: Global, words: &mut Words, answer: &mut TextBuffer) -> StepReply;
 }
 
 /// What is told of a script: a line for each answer that is not what the script says.
 #[derive(Drop)]
-pub struct Report<'a> {
+pub struct ScriptReport<'a> {
     /// The script's name.
     pub name: &'a str,
-    pub text: Text,
+    pub text: TextBuffer,
 }
 
-impl Report<'_> {
+impl ScriptReport<'_> {
     fn tell(&mut self, at: usize, said: &str, answer: &str, step: &str) {
         self.text.add(self.name);
         self.text.add(":");
@@ -86,7 +86,7 @@ fn choices(lines: &[Line]) -> u64 {
 }
 
 // Adds one of a loop's values.
-fn add_value(text: &mut Text, values: &str, index: u64) {
+fn add_value(text: &mut TextBuffer, values: &str, index: u64) {
     let mut left = index;
     for word in values.split_whitespace() {
         let (first, count) = values_of(word);
@@ -102,7 +102,7 @@ fn add_value(text: &mut Text, values: &str, index: u64) {
 }
 
 // Adds a text with one of a loop's values in place of its name.
-fn add_filled(filled: &mut Text, text: &str, line: &str, index: u64) {
+fn add_filled(filled: &mut TextBuffer, text: &str, line: &str, index: u64) {
     let (name, values) = parts_of_loop(line);
     let mut is_behind_mark = false;
     for part in text.split('$') {
@@ -121,14 +121,14 @@ fn add_filled(filled: &mut Text, text: &str, line: &str, index: u64) {
 }
 
 // A text of the case with the values of this choice.
-fn chosen(alloc: Global, text: &str, choice: Choice) -> Text {
-    let mut chosen = Text::new(alloc);
+fn chosen(alloc: Global, text: &str, choice: Choice) -> TextBuffer {
+    let mut chosen = TextBuffer::new(alloc);
     chosen.add(text);
     let mut left = choice.number;
     for line in choice.lines {
         if matches!(line.purpose, Purpose::Loop) {
             let count = count_values(line).max(1);
-            let mut filled = Text::new(alloc);
+            let mut filled = TextBuffer::new(alloc);
             add_filled(&mut filled, chosen.as_str(), line.step, left % count);
             chosen.turn_into(filled);
             left /= count;
@@ -138,16 +138,21 @@ fn chosen(alloc: Global, text: &str, choice: Choice) -> Text {
 }
 
 // Does a step, and puts what it answers into the text.
-fn attempt<S: Scene>(alloc: Global, scene: &mut S, step: &str, answer: &mut Text) -> Reply {
+fn attempt<S: Fixture>(
+    alloc: Global,
+    scene: &mut S,
+    step: &str,
+    answer: &mut TextBuffer,
+) -> StepReply {
     answer.clear();
     let mut words = Words::of(step);
-    let mut reply = Reply::Unreadable;
+    let mut reply = StepReply::Unreadable;
     if !step.contains('$') {
         reply = scene.step(alloc, &mut words, answer);
     }
     if words.are_bad() {
         answer.clear();
-        reply = Reply::Unreadable;
+        reply = StepReply::Unreadable;
     }
     reply.add_to(answer);
     reply
@@ -155,16 +160,16 @@ fn attempt<S: Scene>(alloc: Global, scene: &mut S, step: &str, answer: &mut Text
 
 // Does a line's step for this choice, and once more where memory was refused. An answer that is not what the script says is
 // told.
-fn run_line<S: Scene>(
+fn run_line<S: Fixture>(
     alloc: Global,
     scene: &mut S,
     line: &Line,
     choice: Choice,
-    report: &mut Report,
+    report: &mut ScriptReport,
 ) -> bool {
     let step = chosen(alloc, line.step, choice);
     let said = chosen(alloc, line.said.unwrap_or("done"), choice);
-    let mut answer = Text::new(alloc);
+    let mut answer = TextBuffer::new(alloc);
     let mut reply = attempt(alloc, scene, step.as_str(), &mut answer);
     if reply.is_out_of_memory() {
         reply = attempt(alloc, scene, step.as_str(), &mut answer);
@@ -180,7 +185,12 @@ fn run_line<S: Scene>(
 }
 
 // Does the steps of a case for this choice: whether each answer is what the script says.
-fn run_lines<S: Scene>(alloc: Global, scene: &mut S, choice: Choice, report: &mut Report) -> bool {
+fn run_lines<S: Fixture>(
+    alloc: Global,
+    scene: &mut S,
+    choice: Choice,
+    report: &mut ScriptReport,
+) -> bool {
     let mut is_as_said = true;
     for line in choice.lines {
         if matches!(line.purpose, Purpose::Step) && !run_line(alloc, scene, line, choice, report) {
@@ -191,7 +201,7 @@ fn run_lines<S: Scene>(alloc: Global, scene: &mut S, choice: Choice, report: &mu
 }
 
 // The same, on a scene of its own.
-fn run_choice<S: Scene>(alloc: Global, choice: Choice, report: &mut Report) -> bool {
+fn run_choice<S: Fixture>(alloc: Global, choice: Choice, report: &mut ScriptReport) -> bool {
     match S::begin(alloc) {
         Some(mut scene) => run_lines(alloc, &mut scene, choice, report),
         None => {
@@ -202,12 +212,12 @@ fn run_choice<S: Scene>(alloc: Global, choice: Choice, report: &mut Report) -> b
 }
 
 // Whether a case was done as often as this line says.
-fn is_count(alloc: Global, line: &Line, choices: u64, report: &mut Report) -> bool {
+fn is_count(alloc: Global, line: &Line, choices: u64, report: &mut ScriptReport) -> bool {
     let said = line.said.unwrap_or("");
     if range_of(said) == Some((choices, choices)) {
         return true;
     }
-    let mut answer = Text::new(alloc);
+    let mut answer = TextBuffer::new(alloc);
     answer.add_number(choices);
     report.tell(line.at, said, answer.as_str(), "tried");
     false
@@ -219,7 +229,7 @@ fn check_count(
     title: &Line,
     lines: &[Line],
     choices: u64,
-    report: &mut Report,
+    report: &mut ScriptReport,
 ) -> bool {
     let mut has_step = false;
     for line in lines {
@@ -248,11 +258,11 @@ fn lines_of_case<'a>(following: &'a [Line<'a>]) -> &'a [Line<'a>] {
 
 /// Does a case, of which these lines follow the title, up to the first choice of its loops' values for which an answer is not
 /// what the script says: whether there is none.
-pub fn run_case<'a, S: Scene>(
+pub fn run_case<'a, S: Fixture>(
     alloc: Global,
     title: &Line,
     following: &'a [Line<'a>],
-    report: &mut Report,
+    report: &mut ScriptReport,
 ) -> bool {
     let lines = lines_of_case(following);
     let choices = choices(lines);

@@ -1,5 +1,5 @@
 // The settings of a case.
-use crate::reply::Reply;
+use crate::step_reply::StepReply;
 use crate::words::{Words, number_of};
 use retry_rules::{Settings, Text};
 use std::alloc::Global;
@@ -38,34 +38,34 @@ pub fn usual_settings(alloc: Global) -> Option<Settings> {
 }
 
 // Puts the number that a word stands for into a field, if that is wide enough.
-fn put_number<T: TryFrom<u64>>(field: &mut T, word: &str) -> Reply
+fn put_number<T: TryFrom<u64>>(field: &mut T, word: &str) -> StepReply
 where
     T::Error: Drop,
     T: Drop,
 {
     let Some(number) = number_of(word) else {
-        return Reply::Unreadable;
+        return StepReply::Unreadable;
     };
     match T::try_from(number) {
         Ok(number) => {
             *field = number;
-            Reply::Done
+            StepReply::Done
         }
-        Err(_) => Reply::Unreadable,
+        Err(_) => StepReply::Unreadable,
     }
 }
 
-fn put_text(alloc: Global, field: &mut Text, word: &str) -> Reply {
+fn put_text(alloc: Global, field: &mut Text, word: &str) -> StepReply {
     match text(alloc, word.as_bytes()) {
         Some(text) => {
             *field = text;
-            Reply::Done
+            StepReply::Done
         }
-        None => Reply::NoMemory,
+        None => StepReply::NoMemory,
     }
 }
 
-fn set_field(alloc: Global, settings: &mut Settings, field: &str, value: &str) -> Reply {
+fn set_field(alloc: Global, settings: &mut Settings, field: &str, value: &str) -> StepReply {
     match field {
         "retries" => put_number(&mut settings.retries, value),
         "age" => put_number(&mut settings.age, value),
@@ -78,20 +78,20 @@ fn set_field(alloc: Global, settings: &mut Settings, field: &str, value: &str) -
         "name" => put_text(alloc, &mut settings.name, value),
         "handler" => put_text(alloc, &mut settings.handler, value),
         "arn" => put_text(alloc, &mut settings.arn, value),
-        _ => Reply::Unreadable,
+        _ => StepReply::Unreadable,
     }
 }
 
 /// Sets the fields `FIELD=VALUE` of a line.
-pub fn set(alloc: Global, settings: &mut Settings, words: &mut Words) -> Reply {
+pub fn set(alloc: Global, settings: &mut Settings, words: &mut Words) -> StepReply {
     for word in words.rest().split_whitespace() {
         let Some((field, value)) = word.split_once('=') else {
-            return Reply::Unreadable;
+            return StepReply::Unreadable;
         };
         let reply = set_field(alloc, settings, field, value);
-        if !matches!(reply, Reply::Done) {
+        if !matches!(reply, StepReply::Done) {
             return reply;
         }
     }
-    Reply::Done
+    StepReply::Done
 }

@@ -1,14 +1,14 @@
 // The step that tells what a disk holds.
 use crate::refusals;
 use audit_report::{Report, in_force_line, inspect};
-use case_runner::{Reply, Text, Words};
+use case_runner::{StepReply, TextBuffer, Words};
 use sector_disk::Disk;
 use std::alloc::Global;
 
-const NO_MEMORY: Reply = Reply::Refused("out of memory");
+const NO_MEMORY: StepReply = StepReply::Refused("out of memory");
 
 // The lines of a report, one behind the other.
-fn tell_lines(alloc: Global, report: &Report, answer: &mut Text) -> Reply {
+fn tell_lines(alloc: Global, report: &Report, answer: &mut TextBuffer) -> StepReply {
     let Ok(lines) = format!(in alloc; "{report}") else {
         return NO_MEMORY;
     };
@@ -16,16 +16,16 @@ fn tell_lines(alloc: Global, report: &Report, answer: &mut Text) -> Reply {
         answer.add(line);
         answer.add(" ");
     }
-    Reply::Told
+    StepReply::Told
 }
 
 // The line of what is in force.
-fn tell_in_force(alloc: Global, report: &Report, answer: &mut Text) -> Reply {
+fn tell_in_force(alloc: Global, report: &Report, answer: &mut TextBuffer) -> StepReply {
     let Ok(line) = in_force_line(alloc, report) else {
         return NO_MEMORY;
     };
     answer.add(line.as_str());
-    Reply::Told
+    StepReply::Told
 }
 
 /// `[in-force]`: what a formatted disk holds, or what is in force on it.
@@ -33,8 +33,8 @@ pub fn tell_audit<D: Disk>(
     alloc: Global,
     disk: &mut D,
     words: &mut Words,
-    answer: &mut Text,
-) -> Reply {
+    answer: &mut TextBuffer,
+) -> StepReply {
     let in_force = words.takes("in-force");
     match inspect(alloc, disk) {
         Ok((_, report)) if in_force => tell_in_force(alloc, &report, answer),

@@ -3,7 +3,7 @@ use crate::audits::tell_audit;
 use crate::journals::{append, fits, frames};
 use crate::refusals;
 use crate::sizes::{tell_blank, tell_resized};
-use case_runner::{Reply, Text, Words, number_of};
+use case_runner::{StepReply, TextBuffer, Words, number_of};
 use checkpoint::Opened;
 use invoke_records::{Command, Snapshot};
 use sector_disk::{Disk, SECTOR_SIZE};
@@ -23,11 +23,11 @@ fn write_sector<D: Disk>(disk: &mut D, at: u64, bytes: &[u8; 512]) -> bool {
     at < disk.sectors() && disk.write(at, bytes).is_ok()
 }
 
-fn done_or_fault(is_done: bool) -> Reply {
+fn done_or_fault(is_done: bool) -> StepReply {
     if is_done {
-        Reply::Done
+        StepReply::Done
     } else {
-        Reply::Refused("fault")
+        StepReply::Refused("fault")
     }
 }
 
@@ -76,58 +76,58 @@ pub fn read_choice<D: Disk>(
     alloc: Global,
     disk: &mut D,
     text: &str,
-) -> Result<Vec<(u64, [u8; 512])>, Reply> {
+) -> Result<Vec<(u64, [u8; 512])>, StepReply> {
     let mut choice = Vec::new(alloc);
     for word in text.split([' ', ',']) {
         if word.is_empty() {
             continue;
         }
         let Some(sector) = changed_sector(disk, word) else {
-            return Err(Reply::Unreadable);
+            return Err(StepReply::Unreadable);
         };
         if choice.push(sector).is_err() {
-            return Err(Reply::NoMemory);
+            return Err(StepReply::NoMemory);
         }
     }
     Ok(choice)
 }
 
 // `SECTORS`: changes them, which stay unsettled.
-fn write<D: Disk>(disk: &mut D, words: &mut Words) -> Reply {
+fn write<D: Disk>(disk: &mut D, words: &mut Words) -> StepReply {
     for word in words.rest().split_whitespace() {
         let Some(sector) = changed_sector(disk, word) else {
-            return Reply::Unreadable;
+            return StepReply::Unreadable;
         };
         let bytes = sector.1;
         if !write_sector(disk, sector.0, &bytes) {
-            return Reply::Refused("fault");
+            return StepReply::Refused("fault");
         }
     }
-    Reply::Done
+    StepReply::Done
 }
 
 // `SECTORS`: changes them, and settles them.
-fn change<D: Disk>(disk: &mut D, words: &mut Words) -> Reply {
+fn change<D: Disk>(disk: &mut D, words: &mut Words) -> StepReply {
     match write(disk, words) {
-        Reply::Done => done_or_fault(disk.barrier().is_ok()),
+        StepReply::Done => done_or_fault(disk.barrier().is_ok()),
         reply => reply,
     }
 }
 
 // `FIRST..LAST to AT`: copies these sectors to where they begin, and settles them.
-fn copy<D: Disk>(disk: &mut D, words: &mut Words) -> Reply {
+fn copy<D: Disk>(disk: &mut D, words: &mut Words) -> StepReply {
     let (first, last) = words.range();
     words.expect("to");
     let mut to = words.number();
     if words.are_bad() {
-        return Reply::Unreadable;
+        return StepReply::Unreadable;
     }
     for from in first..=last {
         let Some(bytes) = sector_bytes(disk, from) else {
-            return Reply::Refused("fault");
+            return StepReply::Refused("fault");
         };
         if !write_sector(disk, to, &bytes) {
-            return Reply::Refused("fault");
+            return StepReply::Refused("fault");
         }
         to = to.saturating_add(1);
     }
@@ -135,24 +135,29 @@ fn copy<D: Disk>(disk: &mut D, words: &mut Words) -> Reply {
 }
 
 // `AT [from PLACE to PLACE]`: the bytes of a sector without the zeros at their end, or all of a part of it.
-fn show<D: Disk>(disk: &mut D, words: &mut Words, answer: &mut Text) -> Reply {
+fn show<D: Disk>(disk: &mut D, words: &mut Words, answer: &mut TextBuffer) -> StepReply {
     let Some(bytes) = sector_bytes(disk, words.number()) else {
-        return Reply::Refused("fault");
+        return StepReply::Refused("fault");
     };
     if !words.takes("from") {
         answer.add_shown(&bytes);
-        return Reply::Told;
+        return StepReply::Told;
     }
     let first = words.number() as usize;
     words.expect("to");
     let Some(part) = bytes.get(first..words.number() as usize) else {
-        return Reply::Unreadable;
+        return StepReply::Unreadable;
     };
     answer.add_hex(part);
-    Reply::Told
+    StepReply::Told
 }
 
-fn tell_recovered(opened: &Opened, snapshot: &Snapshot, commands: &[Command], answer: &mut Text) {
+fn tell_recovered(
+    opened: &Opened,
+    snapshot: &Snapshot,
+    commands: &[Command],
+    answer: &mut TextBuffer,
+) {
     answer.add_with("generation ", opened.generation());
     answer.add_with(" events ", opened.settings().events as u64);
     answer.add_with(" number ", snapshot.number);
@@ -161,11 +166,11 @@ fn tell_recovered(opened: &Opened, snapshot: &Snapshot, commands: &[Command], an
 }
 
 // What is read from a formatted disk: its snapshot and the commands behind it.
-fn recover<D: Disk>(alloc: Global, disk: &mut D, answer: &mut Text) -> Reply {
+fn recover<D: Disk>(alloc: Global, disk: &mut D, answer: &mut TextBuffer) -> StepReply {
     match checkpoint::open(alloc, disk) {
         Ok((opened, snapshot, commands)) => {
             tell_recovered(&opened, &snapshot, &commands, answer);
-            Reply::Told
+            StepReply::Told
         }
         Err(why) => refusals::open(why, answer),
     }
@@ -177,15 +182,15 @@ pub fn disk_step<D: Disk>(
     disk: &mut D,
     word: &str,
     words: &mut Words,
-    answer: &mut Text,
-) -> Reply {
+    answer: &mut TextBuffer,
+) -> StepReply {
     match word {
         "sector" => show(disk, words, answer),
         "change" => change(disk, words),
         "write" => write(disk, words),
         "copy" => copy(disk, words),
         "barrier" => done_or_fault(disk.barrier().is_ok()),
-        "faults" => Reply::Number(disk.faults()),
+        "faults" => StepReply::Number(disk.faults()),
         "recover" => recover(alloc, disk, answer),
         "audit" => tell_audit(alloc, disk, words, answer),
         "resized" => tell_resized(alloc, disk, answer),
@@ -193,6 +198,6 @@ pub fn disk_step<D: Disk>(
         "frames" => frames(alloc, disk, words, answer),
         "fits" => fits(alloc, disk, words),
         "append" => append(alloc, disk, words),
-        _ => Reply::NoStep,
+        _ => StepReply::NoStep,
     }
 }

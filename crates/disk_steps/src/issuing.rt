@@ -3,7 +3,7 @@ ghost use Rattle.std.specs.Prelude.{◌≡◌, [], IfOk};
 ghost use Rattle.group_commit.specs.Broker.{pending_of};
 
 use crate::refusals;
-use case_runner::{Order, Reply, Text, Words, read_order};
+use case_runner::{CommandRange, StepReply, TextBuffer, Words, read_order};
 use group_commit::{Broker, Issuer, OpenFailure, Ticket};
 use sector_disk::Disk;
 use std::alloc::Global;
@@ -13,8 +13,8 @@ use table_steps::{retaken_step, table_step};
 pub fn open_broker<D: Disk>(
     alloc: Global,
     disk: D,
-    answer: &mut Text,
-) -> Result<Broker<D>, (D, Reply)>
+    answer: &mut TextBuffer,
+) -> Result<Broker<D>, (D, StepReply)>
     ensures { IfOk result (λ broker. pending_of broker ≡ []) }
 {
     match Broker::open(alloc, disk) {
@@ -24,11 +24,11 @@ pub fn open_broker<D: Disk>(
 }
 
 /// Keeps a ticket: its number.
-pub fn keep(tickets: &mut Vec<Ticket>, ticket: Ticket) -> Reply {
+pub fn keep(tickets: &mut Vec<Ticket>, ticket: Ticket) -> StepReply {
     let number = ticket.number();
     match tickets.push(ticket) {
-        Ok(()) => Reply::Number(number),
-        Err(_) => Reply::NoMemory,
+        Ok(()) => StepReply::Number(number),
+        Err(_) => StepReply::NoMemory,
     }
 }
 
@@ -36,16 +36,16 @@ fn issue_one<I: Issuer>(
     alloc: Global,
     issuer: &mut I,
     tickets: &mut Vec<Ticket>,
-    order: Order,
+    order: CommandRange,
     event: u64,
-) -> Reply {
+) -> StepReply {
     let command = match order.command(alloc, event) {
         Ok(command) => command,
         Err(reply) => return reply,
     };
     match issuer.issue(command) {
         Ok(ticket) => keep(tickets, ticket),
-        Err(why) => Reply::Refused(refusals::issue(why)),
+        Err(why) => StepReply::Refused(refusals::issue(why)),
     }
 }
 
@@ -56,15 +56,15 @@ fn issue<I: Issuer>(
     tickets: &mut Vec<Ticket>,
     word: &str,
     words: &mut Words,
-) -> Reply {
+) -> StepReply {
     let order = read_order(word, words);
     if words.are_bad() {
-        return Reply::Unreadable;
+        return StepReply::Unreadable;
     }
-    let mut reply = Reply::Done;
+    let mut reply = StepReply::Done;
     for event in order.first..=order.last {
         reply = issue_one(alloc, issuer, tickets, order, event);
-        if !matches!(reply, Reply::Number(_)) {
+        if !matches!(reply, StepReply::Number(_)) {
             break;
         }
     }
@@ -78,24 +78,24 @@ fn take_ticket(tickets: &mut Vec<Ticket>, number: u64) -> Option<Ticket> {
 }
 
 // `N by M`: the receipt of the ticket with number N, which is used up, where M is durable. Else the ticket is kept.
-fn settle(tickets: &mut Vec<Ticket>, words: &mut Words, answer: &mut Text) -> Reply {
+fn settle(tickets: &mut Vec<Ticket>, words: &mut Words, answer: &mut TextBuffer) -> StepReply {
     let number = words.number();
     words.expect("by");
     let durable = words.number();
     if words.are_bad() {
-        return Reply::Unreadable;
+        return StepReply::Unreadable;
     }
     let Some(ticket) = take_ticket(tickets, number) else {
-        return Reply::Unreadable;
+        return StepReply::Unreadable;
     };
     match ticket.settled_by(durable) {
         Ok(receipt) => {
             answer.add_with("receipt ", receipt.number());
-            Reply::Told
+            StepReply::Told
         }
         Err(ticket) => match tickets.push(ticket) {
-            Ok(()) => Reply::Refused("not settled"),
-            Err(_) => Reply::NoMemory,
+            Ok(()) => StepReply::Refused("not settled"),
+            Err(_) => StepReply::NoMemory,
         },
     }
 }
@@ -107,13 +107,13 @@ pub fn issuer_step<I: Issuer>(
     tickets: &mut Vec<Ticket>,
     word: &str,
     words: &mut Words,
-    answer: &mut Text,
-) -> Reply {
+    answer: &mut TextBuffer,
+) -> StepReply {
     match word {
         "ticket" => keep(tickets, issuer.ticket()),
         "settled" => settle(tickets, words, answer),
-        "issued" => Reply::Number(issuer.issued()),
-        "durable" => Reply::Number(issuer.durable().number()),
+        "issued" => StepReply::Number(issuer.issued()),
+        "durable" => StepReply::Number(issuer.durable().number()),
         "retaken" => retaken_step(alloc, issuer.table(), words, answer),
         _ => {
             let reply = table_step(alloc, issuer.table(), word, words, answer);
@@ -132,13 +132,13 @@ pub fn broker_step<D: Disk>(
     tickets: &mut Vec<Ticket>,
     word: &str,
     words: &mut Words,
-    answer: &mut Text,
-) -> Reply {
+    answer: &mut TextBuffer,
+) -> StepReply {
     if word != "commit" {
         return issuer_step(alloc, broker, tickets, word, words, answer);
     }
     match broker.commit() {
-        Ok(durable) => Reply::Number(durable.number()),
-        Err(why) => Reply::Refused(refusals::commit(why)),
+        Ok(durable) => StepReply::Number(durable.number()),
+        Err(why) => StepReply::Refused(refusals::commit(why)),
     }
 }

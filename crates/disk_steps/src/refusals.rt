@@ -1,5 +1,5 @@
 //! What is answered for each refusal.
-use case_runner::{Reply, Text};
+use case_runner::{StepReply, TextBuffer};
 use checkpoint::{FormatError, OpenError};
 use gate_journal::AppendError;
 use group_commit::{
@@ -79,47 +79,47 @@ pub fn append(why: AppendError) -> &'static str {
 }
 
 /// Why a disk is not opened.
-pub fn open(why: OpenError, answer: &mut Text) -> Reply {
+pub fn open(why: OpenError, answer: &mut TextBuffer) -> StepReply {
     match why {
-        OpenError::Fault => Reply::Refused("fault"),
-        OpenError::OutOfMemory => Reply::Refused("out of memory"),
-        OpenError::NotFormatted => Reply::Refused("not formatted"),
+        OpenError::Fault => StepReply::Refused("fault"),
+        OpenError::OutOfMemory => StepReply::Refused("out of memory"),
+        OpenError::NotFormatted => StepReply::Refused("not formatted"),
         OpenError::Damaged { sector } => {
             answer.add_with("damaged ", sector);
-            Reply::RefusalTold
+            StepReply::RefusalTold
         }
-        OpenError::OldVersion => Reply::Refused("old version"),
+        OpenError::OldVersion => StepReply::Refused("old version"),
     }
 }
 
 /// Why a disk is not migrated.
-pub fn migrate(why: MigrateError, answer: &mut Text) -> Reply {
+pub fn migrate(why: MigrateError, answer: &mut TextBuffer) -> StepReply {
     match why {
-        MigrateError::NotFormatted => Reply::Refused("not formatted"),
+        MigrateError::NotFormatted => StepReply::Refused("not formatted"),
         MigrateError::Damaged { sector } => {
             answer.add_with("damaged ", sector);
-            Reply::RefusalTold
+            StepReply::RefusalTold
         }
-        MigrateError::NotOld => Reply::Refused("not old"),
+        MigrateError::NotOld => StepReply::Refused("not old"),
         MigrateError::TooSmall { least } => {
             answer.add_with("too small ", least);
-            Reply::RefusalTold
+            StepReply::RefusalTold
         }
-        MigrateError::WornOut => Reply::Refused("worn out"),
-        MigrateError::BadKind => Reply::Refused("bad table"),
-        MigrateError::OutOfMemory => Reply::Refused("out of memory"),
-        MigrateError::Fault => Reply::Refused("fault"),
+        MigrateError::WornOut => StepReply::Refused("worn out"),
+        MigrateError::BadKind => StepReply::Refused("bad table"),
+        MigrateError::OutOfMemory => StepReply::Refused("out of memory"),
+        MigrateError::Fault => StepReply::Refused("fault"),
     }
 }
 
 /// Why a disk is not formatted.
-pub fn format(why: FormatError, answer: &mut Text) -> Reply {
+pub fn format(why: FormatError, answer: &mut TextBuffer) -> StepReply {
     match why {
         FormatError::TooSmall { least } => {
             answer.add_with("too small ", least);
-            Reply::RefusalTold
+            StepReply::RefusalTold
         }
-        FormatError::OutOfMemory => Reply::Refused("out of memory"),
-        FormatError::Fault => Reply::Refused("fault"),
+        FormatError::OutOfMemory => StepReply::Refused("out of memory"),
+        FormatError::Fault => StepReply::Refused("fault"),
     }
 }

@@ -1,17 +1,17 @@
 // Steps that tell of a disk, before it is opened or formatted, whether it had another size and whether it is blank.
-use case_runner::{Reply, Text};
+use case_runner::{StepReply, TextBuffer};
 use resized_disk::{Resized, ResizedError, is_blank, resized};
 use sector_disk::Disk;
 use std::alloc::Global;
 
-fn refusal(why: ResizedError) -> Reply {
+fn refusal(why: ResizedError) -> StepReply {
     match why {
-        ResizedError::OutOfMemory => Reply::NoMemory,
-        ResizedError::Fault => Reply::Refused("fault"),
+        ResizedError::OutOfMemory => StepReply::NoMemory,
+        ResizedError::Fault => StepReply::Refused("fault"),
     }
 }
 
-fn tell(told: Option<Resized>, answer: &mut Text) {
+fn tell(told: Option<Resized>, answer: &mut TextBuffer) {
     match told {
         Some(Resized::Displaced { sectors }) => answer.add_with("displaced ", sectors),
         Some(Resized::Cut { sector }) => answer.add_with("cut ", sector),
@@ -20,20 +20,20 @@ fn tell(told: Option<Resized>, answer: &mut Text) {
 }
 
 /// What tells that the disk had another size.
-pub fn tell_resized<D: Disk>(alloc: Global, disk: &mut D, answer: &mut Text) -> Reply {
+pub fn tell_resized<D: Disk>(alloc: Global, disk: &mut D, answer: &mut TextBuffer) -> StepReply {
     match resized(alloc, disk) {
         Ok(told) => {
             tell(told, answer);
-            Reply::Told
+            StepReply::Told
         }
         Err(why) => refusal(why),
     }
 }
 
 /// Whether the disk is blank.
-pub fn tell_blank<D: Disk>(alloc: Global, disk: &mut D) -> Reply {
+pub fn tell_blank<D: Disk>(alloc: Global, disk: &mut D) -> StepReply {
     match is_blank(alloc, disk) {
-        Ok(is_blank) => Reply::yes_or_no(is_blank),
+        Ok(is_blank) => StepReply::yes_or_no(is_blank),
         Err(why) => refusal(why),
     }
 }

@@ -2,7 +2,7 @@
 use crate::devices::{CaseDisk, Failures, SOUND, read_failures, unwrapped, wrapped};
 use crate::memory::{format_disk, halt};
 use crate::migrating::migrate_disk;
-use case_runner::{Reply, Scene, Text, Words, set, usual_settings};
+use case_runner::{Fixture, StepReply, TextBuffer, Words, set, usual_settings};
 use retry_rules::Settings;
 use sector_disk::{Disk, MemDisk};
 use std::alloc::Global;
@@ -20,8 +20,8 @@ pub struct Base {
 
 impl Base {
     /// A disk was opened, and so many commands were recovered.
-    pub fn recovered(&self, number: u64) -> Reply {
-        Reply::Recovered {
+    pub fn recovered(&self, number: u64) -> StepReply {
+        StepReply::Recovered {
             number,
             durable: self.durable,
             issued: self.issued,
@@ -42,7 +42,13 @@ pub trait Stage: Drop {
     fn take(&mut self, base: &mut Base) -> Option<CaseDisk>;
 
     /// Opens a disk.
-    fn open(&mut self, alloc: Global, base: &Base, disk: CaseDisk, answer: &mut Text) -> Reply;
+    fn open(
+        &mut self,
+        alloc: Global,
+        base: &Base,
+        disk: CaseDisk,
+        answer: &mut TextBuffer,
+    ) -> StepReply;
 
     /// `drill ..` or the like: runs a drill on a disk, which is given up where an opening fails.
     fn drill(
@@ -50,8 +56,8 @@ pub trait Stage: Drop {
         disk: MemDisk,
         word: &str,
         text: &str,
-        answer: &mut Text,
-    ) -> (Reply, Option<MemDisk>);
+        answer: &mut TextBuffer,
+    ) -> (StepReply, Option<MemDisk>);
 
     /// Does a step that is none of any disk's.
     fn step(
@@ -60,8 +66,8 @@ pub trait Stage: Drop {
         base: &mut Base,
         word: &str,
         words: &mut Words,
-        answer: &mut Text,
-    ) -> Reply;
+        answer: &mut TextBuffer,
+    ) -> StepReply;
 }
 
 /// Where a case stands.
@@ -72,10 +78,10 @@ pub struct World<S: Stage> {
 }
 
 // A disk of zeros.
-fn blank(alloc: Global, sectors: u64) -> Result<MemDisk, Reply> {
+fn blank(alloc: Global, sectors: u64) -> Result<MemDisk, StepReply> {
     match MemDisk::new(alloc, sectors) {
         Ok(disk) => Ok(disk),
-        Err(_) => Err(Reply::NoMemory),
+        Err(_) => Err(StepReply::NoMemory),
     }
 }
 
@@ -84,11 +90,11 @@ fn formatted(
     alloc: Global,
     sectors: u64,
     settings: &Settings,
-    answer: &mut Text,
-) -> Result<MemDisk, Reply> {
+    answer: &mut TextBuffer,
+) -> Result<MemDisk, StepReply> {
     let mut disk = blank(alloc, sectors)?;
     match format_disk(alloc, &mut disk, settings, answer) {
-        Reply::Done => Ok(disk),
+        StepReply::Done => Ok(disk),
         reply => Err(reply),
     }
 }
@@ -100,50 +106,50 @@ fn memory_step<S: Stage>(
     settings: &Settings,
     word: &str,
     words: &mut Words,
-    answer: &mut Text,
-) -> (Reply, Option<MemDisk>) {
+    answer: &mut TextBuffer,
+) -> (StepReply, Option<MemDisk>) {
     match word {
         "halt" => halt(alloc, disk, words.rest()),
-        "barriers" => (Reply::Number(disk.barriers()), Some(disk)),
+        "barriers" => (StepReply::Number(disk.barriers()), Some(disk)),
         "format" => {
             let mut disk = disk;
             let reply = format_disk(alloc, &mut disk, settings, answer);
             (reply, Some(disk))
         }
-        "device" => (Reply::Done, Some(disk)),
+        "device" => (StepReply::Done, Some(disk)),
         _ => S::drill(alloc, disk, word, words.rest(), answer),
     }
 }
 
 impl<S: Stage> World<S> {
     // Opens the disk.
-    fn open(&mut self, alloc: Global, answer: &mut Text) -> Reply {
+    fn open(&mut self, alloc: Global, answer: &mut TextBuffer) -> StepReply {
         match self.stage.take(&mut self.base) {
             Some(disk) => self.stage.open(alloc, &self.base, disk, answer),
-            None => Reply::Unreadable,
+            None => StepReply::Unreadable,
         }
     }
 
     // Closes what is open on the disk.
-    fn close(&mut self) -> Reply {
+    fn close(&mut self) -> StepReply {
         match self.stage.take(&mut self.base) {
             Some(disk) => {
                 self.stage.put(disk);
-                Reply::Done
+                StepReply::Done
             }
-            None => Reply::Unreadable,
+            None => StepReply::Unreadable,
         }
     }
 
     // Migrates the disk, which nothing has open then.
-    fn migrate(&mut self, alloc: Global, answer: &mut Text) -> Reply {
+    fn migrate(&mut self, alloc: Global, answer: &mut TextBuffer) -> StepReply {
         match self.stage.take(&mut self.base) {
             Some(disk) => {
                 let (disk, reply) = migrate_disk(alloc, disk, answer);
                 self.stage.put(disk);
                 reply
             }
-            None => Reply::Unreadable,
+            None => StepReply::Unreadable,
         }
     }
 
@@ -153,12 +159,12 @@ impl<S: Stage> World<S> {
         alloc: Global,
         is_blank: bool,
         words: &mut Words,
-        answer: &mut Text,
-    ) -> Reply {
+        answer: &mut TextBuffer,
+    ) -> StepReply {
         let sectors = words.number();
         let failures = read_failures(words);
         if words.are_bad() {
-            return Reply::Unreadable;
+            return StepReply::Unreadable;
         }
         let made = if is_blank {
             blank(alloc, sectors)
@@ -170,7 +176,7 @@ impl<S: Stage> World<S> {
             Err(reply) => return reply,
         }
         if is_blank {
-            return Reply::Done;
+            return StepReply::Done;
         }
         self.open(alloc, answer)
     }
@@ -182,10 +188,10 @@ impl<S: Stage> World<S> {
         word: &str,
         failures: Failures,
         words: &mut Words,
-        answer: &mut Text,
-    ) -> Reply {
+        answer: &mut TextBuffer,
+    ) -> StepReply {
         let Some(disk) = self.stage.take(&mut self.base) else {
-            return Reply::Unreadable;
+            return StepReply::Unreadable;
         };
         let disk = unwrapped(disk);
         let settings = &self.base.settings;
@@ -197,24 +203,29 @@ impl<S: Stage> World<S> {
     }
 
     // `[fuse N] [fault reads|changes K]`: when the device fails from now on.
-    fn set_device(&mut self, alloc: Global, words: &mut Words, answer: &mut Text) -> Reply {
+    fn set_device(
+        &mut self,
+        alloc: Global,
+        words: &mut Words,
+        answer: &mut TextBuffer,
+    ) -> StepReply {
         let failures = read_failures(words);
         if words.are_bad() {
-            return Reply::Unreadable;
+            return StepReply::Unreadable;
         }
         self.memory_step(alloc, "device", failures, words, answer)
     }
 
     // `SECTORS`: stops the disk and opens it again.
-    fn stop(&mut self, alloc: Global, words: &mut Words, answer: &mut Text) -> Reply {
+    fn stop(&mut self, alloc: Global, words: &mut Words, answer: &mut TextBuffer) -> StepReply {
         match self.memory_step(alloc, "halt", SOUND, words, answer) {
-            Reply::Done => self.open(alloc, answer),
+            StepReply::Done => self.open(alloc, answer),
             reply => reply,
         }
     }
 }
 
-impl<S: Stage> Scene for World<S> {
+impl<S: Stage> Fixture for World<S> {
     fn begin(alloc: Global) -> Option<World<S>> {
         match usual_settings(alloc) {
             Some(settings) => Some(World {
@@ -229,7 +240,7 @@ impl<S: Stage> Scene for World<S> {
         }
     }
 
-    fn step(&mut self, alloc: Global, words: &mut Words, answer: &mut Text) -> Reply {
+    fn step(&mut self, alloc: Global, words: &mut Words, answer: &mut TextBuffer) -> StepReply {
         let word = words.word();
         match word {
             "settings" => set(alloc, &mut self.base.settings, words),

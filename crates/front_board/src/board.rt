@@ -1,7 +1,7 @@
 // The board and its seats.
 ghost use Rattle.std.specs.Prelude.{◌≡◌, ◌<◌, ◌≤◌, All, IfOk, IfErr, IsOk, vec_len};
 
-use crate::rule::{Looks, Raises, Rises, Sits, View};
+use crate::rule::{Looks, Raises, Rises, SeatView, Sits};
 use crate::{AnyNumber, Numbers};
 use atomic_table::Table;
 use group_commit::{Durable, Receipt, Ticket};
@@ -10,14 +10,14 @@ use std::alloc::{AllocError, Global};
 /// How many commands are durable, as far as threads were told. The number only rises.
 #[derive(Drop)]
 pub struct Board<N: Numbers = AnyNumber> {
-    word: Table<u8, View, u64, Rises<N>, Global>,
+    word: Table<u8, SeatView, u64, Rises<N>, Global>,
     ghost one: { word.shared.table_id.words ≡ 1 },
 }
 
 /// A place at one board, for one thread at a time. It remembers, in the proofs alone, what was raised and seen from it.
 #[derive(Drop)]
 pub struct Seat {
-    place: atomic_table::Seat<u8, View>,
+    place: atomic_table::Seat<u8, SeatView>,
 }
 
 impl<N: Numbers> Board<N> {
@@ -45,7 +45,7 @@ impl<N: Numbers> Board<N> {
     fn places(
         &self,
         alloc: Global,
-        mut first: atomic_table::Seat<u8, View>,
+        mut first: atomic_table::Seat<u8, SeatView>,
         count: usize,
     ) -> Result<Vec<Seat>, AllocError>
         requires sits { first.table_id ≡ self.now.word.shared.table_id }
@@ -60,7 +60,7 @@ impl<N: Numbers> Board<N> {
     }
 
     // A seat beside the first, which has only seen what the board was opened with.
-    fn another(&self, first: &mut atomic_table::Seat<u8, View>) -> Seat
+    fn another(&self, first: &mut atomic_table::Seat<u8, SeatView>) -> Seat
         requires sits { first.old.table_id ≡ self.now.word.shared.table_id }
         ensures same { first.new.table_id ≡ first.old.table_id }
         ensures kept { first.new.me.0 ≡ first.old.me.0 }

@@ -6,7 +6,7 @@ use atomic_table::{Play, Split, TableRule};
 use std::marker::PhantomData;
 
 /// What a seat knows: the greatest number that it raised, and the last that it saw or raised.
-pub struct View {
+pub struct SeatView {
     pub raised: u64,
     pub seen: u64,
 }
@@ -14,7 +14,7 @@ pub struct View {
 /// The rule, over the number that the board was opened with.
 pub struct Rises<N: Numbers>(PhantomData<N>);
 
-impl<N: Numbers> TableRule<u8, View, u64> for Rises<N> {
+impl<N: Numbers> TableRule<u8, SeatView, u64> for Rises<N> {
     ghost use Rattle.front_board.specs.Rule.{IsKept, view};
 
     ghost holds = { λ opening s. IsKept N.given opening s.words s.views };
@@ -25,7 +25,7 @@ impl<N: Numbers> TableRule<u8, View, u64> for Rises<N> {
 /// The number becomes the greater of what it was and what is raised.
 pub struct Raises<N: Numbers>(PhantomData<N>);
 
-impl<N: Numbers> Play<u8, View> for Raises<N> {
+impl<N: Numbers> Play<u8, SeatView> for Raises<N> {
     ghost use Rattle.front_board.specs.Rule.{HasRaised};
 
     ghost then = { λ s before found after. HasRaised N.given s.first before.0 found after.0 };
@@ -34,7 +34,7 @@ impl<N: Numbers> Play<u8, View> for Raises<N> {
 /// The number is looked at.
 pub struct Looks<N: Numbers>(PhantomData<N>);
 
-impl<N: Numbers> Play<u8, View> for Looks<N> {
+impl<N: Numbers> Play<u8, SeatView> for Looks<N> {
     ghost use Rattle.front_board.specs.Rule.{HasLooked};
 
     ghost then = { λ s before found after. HasLooked N.given before.0 found after.0 };
@@ -43,7 +43,7 @@ impl<N: Numbers> Play<u8, View> for Looks<N> {
 /// A new seat has seen what the one beside it has, and raised nothing.
 pub struct Sits;
 
-impl Split<View> for Sits {
+impl Split<SeatView> for Sits {
     ghost use Rattle.front_board.specs.Rule.{view};
 
     ghost left = { λ v. v };

@@ -21,7 +21,7 @@ use Rattle.group_commit.specs.declared.broker.Broker.{Broker}
 use Rattle.group_commit.specs.declared.error.CommitError.{CommitError}
 use Rattle.group_commit.specs.declared.error.CommitError.TheVariants.{Fault}
 use Rattle.group_commit.specs.History.{IsLegalStop}
-use Rattle.group_commit.specs.Broker.{disk_of, settings_of, table_in, issued_of, pending_of, durable_of, is_broken, opened_of, StandsBy, Stands, IsSameBroker, Commits, Breaks}
+use Rattle.group_commit.specs.Broker.{disk_of, settings_of, table_in, issued_of, pending_of, durable_of, is_broken, opened_of, BrokerState, state_of, StandsFor, Stands, IsSameBroker, Commits, Breaks}
 use Rattle.group_commit.specs.Refusals.{HasBadTable}
 use Rattle.group_commit.proofs.Issued.{stands_along}
 
@@ -82,7 +82,8 @@ module _ {D : Type 0} {g : Ghosts D} (view : D → DiskView) (laws : (disk : D) 
       let there = λ (honest : (view (disk_of new)).honest). live (same.honest.0 honest) in
       let all : take (issued_of old) history ≡ history = take_all (issued_of old) history (omega (arith, number)) in
       let kept : s ≡ (opened_of new).settings = sym commits.settings ∙ new.settings in
-      let base : StandsBy (view (disk_of new)) (opened_of new) s (table_in old) [] (issued_of old) (is_broken old) history =
+      let was : BrokerState = record (state_of view old) { disk = view (disk_of new); opened = opened_of new; pending = []; durable = issued_of old } in
+      let base : StandsFor was history =
       record {
         good = stands.good;
         legal = stands.legal;
@@ -94,14 +95,14 @@ module _ {D : Type 0} {g : Ghosts D} (view : D → DiskView) (laws : (disk : D) 
             (subst (λ (r : Settings). RecoversTo r (table_of s history) image) (sym kept) (live_recovers _ _ _ (there honest) image left));
         live = λ sound honest. subst (λ (h : List Command). IsLive (view (disk_of new)) (opened_of new) (table_of s h)) (sym all) (there honest);
       } in
-      stands_along view (disk_of new) (disk_of new) (opened_of new) (opened_of new) s (settings_of new) (table_in old) (table_in new) [] (pending_of new)
-      (issued_of old) (durable_of new) (is_broken old) (is_broken new) history refl refl commits.settings commits.table commits.pending commits.all commits.broken base
+      stands_along was (state_of view new) history refl refl commits.settings commits.table commits.pending commits.all commits.broken base
 
   -- a fault leaves a legal stop
   pub stands_broken : IsSameDisk (view (disk_of old)) (view (disk_of new)) → Breaks old new
       → ((view (disk_of old)).honest → LeavesOnly (view (disk_of old)) (view (disk_of new)) (IsLegalStop s history (durable_of old))) → Stands view new history
   stands_broken same breaks leaves =
-      let base : StandsBy (view (disk_of new)) (opened_of new) s (table_in old) (pending_of old) (durable_of old) true history =
+      let was : BrokerState = record (state_of view old) { disk = view (disk_of new); opened = opened_of new; broken = true } in
+      let base : StandsFor was history =
       record {
         good = stands.good;
         legal = stands.legal;
@@ -113,13 +114,11 @@ module _ {D : Type 0} {g : Ghosts D} (view : D → DiskView) (laws : (disk : D) 
             moments.each image ((laws (disk_of new) honest).counts_now (view (disk_of old)).moment image moments.later left);
         live = λ sound honest. absurd cc;
       } in
-      stands_along view (disk_of new) (disk_of new) (opened_of new) (opened_of new) s (settings_of new) (table_in old) (table_in new) (pending_of old) (pending_of new)
-      (durable_of old) (durable_of new) true (is_broken new) history refl refl breaks.settings breaks.table breaks.pending breaks.durable breaks.broken base
+      stands_along was (state_of view new) history refl refl breaks.settings breaks.table breaks.pending breaks.durable breaks.broken base
 
   pub stands_same : IsSameBroker old new → Stands view new history
   stands_same same =
-      stands_along view (disk_of old) (disk_of new) (opened_of old) (opened_of new) s (settings_of new) (table_in old) (table_in new) (pending_of old) (pending_of new)
-      (durable_of old) (durable_of new) (is_broken old) (is_broken new) history same.disk same.opened same.settings same.table same.pending same.durable same.broken stands
+      stands_along (state_of view old) (state_of view new) history (ap view same.disk) same.opened same.settings same.table same.pending same.durable same.broken stands
 
   -- whatever the commit answers
   pub stands_after : (result : Result ℕ CommitError) → IsSameDisk (view (disk_of old)) (view (disk_of new)) → IfOk result (λ durable. Commits old new durable) → (result ≡ Err Fault → Breaks old new)

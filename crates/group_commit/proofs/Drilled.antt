@@ -39,16 +39,16 @@ reason_is view broker history stands command issue_error.WornOut first is =
     (unbroken (is_broken broker) (λ broken. let wrong = first broken in cc), omega (arith, is, number))
 reason_is view broker history stands command (issue_error.Illegal why) first is = (
   unbroken (is_broken broker) (λ broken. let wrong = first broken in cc),
-  sym (refusal_is _ _ _ _ _ _ _ history stands command) ∙ is,
+  sym (refusal_is history stands command) ∙ is,
 )
 reason_is view broker history stands command issue_error.Backlog first is = (
   unbroken (is_broken broker) (λ broken. let wrong = first broken in cc),
-  sym (refusal_is _ _ _ _ _ _ _ history stands command) ∙ is.0,
+  sym (refusal_is history stands command) ∙ is.0,
   omega (arith, is.1, ap length stands.pending_is, length-drop (durable_of broker) history, stands.durable_is),
 )
 reason_is view broker history stands command issue_error.OutOfMemory first is = (
   unbroken (is_broken broker) (λ broken. let wrong = first broken in cc),
-  sym (refusal_is _ _ _ _ _ _ _ history stands command) ∙ is,
+  sym (refusal_is history stands command) ∙ is,
 )
 
 module _ {g : Ghosts MemDisk} (old new : Broker MemDisk g) (history : List Command) (stands : Stands memory_view new history) where

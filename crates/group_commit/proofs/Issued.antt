@@ -1,18 +1,16 @@
 -- What one command more does to a broker that stands for a history.
-use Rattle.std.proofs.Common.{◌≡◌, ℕ, Bool, None, List, [], ◌∷◌, ◌++◌, Result, Ok, Err, sym, ap, subst, ◌∙◌, arith, length-append}
+use Rattle.std.proofs.Common.{◌≡◌, ℕ, None, List, [], ◌∷◌, ◌++◌, Result, Ok, Err, sym, ap, subst, ◌∙◌, arith, length-append}
 use Rattle.std.specs.Prelude.{IfOk}
 use Rattle.std.proofs.lemmas.List.{take-append-le, drop-append-le}
-use Rattle.sector_disk.specs.Disk.{DiskView}
 use Rattle.retry_rules.specs.declared.settings.Settings.{Settings}
 use Rattle.invoke_records.specs.declared.snapshot.Snapshot.{Snapshot}
 use Rattle.invoke_records.specs.declared.command.Command.{Command}
 use Rattle.async_core.specs.Rules.{refusal_at, table_after}
 use Rattle.async_core.specs.History.{refusal_of, table_of}
 use Rattle.async_core.specs.laws.Tables.{refusal-of_table, table_of-more, IsLegal-more}
-use Rattle.checkpoint.specs.declared.opened.Opened.{Opened}
 use Rattle.checkpoint.specs.Live.{IsLive, RecoversTo}
 use Rattle.group_commit.specs.History.{IsLegalStop}
-use Rattle.group_commit.specs.Broker.{StandsBy}
+use Rattle.group_commit.specs.Broker.{BrokerState, StandsFor}
 
 -- a fact of what is Ok, and what follows from it
 pub if_ok : {T E : Type 0} (P Q : T → Type 0) (r : Result T E) → ((x : T) → P x → Q x) → IfOk r P → IfOk r Q
@@ -29,37 +27,45 @@ stop_of_more s history later durable image stop = record {
 }
 
 -- why a broker that stands for a history refuses a command
-pub refusal_is : (disk : DiskView) (opened : Opened) (s : Settings) (table : Snapshot) (pending : List Command) (durable : ℕ) (broken : Bool) (history : List Command)
-    → StandsBy disk opened s table pending durable broken history → (command : Command) → refusal_at s table command ≡ refusal_of s history command
-refusal_is disk opened s table pending durable broken history stands command =
-    ap (λ (t : Snapshot). refusal_at s t command) stands.table_is ∙ refusal-of_table s history command stands.good.check stands.legal
+pub refusal_is : {broker : BrokerState} (history : List Command) → StandsFor broker history → (command : Command) → refusal_at broker.settings broker.table command ≡ refusal_of broker.settings history command
+refusal_is {broker} history stands command =
+    ap (λ (t : Snapshot). refusal_at broker.settings t command) stands.table_is ∙ refusal-of_table broker.settings history command stands.good.check stands.legal
+
+-- the broker with one command more
+abbrev pub with_command : BrokerState → Command → BrokerState
+with_command broker command = record broker {
+  table = table_after broker.settings broker.table command;
+  pending = broker.pending ++ command ∷ [];
+}
 
 -- and what it stands for with one that it accepts
-pub stands_more : (disk : DiskView) (opened : Opened) (s : Settings) (table : Snapshot) (pending : List Command) (durable : ℕ) (broken : Bool) (history : List Command)
-    → StandsBy disk opened s table pending durable broken history → (command : Command) → refusal_at s table command ≡ None
-    → StandsBy disk opened s (table_after s table command) (pending ++ command ∷ []) durable broken (history ++ command ∷ [])
-stands_more disk opened s table pending durable broken history stands command accepted =
-    let legal : refusal_of s history command ≡ None = sym (refusal_is disk opened s table pending durable broken history stands command) ∙ accepted in
+pub stands_more : {broker : BrokerState} (history : List Command) → StandsFor broker history → (command : Command) → refusal_at broker.settings broker.table command ≡ None
+    → StandsFor (with_command broker command) (history ++ command ∷ [])
+stands_more {broker} history stands command accepted =
+    let s = broker.settings in
+    let legal : refusal_of s history command ≡ None = sym (refusal_is history stands command) ∙ accepted in
     record {
       good = stands.good;
       legal = IsLegal-more s history command stands.legal legal;
       table_is = ap (λ (t : Snapshot). table_after s t command) stands.table_is ∙ table_of-more s history command stands.good.check stands.legal legal;
       durable_is = omega (arith, stands.durable_is, length-append history (command ∷ []));
-      pending_is = ap (λ (l : List Command). l ++ command ∷ []) stands.pending_is ∙ sym (drop-append-le durable history (command ∷ []) stands.durable_is);
-      stops = λ honest image left. stop_of_more s history (command ∷ []) durable image (stands.stops honest image left);
+      pending_is = ap (λ (l : List Command). l ++ command ∷ []) stands.pending_is ∙ sym (drop-append-le broker.durable history (command ∷ []) stands.durable_is);
+      stops = λ honest image left. stop_of_more s history (command ∷ []) broker.durable image (stands.stops honest image left);
       live = λ whole honest.
-          subst (λ (h : List Command). IsLive disk opened (table_of s h)) (sym (take-append-le durable history (command ∷ []) stands.durable_is)) (stands.live whole honest);
+          subst (λ (h : List Command). IsLive broker.disk broker.opened (table_of s h)) (sym (take-append-le broker.durable history (command ∷ []) stands.durable_is)) (stands.live whole honest);
     }
 
--- the same facts of equal parts
-pub stands_along : {D : Type 0} (view : D → DiskView) (disk disk' : D) (opened opened' : Opened) (s s' : Settings) (table table' : Snapshot) (pending pending' : List Command) (durable durable' : ℕ) (broken broken' : Bool) (history : List Command)
-    → disk' ≡ disk → opened' ≡ opened → s' ≡ s → table' ≡ table → pending' ≡ pending → durable' ≡ durable → broken' ≡ broken
-    → StandsBy (view disk) opened s table pending durable broken history → StandsBy (view disk') opened' s' table' pending' durable' broken' history
-stands_along {D} view disk disk' opened opened' s s' table table' pending pending' durable durable' broken broken' history e1 e2 e3 e4 e5 e6 e7 stands =
-    subst (λ (x : D). StandsBy (view x) opened' s' table' pending' durable' broken' history) (sym e1)
-    (subst (λ (x : Opened). StandsBy (view disk) x s' table' pending' durable' broken' history) (sym e2)
-    (subst (λ (x : Settings). StandsBy (view disk) opened x table' pending' durable' broken' history) (sym e3)
-    (subst (λ (x : Snapshot). StandsBy (view disk) opened s x pending' durable' broken' history) (sym e4)
-    (subst (λ (x : List Command). StandsBy (view disk) opened s table x durable' broken' history) (sym e5)
-    (subst (λ (x : ℕ). StandsBy (view disk) opened s table pending x broken' history) (sym e6)
-    (subst (λ (x : Bool). StandsBy (view disk) opened s table pending durable x history) (sym e7) stands))))))
+-- a broker of equal parts stands for the same history
+pub stands_along : (was now : BrokerState) (history : List Command) → now.disk ≡ was.disk → now.opened ≡ was.opened → now.settings ≡ was.settings → now.table ≡ was.table
+    → now.pending ≡ was.pending → now.durable ≡ was.durable → now.broken ≡ was.broken → StandsFor was history → StandsFor now history
+stands_along was now history disk opened settings table pending durable broken stands =
+    let same : was ≡ now = λ i. record {
+      disk = sym disk i;
+      opened = sym opened i;
+      settings = sym settings i;
+      table = sym table i;
+      pending = sym pending i;
+      durable = sym durable i;
+      broken = sym broken i;
+    } in
+    subst (λ (b : BrokerState). StandsFor b history) same stands

@@ -1,5 +1,5 @@
 -- What two halves are joined to.
-use Rattle.std.proofs.Common.{◌≡◌, ℕ, ◌+◌, ◌-◌, ◌<◌, ◌≤◌, Bool, true, None, Some, List, ◌++◌, length, take, drop, sym, ap, subst, ◌∙◌, arith, ⊎_elim, length-drop}
+use Rattle.std.proofs.Common.{◌≡◌, ℕ, ◌+◌, ◌-◌, ◌<◌, ◌≤◌, true, None, Some, List, ◌++◌, length, take, drop, sym, ap, subst, ◌∙◌, arith, ⊎_elim, length-drop}
 use Rattle.std.specs.Prelude.{slice_get, IfSome, IsSome}
 use Rattle.std.proofs.lemmas.List.{drop-drop, take_all, take-append-drop}
 use Rattle.std.proofs.lemmas.Bool.{cases_lt}
@@ -11,10 +11,9 @@ use Rattle.invoke_records.specs.declared.command.Command.{Command}
 use Rattle.async_core.specs.Rules.{refusal_at, replay}
 use Rattle.async_core.specs.State.{State}
 use Rattle.async_core.specs.laws.Tables.{number-table_of}
-use Rattle.checkpoint.specs.declared.opened.Opened.{Opened}
 use Rattle.group_commit.specs.declared.broker.Broker.{Broker}
 use Rattle.group_commit.specs.declared.issue_half.IssueHalf.{IssueHalf}
-use Rattle.group_commit.specs.Broker.{settings_of, table_in, issued_of, StandsBy, Stands}
+use Rattle.group_commit.specs.Broker.{settings_of, table_in, issued_of, BrokerState, StandsFor, Stands}
 use Rattle.group_commit.specs.Issuer.{state_in}
 use Rattle.group_commit.specs.IssuerHalf.{half_view}
 use Rattle.group_commit.specs.Splitting.{Takes, Agree, ahead_of}
@@ -33,9 +32,8 @@ whole_of history pending n d within is size =
     ap (λ (l : List Command). take n history ++ l) ahead ∙ take-append-drop n history
 
 -- a broker that is said to be broken stands for what it did
-pub stands_broken : (disk : DiskView) (opened : Opened) (s : Settings) (table : Snapshot) (pending : List Command) (durable : ℕ) (broken : Bool) (history : List Command)
-    → StandsBy disk opened s table pending durable broken history → StandsBy disk opened s table pending durable true history
-stands_broken disk opened s table pending durable broken history stands = record {
+pub stands_broken : {broker : BrokerState} {history : List Command} → StandsFor broker history → StandsFor (record broker { broken = true }) history
+stands_broken stands = record {
   good = stands.good;
   legal = stands.legal;
   table_is = stands.table_is;

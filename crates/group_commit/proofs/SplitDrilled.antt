@@ -318,7 +318,7 @@ module _ {g : Ghosts MemDisk} (old new : Broker MemDisk g) (batch : Batch) (hist
       let there : slice_get (missing_in old batch) (n - issued_of old) ≡ Some c =
       ap (λ (l : List Command). slice_get l (n - issued_of old)) missing_is ∙ found_between history (issued_of old) lent n c longer below within found.1 in
       let passes : refusal_at (settings_of new) (table_in new) c ≡ None =
-      broker_refusal_is _ _ _ _ _ _ _ (take n history) stands c ∙ legal.each n c found.1 in
+      broker_refusal_is (take n history) stands c ∙ legal.each n c found.1 in
       refused_none (refusal_at (settings_of new) (table_in new) c) passes
       (subst (λ (o : Option Command). IfSome o (λ command. IsSome (refusal_at (settings_of new) (table_in new) command))) there illegal.0)
 

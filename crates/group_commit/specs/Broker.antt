@@ -46,24 +46,42 @@ is_broken broker = broker.broken
 abbrev pub opened_of : {D : Type 0} {g : Ghosts D} → Broker D g → Opened
 opened_of broker = broker.opened
 
--- A broker with this disk, this live segment, these settings, this table, these pending commands and this durable number
--- stands for a history: the table is the history's, what is pending is the end of it behind the durable commands, every
--- image of an honest disk is a legal stop, and unless the broker is broken its disk is settled.
-pub record StandsBy (disk : DiskView) (opened : Opened) (s : Settings) (table : Snapshot)
-    (pending : List Command) (durable : ℕ) (broken : Bool) (history : List Command) : Type 0 where
-  pub good : AreGood s
-  pub legal : IsLegal s history
-  pub table_is : table ≡ table_of s history
-  pub durable_is : durable ≤ length history
-  pub pending_is : pending ≡ drop durable history
-  pub stops : disk.honest → (image : List ℕ) → disk.may_leave image → IsLegalStop s history durable image
-  pub live : broken ≡ false → disk.honest → IsLive disk opened (table_of s (take durable history))
+-- a broker, with its disk at a moment
+pub record BrokerState : Type 1 where
+  pub disk : DiskView
+  pub opened : Opened
+  pub settings : Settings
+  pub table : Snapshot
+  pub pending : List Command
+  pub durable : ℕ
+  pub broken : Bool
+
+-- what this broker is, where its disk is seen so
+abbrev pub state_of : {D : Type 0} {g : Ghosts D} → (D → DiskView) → Broker D g → BrokerState
+state_of view broker = record {
+  disk = view (disk_of broker);
+  opened = opened_of broker;
+  settings = settings_of broker;
+  table = table_in broker;
+  pending = pending_of broker;
+  durable = durable_of broker;
+  broken = is_broken broker;
+}
+
+-- It stands for a history: its table is the history's, what is pending is the end of it behind the durable commands, every image
+-- of an honest disk is a legal stop, and unless it is broken its disk is settled.
+pub record StandsFor (broker : BrokerState) (history : List Command) : Type 0 where
+  pub good : AreGood broker.settings
+  pub legal : IsLegal broker.settings history
+  pub table_is : broker.table ≡ table_of broker.settings history
+  pub durable_is : broker.durable ≤ length history
+  pub pending_is : broker.pending ≡ drop broker.durable history
+  pub stops : broker.disk.honest → (image : List ℕ) → broker.disk.may_leave image → IsLegalStop broker.settings history broker.durable image
+  pub live : broker.broken ≡ false → broker.disk.honest → IsLive broker.disk broker.opened (table_of broker.settings (take broker.durable history))
 
 -- the broker stands for this history
 abbrev pub Stands : {D : Type 0} {g : Ghosts D} → (D → DiskView) → Broker D g → List Command → Type 0
-Stands view broker history =
-    StandsBy (view (disk_of broker)) (opened_of broker) (settings_of broker) (table_in broker)
-    (pending_of broker) (durable_of broker) (is_broken broker) history
+Stands view broker history = StandsFor (state_of view broker) history
 
 -- two moments of a broker between which nothing was issued or committed
 pub record IsSameBroker {D : Type 0} {g : Ghosts D} (old new : Broker D g) : Type 0 where

@@ -1,5 +1,5 @@
 // Steps of the two halves of a broker.
-use case_runner::{Reply, Text, Words};
+use case_runner::{StepReply, TextBuffer, Words};
 use disk_steps::{issuer_step, refusals};
 use group_commit::{Batch, DiskHalf, Failed, IssueHalf, Ticket, Written};
 use sector_disk::Disk;
@@ -8,7 +8,7 @@ use std::mem;
 
 /// What the last lend or write left.
 #[derive(Drop)]
-pub enum Held {
+pub enum BatchState {
     Nothing,
     Lent(Batch),
     Done(Result<Written, Failed>),
@@ -19,7 +19,7 @@ pub enum Held {
 pub struct Halves<D: Disk> {
     pub issue: IssueHalf,
     pub disk: DiskHalf<D>,
-    pub held: Held,
+    pub held: BatchState,
     /// The last number that was lent.
     pub lent: u64,
 }
@@ -30,7 +30,7 @@ impl<D: Disk> Halves<D> {
         Halves {
             issue,
             disk,
-            held: Held::Nothing,
+            held: BatchState::Nothing,
             lent,
         }
     }
@@ -42,48 +42,48 @@ impl<D: Disk> Halves<D> {
 }
 
 // The last number of the batch that is lent then, or `idle`.
-fn lend<D: Disk>(halves: &mut Halves<D>) -> Reply {
+fn lend<D: Disk>(halves: &mut Halves<D>) -> StepReply {
     match halves.issue.lend() {
         Ok(Some(batch)) => {
             halves.lent = batch.last();
-            halves.held = Held::Lent(batch);
-            Reply::Number(halves.lent)
+            halves.held = BatchState::Lent(batch);
+            StepReply::Number(halves.lent)
         }
-        Ok(None) => Reply::Word("idle"),
-        Err(why) => Reply::Refused(refusals::lend(why)),
+        Ok(None) => StepReply::Word("idle"),
+        Err(why) => StepReply::Refused(refusals::lend(why)),
     }
 }
 
 // The last number of the batch that is written then, or `idle`.
-fn write<D: Disk>(halves: &mut Halves<D>) -> Reply {
-    let batch = match mem::replace(&mut halves.held, Held::Nothing) {
-        Held::Lent(batch) => batch,
+fn write<D: Disk>(halves: &mut Halves<D>) -> StepReply {
+    let batch = match mem::replace(&mut halves.held, BatchState::Nothing) {
+        BatchState::Lent(batch) => batch,
         held => {
             halves.held = held;
-            return Reply::Word("idle");
+            return StepReply::Word("idle");
         }
     };
     let outcome = halves.disk.write(batch);
     let reply = match &outcome {
-        Ok(written) => Reply::Number(written.last()),
-        Err(failed) => Reply::Refused(refusals::write(failed.cause())),
+        Ok(written) => StepReply::Number(written.last()),
+        Err(failed) => StepReply::Refused(refusals::write(failed.cause())),
     };
-    halves.held = Held::Done(outcome);
+    halves.held = BatchState::Done(outcome);
     reply
 }
 
 // How many commands are durable after the settlement, or `idle`.
-fn settle<D: Disk>(halves: &mut Halves<D>) -> Reply {
-    let outcome = match mem::replace(&mut halves.held, Held::Nothing) {
-        Held::Done(outcome) => outcome,
+fn settle<D: Disk>(halves: &mut Halves<D>) -> StepReply {
+    let outcome = match mem::replace(&mut halves.held, BatchState::Nothing) {
+        BatchState::Done(outcome) => outcome,
         held => {
             halves.held = held;
-            return Reply::Word("idle");
+            return StepReply::Word("idle");
         }
     };
     match halves.issue.settle(outcome) {
-        Ok(durable) => Reply::Number(durable.number()),
-        Err(why) => Reply::Refused(refusals::settle(why)),
+        Ok(durable) => StepReply::Number(durable.number()),
+        Err(why) => StepReply::Refused(refusals::settle(why)),
     }
 }
 
@@ -94,13 +94,13 @@ pub fn halves_step<D: Disk>(
     tickets: &mut Vec<Ticket>,
     word: &str,
     words: &mut Words,
-    answer: &mut Text,
-) -> Reply {
+    answer: &mut TextBuffer,
+) -> StepReply {
     match word {
         "lend" => lend(halves),
         "write" => write(halves),
         "settle" => settle(halves),
-        "written" => Reply::Number(halves.written()),
+        "written" => StepReply::Number(halves.written()),
         _ => issuer_step(alloc, &mut halves.issue, tickets, word, words, answer),
     }
 }

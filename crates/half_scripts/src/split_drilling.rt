@@ -1,5 +1,5 @@
 // A drill of the two halves of a broker, run whole.
-use case_runner::{Reply, Text, Words, id_of, read_command};
+use case_runner::{StepReply, TextBuffer, Words, id_of, read_command};
 use disk_steps::{format_disk, read_choice, refusals};
 use group_commit::{DrillFailure, SplitAnswer, SplitDrill, SplitStep, drill_split};
 use invoke_records::{Bytes, Command, Kind};
@@ -7,14 +7,14 @@ use retry_rules::Settings;
 use sector_disk::MemDisk;
 use std::alloc::Global;
 
-fn read_stop(alloc: Global, disk: &mut MemDisk, text: &str) -> Result<SplitStep, Reply> {
+fn read_stop(alloc: Global, disk: &mut MemDisk, text: &str) -> Result<SplitStep, StepReply> {
     match read_choice(alloc, disk, text) {
         Ok(choice) => Ok(SplitStep::Stop(choice)),
         Err(reply) => Err(reply),
     }
 }
 
-fn read_step(alloc: Global, disk: &mut MemDisk, line: &str) -> Result<SplitStep, Reply> {
+fn read_step(alloc: Global, disk: &mut MemDisk, line: &str) -> Result<SplitStep, StepReply> {
     let mut words = Words::of(line);
     if words.takes("lend") {
         return Ok(SplitStep::Lend);
@@ -35,18 +35,18 @@ fn read_step(alloc: Global, disk: &mut MemDisk, line: &str) -> Result<SplitStep,
 }
 
 // The steps of a drill, between `;`.
-fn read_steps(alloc: Global, disk: &mut MemDisk, text: &str) -> Result<Vec<SplitStep>, Reply> {
+fn read_steps(alloc: Global, disk: &mut MemDisk, text: &str) -> Result<Vec<SplitStep>, StepReply> {
     let mut steps = Vec::new(alloc);
     for line in text.split(';') {
         if steps.push(read_step(alloc, disk, line)?).is_err() {
-            return Err(Reply::NoMemory);
+            return Err(StepReply::NoMemory);
         }
     }
     Ok(steps)
 }
 
 // The answers of a drill, one behind another.
-fn tell_answers(answers: &[SplitAnswer], answer: &mut Text) {
+fn tell_answers(answers: &[SplitAnswer], answer: &mut TextBuffer) {
     let mut join = "";
     for one in answers {
         answer.add(join);
@@ -62,7 +62,7 @@ fn tell_answers(answers: &[SplitAnswer], answer: &mut Text) {
     }
 }
 
-fn tell_failure(failure: DrillFailure, answer: &mut Text) {
+fn tell_failure(failure: DrillFailure, answer: &mut TextBuffer) {
     let cause = match failure {
         DrillFailure::AtOpening(cause) => {
             answer.add("opening");
@@ -81,16 +81,16 @@ fn run_drill(
     alloc: Global,
     disk: MemDisk,
     steps: &[SplitStep],
-    answer: &mut Text,
-) -> (Reply, Option<MemDisk>) {
+    answer: &mut TextBuffer,
+) -> (StepReply, Option<MemDisk>) {
     match drill_split(alloc, disk, steps) {
         Ok(SplitDrill { answers, disk, .. }) => {
             tell_answers(&answers, answer);
-            (Reply::Told, Some(disk.close()))
+            (StepReply::Told, Some(disk.close()))
         }
         Err(failure) => {
             tell_failure(failure, answer);
-            (Reply::RefusalTold, None)
+            (StepReply::RefusalTold, None)
         }
     }
 }
@@ -101,8 +101,8 @@ pub fn drill_split_step(
     alloc: Global,
     disk: MemDisk,
     text: &str,
-    answer: &mut Text,
-) -> (Reply, Option<MemDisk>) {
+    answer: &mut TextBuffer,
+) -> (StepReply, Option<MemDisk>) {
     let mut disk = disk;
     match read_steps(alloc, &mut disk, text) {
         Ok(steps) => run_drill(alloc, disk, &steps, answer),
@@ -166,31 +166,40 @@ fn is_within(steps: &[SplitStep], answers: &[SplitAnswer]) -> bool {
 }
 
 // A disk that was formatted, or what is answered where there is none.
-fn own_disk(alloc: Global, settings: &Settings, answer: &mut Text) -> Result<MemDisk, Reply> {
+fn own_disk(
+    alloc: Global,
+    settings: &Settings,
+    answer: &mut TextBuffer,
+) -> Result<MemDisk, StepReply> {
     let Ok(mut disk) = MemDisk::new(alloc, 64) else {
-        return Err(Reply::NoMemory);
+        return Err(StepReply::NoMemory);
     };
     match format_disk(alloc, &mut disk, settings, answer) {
-        Reply::Done => Ok(disk),
+        StepReply::Done => Ok(disk),
         reply => Err(reply),
     }
 }
 
 // Runs the steps of an order on a disk.
-fn run_steps(alloc: Global, disk: MemDisk, steps: &[SplitStep], answer: &mut Text) -> Reply {
+fn run_steps(
+    alloc: Global,
+    disk: MemDisk,
+    steps: &[SplitStep],
+    answer: &mut TextBuffer,
+) -> StepReply {
     match drill_split(alloc, disk, steps) {
         Ok(SplitDrill { answers, disk, .. }) => {
             disk.close();
             if is_within(steps, &answers) {
-                Reply::Done
+                StepReply::Done
             } else {
                 tell_answers(&answers, answer);
-                Reply::Told
+                StepReply::Told
             }
         }
         Err(failure) => {
             tell_failure(failure, answer);
-            Reply::RefusalTold
+            StepReply::RefusalTold
         }
     }
 }
@@ -201,10 +210,10 @@ fn run_order(
     settings: &Settings,
     order: u64,
     length: u64,
-    answer: &mut Text,
-) -> Reply {
+    answer: &mut TextBuffer,
+) -> StepReply {
     let Some(steps) = steps_of_order(alloc, order, length) else {
-        return Reply::NoMemory;
+        return StepReply::NoMemory;
     };
     match own_disk(alloc, settings, answer) {
         Ok(disk) => run_steps(alloc, disk, &steps, answer),
@@ -227,18 +236,18 @@ pub fn split_orders_step(
     alloc: Global,
     settings: &Settings,
     words: &mut Words,
-    answer: &mut Text,
-) -> Reply {
+    answer: &mut TextBuffer,
+) -> StepReply {
     let length = words.number().min(9);
     if words.are_bad() {
-        return Reply::Unreadable;
+        return StepReply::Unreadable;
     }
     let orders = count_orders(length);
     for order in 0..orders {
         match run_order(alloc, settings, order, length, answer) {
-            Reply::Done => {}
+            StepReply::Done => {}
             reply => return reply,
         }
     }
-    Reply::Number(orders)
+    StepReply::Number(orders)
 }

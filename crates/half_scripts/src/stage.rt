@@ -1,7 +1,7 @@
 // What a case of this program has of a disk: the disk, a broker that is open on it, or the two halves of one.
 use crate::halves::{Halves, halves_step};
 use crate::split_drilling::{drill_split_step, split_orders_step};
-use case_runner::{Reply, Text, Words};
+use case_runner::{StepReply, TextBuffer, Words};
 use disk_steps::{Base, CaseDisk, Stage, broker_step, disk_step, open_broker, refusals};
 use group_commit::{Broker, JoinFailure, Ticket};
 use sector_disk::{Disk, MemDisk};
@@ -26,13 +26,17 @@ pub struct HalvesStage {
 }
 
 // Opens a disk and splits its broker: where it stands then, and what is answered.
-fn opened_halves<D: Disk>(alloc: Global, disk: D, answer: &mut Text) -> (OpenHalves<D>, Reply) {
+fn opened_halves<D: Disk>(
+    alloc: Global,
+    disk: D,
+    answer: &mut TextBuffer,
+) -> (OpenHalves<D>, StepReply) {
     match open_broker(alloc, disk, answer) {
         Ok(broker) => match broker.split() {
-            Ok((issue, disk)) => (OpenHalves::Split(Halves::new(issue, disk)), Reply::Done),
+            Ok((issue, disk)) => (OpenHalves::Split(Halves::new(issue, disk)), StepReply::Done),
             Err(failure) => (
                 OpenHalves::Closed(failure.broker.close()),
-                Reply::Refused("out of memory"),
+                StepReply::Refused("out of memory"),
             ),
         },
         Err((disk, reply)) => (OpenHalves::Closed(disk), reply),
@@ -40,7 +44,7 @@ fn opened_halves<D: Disk>(alloc: Global, disk: D, answer: &mut Text) -> (OpenHal
 }
 
 // Joins two halves: where it stands then, and what is answered.
-fn joined<D: Disk>(halves: Halves<D>) -> (OpenHalves<D>, Reply) {
+fn joined<D: Disk>(halves: Halves<D>) -> (OpenHalves<D>, StepReply) {
     let Halves {
         issue,
         disk,
@@ -48,7 +52,7 @@ fn joined<D: Disk>(halves: Halves<D>) -> (OpenHalves<D>, Reply) {
         lent,
     } = halves;
     match Broker::join(issue, disk) {
-        Ok(broker) => (OpenHalves::Open(broker), Reply::Done),
+        Ok(broker) => (OpenHalves::Open(broker), StepReply::Done),
         Err(JoinFailure { cause, issue, disk }) => {
             let halves = Halves {
                 issue,
@@ -58,7 +62,7 @@ fn joined<D: Disk>(halves: Halves<D>) -> (OpenHalves<D>, Reply) {
             };
             (
                 OpenHalves::Split(halves),
-                Reply::Refused(refusals::join(cause)),
+                StepReply::Refused(refusals::join(cause)),
             )
         }
     }
@@ -89,10 +93,10 @@ fn step_on<D: Disk>(
     tickets: &mut Vec<Ticket>,
     word: &str,
     words: &mut Words,
-    answer: &mut Text,
-) -> Reply {
+    answer: &mut TextBuffer,
+) -> StepReply {
     match place {
-        OpenHalves::Nothing => Reply::NoStep,
+        OpenHalves::Nothing => StepReply::NoStep,
         OpenHalves::Closed(disk) => disk_step(alloc, disk, word, words, answer),
         OpenHalves::Open(broker) => broker_step(alloc, broker, tickets, word, words, answer),
         OpenHalves::Split(halves) => halves_step(alloc, halves, tickets, word, words, answer),
@@ -114,8 +118,8 @@ fn open<D: Disk + Drop>(
     alloc: Global,
     place: &mut OpenHalves<D>,
     disk: D,
-    answer: &mut Text,
-) -> Result<u64, Reply> {
+    answer: &mut TextBuffer,
+) -> Result<u64, StepReply> {
     match open_broker(alloc, disk, answer) {
         Ok(broker) => {
             let number = broker.issued();
@@ -134,10 +138,10 @@ fn split<D: Disk + Drop>(
     alloc: Global,
     place: &mut OpenHalves<D>,
     base: &mut Base,
-    answer: &mut Text,
-) -> Reply {
+    answer: &mut TextBuffer,
+) -> StepReply {
     let Some(disk) = take(place, base) else {
-        return Reply::Unreadable;
+        return StepReply::Unreadable;
     };
     let (now, reply) = opened_halves(alloc, disk, answer);
     set(place, now);
@@ -145,10 +149,10 @@ fn split<D: Disk + Drop>(
 }
 
 // Joins the halves to a broker that is open.
-fn join<D: Disk + Drop>(place: &mut OpenHalves<D>) -> Reply {
+fn join<D: Disk + Drop>(place: &mut OpenHalves<D>) -> StepReply {
     let (now, reply) = match mem::replace(place, OpenHalves::Nothing) {
         OpenHalves::Split(halves) => joined(halves),
-        other => (other, Reply::Unreadable),
+        other => (other, StepReply::Unreadable),
     };
     set(place, now);
     reply
@@ -171,7 +175,13 @@ impl Stage for HalvesStage {
         take(&mut self.place, base)
     }
 
-    fn open(&mut self, alloc: Global, base: &Base, disk: CaseDisk, answer: &mut Text) -> Reply {
+    fn open(
+        &mut self,
+        alloc: Global,
+        base: &Base,
+        disk: CaseDisk,
+        answer: &mut TextBuffer,
+    ) -> StepReply {
         match open(alloc, &mut self.place, disk, answer) {
             Ok(number) => base.recovered(number),
             Err(reply) => reply,
@@ -183,12 +193,12 @@ impl Stage for HalvesStage {
         disk: MemDisk,
         word: &str,
         text: &str,
-        answer: &mut Text,
-    ) -> (Reply, Option<MemDisk>) {
+        answer: &mut TextBuffer,
+    ) -> (StepReply, Option<MemDisk>) {
         if word == "drill-split" {
             drill_split_step(alloc, disk, text, answer)
         } else {
-            (Reply::NoStep, Some(disk))
+            (StepReply::NoStep, Some(disk))
         }
     }
 
@@ -198,8 +208,8 @@ impl Stage for HalvesStage {
         base: &mut Base,
         word: &str,
         words: &mut Words,
-        answer: &mut Text,
-    ) -> Reply {
+        answer: &mut TextBuffer,
+    ) -> StepReply {
         match word {
             "split" => {
                 self.tickets.clear();

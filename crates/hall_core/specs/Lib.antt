@@ -19,7 +19,7 @@ pub mod Asked
 pub mod Settling
 pub mod Doing
 pub mod Hall
-pub mod Look
+pub mod HallStatus
 pub mod Fresh
 pub mod Halves
 pub mod Committing

@@ -5,7 +5,7 @@ ghost use Rattle.env_phase.specs.declared.call.EnvCall.TheVariants.{Shutdown};
 ghost use Rattle.env_phase.specs.Environment.{runs};
 ghost use Rattle.env_phase.specs.State.{ForEachList, Accepts};
 
-use crate::looking::{EnvironmentLook, environment_look};
+use crate::looking::{EnvironmentStatus, environment_status};
 use env_phase::{Answered, Env, EnvCall, EnvError, Refusal};
 use std::alloc::{AllocError, Global};
 use std::marker::Model;
@@ -62,7 +62,7 @@ impl Environments {
     ghost use Rattle.env_phase.specs.State.{IsAccepted, IsRefused};
     ghost use Rattle.hall_core.specs.Past.{calls_in};
     ghost use Rattle.hall_core.specs.Environments.{numbers, IsNumberIn, HoldFor, ForEachMade, ForCallsOf, IsPut, AreShutDown, AreAnsweredAtEnd};
-    ghost use Rattle.hall_core.specs.Look.{numbers_shown, AreShownAfter};
+    ghost use Rattle.hall_core.specs.HallStatus.{numbers_shown, AreShownAfter};
 
     /// So many environments, in which nobody has asked for anything, and of which each waits for so many extensions.
     pub fn new(alloc: Global, count: u8, extensions: u8) -> Result<Environments, AllocError>
@@ -201,14 +201,14 @@ impl Environments {
     }
 
     /// What is shown of each, in the order of their numbers.
-    pub fn looks(&self) -> Result<Vec<EnvironmentLook>, AllocError>
-        ensures numbers { IfOk result (λ looks. numbers_shown looks.items ≡ numbers self.now) }
-        ensures shown { IfOk result (λ looks. ForEachMade self.now (λ wanted made. AreShownAfter wanted (λ n. calls_in n made) looks.items)) }
+    pub fn statuses(&self) -> Result<Vec<EnvironmentStatus>, AllocError>
+        ensures numbers { IfOk result (λ statuses. numbers_shown statuses.items ≡ numbers self.now) }
+        ensures shown { IfOk result (λ statuses. ForEachMade self.now (λ wanted made. AreShownAfter wanted (λ n. calls_in n made) statuses.items)) }
     {
-        let mut looks = Vec::with_capacity(self.alloc, self.list.len())?;
+        let mut statuses = Vec::with_capacity(self.alloc, self.list.len())?;
         for env in &self.list {
-            looks.push(environment_look(env))?;
+            statuses.push(environment_status(env))?;
         }
-        Ok(looks)
+        Ok(statuses)
     }
 }

@@ -40,7 +40,7 @@ pub use env_phase::{MOST_EXTENSIONS, Phase};
 pub use error::HallError;
 pub use hall::Hall;
 pub use issuing::Issued;
-pub use looking::{EnvironmentLook, Look};
+pub use looking::{EnvironmentStatus, HallStatus};
 pub use over_broker::HallFailure;
 pub use over_half::{HallJoinFailure, HallSplitFailure};
 pub use released::Released;

@@ -2,7 +2,7 @@
 ghost use Rattle.std.specs.Prelude.{◌≡◌, IfOk};
 ghost use Rattle.env_phase.specs.State.{ForEachList};
 ghost use Rattle.hall_core.specs.Hall.{view_of};
-ghost use Rattle.hall_core.specs.Look.{IsShownAfter, Shows};
+ghost use Rattle.hall_core.specs.HallStatus.{IsShownAfter, Shows};
 
 use crate::hall::Hall;
 use env_phase::{Env, Phase};
@@ -12,7 +12,7 @@ use std::alloc::AllocError;
 
 /// What is shown of one environment.
 #[derive(Clone, Copy)]
-pub struct EnvironmentLook {
+pub struct EnvironmentStatus {
     /// Its number, from 1 on.
     pub number: u16,
     pub phase: Phase,
@@ -22,24 +22,24 @@ pub struct EnvironmentLook {
 
 /// What is shown of a hall at a moment.
 #[derive(Drop)]
-pub struct Look {
+pub struct HallStatus {
     /// The table after all that was issued.
     pub table: Snapshot,
     /// How many commands are durable.
     pub durable: u64,
     pub open_slots: usize,
     /// One for each environment, in the order of their numbers.
-    pub environments: Vec<EnvironmentLook>,
+    pub environments: Vec<EnvironmentStatus>,
     /// A request asked the hall to stop.
     pub is_stopping: bool,
 }
 
 /// What is shown of an environment. It takes no memory.
-pub(crate) fn environment_look(env: &Env) -> EnvironmentLook
+pub(crate) fn environment_status(env: &Env) -> EnvironmentStatus
     ensures number { result.number ≡ env.now.number }
     ensures shown { ForEachList env.now (λ calls. IsShownAfter env.now.wanted calls result) }
 {
-    EnvironmentLook {
+    EnvironmentStatus {
         number: env.number(),
         phase: env.phase(),
         parked: env.parked(),
@@ -50,13 +50,13 @@ impl<I: Issuer> Hall<I> {
     /// What an operator is shown of it: the table after all that was issued, how many commands are durable, and its
     /// slots and environments. It changes nothing, and the bytes of payloads are shared and not copied. It is refused by
     /// want of memory alone.
-    pub fn look(&self) -> Result<Look, AllocError>
+    pub fn look(&self) -> Result<HallStatus, AllocError>
         // claim: An operator is shown its table, durable number, slots and stop, and each environment by its calls.
         ensures { IfOk result (Shows (view_of I.view self.now)) }
     {
         let table = self.issuer.table().snapshot()?;
-        let environments = self.environments.looks()?;
-        Ok(Look {
+        let environments = self.environments.statuses()?;
+        Ok(HallStatus {
             table,
             durable: self.issuer.durable().number(),
             open_slots: self.open_slots(),

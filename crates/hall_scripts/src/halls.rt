@@ -1,5 +1,5 @@
 // Steps of a hall: requests and ticks, commits, and the replies that are told.
-use case_runner::{Reply, Text, Words, kind_word, number_of_id};
+use case_runner::{StepReply, TextBuffer, Words, kind_word, number_of_id};
 use group_commit::{Broker, Issuer};
 use hall_core::{Hall, HallError, Issued};
 use invoke_records::GREATEST_MOMENT;
@@ -28,17 +28,17 @@ pub fn refusal(why: HallError) -> &'static str {
 }
 
 // `KIND ID at MOMENT by NUMBER`, or `no command`.
-fn tell_issued(issued: Result<Option<Issued>, HallError>, answer: &mut Text) -> Reply {
+fn tell_issued(issued: Result<Option<Issued>, HallError>, answer: &mut TextBuffer) -> StepReply {
     match issued {
         Ok(Some(issued)) => {
             answer.add(kind_word(issued.kind));
             answer.add_with(" ", number_of_id(&issued.id));
             answer.add_with(" at ", issued.time);
             answer.add_with(" by ", issued.number);
-            Reply::Told
+            StepReply::Told
         }
-        Ok(None) => Reply::Word("no command"),
-        Err(why) => Reply::Refused(refusal(why)),
+        Ok(None) => StepReply::Word("no command"),
+        Err(why) => StepReply::Refused(refusal(why)),
     }
 }
 
@@ -48,8 +48,8 @@ fn ask<I: Issuer>(
     hall: &mut Hall<I>,
     settings: &Settings,
     words: &mut Words,
-    answer: &mut Text,
-) -> Reply {
+    answer: &mut TextBuffer,
+) -> StepReply {
     let slot = words.number();
     words.expect("at");
     let now = words.number();
@@ -64,48 +64,48 @@ fn ask<I: Issuer>(
     };
     let random = [0, drawn];
     if !hall.fits(slot, &call, now, &random) {
-        return Reply::Unreadable;
+        return StepReply::Unreadable;
     }
     tell_issued(hall.arrive(slot, call, now, random), answer)
 }
 
 // `at MOMENT`
-fn tick<I: Issuer>(hall: &mut Hall<I>, words: &mut Words, answer: &mut Text) -> Reply {
+fn tick<I: Issuer>(hall: &mut Hall<I>, words: &mut Words, answer: &mut TextBuffer) -> StepReply {
     words.expect("at");
     let now = words.number();
     if words.are_bad() || now > GREATEST_MOMENT {
-        return Reply::Unreadable;
+        return StepReply::Unreadable;
     }
     tell_issued(hall.tick(now), answer)
 }
 
 // `SLOT`: the reply and the number of its receipt, or `none`.
-fn take<I: Issuer>(hall: &mut Hall<I>, words: &mut Words, answer: &mut Text) -> Reply {
+fn take<I: Issuer>(hall: &mut Hall<I>, words: &mut Words, answer: &mut TextBuffer) -> StepReply {
     let slot = words.number();
     if words.are_bad() {
-        return Reply::Unreadable;
+        return StepReply::Unreadable;
     }
     let Some(released) = hall.take(slot) else {
-        return Reply::NONE;
+        return StepReply::NONE;
     };
     answer.add_with("by ", released.receipt.number());
     answer.add(" ");
     tell_reply(Ok(released.into_reply()), answer)
 }
 
-fn forget<I: Issuer>(hall: &mut Hall<I>, words: &mut Words) -> Reply {
+fn forget<I: Issuer>(hall: &mut Hall<I>, words: &mut Words) -> StepReply {
     let slot = words.number();
     if words.are_bad() {
-        return Reply::Unreadable;
+        return StepReply::Unreadable;
     }
     hall.forget(slot);
-    Reply::Done
+    StepReply::Done
 }
 
-fn commit<D: Disk>(hall: &mut Hall<Broker<D>>) -> Reply {
+fn commit<D: Disk>(hall: &mut Hall<Broker<D>>) -> StepReply {
     match hall.commit() {
-        Ok(durable) => Reply::Number(durable.number()),
-        Err(why) => Reply::Refused(refusal(why)),
+        Ok(durable) => StepReply::Number(durable.number()),
+        Err(why) => StepReply::Refused(refusal(why)),
     }
 }
 
@@ -116,16 +116,16 @@ pub fn hall_step<I: Issuer>(
     settings: &Settings,
     word: &str,
     words: &mut Words,
-    answer: &mut Text,
-) -> Reply {
+    answer: &mut TextBuffer,
+) -> StepReply {
     match word {
         "ask" => ask(alloc, hall, settings, words, answer),
         "tick" => tick(hall, words, answer),
         "take" => take(hall, words, answer),
         "forget" => forget(hall, words),
-        "issued" => Reply::Number(hall.issued()),
-        "durable" => Reply::Number(hall.durable().number()),
-        "is-open" => Reply::yes_or_no(hall.is_open(words.number())),
+        "issued" => StepReply::Number(hall.issued()),
+        "durable" => StepReply::Number(hall.durable().number()),
+        "is-open" => StepReply::yes_or_no(hall.is_open(words.number())),
         _ => table_step(alloc, hall.table(), word, words, answer),
     }
 }
@@ -137,8 +137,8 @@ pub fn whole_hall_step<D: Disk>(
     settings: &Settings,
     word: &str,
     words: &mut Words,
-    answer: &mut Text,
-) -> Reply {
+    answer: &mut TextBuffer,
+) -> StepReply {
     if word == "commit" {
         commit(hall)
     } else {

@@ -2,7 +2,7 @@
 use crate::halls::whole_hall_step;
 use crate::splits::{SplitHall, joined_hall, split_hall, split_step};
 use api_core::Dialect;
-use case_runner::{Reply, Text, Words};
+use case_runner::{StepReply, TextBuffer, Words};
 use disk_steps::{Base, broker_step, disk_step, open_broker};
 use group_commit::{Broker, Issuer, Ticket};
 use hall_core::Hall;
@@ -29,14 +29,14 @@ fn opened_hall<D: Disk>(
     disk: D,
     dialect: Dialect,
     extensions: u8,
-    answer: &mut Text,
-) -> (OpenHall<Broker<D>, D>, Reply) {
+    answer: &mut TextBuffer,
+) -> (OpenHall<Broker<D>, D>, StepReply) {
     match open_broker(alloc, disk, answer) {
         Ok(broker) => match Hall::in_dialect(alloc, broker, dialect, extensions) {
-            Ok(hall) => (OpenHall::Asked(hall), Reply::Done),
+            Ok(hall) => (OpenHall::Asked(hall), StepReply::Done),
             Err(failure) => (
                 OpenHall::Closed(failure.broker.close()),
-                Reply::Refused("out of memory"),
+                StepReply::Refused("out of memory"),
             ),
         },
         Err((disk, reply)) => (OpenHall::Closed(disk), reply),
@@ -44,24 +44,24 @@ fn opened_hall<D: Disk>(
 }
 
 // Splits a hall: where it stands then, and what is answered.
-fn split<D: Disk>(place: OpenHall<Broker<D>, D>) -> (OpenHall<Broker<D>, D>, Reply) {
+fn split<D: Disk>(place: OpenHall<Broker<D>, D>) -> (OpenHall<Broker<D>, D>, StepReply) {
     match place {
         OpenHall::Asked(hall) => match split_hall(hall) {
-            Ok(split) => (OpenHall::Split(split), Reply::Done),
+            Ok(split) => (OpenHall::Split(split), StepReply::Done),
             Err((hall, reply)) => (OpenHall::Asked(hall), reply),
         },
-        other => (other, Reply::Unreadable),
+        other => (other, StepReply::Unreadable),
     }
 }
 
 // Joins a hall that was split: where it stands then, and what is answered.
-fn joined<D: Disk>(place: OpenHall<Broker<D>, D>) -> (OpenHall<Broker<D>, D>, Reply) {
+fn joined<D: Disk>(place: OpenHall<Broker<D>, D>) -> (OpenHall<Broker<D>, D>, StepReply) {
     match place {
         OpenHall::Split(split) => match joined_hall(split) {
-            Ok(hall) => (OpenHall::Asked(hall), Reply::Done),
+            Ok(hall) => (OpenHall::Asked(hall), StepReply::Done),
             Err((split, reply)) => (OpenHall::Split(split), reply),
         },
-        other => (other, Reply::Unreadable),
+        other => (other, StepReply::Unreadable),
     }
 }
 
@@ -104,8 +104,8 @@ pub fn open<D: Disk + Drop>(
     alloc: Global,
     place: &mut OpenHall<Broker<D>, D>,
     disk: D,
-    answer: &mut Text,
-) -> Result<u64, Reply> {
+    answer: &mut TextBuffer,
+) -> Result<u64, StepReply> {
     match open_broker(alloc, disk, answer) {
         Ok(broker) => {
             let number = broker.issued();
@@ -126,15 +126,15 @@ pub fn ask<D: Disk + Drop>(
     place: &mut OpenHall<Broker<D>, D>,
     base: &mut Base,
     words: &mut Words,
-    answer: &mut Text,
-) -> Reply {
+    answer: &mut TextBuffer,
+) -> StepReply {
     let dialect = dialect(words);
     let extensions = extensions_wanted(words);
     if words.are_bad() {
-        return Reply::Unreadable;
+        return StepReply::Unreadable;
     }
     let Some(disk) = take(place, base) else {
-        return Reply::Unreadable;
+        return StepReply::Unreadable;
     };
     let (now, reply) = opened_hall(alloc, disk, dialect, extensions, answer);
     set(place, now);
@@ -142,7 +142,10 @@ pub fn ask<D: Disk + Drop>(
 }
 
 /// Splits the hall that is open, or joins the one that was split.
-pub fn split_or_join<D: Disk + Drop>(place: &mut OpenHall<Broker<D>, D>, is_split: bool) -> Reply {
+pub fn split_or_join<D: Disk + Drop>(
+    place: &mut OpenHall<Broker<D>, D>,
+    is_split: bool,
+) -> StepReply {
     let before = mem::replace(place, OpenHall::Nothing);
     let (now, reply) = if is_split {
         split(before)
@@ -161,10 +164,10 @@ pub fn step_on<D: Disk>(
     settings: &Settings,
     word: &str,
     words: &mut Words,
-    answer: &mut Text,
-) -> Reply {
+    answer: &mut TextBuffer,
+) -> StepReply {
     match place {
-        OpenHall::Nothing => Reply::NoStep,
+        OpenHall::Nothing => StepReply::NoStep,
         OpenHall::Closed(disk) => disk_step(alloc, disk, word, words, answer),
         OpenHall::Open(broker) => broker_step(alloc, broker, tickets, word, words, answer),
         OpenHall::Asked(hall) => whole_hall_step(alloc, hall, settings, word, words, answer),

@@ -1,6 +1,6 @@
 // Steps of a hall over an issue half: what is lent, written and settled.
 use crate::halls::{hall_step, refusal};
-use case_runner::{Reply, Text, Words};
+use case_runner::{StepReply, TextBuffer, Words};
 use disk_steps::refusals;
 use group_commit::{Batch, Broker, DiskHalf, Failed, IssueHalf, SplitError, Written};
 use hall_core::{Hall, HallJoinFailure, HallSplitFailure};
@@ -28,44 +28,44 @@ pub enum Between {
 }
 
 // The last number that is lent, or `idle`.
-fn lend<D: Disk>(split: &mut SplitHall<D>) -> Reply {
+fn lend<D: Disk>(split: &mut SplitHall<D>) -> StepReply {
     match split.hall.lend() {
         Ok(Some(batch)) => {
             let last = batch.last();
             split.between = Between::Batch(batch);
-            Reply::Number(last)
+            StepReply::Number(last)
         }
-        Ok(None) => Reply::Word("idle"),
-        Err(why) => Reply::Refused(refusal(why)),
+        Ok(None) => StepReply::Word("idle"),
+        Err(why) => StepReply::Refused(refusal(why)),
     }
 }
 
 // Writes what is lent, if anything is: its last number.
-fn write<D: Disk>(split: &mut SplitHall<D>) -> Reply {
+fn write<D: Disk>(split: &mut SplitHall<D>) -> StepReply {
     match mem::replace(&mut split.between, Between::Nothing) {
         Between::Batch(batch) => {
             let outcome = split.disk.write(batch);
             split.between = Between::Outcome(outcome);
             match outcome {
-                Ok(written) => Reply::Number(written.last()),
-                Err(failed) => Reply::Word(refusals::write(failed.cause())),
+                Ok(written) => StepReply::Number(written.last()),
+                Err(failed) => StepReply::Word(refusals::write(failed.cause())),
             }
         }
         other => {
             split.between = other;
-            Reply::Word("idle")
+            StepReply::Word("idle")
         }
     }
 }
 
 // Settles what became of what was lent, if it was written: how many commands are durable.
-fn settle<D: Disk>(split: &mut SplitHall<D>) -> Reply {
+fn settle<D: Disk>(split: &mut SplitHall<D>) -> StepReply {
     let Between::Outcome(outcome) = &split.between else {
-        return Reply::Word("idle");
+        return StepReply::Word("idle");
     };
     match split.hall.settle(*outcome) {
-        Ok(durable) => Reply::Number(durable.number()),
-        Err(why) => Reply::Word(refusal(why)),
+        Ok(durable) => StepReply::Number(durable.number()),
+        Err(why) => StepReply::Word(refusal(why)),
     }
 }
 
@@ -76,8 +76,8 @@ pub fn split_step<D: Disk>(
     settings: &Settings,
     word: &str,
     words: &mut Words,
-    answer: &mut Text,
-) -> Reply {
+    answer: &mut TextBuffer,
+) -> StepReply {
     match word {
         "lend" => lend(split),
         "write" => write(split),
@@ -89,9 +89,9 @@ pub fn split_step<D: Disk>(
 /// Splits a hall of which all is durable. One that is not split is handed back, with what is answered.
 pub fn split_hall<D: Disk>(
     hall: Hall<Broker<D>>,
-) -> Result<SplitHall<D>, (Hall<Broker<D>>, Reply)> {
+) -> Result<SplitHall<D>, (Hall<Broker<D>>, StepReply)> {
     if !hall.is_all_durable() {
-        return Err((hall, Reply::Unreadable));
+        return Err((hall, StepReply::Unreadable));
     }
     match hall.split() {
         Ok((hall, disk)) => Ok(SplitHall {
@@ -104,13 +104,15 @@ pub fn split_hall<D: Disk>(
                 SplitError::Broken => "broken",
                 SplitError::OutOfMemory => "out of memory",
             };
-            Err((hall, Reply::Refused(why)))
+            Err((hall, StepReply::Refused(why)))
         }
     }
 }
 
 /// Joins a hall that was split. One that is not joined is handed back, with what is answered.
-pub fn joined_hall<D: Disk>(split: SplitHall<D>) -> Result<Hall<Broker<D>>, (SplitHall<D>, Reply)> {
+pub fn joined_hall<D: Disk>(
+    split: SplitHall<D>,
+) -> Result<Hall<Broker<D>>, (SplitHall<D>, StepReply)> {
     let SplitHall {
         hall,
         disk,
@@ -124,7 +126,7 @@ pub fn joined_hall<D: Disk>(split: SplitHall<D>) -> Result<Hall<Broker<D>>, (Spl
                 disk,
                 between,
             };
-            Err((split, Reply::Refused(refusals::join(cause))))
+            Err((split, StepReply::Refused(refusals::join(cause))))
         }
     }
 }

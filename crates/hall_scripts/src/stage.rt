@@ -1,6 +1,6 @@
 // What a case of this program has of a disk: the disk, or a broker or a hall that is open on it.
 use crate::open_hall::{OpenHall, ask, open, set, split_or_join, step_on, take};
-use case_runner::{Reply, Text, Words};
+use case_runner::{StepReply, TextBuffer, Words};
 use disk_steps::{Base, CaseDisk, Stage};
 use group_commit::{Broker, Ticket};
 use sector_disk::MemDisk;
@@ -31,7 +31,13 @@ impl Stage for HallStage {
         take(&mut self.place, base)
     }
 
-    fn open(&mut self, alloc: Global, base: &Base, disk: CaseDisk, answer: &mut Text) -> Reply {
+    fn open(
+        &mut self,
+        alloc: Global,
+        base: &Base,
+        disk: CaseDisk,
+        answer: &mut TextBuffer,
+    ) -> StepReply {
         match open(alloc, &mut self.place, disk, answer) {
             Ok(number) => base.recovered(number),
             Err(reply) => reply,
@@ -43,9 +49,9 @@ impl Stage for HallStage {
         disk: MemDisk,
         _word: &str,
         _text: &str,
-        _answer: &mut Text,
-    ) -> (Reply, Option<MemDisk>) {
-        (Reply::NoStep, Some(disk))
+        _answer: &mut TextBuffer,
+    ) -> (StepReply, Option<MemDisk>) {
+        (StepReply::NoStep, Some(disk))
     }
 
     fn step(
@@ -54,8 +60,8 @@ impl Stage for HallStage {
         base: &mut Base,
         word: &str,
         words: &mut Words,
-        answer: &mut Text,
-    ) -> Reply {
+        answer: &mut TextBuffer,
+    ) -> StepReply {
         match word {
             "hall" => {
                 self.tickets.clear();

@@ -6,7 +6,7 @@ ghost use Rattle.http_front.specs.Refusals.{IsArrivalError};
 
 use crate::drawing::words;
 use crate::error::ArrivalError;
-use crate::resets::{Report, note_timeout};
+use crate::resets::{ResetReport, note_timeout};
 use api_core::Call;
 use hall_core::HallError;
 use long_poll::{Arrived, Port};
@@ -90,7 +90,7 @@ pub(crate) fn arrive<R: Wait + Clock + RandomSource + Eprint, L: Ledger, T: Trac
     let moves = may_move(&call);
     let words = words_for(rt, &call)?;
     let now = Moment::now(rt)?.millis();
-    let reports = Report::of(&call).is_some();
+    let reports = ResetReport::of(&call).is_some();
     let arrived = hand_over(rt, port, call, now, words)?;
     if !reports {
         note_timeout(rt, arrived.issued);

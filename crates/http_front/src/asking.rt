@@ -42,9 +42,9 @@ pub(crate) fn ask<D: Disk, L: Ledger, T: Trace, R: Wait>(
     ensures err { OnErr result.answer (desk.new.told ≡ desk.old.told) }
     ensures refused { IfErr result.answer (λ refused. IsCommitRefusal desk.old.told refused.why) }
     ensures served { HasServed D.view D.fault_count (broker_of half.old) (broker_of half.new) }
-    ensures committed { IfOk result.answer (IsCommitted result.met.value.hall.issuer result.left.value.hall.issuer) }
+    ensures committed { IfOk result.answer (IsCommitted result.before.value.hall.issuer result.after.value.hall.issuer) }
     ensures reason { IfErr result.answer (λ refused.
-        IsNotCommitted desk.old.told result.met.value.hall.issuer result.left.value.hall.issuer refused.why) }
+        IsNotCommitted desk.old.told result.before.value.hall.issuer result.after.value.hall.issuer refused.why) }
 {
     let (answer, seen) = office.commit(rt, desk, half).split();
     match answer {

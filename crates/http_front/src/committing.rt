@@ -4,7 +4,7 @@ ghost use Rattle.commit_loop.specs.Committer.{Step, IsRun};
 ghost use Rattle.front_board.specs.Seated.{seen_by};
 ghost use Rattle.group_commit.specs.Splitting.{broker_of};
 ghost use Rattle.hall_core.specs.Hall.{pending_in};
-ghost use Rattle.receipts.specs.Kept.{issuer_in};
+ghost use Rattle.receipts.specs.Locked.{issuer_in};
 ghost use Rattle.receipts.specs.Serving.{HasServed};
 ghost use Rattle.receipts.specs.laws.Serving.{served_at_first, served_both};
 ghost use Rattle.http_front.specs.Learning.{known, HasLearned};
@@ -12,7 +12,7 @@ ghost use Rattle.http_front.specs.Refusals.{is_last};
 ghost use Rattle.http_front.specs.laws.Learned.{learned_nothing, learned_more};
 
 use crate::asking::{NotCommitted, ask};
-use crate::front::Front;
+use crate::front_state::FrontState;
 use crate::wake::Slept;
 use commit_loop::{Committing, Gate, commit_all};
 use front_board::Seated;
@@ -46,7 +46,7 @@ pub(crate) fn state_of<D: Disk>(half: &DiskHalf<D>) -> DiskState {
 #[derive(Drop)]
 struct AtFront<'a, R, L: Ledger, T: Trace, D: Disk> {
     rt: &'a R,
-    front: &'a Front<L, T>,
+    front: &'a FrontState<L, T>,
     committer: Committer<L, T, D>,
 }
 
@@ -67,7 +67,7 @@ impl<R: Wait + Clock, L: Ledger, T: Trace, D: Disk> Committing for AtFront<'_, R
 
     ghost number = { λ durable. durable };
 
-    ghost count = { λ seen. pending_in (issuer_in seen.met.value.hall) };
+    ghost count = { λ seen. pending_in (issuer_in seen.before.value.hall) };
 
     ghost up_to = { λ rung. rung.up_to };
 
@@ -158,7 +158,7 @@ impl<L: Ledger, T: Trace, D: Disk + Drop> Committer<L, T, D> {
     pub fn run<R: Wait + Clock, G: Gate>(
         self,
         rt: &R,
-        front: &Front<L, T>,
+        front: &FrontState<L, T>,
         gate: &G,
     ) -> Committer<L, T, D>
         // claim: A committer did at each turn what its gate said. What was committed was told to its desk, and where it was

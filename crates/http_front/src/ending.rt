@@ -1,9 +1,9 @@
 // When the loops of a front end, and what shows it.
 ghost use Rattle.std.specs.Prelude.{◌≡◌, true};
 ghost use Rattle.hall_core.specs.Hall.{pending_in, open_slot_count};
-ghost use Rattle.receipts.specs.Kept.{hall_in, issuer_in};
+ghost use Rattle.receipts.specs.Locked.{hall_in, issuer_in};
 
-use crate::front::Front;
+use crate::front_state::FrontState;
 use long_poll::SaidBroken;
 use receipts::{Trace, Witnessed};
 use std::sync::Wait;
@@ -37,9 +37,9 @@ pub(crate) struct ToldToEnd {
 #[derive(Drop)]
 pub(crate) struct Stopped<L: Ledger, T: Trace> {
     seen: Witnessed<(), L, T>,
-    ghost stops: { (hall_in seen.met.value.hall).stops ≡ true },
-    ghost nothing: { pending_in (issuer_in seen.met.value.hall) ≡ 0 },
-    ghost none: { open_slot_count (hall_in seen.met.value.hall) ≡ 0 },
+    ghost stops: { (hall_in seen.before.value.hall).stops ≡ true },
+    ghost nothing: { pending_in (issuer_in seen.before.value.hall) ≡ 0 },
+    ghost none: { open_slot_count (hall_in seen.before.value.hall) ≡ 0 },
 }
 
 /// That the disk failed, and that no slot was open after that was said.
@@ -47,7 +47,7 @@ pub(crate) struct Stopped<L: Ledger, T: Trace> {
 pub(crate) struct Failed<L: Ledger, T: Trace> {
     said: SaidBroken,
     seen: Witnessed<(), L, T>,
-    ghost none: { open_slot_count (hall_in seen.met.value.hall) ≡ 0 },
+    ghost none: { open_slot_count (hall_in seen.before.value.hall) ≡ 0 },
 }
 
 /// That nothing more becomes durable, and that every open slot was answered or forgotten.
@@ -59,25 +59,25 @@ pub(crate) enum Over<L: Ledger, T: Trace> {
 
 /// That the committer's loop ends, whatever its gate says. Only what shows why gives it.
 #[derive(Drop)]
-pub(crate) struct Ended {
+pub(crate) struct FrontEnded {
     ended: (),
 }
 
-impl Ended {
+impl FrontEnded {
     // Its threads were told to end.
-    fn told(why: ToldToEnd) -> Ended {
+    fn told(why: ToldToEnd) -> FrontEnded {
         drop(why);
-        Ended { ended: () }
+        FrontEnded { ended: () }
     }
 
     // All is done.
-    fn over<L: Ledger, T: Trace>(why: Over<L, T>) -> Ended {
+    fn over<L: Ledger, T: Trace>(why: Over<L, T>) -> FrontEnded {
         drop(why);
-        Ended { ended: () }
+        FrontEnded { ended: () }
     }
 }
 
-impl<L: Ledger, T: Trace> Front<L, T> {
+impl<L: Ledger, T: Trace> FrontState<L, T> {
     /// Whether its threads were told to end.
     pub(crate) fn look_at_ending(&self) -> LookAtEnding {
         LookAtEnding {
@@ -125,10 +125,10 @@ impl<L: Ledger, T: Trace> Front<L, T> {
     }
 
     /// That the committer's loop ends now, if it does: the threads were told to end, or all is done.
-    pub(crate) fn ended<R: Wait>(&self, rt: &R) -> Option<Ended> {
+    pub(crate) fn ended<R: Wait>(&self, rt: &R) -> Option<FrontEnded> {
         match self.told_to_end() {
-            Some(why) => Some(Ended::told(why)),
-            None => Some(Ended::over(self.over(rt)?)),
+            Some(why) => Some(FrontEnded::told(why)),
+            None => Some(FrontEnded::over(self.over(rt)?)),
         }
     }
 }

@@ -2,8 +2,8 @@
 ghost use Rattle.std.specs.Prelude.{◌≡◌, ◌⊎◌, IfOk, IfErr, if◌then◌else◌};
 ghost use Rattle.commit_loop.specs.declared.gate.Turn.TheVariants as turn;
 
-use crate::ending::{Ended, LookAtEnding};
-use crate::front::Front;
+use crate::ending::{FrontEnded, LookAtEnding};
+use crate::front_state::FrontState;
 use commit_loop::{Gate, Turn};
 use receipts::Trace;
 use std::sync::Wait;
@@ -13,18 +13,18 @@ use std::sync::ledger::Ledger;
 #[derive(Drop)]
 pub(crate) struct UntilOver<'a, R, L: Ledger, T: Trace, G> {
     pub(crate) rt: &'a R,
-    pub(crate) front: &'a Front<L, T>,
+    pub(crate) front: &'a FrontState<L, T>,
     pub(crate) inner: &'a G,
 }
 
 impl<R: Wait, L: Ledger, T: Trace, G: Gate> Gate for UntilOver<'_, R, L, T, G> {
-    type Seen = Result<G::Seen, Ended>;
+    type Seen = Result<G::Seen, FrontEnded>;
 
     ghost says = { λ gate pending said. (said ≡ turn.End) ⊎ G.says gate.inner.now pending said };
 
     ghost leads_to = { λ seen said. IfOk seen (λ inner. G.leads_to inner said) × IfErr seen (λ _. said ≡ turn.End) };
 
-    fn turn(&self, pending: usize) -> (Turn, Result<G::Seen, Ended>) {
+    fn turn(&self, pending: usize) -> (Turn, Result<G::Seen, FrontEnded>) {
         match self.front.ended(self.rt) {
             Some(ended) => (Turn::End, Err(ended)),
             None => {
@@ -38,7 +38,7 @@ impl<R: Wait, L: Ledger, T: Trace, G: Gate> Gate for UntilOver<'_, R, L, T, G> {
 /// The gate of a front's ticker: it ticks until the front ends.
 #[derive(Drop)]
 pub(crate) struct UntilEnding<'a, L: Ledger, T: Trace> {
-    pub(crate) front: &'a Front<L, T>,
+    pub(crate) front: &'a FrontState<L, T>,
 }
 
 impl<L: Ledger, T: Trace> Gate for UntilEnding<'_, L, T> {

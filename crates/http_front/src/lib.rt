@@ -2,8 +2,8 @@
 //!
 //! Each port has a thread of its own, on which each request becomes a call, is handed to the office and waits for its
 //! reply. A committer writes what is pending outside the office's lock, and a ticker makes the moves
-//! that are due. Beside its ports a front serves what the crate above brings along, an operator's port, which is given a window
-//! on the office. The crate above uses `serve`; the loops of committer and ticker are calls of their own.
+//! that are due. Beside its ports a front serves what the crate above brings along, an operator's port, which is given a reader
+//! of the office. The crate above uses `serve`; the loops of committer and ticker are calls of their own.
 #![tactic(auto)]
 
 mod arriving;
@@ -12,7 +12,7 @@ mod committing;
 mod drawing;
 mod ending;
 mod error;
-mod front;
+mod front_state;
 mod gates;
 mod opening;
 mod port_application;
@@ -26,6 +26,6 @@ mod wake;
 pub use commit_loop::{Gate, Turn, WhenPending};
 pub use committing::Committer;
 pub use error::ServeError;
-pub use front::Front;
+pub use front_state::FrontState;
 pub use serving::{Ending, Served, serve};
 pub use ticking::tick_all;

@@ -7,12 +7,12 @@ ghost use Rattle.receipts.specs.Desks.{desk_count};
 
 use crate::committing::Committer;
 use crate::error::ServeError;
-use crate::front::Front;
+use crate::front_state::FrontState;
 use api_core::Dialect;
 use front_board::Seated;
 use group_commit::{Broker, DiskHalf, Durable};
 use hall_core::Hall;
-use long_poll::{Bell, Port, Window};
+use long_poll::{AdminReader, Bell, Port};
 use receipts::{Desk, Office, Trace};
 use retry_rules::Settings;
 use sector_disk::Disk;
@@ -22,36 +22,36 @@ use std::sync::ledger::{Blank, Ledger};
 
 /// A front that no thread serves yet: its ports, and what the committer and the ticker work with.
 #[derive(Drop)]
-pub(crate) struct Opened<L: Ledger, T: Trace, D: Disk> {
-    pub(crate) front: Arc<Front<L, T>>,
+pub(crate) struct OpenedFront<L: Ledger, T: Trace, D: Disk> {
+    pub(crate) front: Arc<FrontState<L, T>>,
     pub(crate) ports: Vec<Port<L, T>>,
     pub(crate) committer: Committer<L, T, D>,
     pub(crate) ticker: Desk<L, T>,
     /// Where what is served beside it looks.
-    pub(crate) window: Window<L, T>,
+    pub(crate) reader: AdminReader<L, T>,
 }
 
 // One more share of the office, and of the bell.
 fn shares<L: Ledger, T: Trace>(
-    front: &Front<L, T>,
+    front: &FrontState<L, T>,
 ) -> Result<(Arc<Office<L, T>>, Arc<Bell>), AllocError> {
     let bell = Arc::try_clone(&front.bell)?;
     let office = Arc::try_clone(&front.office)?;
     Ok((office, bell))
 }
 
-// A window with this seat.
-fn window<L: Ledger, T: Trace>(
-    front: &Front<L, T>,
+// An operator's reader with this seat.
+fn reader<L: Ledger, T: Trace>(
+    front: &FrontState<L, T>,
     seated: Seated,
-) -> Result<Window<L, T>, AllocError> {
+) -> Result<AdminReader<L, T>, AllocError> {
     let (office, bell) = shares(front)?;
-    Ok(Window::new(office, bell, seated))
+    Ok(AdminReader::new(office, bell, seated))
 }
 
 // A port with this desk and seat.
 fn port<L: Ledger, T: Trace>(
-    front: &Front<L, T>,
+    front: &FrontState<L, T>,
     desk: Desk<L, T>,
     seated: Seated,
 ) -> Result<Port<L, T>, AllocError> {
@@ -62,7 +62,7 @@ fn port<L: Ledger, T: Trace>(
 // A port for each desk, as far as there are seats.
 fn ports<L: Ledger, T: Trace>(
     alloc: Global,
-    front: &Front<L, T>,
+    front: &FrontState<L, T>,
     desks: Vec<Desk<L, T>>,
     seats: Vec<Seated>,
 ) -> Result<Vec<Port<L, T>>, AllocError> {
@@ -84,12 +84,12 @@ fn shared<L: Ledger, T: Trace>(
     dialect: Dialect,
     durable: Durable,
     settings: Settings,
-) -> Result<Arc<Front<L, T>>, AllocError>
+) -> Result<Arc<FrontState<L, T>>, AllocError>
     ensures dialect { IfOk result (λ front. front.value.dialect ≡ dialect) }
     ensures settings { IfOk result (λ front. front.value.settings ≡ settings) }
 {
     let office = Arc::new(alloc, office)?;
-    let front = Front::new(alloc, office, dialect, durable, settings)?;
+    let front = FrontState::new(alloc, office, dialect, durable, settings)?;
     Ok(Arc::new(alloc, front)?)
 }
 
@@ -102,27 +102,27 @@ fn pop_two<A: Drop>(list: &mut Vec<A>) -> Option<(A, A)>
     Some((last, before))
 }
 
-// Where requests come to a front, and where it is looked at: a window with this seat, and a port for each desk, as far as there are seats.
+// Where requests come to a front, and where it is looked at: a reader with this seat, and a port for each desk, as far as there are seats.
 fn places<L: Ledger, T: Trace>(
     alloc: Global,
-    front: &Front<L, T>,
+    front: &FrontState<L, T>,
     seat: Seated,
     desks: Vec<Desk<L, T>>,
     seats: Vec<Seated>,
-) -> Result<(Window<L, T>, Vec<Port<L, T>>), AllocError> {
-    let window = window(front, seat)?;
+) -> Result<(AdminReader<L, T>, Vec<Port<L, T>>), AllocError> {
+    let reader = reader(front, seat)?;
     let ports = ports(alloc, front, desks, seats)?;
-    Ok((window, ports))
+    Ok((reader, ports))
 }
 
 // A front with these desks and seats.
 fn furnish<L: Ledger, T: Trace, D: Disk + Drop>(
     alloc: Global,
-    front: Arc<Front<L, T>>,
+    front: Arc<FrontState<L, T>>,
     desks: Vec<Desk<L, T>>,
     seats: Vec<Seated>,
     half: DiskHalf<D>,
-) -> Result<Opened<L, T, D>, ServeError>
+) -> Result<OpenedFront<L, T, D>, ServeError>
     requires desks { 2 ≤ vec_len desks }
     requires seats { 2 ≤ vec_len seats }
     ensures ports { IsErrOf result ServeError.TooManyPorts → ⊥ }
@@ -137,17 +137,17 @@ fn furnish<L: Ledger, T: Trace, D: Disk + Drop>(
     let Some((seated, seat)) = pop_two(&mut seats) else {
         unreachable!();
     };
-    let (window, ports) = places(alloc, &front, seat, desks, seats)?;
-    Ok(Opened {
+    let (reader, ports) = places(alloc, &front, seat, desks, seats)?;
+    Ok(OpenedFront {
         front,
         ports,
         committer: Committer::new(desk, half, seated),
         ticker,
-        window,
+        reader,
     })
 }
 
-// A front over an office, with its desks and as many seats, and one more for a window.
+// A front over an office, with its desks and as many seats, and one more for a reader.
 fn seat_all<L: Ledger, T: Trace, D: Disk + Drop>(
     alloc: Global,
     office: Office<L, T>,
@@ -155,7 +155,7 @@ fn seat_all<L: Ledger, T: Trace, D: Disk + Drop>(
     half: DiskHalf<D>,
     dialect: Dialect,
     settings: Settings,
-) -> Result<Opened<L, T, D>, ServeError>
+) -> Result<OpenedFront<L, T, D>, ServeError>
     requires desks { 2 ≤ vec_len desks }
     ensures ports { IsErrOf result ServeError.TooManyPorts → ⊥ }
     ensures half { IfOk result (λ opened. opened.committer.half ≡ half) }
@@ -174,7 +174,7 @@ pub(crate) fn open<L: Ledger, T: Trace, D: Disk + Drop>(
     alloc: Global,
     hall: Hall<Broker<D>>,
     blank: Blank,
-) -> Result<Opened<L, T, D>, ServeError>
+) -> Result<OpenedFront<L, T, D>, ServeError>
     requires nothing { pending_of hall.issuer ≡ [] }
     requires fresh { IsFresh (settings_of hall.issuer) hall }
     requires name { blank.name ≡ L.name }

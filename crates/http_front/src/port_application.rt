@@ -3,14 +3,14 @@ ghost use Rattle.std.specs.Prelude.{◌≡◌};
 ghost use Rattle.hall_core.specs.Hall.{slot_told};
 
 use crate::drawing::new_id;
-use crate::front::Front;
+use crate::front_state::FrontState;
 use crate::replying::{Manner, Telling, refuse};
-use crate::resets::{Report, note_report};
+use crate::resets::{ResetReport, note_report};
 use api_core::{Audience, Call, Dialect, Refusal, RequestError, read_request};
 use futures::Future;
 use futures::task::{Context, Poll};
 use http::request::Parts;
-use http_port::{Application, ReadError, Refused};
+use http_port::{Application, BodyError, Refused};
 use hyper::StatusCode;
 use long_poll::{Arrived, Port, Waiting};
 use receipts::Trace;
@@ -32,9 +32,9 @@ pub(crate) struct Replying<R: Wait, L: Ledger, T: Trace> {
     id: Option<[u8; 16]>,
     /// The port, which is the environment's number, and what the call reports there.
     number: u16,
-    report: Option<Report>,
+    report: Option<ResetReport>,
     rt: R,
-    front: Arc<Front<L, T>>,
+    front: Arc<FrontState<L, T>>,
 }
 
 impl<R: Wait + Eprint + Drop, L: Ledger, T: Trace> Future for Replying<R, L, T> {
@@ -73,7 +73,7 @@ fn cut_off(alloc: Global) -> Refused {
 pub(crate) struct PortApplication<R, L: Ledger, T: Trace> {
     pub(crate) rt: R,
     pub(crate) number: u16,
-    pub(crate) front: Arc<Front<L, T>>,
+    pub(crate) front: Arc<FrontState<L, T>>,
     pub(crate) port: Arc<Port<L, T>>,
 }
 
@@ -158,7 +158,7 @@ impl<R: Wait + Clock + RandomSource + Eprint + Copy, L: Ledger, T: Trace> PortAp
             return Err(Refusal::Unavailable);
         };
         let call = self.read(head, body)?;
-        let report = Report::of(&call);
+        let report = ResetReport::of(&call);
         let waiting = self.arrive(call)?;
         Ok(Replying {
             waiting,
@@ -173,9 +173,9 @@ impl<R: Wait + Clock + RandomSource + Eprint + Copy, L: Ledger, T: Trace> PortAp
 
 impl<R: Wait + Clock + RandomSource + Eprint + Drop + Copy, L: Ledger, T: Trace> Application
     for PortApplication<R, L, T> {
-    type Given = Telling;
+    type Response = Telling;
 
-    type Reply = Replying<R, L, T>;
+    type Future = Replying<R, L, T>;
 
     fn most(&self) -> usize {
         self.front.most
@@ -188,7 +188,7 @@ impl<R: Wait + Clock + RandomSource + Eprint + Drop + Copy, L: Ledger, T: Trace>
     fn answer(
         &self,
         head: &Parts,
-        body: Result<Vec<u8>, ReadError>,
+        body: Result<Vec<u8>, BodyError>,
     ) -> Result<Replying<R, L, T>, Refused> {
         let id = self.request_id();
         match body {
@@ -196,8 +196,8 @@ impl<R: Wait + Clock + RandomSource + Eprint + Drop + Copy, L: Ledger, T: Trace>
                 Ok(replying) => Ok(replying),
                 Err(why) => Err(self.refuse(why, id)),
             },
-            Err(ReadError::OutOfMemory) => Err(self.refuse(Refusal::Unavailable, id)),
-            Err(ReadError::CutOff) => Err(cut_off(self.front.alloc)),
+            Err(BodyError::OutOfMemory) => Err(self.refuse(Refusal::Unavailable, id)),
+            Err(BodyError::CutOff) => Err(cut_off(self.front.alloc)),
         }
     }
 }

@@ -8,7 +8,7 @@ use bytes::Bytes;
 use hall_core::Released;
 use http::response::Builder;
 use http_body_util::Full;
-use http_port::{Answered, Refused, Told};
+use http_port::{HttpResponse, IntoResponse, Refused};
 use hyper::{Response, StatusCode};
 use retry_rules::Settings;
 use std::alloc::Global;
@@ -24,7 +24,7 @@ fn with_headers(builder: Builder, reply: &Reply) -> Builder {
     builder
 }
 
-fn response_of(alloc: Global, reply: Reply) -> Option<Answered>
+fn response_of(alloc: Global, reply: Reply) -> Option<HttpResponse>
     ensures status { IfSome result (λ r. (head_of r).status ≡ reply.status) }
     ensures body { IfSome result (λ r. (body_of r).buf ≡ (if length reply.body == 0 then None else Some reply.body)) }
 {
@@ -63,12 +63,12 @@ impl Telling {
     }
 }
 
-impl Told for Telling {
+impl IntoResponse for Telling {
     // claim: A reply is told with its own status and bytes, to the slot that asked, or not at all. [: status; response_of:
     // status, body; Replying: gives]
     ghost status = { λ telling. telling.released.reply.status };
 
-    fn into_response(self, alloc: Global) -> Option<Answered> {
+    fn into_response(self, alloc: Global) -> Option<HttpResponse> {
         let Telling { released, id } = self;
         response_of(alloc, with_id(alloc, released.into_reply(), id))
     }
@@ -84,7 +84,12 @@ pub(crate) struct Manner {
 
 // The reply that tells of a refusal, as a response. None where memory is wanting.
 #[tactic(auto, using(crate::proofs::Refusing::status_of))]
-fn refusal_of(alloc: Global, settings: &Settings, manner: Manner, why: Refusal) -> Option<Answered>
+fn refusal_of(
+    alloc: Global,
+    settings: &Settings,
+    manner: Manner,
+    why: Refusal,
+) -> Option<HttpResponse>
     ensures { IfSome result (λ r. (head_of r).status ≡ (fault_of why).status) }
 {
     let answer = Answer::Refusal(manner.audience, why);

@@ -14,7 +14,7 @@ const TAKEN: u16 = 202;
 
 /// What resets an environment once it is reported there (Runtime API, Extensions API).
 #[derive(Clone, Copy)]
-pub(crate) enum Report {
+pub(crate) enum ResetReport {
     /// The runtime could not start.
     RuntimeInit,
     /// An extension could not start.
@@ -23,22 +23,22 @@ pub(crate) enum Report {
     ExtensionExit,
 }
 
-impl Report {
+impl ResetReport {
     /// What a call reports, if it does.
-    pub(crate) fn of(call: &Call) -> Option<Report> {
+    pub(crate) fn of(call: &Call) -> Option<ResetReport> {
         match call {
-            Call::RuntimeInitError { .. } => Some(Report::RuntimeInit),
-            Call::ExtensionInitError { .. } => Some(Report::ExtensionInit),
-            Call::ExtensionExitError { .. } => Some(Report::ExtensionExit),
+            Call::RuntimeInitError { .. } => Some(ResetReport::RuntimeInit),
+            Call::ExtensionInitError { .. } => Some(ResetReport::ExtensionInit),
+            Call::ExtensionExitError { .. } => Some(ResetReport::ExtensionExit),
             _ => None,
         }
     }
 
     fn text(self) -> &'static str {
         match self {
-            Report::RuntimeInit => "its runtime could not start",
-            Report::ExtensionInit => "an extension could not start",
-            Report::ExtensionExit => "an extension ended",
+            ResetReport::RuntimeInit => "its runtime could not start",
+            ResetReport::ExtensionInit => "an extension could not start",
+            ResetReport::ExtensionExit => "an extension ended",
         }
     }
 }
@@ -59,7 +59,7 @@ fn takes_a_line() -> bool {
 pub(crate) fn note_report<R: Eprint>(
     rt: &R,
     environment: u16,
-    report: Option<Report>,
+    report: Option<ResetReport>,
     status: u16,
 ) {
     let Some(report) = report else {

@@ -8,16 +8,16 @@ ghost use Rattle.receipts.specs.Serving.{HasServed};
 
 use crate::committing::{Committer, state_of};
 use crate::error::ServeError;
-use crate::front::Front;
+use crate::front_state::FrontState;
 use crate::gates::{UntilEnding, UntilOver};
-use crate::opening::{Opened, open};
+use crate::opening::{OpenedFront, open};
 use crate::starting::{PortThread, join_all, join_beside, start, start_beside};
 use crate::ticking::tick_all;
 use commit_loop::Gate;
 use group_commit::{Broker, DiskHalf};
 use hall_core::Hall;
 use http_port::Listening;
-use long_poll::{Port, Window};
+use long_poll::{AdminReader, Port};
 use port_meters::{Beside, Machine};
 use receipts::{Desk, SharedOpening, SharedTrace, Trace, desks};
 use retry_rules::Settings;
@@ -40,7 +40,7 @@ pub enum Ending {
 
 impl Ending {
     // How a front has ended, once its threads have.
-    fn of<L: Ledger, T: Trace>(front: &Front<L, T>) -> Ending {
+    fn of<L: Ledger, T: Trace>(front: &FrontState<L, T>) -> Ending {
         if front.bell.has_broken() {
             Ending::Broken
         } else {
@@ -63,7 +63,7 @@ pub struct Served<D: Disk, S> {
 // disk.
 fn commit_and_tick<R, L, T, D, G>(
     rt: R,
-    front: &Arc<Front<L, T>>,
+    front: &Arc<FrontState<L, T>>,
     committer: Committer<L, T, D>,
     ticker: Desk<L, T>,
     gate: &G,
@@ -96,10 +96,10 @@ where
 // Starts the threads of all ports, and then of what is served beside them, where there is something.
 fn start_all<R, L, T, B>(
     rt: R,
-    front: &Arc<Front<L, T>>,
+    front: &Arc<FrontState<L, T>>,
     ports: Vec<Port<L, T>>,
     listeners: Vec<Listening>,
-    window: Window<L, T>,
+    reader: AdminReader<L, T>,
     beside: Option<B>,
     threads: &mut Vec<PortThread>,
 ) -> io::Result<Option<JoinHandle<io::Result<B::Served>>>>
@@ -108,19 +108,19 @@ where
     L: Ledger + Send + Sync + 'static,
     T: SharedTrace + 'static,
     T::Opening: SharedOpening + 'static,
-    B: Beside<R, Window<L, T>> + Send + 'static,
+    B: Beside<R, AdminReader<L, T>> + Send + 'static,
     B::Served: Send + 'static,
     ensures { IfOk result (λ thread. is_some thread ≡ is_some beside) }
 {
     start(rt, front, ports, listeners, threads)?;
-    start_beside(rt, front, window, beside)
+    start_beside(rt, front, reader, beside)
 }
 
 // Ends a front, and waits for the threads of its ports and for the one beside them: what it leaves, where this is what came of
 // the committer.
 fn end<R, L, T, D, S>(
     rt: &R,
-    front: &Front<L, T>,
+    front: &FrontState<L, T>,
     threads: Vec<PortThread>,
     beside: Option<JoinHandle<io::Result<S>>>,
     outcome: io::Result<DiskHalf<D>>,
@@ -151,7 +151,7 @@ where
 // Serves an opened front to its end, and waits for its threads.
 fn run<R, L, T, D, G, B>(
     rt: R,
-    opened: Opened<L, T, D>,
+    opened: OpenedFront<L, T, D>,
     listeners: Vec<Listening>,
     beside: Option<B>,
     gate: &G,
@@ -163,21 +163,21 @@ where
     T::Opening: SharedOpening + 'static,
     D: Disk + Drop,
     G: Gate,
-    B: Beside<R, Window<L, T>> + Send + 'static,
+    B: Beside<R, AdminReader<L, T>> + Send + 'static,
     B::Served: Send + 'static,
     ensures served { IfOk result (λ served. HasServed D.view D.fault_count (broker_of opened.committer.half) (broker_of served.half)) }
     ensures beside { IfOk result (λ served. is_some served.beside ≡ is_some beside) }
 {
-    let Opened {
+    let OpenedFront {
         front,
         ports,
         committer,
         ticker,
-        window,
+        reader,
     } = opened;
     front.meters.note_opening(&rt, state_of(committer.half()));
     let mut threads = Vec::new(rt.alloc());
-    match start_all(rt, &front, ports, listeners, window, beside, &mut threads) {
+    match start_all(rt, &front, ports, listeners, reader, beside, &mut threads) {
         Ok(beside) => {
             let outcome = commit_and_tick(rt, &front, committer, ticker, gate);
             end(&rt, &front, threads, beside, outcome)
@@ -197,7 +197,7 @@ fn port_count(settings: &Settings) -> u64
 /// the callers' port at the first listener, that of environment n at the listener n behind it. It returns once the broker
 /// was stopped or its device failed and every open request was answered or its client has gone. The committer, on the
 /// calling thread, is asked by the gate beside that. What is beside the ports, where there is something, is served on a thread
-/// of its own, with a window on the office, until the front ends.
+/// of its own, with a reader of the office, until the front ends.
 ///
 /// The half over the disk is handed back: it is the hall's broker with what was committed since. On an honest disk a stop at any
 /// moment of the serving leaves a legal stop of its list: a beginning of that with all that was durable before.
@@ -219,7 +219,7 @@ where
     T::Opening: SharedOpening + 'static,
     D: Disk + Drop,
     G: Gate,
-    B: Beside<R, Window<L, T>> + Send + 'static,
+    B: Beside<R, AdminReader<L, T>> + Send + 'static,
     B::Served: Send + 'static,
     requires nothing { pending_of hall.issuer ≡ [] }
     requires fresh { IsFresh (settings_of hall.issuer) hall }

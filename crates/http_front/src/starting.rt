@@ -1,10 +1,10 @@
 // The threads of a front's ports, and of what is served beside them.
 ghost use Rattle.std.specs.Prelude.{◌≡◌, IfOk, is_some};
 
-use crate::front::Front;
+use crate::front_state::FrontState;
 use crate::port_application::PortApplication;
-use http_port::{Limits, Listening};
-use long_poll::{Port, Window};
+use http_port::{HttpLimits, Listening};
+use long_poll::{AdminReader, Port};
 use port_meters::{Beside, Machine};
 use receipts::{SharedOpening, SharedTrace, Trace};
 use std::sync::Arc;
@@ -22,7 +22,7 @@ fn serve_place<R: Machine, L: Ledger, T: Trace>(
     listening: Listening,
 ) -> io::Result<()> {
     let front = Arc::try_clone(&place.front)?;
-    let served = http_port::serve(rt, place, listening, Limits::default(), &front.ending);
+    let served = http_port::serve(rt, place, listening, HttpLimits::default(), &front.ending);
     front.ending.cancel();
     front.wake.call(&rt);
     served
@@ -31,7 +31,7 @@ fn serve_place<R: Machine, L: Ledger, T: Trace>(
 // Starts a thread that serves a port.
 fn start_port<R, L, T>(
     rt: R,
-    front: &Arc<Front<L, T>>,
+    front: &Arc<FrontState<L, T>>,
     number: u16,
     port: Port<L, T>,
     listening: Listening,
@@ -57,7 +57,7 @@ where
 /// Starts a thread for each listener, with the next port.
 pub(crate) fn start<R, L, T>(
     rt: R,
-    front: &Arc<Front<L, T>>,
+    front: &Arc<FrontState<L, T>>,
     ports: Vec<Port<L, T>>,
     listeners: Vec<Listening>,
     threads: &mut Vec<PortThread>,
@@ -77,21 +77,21 @@ where
 }
 
 // Serves what is beside the ports of a front to its end. Where it fails, the front goes on.
-fn serve_beside<R: Machine, L: Ledger, T: Trace, B: Beside<R, Window<L, T>>>(
+fn serve_beside<R: Machine, L: Ledger, T: Trace, B: Beside<R, AdminReader<L, T>>>(
     rt: R,
-    front: Arc<Front<L, T>>,
-    window: Window<L, T>,
+    front: Arc<FrontState<L, T>>,
+    reader: AdminReader<L, T>,
     beside: B,
 ) -> io::Result<B::Served> {
     let meters = Arc::try_clone(&front.meters)?;
-    beside.serve(rt, window, meters, &front.ending)
+    beside.serve(rt, reader, meters, &front.ending)
 }
 
 /// Starts a thread that serves what is beside the ports, where there is something.
 pub(crate) fn start_beside<R, L, T, B>(
     rt: R,
-    front: &Arc<Front<L, T>>,
-    window: Window<L, T>,
+    front: &Arc<FrontState<L, T>>,
+    reader: AdminReader<L, T>,
     beside: Option<B>,
 ) -> io::Result<Option<JoinHandle<io::Result<B::Served>>>>
 where
@@ -99,7 +99,7 @@ where
     L: Ledger + Send + Sync + 'static,
     T: SharedTrace + 'static,
     T::Opening: SharedOpening + 'static,
-    B: Beside<R, Window<L, T>> + Send + 'static,
+    B: Beside<R, AdminReader<L, T>> + Send + 'static,
     B::Served: Send + 'static,
     ensures { IfOk result (λ thread. is_some thread ≡ is_some beside) }
 {
@@ -107,7 +107,7 @@ where
         return Ok(None);
     };
     let front = Arc::try_clone(front)?;
-    let thread = thread::spawn(&rt, move || serve_beside(rt, front, window, beside))?;
+    let thread = thread::spawn(&rt, move || serve_beside(rt, front, reader, beside))?;
     Ok(Some(thread))
 }
 

@@ -2,12 +2,12 @@
 ghost use Rattle.std.specs.Prelude.{◌≡◌, ◌≤◌, ◌+◌, [], ◌∷◌, ◌++◌, length, map, sum_by, false, IfOk};
 ghost use Rattle.hall_core.specs.Hall.{pending_in};
 ghost use Rattle.commit_loop.specs.Ticker.{Step, ticked, IsRun};
-ghost use Rattle.receipts.specs.Kept.{hall_in, issuer_in};
+ghost use Rattle.receipts.specs.Locked.{hall_in, issuer_in};
 ghost use Rattle.http_front.specs.Marking.{HasMarked, FindsNothing, FindsNothingFor};
 ghost use Rattle.port_meters.specs.Moments.{millis_in};
 ghost use Rattle.http_front.specs.laws.Marked.{marked_nothing, marked_more};
 
-use crate::front::Front;
+use crate::front_state::FrontState;
 use crate::resets::note_timeout;
 use crate::wake::{Called, Slept, pause};
 use commit_loop::{Gate, Ticking};
@@ -25,7 +25,7 @@ const PAUSE: u64 = 100;
 #[derive(Drop)]
 struct AtFront<'a, R, L: Ledger, T: Trace> {
     rt: &'a R,
-    front: &'a Front<L, T>,
+    front: &'a FrontState<L, T>,
     desk: Desk<L, T>,
 }
 
@@ -40,15 +40,15 @@ struct Looked<L: Ledger, T: Trace> {
 // a log, which environment was reset.
 fn make_move<R: Wait + Eprint, L: Ledger, T: Trace>(
     rt: &R,
-    front: &Front<L, T>,
+    front: &FrontState<L, T>,
     desk: &mut Desk<L, T>,
     at: Moment,
 ) -> Witnessed<bool, L, T>
-    // claim: Where it makes no move though the clock told a moment, none was due in what it met, or there is a reason
+    // claim: Where it makes no move though the clock told a moment, none was due before it, or there is a reason
     // there. [: marked, nothing; tick]
     ensures marked { HasMarked (length (map T.mark desk.old.own.items)) (ticked result.answer ∷ [])
         (length (map T.mark desk.new.own.items)) }
-    ensures nothing { result.answer ≡ false → FindsNothing (hall_in result.met.value.hall) desk.old.told (millis_in at.shown) }
+    ensures nothing { result.answer ≡ false → FindsNothing (hall_in result.before.value.hall) desk.old.told (millis_in at.shown) }
 {
     let (answer, seen) = front.office.tick(rt, desk, at.millis()).split();
     match answer {
@@ -66,13 +66,13 @@ fn make_move<R: Wait + Eprint, L: Ledger, T: Trace>(
 // Makes a move that is due now: whether it made one, and what shows it. Where the clock cannot be read none is made.
 fn tick<R: Wait + Clock + Eprint, L: Ledger, T: Trace>(
     rt: &R,
-    front: &Front<L, T>,
+    front: &FrontState<L, T>,
     desk: &mut Desk<L, T>,
 ) -> (bool, Result<Looked<L, T>, NoClock>)
     ensures marked { HasMarked (length (map T.mark desk.old.own.items)) (ticked result.0 ∷ [])
         (length (map T.mark desk.new.own.items)) }
     ensures nothing { result.0 ≡ false → IfOk result.1 (λ looked.
-        FindsNothing (hall_in looked.seen.met.value.hall) desk.old.told (millis_in looked.at.shown)) }
+        FindsNothing (hall_in looked.seen.before.value.hall) desk.old.told (millis_in looked.at.shown)) }
 {
     match Moment::now(rt) {
         Ok(at) => {
@@ -92,10 +92,10 @@ impl<R: Wait + Clock + Eprint, L: Ledger, T: Trace> Ticking for AtFront<'_, R, L
 
     type Slept = Slept;
 
-    ghost count = { λ seen. pending_in (issuer_in seen.met.value.hall) };
+    ghost count = { λ seen. pending_in (issuer_in seen.before.value.hall) };
 
     ghost shows = { λ looked moved. moved ≡ false → IfOk looked (λ looked.
-        FindsNothingFor (hall_in looked.seen.met.value.hall) (millis_in looked.at.shown)) };
+        FindsNothingFor (hall_in looked.seen.before.value.hall) (millis_in looked.at.shown)) };
 
     ghost leads = { λ old steps new.
         HasMarked (length (map T.mark old.desk.own.items)) steps (length (map T.mark new.desk.own.items)) };
@@ -131,7 +131,7 @@ impl<R: Wait + Clock + Eprint, L: Ledger, T: Trace> Ticking for AtFront<'_, R, L
 /// resets is told on standard error.
 pub fn tick_all<R: Wait + Clock + Eprint, L: Ledger, T: Trace, G: Gate>(
     rt: &R,
-    front: &Front<L, T>,
+    front: &FrontState<L, T>,
     desk: Desk<L, T>,
     gate: &G,
 ) -> Desk<L, T>

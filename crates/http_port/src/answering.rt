@@ -13,15 +13,15 @@ use std::marker::Model;
 pub type Body = Full<Bytes>;
 
 /// What a port answers with.
-pub type Answered = Response<Body>;
+pub type HttpResponse = Response<Body>;
 
 /// What may be told to a client, which has a status of its own.
-pub trait Told: Drop {
+pub trait IntoResponse: Drop {
     /// The status with which it is told.
     ghost status: { Self → ℕ };
 
     /// The response that tells it. None where memory is wanting.
-    fn into_response(self, alloc: Global) -> Option<Answered>
+    fn into_response(self, alloc: Global) -> Option<HttpResponse>
         // claim: What is told is sent with its own status, or 503. [tell]
         ensures { IfSome result (λ response. status_of response ≡ status self) };
 }
@@ -29,7 +29,7 @@ pub trait Told: Drop {
 /// A refusal: a response with a status of 400 or above. Contracts see it as its status.
 #[derive(Drop)]
 pub struct Refused {
-    response: Answered,
+    response: HttpResponse,
 }
 
 impl Model for Refused {
@@ -42,7 +42,7 @@ impl Model for Refused {
 
 impl Refused {
     /// A refusal with this response, whose status is one that refuses.
-    pub fn new(response: Answered) -> Refused
+    pub fn new(response: HttpResponse) -> Refused
         requires { 400 ≤ status_of response }
         // claim: A refusal has a status of 400 or above, which is sent. [Refused::bare; Refused::into_response: same,
         // refuses; Refused: invariant; Refused::late]
@@ -85,7 +85,7 @@ impl Refused {
     }
 
     /// Its response.
-    pub fn into_response(self) -> Answered
+    pub fn into_response(self) -> HttpResponse
         ensures same { status_of result ≡ self }
         ensures refuses { 400 ≤ status_of result }
     {
@@ -95,7 +95,7 @@ impl Refused {
 }
 
 /// A response that says that it is the last of its connection. Where there is no memory to say so, it is that all the same.
-pub(crate) fn say_last(answered: Answered) -> Answered
+pub(crate) fn say_last(answered: HttpResponse) -> HttpResponse
     ensures { status_of result ≡ status_of answered }
 {
     let (mut head, body) = answered.into_parts();
@@ -105,7 +105,7 @@ pub(crate) fn say_last(answered: Answered) -> Answered
 }
 
 /// The response of what is told, with its status. Where memory is wanting, 503 alone.
-pub(crate) fn tell<T: Told>(alloc: Global, told: T) -> Answered
+pub(crate) fn tell<T: IntoResponse>(alloc: Global, told: T) -> HttpResponse
     ensures { IsStatusOf T.status told (status_of result) }
 {
     match told.into_response(alloc) {

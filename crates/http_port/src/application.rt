@@ -1,8 +1,8 @@
 // What a port serves.
 ghost use Rattle.std.specs.Prelude.{IfOk};
 
-use crate::answering::{Refused, Told};
-use crate::reading::ReadError;
+use crate::answering::{IntoResponse, Refused};
+use crate::reading::BodyError;
 use futures::Future;
 use http::request::Parts;
 
@@ -10,10 +10,10 @@ use http::request::Parts;
 /// makes no response of its own but these two.
 pub trait Application: Drop {
     /// What its replies give.
-    type Given: Told;
+    type Response: IntoResponse;
 
     /// The reply of a request, which may be waited for.
-    type Reply: Future<Output = Self::Given>;
+    type Future: Future<Output = Self::Response>;
 
     /// How many bytes of a body are read. One that is larger is given as so many bytes, and where its head says so, nothing of
     /// it is asked for.
@@ -26,6 +26,10 @@ pub trait Application: Drop {
     }
 
     /// The reply of a request with this head, whose body was read or was not; or its refusal, which is told at once.
-    fn answer(&self, head: &Parts, body: Result<Vec<u8>, ReadError>) -> Result<Self::Reply, Refused>
-        ensures { IfOk result Self.Reply.can_poll };
+    fn answer(
+        &self,
+        head: &Parts,
+        body: Result<Vec<u8>, BodyError>,
+    ) -> Result<Self::Future, Refused>
+        ensures { IfOk result Self.Future.can_poll };
 }

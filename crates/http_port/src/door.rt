@@ -3,18 +3,18 @@ ghost use Rattle.std.specs.Prelude.{IfSome};
 
 use crate::answering::Body;
 use crate::application::Application;
+use crate::connection_future::ConnectionFuture;
+use crate::connection_phase::PhaseCell;
 use crate::connections::Door;
+use crate::filtered_stream::FilteredStream;
+use crate::header_filter::HeaderFilter;
 use crate::hosts::Hosts;
-use crate::limits::Limits;
+use crate::http_limits::HttpLimits;
 use crate::lingering::{Alarm, Lingering};
 use crate::noted::Noted;
 use crate::permits::Permit;
 use crate::requests::Requests;
-use crate::served::Served;
-use crate::sieve::Sieve;
-use crate::sieved::Sieved;
 use crate::timer::Timer;
-use crate::watch::Watch;
 use hyper::rt::TokioTimer;
 use hyper::server::conn::http1::{Builder, Connection};
 use hyper::server::graceful::{Graceful, until};
@@ -27,7 +27,7 @@ use tokio::time;
 use tokio_util::sync::{CancellationToken, WaitForCancellationFuture};
 
 // What a connection reads from and writes to.
-type Socket<R> = Noted<Sieved<Lingering<R, TcpStream>>>;
+type Socket<R> = Noted<FilteredStream<Lingering<R, TcpStream>>>;
 
 // A connection that ends after its exchange once the port ends.
 type Ending<R, A> = Graceful<
@@ -46,44 +46,44 @@ pub(crate) struct HttpDoor<R, A> {
     pub(crate) hosts: Arc<Hosts>,
     pub(crate) timers: time::Handle,
     pub(crate) alarm: Rc<Alarm<R>>,
-    pub(crate) limits: Limits,
+    pub(crate) limits: HttpLimits,
     pub(crate) ending: CancellationToken,
 }
 
 impl<R: Clock + Copy + Drop, A: Application> HttpDoor<R, A> {
     // A socket, as its connection reads and writes it.
-    fn socket_of(&self, socket: TcpStream, watch: &Rc<Watch>) -> Option<Socket<R>> {
+    fn socket_of(&self, socket: TcpStream, phase_cell: &Rc<PhaseCell>) -> Option<Socket<R>> {
         let alarm = Rc::clone(&self.alarm).ok()?;
-        let lingering = Lingering::new(socket, Rc::clone(watch).ok()?, alarm);
-        let sieve = match self.application.unread_header() {
-            Some(name) => Some(Sieve::new(name)),
+        let lingering = Lingering::new(socket, Rc::clone(phase_cell).ok()?, alarm);
+        let filter = match self.application.unread_header() {
+            Some(name) => Some(HeaderFilter::new(name)),
             None => None,
         };
         Some(Noted {
-            io: Sieved {
+            io: FilteredStream {
                 io: lingering,
-                sieve,
+                filter,
             },
-            watch: Rc::clone(watch).ok()?,
+            phase_cell: Rc::clone(phase_cell).ok()?,
         })
     }
 }
 
 impl<R: Clock + Copy + Drop, A: Application> Door for HttpDoor<R, A> {
-    type Served = Served<Ending<R, A>, R>;
+    type Served = ConnectionFuture<Ending<R, A>, R>;
 
     fn serve(&self, socket: TcpStream, permit: Permit) -> Option<Self::Served> {
-        let watch = Rc::new(self.alloc, Watch::new()).ok()?;
+        let phase_cell = Rc::new(self.alloc, PhaseCell::new()).ok()?;
         let requests = Requests {
             alloc: self.alloc,
             application: Arc::try_clone(&self.application).ok()?,
             hosts: Arc::try_clone(&self.hosts).ok()?,
-            watch: Rc::clone(&watch).ok()?,
+            phase_cell: Rc::clone(&phase_cell).ok()?,
         };
-        let socket = self.socket_of(socket, &watch)?;
+        let socket = self.socket_of(socket, &phase_cell)?;
         let ending = self.ending.cancelled().ok()?;
-        let timer = Timer::new(self.rt, &self.timers, self.limits, watch)?;
+        let timer = Timer::new(self.rt, &self.timers, self.limits, phase_cell)?;
         let conn = until(self.http.serve_connection(socket, requests), ending);
-        Some(Served::new(conn, timer, permit))
+        Some(ConnectionFuture::new(conn, timer, permit))
     }
 }

@@ -5,16 +5,20 @@
 //! the reply says that the connection ends, and what is left is read behind it and thrown away, so that the client sees the
 //! reply and not a connection that fails. The value of one header may be left out, so that heads may be longer by it. What a
 //! browser sends for a web page is refused by its head alone, and so is a host that a port does not answer to (`Hosts`).
-//! `Limits` say how long a client may take, and how many connections are open at once.
+//! `HttpLimits` say how long a client may take, and how many connections are open at once.
 #![tactic(auto)]
 
 mod answering;
 mod application;
+mod connection_future;
+mod connection_phase;
 mod connections;
 mod door;
+mod filtered_stream;
 mod forbidden;
+mod header_filter;
 mod hosts;
-mod limits;
+mod http_limits;
 mod lingering;
 mod listening;
 mod noted;
@@ -22,16 +26,12 @@ mod permits;
 mod port;
 mod reading;
 mod requests;
-mod served;
-mod sieve;
-mod sieved;
 mod timer;
-mod watch;
 
-pub use answering::{Answered, Body, Refused, Told};
+pub use answering::{Body, HttpResponse, IntoResponse, Refused};
 pub use application::Application;
 pub use hosts::Hosts;
-pub use limits::Limits;
+pub use http_limits::HttpLimits;
 pub use listening::Listening;
 pub use port::serve;
-pub use reading::ReadError;
+pub use reading::BodyError;

@@ -3,7 +3,7 @@ ghost use Rattle.std.specs.Prelude.{⊤, ◌≡◌, ◌≤◌, ◌<◌, ◌-◌,
 ghost use Rattle.futures.specs.Task.{IsArmed, Keeps};
 ghost use Rattle.futures.specs.Poll.{OnPending};
 
-use crate::watch::Watch;
+use crate::connection_phase::PhaseCell;
 use futures::Future;
 use futures::task::{Context, Poll};
 use std::rc::Rc;
@@ -101,18 +101,18 @@ enum Stage {
 #[derive(Drop)]
 pub(crate) struct Lingering<R, I> {
     io: I,
-    watch: Rc<Watch>,
+    phase_cell: Rc<PhaseCell>,
     alarm: Rc<Alarm<R>>,
     stage: Stage,
 }
 
 impl<R: Clock, I: AsyncRead> Lingering<R, I> {
-    pub(crate) fn new(io: I, watch: Rc<Watch>, alarm: Rc<Alarm<R>>) -> Lingering<R, I>
+    pub(crate) fn new(io: I, phase_cell: Rc<PhaseCell>, alarm: Rc<Alarm<R>>) -> Lingering<R, I>
         ensures { result.io ≡ io }
     {
         Lingering {
             io,
-            watch,
+            phase_cell,
             alarm,
             stage: Stage::Open,
         }
@@ -120,7 +120,7 @@ impl<R: Clock, I: AsyncRead> Lingering<R, I> {
 
     // A rest is read where there is one, and time for it.
     fn begin(&self) -> Stage {
-        if !self.watch.has_rest() {
+        if !self.phase_cell.has_rest() {
             return Stage::Over;
         }
         match self.alarm.set() {

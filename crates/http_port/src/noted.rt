@@ -1,5 +1,5 @@
 // A socket that notes when bytes are read.
-use crate::watch::Watch;
+use crate::connection_phase::PhaseCell;
 use futures::task::{Context, Poll};
 use std::io;
 use std::rc::Rc;
@@ -9,7 +9,7 @@ use tokio::io::{AsyncRead, AsyncWrite};
 #[derive(Drop)]
 pub(crate) struct Noted<I> {
     pub(crate) io: I,
-    pub(crate) watch: Rc<Watch>,
+    pub(crate) phase_cell: Rc<PhaseCell>,
 }
 
 impl<I: AsyncRead> AsyncRead for Noted<I> {
@@ -28,7 +28,7 @@ impl<I: AsyncRead> AsyncRead for Noted<I> {
     fn poll_read(&mut self, cx: &mut Context<'_>, buf: &mut [u8]) -> Poll<io::Result<usize>> {
         let polled = self.io.poll_read(cx, buf);
         if matches!(&polled, Poll::Ready(Ok(count)) if *count > 0) {
-            self.watch.note_bytes();
+            self.phase_cell.note_bytes();
         }
         polled
     }

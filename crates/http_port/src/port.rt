@@ -3,7 +3,7 @@ use crate::application::Application;
 use crate::connections::{Connections, Door};
 use crate::door::HttpDoor;
 use crate::hosts::Hosts;
-use crate::limits::Limits;
+use crate::http_limits::HttpLimits;
 use crate::lingering::Alarm;
 use crate::listening::Listening;
 use crate::permits::Permits;
@@ -52,7 +52,7 @@ fn door_of<R, A>(
     application: Arc<A>,
     hosts: Arc<Hosts>,
     timers: &time::Handle,
-    limits: Limits,
+    limits: HttpLimits,
     ending: &CancellationToken,
 ) -> io::Result<HttpDoor<R, A>>
 where
@@ -128,7 +128,7 @@ pub fn serve<R, A>(
     rt: R,
     application: A,
     listening: Listening,
-    limits: Limits,
+    limits: HttpLimits,
     ending: &CancellationToken,
 ) -> io::Result<()>
 where

@@ -16,7 +16,7 @@ const MOST_FRAMES: u32 = 65536;
 
 /// Why a body was not read.
 #[derive(Clone, Copy)]
-pub enum ReadError {
+pub enum BodyError {
     /// The connection failed in it, or it was no body.
     CutOff,
     /// There was no memory for it.
@@ -52,7 +52,7 @@ enum Step {
     Goes,
     Ended,
     TooMuch,
-    Failed(ReadError),
+    Failed(BodyError),
 }
 
 impl<I: Drop> Reading<I> {
@@ -94,7 +94,7 @@ impl<I: Drop> Reading<I> {
         };
         match self.bytes.extend_from_slice(data.as_slice()) {
             Ok(()) => Step::Goes,
-            Err(_) => Step::Failed(ReadError::OutOfMemory),
+            Err(_) => Step::Failed(BodyError::OutOfMemory),
         }
     }
 
@@ -110,13 +110,13 @@ impl<I: Drop> Reading<I> {
             Poll::Ready(Some(Err(LimitedError::LengthLimit))) => Poll::Ready(Step::TooMuch),
             Poll::Ready(Some(Err(LimitedError::Body(_)))) => {
                 self.state = State::Failed;
-                Poll::Ready(Step::Failed(ReadError::CutOff))
+                Poll::Ready(Step::Failed(BodyError::CutOff))
             }
         }
     }
 
     // What stands for a body that is too large, so that the checks before that of its size come first.
-    fn too_large(&mut self) -> Result<Vec<u8>, ReadError>
+    fn too_large(&mut self) -> Result<Vec<u8>, BodyError>
         // claim: Of a body too long by its head nothing is asked for. What stands for one too large has as many bytes as
         // are read at most. [: bytes; Reading::poll: unasked]
         ensures bytes { IfOk result (λ bytes. vec_len bytes ≡ self.old.most) }
@@ -126,14 +126,14 @@ impl<I: Drop> Reading<I> {
         let mut bytes = Vec::new(self.alloc);
         match bytes.resize(self.most, 0) {
             Ok(()) => Ok(bytes),
-            Err(_) => Err(ReadError::OutOfMemory),
+            Err(_) => Err(BodyError::OutOfMemory),
         }
     }
 
     /// Reads on. A body that is larger than what is read, or that has not ended after 65536 frames, is given as so many
     /// bytes as are read at most. Where the head says that it is larger, nothing of it is asked for, so that a client who waits
     /// to be asked is refused before it sends it.
-    pub(crate) fn poll(&mut self, cx: &mut Context<'_>) -> Poll<Result<Vec<u8>, ReadError>>
+    pub(crate) fn poll(&mut self, cx: &mut Context<'_>) -> Poll<Result<Vec<u8>, BodyError>>
         ensures unasked { IsTrue self.old.is_too_long → self.new.body ≡ self.old.body }
         ensures armed { OnPending result (IsArmed cx.new) }
         ensures kept { Keeps cx.old cx.new }

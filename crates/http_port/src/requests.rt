@@ -6,12 +6,12 @@ ghost use Rattle.http.specs.Request.{head_of};
 ghost use Rattle.http_port.specs.Answering.{status_of, SendsAnswer, SendsGiven};
 ghost use Rattle.http_port.specs.Browsers.{SendsForbidden, forbidden_of};
 
-use crate::answering::{Answered, Refused, say_last, tell};
+use crate::answering::{HttpResponse, Refused, say_last, tell};
 use crate::application::Application;
+use crate::connection_phase::{ConnectionPhase, PhaseCell};
 use crate::forbidden::Forbidden;
 use crate::hosts::Hosts;
-use crate::reading::{ReadError, Reading, State};
-use crate::watch::{Phase, Watch};
+use crate::reading::{BodyError, Reading, State};
 use futures::Future;
 use futures::task::{Context, Poll};
 use http::request::Parts;
@@ -28,36 +28,36 @@ use std::sync::Arc;
 pub(crate) struct Serving<A: Application, I: Drop> {
     alloc: Global,
     application: Option<Arc<A>>,
-    watch: Option<Rc<Watch>>,
+    phase_cell: Option<Rc<PhaseCell>>,
     // Why it is refused by its head alone, where it is.
     forbidden: Option<Forbidden>,
     head: Parts,
     reading: Reading<I>,
-    reply: Option<A::Reply>,
+    reply: Option<A::Future>,
 }
 
 impl<A: Application, I: Drop> Serving<A, I> {
     // Another phase of its connection begins.
-    fn enter(&self, phase: Phase) {
-        if let Some(watch) = &self.watch {
-            watch.enter(phase);
+    fn enter(&self, phase: ConnectionPhase) {
+        if let Some(phase_cell) = &self.phase_cell {
+            phase_cell.enter(phase);
         }
     }
 
     // Whether its body has not come in time.
     fn is_late(&self) -> bool {
-        match &self.watch {
-            Some(watch) => watch.is_late(),
+        match &self.phase_cell {
+            Some(phase_cell) => phase_cell.is_late(),
             None => false,
         }
     }
 
     // A body was read, or was not. From now on its connection waits for the reply.
-    fn answer(&mut self, body: Result<Vec<u8>, ReadError>) -> Result<A::Reply, Refused>
-        ensures value { IfOk result A.Reply.can_poll }
+    fn answer(&mut self, body: Result<Vec<u8>, BodyError>) -> Result<A::Future, Refused>
+        ensures value { IfOk result A.Future.can_poll }
         ensures same { self.new.forbidden ≡ self.old.forbidden }
     {
-        self.enter(Phase::Reply);
+        self.enter(ConnectionPhase::Reply);
         match self.application.take() {
             Some(application) => application.answer(&self.head, body),
             None => Err(Refused::bare(self.alloc, StatusCode::SERVICE_UNAVAILABLE)),
@@ -66,29 +66,29 @@ impl<A: Application, I: Drop> Serving<A, I> {
 
     // A response, as it is sent. Where the body of its request was not read to its end, it is the last of its connection. It
     // says so, where `hyper` does not.
-    fn send(&self, answered: Answered) -> Answered
+    fn send(&self, answered: HttpResponse) -> HttpResponse
         ensures { status_of result ≡ status_of answered }
     {
         match self.reading.state() {
             State::Ended => {
-                self.enter(Phase::Idle);
+                self.enter(ConnectionPhase::Idle);
                 answered
             }
             State::Left => {
-                self.enter(Phase::Rest);
+                self.enter(ConnectionPhase::Rest);
                 say_last(answered)
             }
             State::Failed => {
-                self.enter(Phase::Rest);
+                self.enter(ConnectionPhase::Rest);
                 answered
             }
         }
     }
 
     // Reads on, up to the reply that waits.
-    fn poll_body(&mut self, cx: &mut Context<'_>) -> Poll<Result<A::Reply, Refused>>
-        requires { IfSome self.old.reply A.Reply.can_poll }
-        ensures value { IfReady result (λ answered. IfOk answered A.Reply.can_poll) }
+    fn poll_body(&mut self, cx: &mut Context<'_>) -> Poll<Result<A::Future, Refused>>
+        requires { IfSome self.old.reply A.Future.can_poll }
+        ensures value { IfReady result (λ answered. IfOk answered A.Future.can_poll) }
         // claim: What is forbidden by its head is answered 403, its body unread, the application unasked. [: forbidden,
         // unasked; Serving: gives; Requests: calls]
         ensures forbidden { IsSome self.old.forbidden → result ≡ Poll.Ready (Err 403) }
@@ -115,14 +115,14 @@ impl<A: Application, I: Drop> Serving<A, I> {
 
     fn poll_reply(
         &mut self,
-        mut reply: A::Reply,
+        mut reply: A::Future,
         cx: &mut Context<'_>,
-    ) -> Poll<Result<Answered, Infallible>>
-        requires { A.Reply.can_poll reply }
+    ) -> Poll<Result<HttpResponse, Infallible>>
+        requires { A.Future.can_poll reply }
         // claim: A reply that waited is sent with the status of what it gave, or as 503.
-        ensures given { IfReady result (SendsGiven (A.Reply.gives reply) A.Given.status) }
-        ensures status { IfReady result (SendsAnswer A.Given.status) }
-        ensures waits { OnPending result (IfSome self.new.reply A.Reply.can_poll) }
+        ensures given { IfReady result (SendsGiven (A.Future.gives reply) A.Response.status) }
+        ensures status { IfReady result (SendsAnswer A.Response.status) }
+        ensures waits { OnPending result (IfSome self.new.reply A.Future.can_poll) }
         ensures armed { OnPending result (IsArmed cx.new) }
         ensures kept { Keeps cx.old cx.new }
     {
@@ -137,16 +137,16 @@ impl<A: Application, I: Drop> Serving<A, I> {
 }
 
 impl<A: Application, I: Drop> Future for Serving<A, I> {
-    type Output = Result<Answered, Infallible>;
+    type Output = Result<HttpResponse, Infallible>;
 
-    // claim: A future is polled only where it may be. [: can_poll; Served: can_poll; Connections: yields;
+    // claim: A future is polled only where it may be. [: can_poll; ConnectionFuture: can_poll; Connections: yields;
     // Application::answer]
-    ghost can_poll = { λ s. IfSome s.reply A.Reply.can_poll };
+    ghost can_poll = { λ s. IfSome s.reply A.Future.can_poll };
 
     // claim: What is sent has the status of something that the application told, or one of 400 or above.
-    ghost gives = { λ s sent. SendsAnswer A.Given.status sent × SendsForbidden s.forbidden sent };
+    ghost gives = { λ s sent. SendsAnswer A.Response.status sent × SendsForbidden s.forbidden sent };
 
-    fn poll(&mut self, cx: &mut Context<'_>) -> Poll<Result<Answered, Infallible>> {
+    fn poll(&mut self, cx: &mut Context<'_>) -> Poll<Result<HttpResponse, Infallible>> {
         match self.poll_body(cx) {
             Poll::Pending => Poll::Pending,
             Poll::Ready(Ok(reply)) => self.poll_reply(reply, cx),
@@ -161,11 +161,11 @@ pub(crate) struct Requests<A> {
     pub(crate) alloc: Global,
     pub(crate) application: Arc<A>,
     pub(crate) hosts: Arc<Hosts>,
-    pub(crate) watch: Rc<Watch>,
+    pub(crate) phase_cell: Rc<PhaseCell>,
 }
 
 impl<A: Application, I: Drop> Service<Request<Incoming<I>>> for Requests<A> {
-    type Response = Answered;
+    type Response = HttpResponse;
 
     type Error = Infallible;
 
@@ -175,11 +175,11 @@ impl<A: Application, I: Drop> Service<Request<Incoming<I>>> for Requests<A> {
 
     fn call(&self, req: Request<Incoming<I>>) -> Serving<A, I> {
         let (head, body) = req.into_parts();
-        self.watch.enter(Phase::Body);
+        self.phase_cell.enter(ConnectionPhase::Body);
         Serving {
             alloc: self.alloc,
             application: Arc::try_clone(&self.application).ok(),
-            watch: Rc::clone(&self.watch).ok(),
+            phase_cell: Rc::clone(&self.phase_cell).ok(),
             forbidden: Forbidden::of(&self.hosts, &head.headers),
             head,
             reading: Reading::new(self.alloc, body, self.application.most()),

@@ -3,8 +3,8 @@ ghost use Rattle.std.specs.Prelude.{◌≡◌, None, IsSome};
 ghost use Rattle.futures.specs.Task.{Keeps};
 ghost use Rattle.futures.specs.Poll.{IfReady};
 
-use crate::limits::Limits;
-use crate::watch::{Phase, Watch};
+use crate::connection_phase::{ConnectionPhase, PhaseCell};
+use crate::http_limits::HttpLimits;
 use futures::Future;
 use futures::task::{Context, Poll};
 use std::rc::Rc;
@@ -17,8 +17,8 @@ use tokio::time::Sleep;
 #[derive(Drop)]
 pub(crate) struct Timer<R> {
     rt: R,
-    limits: Limits,
-    watch: Rc<Watch>,
+    limits: HttpLimits,
+    phase_cell: Rc<PhaseCell>,
     /// When the phase has to have ended.
     deadline: Option<Instant>,
     sleep: Sleep,
@@ -29,22 +29,22 @@ impl<R: Clock + Drop> Timer<R> {
     pub(crate) fn new(
         rt: R,
         timers: &time::Handle,
-        limits: Limits,
-        watch: Rc<Watch>,
+        limits: HttpLimits,
+        phase_cell: Rc<PhaseCell>,
     ) -> Option<Timer<R>> {
         let sleep = timers.sleep(&rt, limits.least()).ok()?;
         Some(Timer {
             rt,
             limits,
-            watch,
+            phase_cell,
             deadline: None,
             sleep,
         })
     }
 
     // A phase begins: when it has to have ended. None also where the clock tells no time.
-    fn deadline_of(&self, phase: Phase) -> Option<Instant>
-        ensures { phase ≡ Phase.Reply → result ≡ None }
+    fn deadline_of(&self, phase: ConnectionPhase) -> Option<Instant>
+        ensures { phase ≡ ConnectionPhase.Reply → result ≡ None }
     {
         let limit = phase.limit(&self.limits)?;
         Instant::now(&self.rt).ok()?.checked_add(limit)
@@ -80,7 +80,7 @@ impl<R: Clock + Drop> Timer<R> {
         ensures limited { IfReady result (λ _. IsSome self.new.deadline) }
         ensures kept { Keeps cx.old cx.new }
     {
-        if let Some(phase) = self.watch.take_new() {
+        if let Some(phase) = self.phase_cell.take_new() {
             self.deadline = self.deadline_of(phase);
         }
         let Some(deadline) = self.deadline else {
@@ -89,7 +89,7 @@ impl<R: Clock + Drop> Timer<R> {
         if self.poll_deadline(deadline, cx).is_pending() {
             return Poll::Pending;
         }
-        if self.watch.give_up() {
+        if self.phase_cell.give_up() {
             return cx.yield_now();
         }
         Poll::Ready(())

@@ -2,11 +2,12 @@
 ghost use Rattle.std.specs.Prelude.{◌≤◌, IfOk};
 
 use crate::serving::serve_disk;
+use crate::stopping::stop_broker;
 use broker_commands::{Address, DONE, Task, USAGE, print_fault, print_job, print_usage, read_task};
 use std::fs::File;
 use std::io;
 use std::io::{Eprint, Write};
-use std::net::{Net, TcpListener, TcpStream};
+use std::net::{Net, SocketAddr, TcpListener, TcpStream};
 use std::random::RandomSource;
 use std::rt::Files;
 use std::sync::Wait;
@@ -36,6 +37,7 @@ where
     match read_task(rt.alloc(), words) {
         Ok(Some(Task::Job(job))) => print_job(&rt, &job, out),
         Ok(Some(Task::Serve(at))) => print_serve(rt, &at, out),
+        Ok(Some(Task::Stop(at))) => print_stop(&rt, at, out),
         Ok(None) => Ok(USAGE),
         Err(fault) => print_usage(&fault, out),
     }
@@ -62,5 +64,21 @@ where
     match serve_disk(rt, at, out) {
         Ok(()) => Ok(DONE),
         Err(fault) => print_fault(&fault, fault.is_device_fault(), out),
+    }
+}
+
+// Stops a broker that serves, and says so once it has ended.
+fn print_stop<R, W>(rt: &R, at: SocketAddr, out: &mut W) -> io::Result<u8>
+where
+    R: AllocGlobal + Clock + Net<Listener = TcpListener, Stream = TcpStream>,
+    W: Write,
+    ensures { IfOk result (λ status. status ≤ 3) }
+{
+    match stop_broker(rt, at) {
+        Ok(()) => {
+            writeln!(out, "stopped {at}")?;
+            Ok(DONE)
+        }
+        Err(fault) => print_fault(&fault, false, out),
     }
 }

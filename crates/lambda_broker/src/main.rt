@@ -1,10 +1,11 @@
-//! The program `lambda_broker`: its command line, and serving a disk. The other commands stand in `broker_commands`.
+//! The program `lambda_broker`: its command line, serving a disk, and ending that. The other commands stand in `broker_commands`.
 #![tactic(auto)]
 
 mod command_line;
 mod notes;
 mod output;
 mod serving;
+mod stopping;
 
 use crate::output::{Output, keep_numbers};
 use broker_commands::{DONE, refuse_for_memory};

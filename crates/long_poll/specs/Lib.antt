@@ -1,4 +1,4 @@
 pub mod Bell
 pub mod Port
 pub mod Waiting
-pub mod Watching
+pub mod PendingView

@@ -5,15 +5,15 @@
 //! crates above use that it gives the reply of its own slot, and that a poll which is pending has registered.
 #![tactic(auto)]
 
+mod admin_reader;
 mod bell;
+mod pending_view;
 mod port;
 mod waiters;
 mod waiting;
-mod watching;
-mod window;
 
+pub use admin_reader::{AdminReader, TicketedView};
 pub use bell::{Bell, Rung, RungForAll, SaidBroken};
+pub use pending_view::{PendingView, ViewError};
 pub use port::{Arrived, Port};
 pub use waiting::Waiting;
-pub use watching::{NotShown, Watching};
-pub use window::{Glimpse, Window};

@@ -3,7 +3,7 @@ ghost use Rattle.std.specs.Prelude.{◌≡◌, ◌≤◌, IfOk, IfErr, OnOk};
 ghost use Rattle.invoke_records.specs.Spelling.{greatest_moment};
 ghost use Rattle.hall_core.specs.Hall.{request, IsDone};
 ghost use Rattle.hall_core.specs.Past.{tick};
-ghost use Rattle.receipts.specs.Kept.{hall_in};
+ghost use Rattle.receipts.specs.Locked.{hall_in};
 ghost use Rattle.receipts.specs.Told.{TellsPoint, Takes, Forgets};
 ghost use Rattle.receipts.specs.UnderLock.{IssuedAt};
 ghost use Rattle.long_poll.specs.Port.{IsSlot, IsRequestRefusal, IsMoveRefusal, IsRequestReason, IsMoveReason};
@@ -83,14 +83,14 @@ impl<L: Ledger, T: Trace> Port<L, T> {
         ensures slot { IfOk result.answer (λ arrived. IsSlot arrived.slot) }
         ensures refused { IfErr result.answer IsRequestRefusal }
 
-        // claim: Just that call was done to the hall met, or has its reason there; so of a take, a point, a forgetting. [:
+        // claim: Just that call was done to the hall before, or has its reason there; so of a take, a point, a forgetting. [:
         // done, reason; Port::tick: done, answer, reason; Port::take; Port::point; Port::forget]
         ensures done { IfOk result.answer (λ arrived.
-            IsDone (hall_in result.met.value.hall) (hall_in result.left.value.hall) (request arrived.slot call now words)) }
+            IsDone (hall_in result.before.value.hall) (hall_in result.after.value.hall) (request arrived.slot call now words)) }
         ensures issued { IfOk result.answer (λ arrived.
-            IssuedAt (hall_in result.met.value.hall) (request arrived.slot call now words) arrived.issued) }
+            IssuedAt (hall_in result.before.value.hall) (request arrived.slot call now words) arrived.issued) }
         ensures reason { IfErr result.answer
-            (IsRequestReason (hall_in result.met.value.hall) result.met.value.slots call now words) }
+            (IsRequestReason (hall_in result.before.value.hall) result.before.value.slots call now words) }
     {
         let mut desk = self.desk.lock(rt);
         let (answer, seen) = self.office.arrive(rt, &mut desk, call, now, words).split();
@@ -119,10 +119,10 @@ impl<L: Ledger, T: Trace> Port<L, T> {
         requires { now ≤ greatest_moment }
         ensures refused { IfErr result.answer IsMoveRefusal }
 
-        // Just this move was made in what was met under the lock, or there is a reason there why it was not.
-        ensures done { OnOk result.answer (IsDone (hall_in result.met.value.hall) (hall_in result.left.value.hall) (tick now)) }
-        ensures answer { IfOk result.answer (IssuedAt (hall_in result.met.value.hall) (tick now)) }
-        ensures reason { IfErr result.answer (IsMoveReason (hall_in result.met.value.hall) now) }
+        // Just this move was made in what was under the lock, or there is a reason there why it was not.
+        ensures done { OnOk result.answer (IsDone (hall_in result.before.value.hall) (hall_in result.after.value.hall) (tick now)) }
+        ensures answer { IfOk result.answer (IssuedAt (hall_in result.before.value.hall) (tick now)) }
+        ensures reason { IfErr result.answer (IsMoveReason (hall_in result.before.value.hall) now) }
     {
         let mut desk = self.desk.lock(rt);
         let (answer, seen) = self.office.tick(rt, &mut desk, now).split();
@@ -140,7 +140,7 @@ impl<L: Ledger, T: Trace> Port<L, T> {
 
     /// The reply of a slot, as `Office::take` gives it.
     pub(crate) fn take<R: Wait>(&self, rt: &R, slot: u64) -> Witnessed<Option<Released>, L, T>
-        ensures { Takes result.met.value result.left.value slot result.answer }
+        ensures { Takes result.before.value result.after.value slot result.answer }
     {
         let mut desk = self.desk.lock(rt);
         self.office.take(rt, &mut desk, slot)
@@ -148,7 +148,7 @@ impl<L: Ledger, T: Trace> Port<L, T> {
 
     /// How much has to be durable before the reply of a slot is told, as `Office::point` says.
     pub(crate) fn point<R: Wait>(&self, rt: &R, slot: u64) -> Witnessed<Option<u64>, L, T>
-        ensures { TellsPoint result.met.value slot result.answer }
+        ensures { TellsPoint result.before.value slot result.answer }
     {
         let mut desk = self.desk.lock(rt);
         self.office.point(rt, &mut desk, slot)
@@ -156,7 +156,7 @@ impl<L: Ledger, T: Trace> Port<L, T> {
 
     /// The reply of a slot is not wanted any more, as `Office::forget` says.
     pub(crate) fn forget<R: Wait>(&self, rt: &R, slot: u64) -> Witnessed<(), L, T>
-        ensures { Forgets result.met.value result.left.value slot }
+        ensures { Forgets result.before.value result.after.value slot }
     {
         let mut desk = self.desk.lock(rt);
         self.office.forget(rt, &mut desk, slot)

@@ -29,7 +29,7 @@ enum Progress {
 
 // Why the office may be asked for a reply.
 #[derive(Drop)]
-enum Cause {
+enum TakeReason {
     Durable(Receipt),
     HallBroke,
 }
@@ -89,7 +89,7 @@ impl<R: Wait, L: Ledger, T: Trace> Waiting<R, L, T> {
     }
 
     // Looks at the board for a ticket: why the office may be asked, if it may.
-    fn check(&mut self, ticket: Ticket) -> Option<Cause>
+    fn check(&mut self, ticket: Ticket) -> Option<TakeReason>
         ensures same { (self.new.slot ≡ self.old.slot) × (self.new.port ≡ self.old.port) }
         ensures number { number_at self.new.progress ≡ Some ticket }
         ensures waits { IfNone result (number_for self.new.progress ≡ ticket) }
@@ -97,17 +97,20 @@ impl<R: Wait, L: Ledger, T: Trace> Waiting<R, L, T> {
         match self.port.check(&self.rt, ticket) {
             Ok(receipt) => {
                 self.progress = Progress::Durable(receipt);
-                Some(Cause::Durable(receipt))
+                Some(TakeReason::Durable(receipt))
             }
             Err(ticket) => {
                 self.progress = Progress::Issued(ticket);
-                self.port.bell().has_broken().then_some(Cause::HallBroke)
+                self.port
+                    .bell()
+                    .has_broken()
+                    .then_some(TakeReason::HallBroke)
             }
         }
     }
 
     // Looks whether the office may be asked, and why.
-    fn look(&mut self) -> Option<Cause>
+    fn look(&mut self) -> Option<TakeReason>
         ensures same { (self.new.slot ≡ self.old.slot) × (self.new.port ≡ self.old.port) }
         ensures number { number_at self.new.progress ≡ number_at self.old.progress }
     {
@@ -115,18 +118,18 @@ impl<R: Wait, L: Ledger, T: Trace> Waiting<R, L, T> {
             Progress::Issued(ticket) => self.check(ticket),
             Progress::Durable(receipt) => {
                 self.progress = Progress::Durable(receipt);
-                Some(Cause::Durable(receipt))
+                Some(TakeReason::Durable(receipt))
             }
             Progress::Answered(receipt, number) => {
                 self.progress = Progress::Answered(receipt, number);
-                Some(Cause::Durable(receipt))
+                Some(TakeReason::Durable(receipt))
             }
             Progress::Told => None,
         }
     }
 
     // Looks again, after the task has registered for its number.
-    fn look_again(&mut self, registered: Registered) -> Option<Cause>
+    fn look_again(&mut self, registered: Registered) -> Option<TakeReason>
         requires { IsUnder registered self.old.slot (number_for self.old.progress) }
         ensures same { (self.new.slot ≡ self.old.slot) × (self.new.port ≡ self.old.port) }
         ensures number { number_at self.new.progress ≡ number_at self.old.progress }
@@ -136,7 +139,7 @@ impl<R: Wait, L: Ledger, T: Trace> Waiting<R, L, T> {
     }
 
     // Why the office may be asked. Where it may not, the task has registered, and looked after that.
-    fn cause(&mut self, cx: &mut Context<'_>) -> Option<Cause>
+    fn cause(&mut self, cx: &mut Context<'_>) -> Option<TakeReason>
         ensures same { (self.new.slot ≡ self.old.slot) × (self.new.port ≡ self.old.port) }
         ensures number { number_at self.new.progress ≡ number_at self.old.progress }
         ensures covers { IfNone result (Covers cx.new (λ source. source ≡ source_of self.old.port.value.bell.value)) }
@@ -163,7 +166,7 @@ impl<R: Wait, L: Ledger, T: Trace> Waiting<R, L, T> {
     }
 
     // Asks the office, of which there has to be a cause.
-    fn ask(&mut self, cause: Cause) -> Option<Released>
+    fn ask(&mut self, cause: TakeReason) -> Option<Released>
         ensures same { (self.new.slot ≡ self.old.slot) × (self.new.port ≡ self.old.port) }
         ensures slot { IfSome result (λ released. slot_told released ≡ self.old.slot) }
         ensures told { OnSome result (number_at self.new.progress ≡ None) }

@@ -4,7 +4,7 @@ use std::io;
 use std::sync::Arc;
 use tokio_util::sync::CancellationToken;
 
-/// What is served beside the ports of a front, on a thread of its own, with a window on what they serve.
+/// What is served beside the ports of a front, on a thread of its own, with a reader of what they serve.
 pub trait Beside<R, W>: Drop {
     /// What shows that it was served to its end. Only serving it gives that.
     type Served: Drop;
@@ -13,7 +13,7 @@ pub trait Beside<R, W>: Drop {
     fn serve(
         self,
         rt: R,
-        window: W,
+        reader: W,
         meters: Arc<Meters>,
         ending: &CancellationToken,
     ) -> io::Result<Self::Served>;

@@ -22,7 +22,7 @@ use Rattle.receipts.specs.Marks.{mark_of, marks_by, AreNumbered}
 use Rattle.api_core.specs.declared.call.Call.{Call}
 use Rattle.hall_core.specs.Asked.{IsAsked}
 use Rattle.receipts.specs.Answers.{AddsAtMostOne, AddsAnswered, AddsAsked}
-use Rattle.receipts.specs.Kept.{number_of}
+use Rattle.receipts.specs.Locked.{number_of}
 use Rattle.receipts.specs.Following.{bare_standing, bare_row, bare, TellTheSame, command_of, table_after_marks, Follows}
 
 -- ## Numbers

@@ -5,4 +5,4 @@ pub mod Refused
 pub mod UnderLock
 pub mod Running
 pub mod Histories
-pub mod Tallied
+pub mod Counted

@@ -17,7 +17,7 @@ use Rattle.hall_core.specs.Past.{HallCall, tick}
 use Rattle.hall_core.specs.Hall.{HallView, pending_in, KeepsReason}
 use Rattle.hall_core.specs.Halves.{lend_error_of, write_error_of, settle_error_of, IsNotLent, IsNotDurable}
 use Rattle.receipts.specs.Answers.{IsMismatch, IsArrivalRefusal, IsTickRefusal, IsCommitRefusal}
-use Rattle.receipts.specs.Kept.{IsNotLentTo}
+use Rattle.receipts.specs.Locked.{IsNotLentTo}
 
 -- at most so much is pending in a half
 pub few_pending : (half : IssueHalf) → pending_in (half_view half) ≤ 256

@@ -14,7 +14,7 @@ use Rattle.hall_core.specs.declared.hall.Hall.{Hall}
 use Rattle.hall_core.specs.declared.released.Released.{Released}
 use Rattle.hall_core.specs.Environments.{HoldFor}
 use Rattle.hall_core.specs.OpenSlots.{Entries, KeepFor}
-use Rattle.receipts.specs.Kept.{hall_in, issuer_in}
+use Rattle.receipts.specs.Locked.{hall_in, issuer_in}
 use Rattle.group_commit.specs.IssuerHalf.{half_view, half_laws}
 use Rattle.hall_core.specs.Past.{HallCall, take_slot, forget_slot, Past, opening}
 use Rattle.hall_core.specs.Run.{past_after, after, past_of}

@@ -26,7 +26,7 @@ use Rattle.hall_core.specs.Halves.{lend_error_of, write_error_of, settle_error_o
 use Rattle.receipts.specs.declared.mark.Mark.{Mark}
 use Rattle.receipts.specs.Marks.{marks_by}
 use Rattle.receipts.specs.Answers.{IsMismatch}
-use Rattle.receipts.specs.Kept.{number_of}
+use Rattle.receipts.specs.Locked.{number_of}
 use Rattle.receipts.specs.Serving.{IsToldOf}
 use Rattle.receipts.proofs.Running.{same_stands}
 use Rattle.receipts.specs.UnderLock.{DoesAt, AnswersItsNumber, IssuedAt, next_slot, Asking, ComesToHall, IsTurnedAway, HallRefuses, IsNotMade, IsNoFault}

@@ -2,11 +2,11 @@ pub mod Marks
 pub mod Following
 pub mod Answers
 pub mod Desks
-pub mod Kept
+pub mod Locked
 pub mod UnderLock
 pub mod Running
 pub mod Serving
-pub mod Tallies
-pub mod Sights
+pub mod Counters
+pub mod Views
 pub mod laws
 pub mod Told

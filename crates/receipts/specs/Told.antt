@@ -20,19 +20,19 @@ use Rattle.receipts.specs.declared.mark.Mark.{Mark}
 use Rattle.receipts.specs.declared.mark.Trace.{Ghosts as TraceGhosts}
 use Rattle.receipts.specs.declared.opening.OpeningTrace.{Ghosts as OpeningGhosts}
 use Rattle.receipts.specs.declared.desk.Desk.{Desk}
-use Rattle.receipts.specs.declared.kept.Kept.{Kept}
-use Rattle.receipts.specs.declared.kept.Loan.{Loan}
+use Rattle.receipts.specs.declared.locked.Locked.{Locked}
+use Rattle.receipts.specs.declared.locked.Loan.{Loan}
 use Rattle.receipts.specs.Answers.{AddsAtMostOne, AddsAnswered, AddsAsked, IsToldMore, IsToldIfAny, IsSlotOf}
 use Rattle.receipts.specs.Answers.{IsArrivalRefusal, IsTickRefusal}
-use Rattle.receipts.specs.Kept.{hall_in, issuer_in, IsToldByLoan, IsNotLentTo}
+use Rattle.receipts.specs.Locked.{hall_in, issuer_in, IsToldByLoan, IsNotLentTo}
 use Rattle.receipts.specs.Marks.{KeepsHistories}
 use Rattle.receipts.specs.Serving.{IsToldOf}
 use Rattle.receipts.specs.UnderLock.{DoesAt, AnswersItsNumber, IssuedAt, AddBoth, LendsAs, Counts, IsNotMade, IsNotMoved, IsSameUnderLock, IsNoFault}
 
 -- the marks under the lock
 abbrev pub marks_in : {L T O : Type 0} {l : LedgerGhosts L} {g : TraceGhosts T O} {o : OpeningGhosts O}
-    → Kept L T O l g o → List Mark
-marks_in {g = g} kept = map g.mark kept.marks.all.items
+    → Locked L T O l g o → List Mark
+marks_in {g = g} locked = map g.mark locked.marks.all.items
 
 -- the marks of a desk
 abbrev pub own_of : {L T O : Type 0} {g : TraceGhosts T O} {o : OpeningGhosts O} → Desk L T O g o → List Mark
@@ -40,13 +40,13 @@ own_of {g = g} desk = map g.mark desk.own.items
 
 -- the hall, its marks and its count of slots are the same
 abbrev pub IsLeftSame : {L T O : Type 0} {l : LedgerGhosts L} {g : TraceGhosts T O} {o : OpeningGhosts O}
-    → Kept L T O l g o → Kept L T O l g o → Type 0
-IsLeftSame met left = IsSameUnderLock (hall_in met.hall) (hall_in left.hall) (marks_in met) (marks_in left) met.slots left.slots
+    → Locked L T O l g o → Locked L T O l g o → Type 0
+IsLeftSame before after = IsSameUnderLock (hall_in before.hall) (hall_in after.hall) (marks_in before) (marks_in after) before.slots after.slots
 
 -- just this request was done, with the slot that is answered, and its command was marked here and at the desk; a refusal is
 -- the first check that fails, and changes nothing
 pub record Arrives {L T O : Type 0} {l : LedgerGhosts L} {g : TraceGhosts T O} {o : OpeningGhosts O}
-    (met left : Kept L T O l g o) (desk desk' : Desk L T O g o) (call : Call) (now : ℕ) (words : List ℕ)
+    (before after : Locked L T O l g o) (desk desk' : Desk L T O g o) (call : Call) (now : ℕ) (words : List ℕ)
     (result : Result (ℕ × ℕ) HallError) : Type 0 where
   pub marks : IfOk result (λ r. AddsAtMostOne desk.number (own_of desk) (own_of desk') r.0)
   pub told : IfOk result (λ r. IsToldMore desk.told desk'.told r.0)
@@ -55,110 +55,110 @@ pub record Arrives {L T O : Type 0} {l : LedgerGhosts L} {g : TraceGhosts T O} {
   pub err : OnErr result ((desk'.own.items ≡ desk.own.items) × (desk'.told ≡ desk.told))
   pub asked : OnOk result (AddsAsked (drawn_by words) call (own_of desk) (own_of desk'))
   pub refused : IfErr result (IsArrivalRefusal desk.told)
-  pub done : IfOk result (λ r. DoesAt (hall_in met.hall) (hall_in left.hall) (request r.1 call now words)
+  pub done : IfOk result (λ r. DoesAt (hall_in before.hall) (hall_in after.hall) (request r.1 call now words)
       desk.number (own_of desk) (own_of desk'))
-  pub both : OnOk result (AddBoth (own_of desk) (own_of desk') (marks_in met) (marks_in left))
-  pub histories : OnOk result (KeepsHistories desk.number (marks_in met) (own_of desk) (marks_in left) (own_of desk'))
-  pub unmarked : OnErr result (left.marks.all.items ≡ met.marks.all.items)
-  pub counts : IfOk result (λ r. Counts met.slots left.slots desk.number r.1)
-  pub ticket : IfOk result (λ r. r.0 ≡ issued_in (issuer_in left.hall))
-  pub kept : OnOk result (IsAsDurable (hall_in met.hall) (hall_in left.hall))
-  pub no_call : has_same_lent met.hall.issuer left.hall.issuer
-  pub opening : left.opening ≡ met.opening
-  pub reason : IfErr result (IsNotMade (hall_in met.hall) met.slots
+  pub both : OnOk result (AddBoth (own_of desk) (own_of desk') (marks_in before) (marks_in after))
+  pub histories : OnOk result (KeepsHistories desk.number (marks_in before) (own_of desk) (marks_in after) (own_of desk'))
+  pub unmarked : OnErr result (after.marks.all.items ≡ before.marks.all.items)
+  pub counts : IfOk result (λ r. Counts before.slots after.slots desk.number r.1)
+  pub ticket : IfOk result (λ r. r.0 ≡ issued_in (issuer_in after.hall))
+  pub kept : OnOk result (IsAsDurable (hall_in before.hall) (hall_in after.hall))
+  pub no_call : has_same_lent before.hall.issuer after.hall.issuer
+  pub opening : after.opening ≡ before.opening
+  pub reason : IfErr result (IsNotMade (hall_in before.hall) before.slots
       (record { told = desk.told; desk = desk.number; call = call; now = now; words = words }))
-  pub same : OnErr result (IsLeftSame met left)
+  pub same : OnErr result (IsLeftSame before after)
   -- the desk tells what this request issued
-  pub issued : IfOk result (λ r. IssuedAt (hall_in met.hall) (request r.1 call now words) desk'.issued)
+  pub issued : IfOk result (λ r. IssuedAt (hall_in before.hall) (request r.1 call now words) desk'.issued)
   pub kept_issued : OnErr result (desk'.issued ≡ desk.issued)
   -- the desk has the slots of just the polls that this request answered
-  pub answered : IfOk result (λ r. AnswersPolls (hall_in met.hall) (request r.1 call now words) desk'.answered.items)
+  pub answered : IfOk result (λ r. AnswersPolls (hall_in before.hall) (request r.1 call now words) desk'.answered.items)
   pub kept_answered : OnErr result (desk'.answered.items ≡ desk.answered.items)
 
 -- just this move was made, and its command was marked here and at the desk; a refusal is the first check that fails, and
 -- changes nothing
 pub record Moves {L T O : Type 0} {l : LedgerGhosts L} {g : TraceGhosts T O} {o : OpeningGhosts O}
-    (met left : Kept L T O l g o) (desk desk' : Desk L T O g o) (now : ℕ) (result : Result (Option ℕ) HallError) : Type 0 where
+    (before after : Locked L T O l g o) (desk desk' : Desk L T O g o) (now : ℕ) (result : Result (Option ℕ) HallError) : Type 0 where
   pub marks : IfOk result (AddsAnswered desk.number (own_of desk) (own_of desk'))
   pub told : IfOk result (IsToldIfAny desk.told desk'.told)
   pub number : desk'.number ≡ desk.number
   pub err : OnErr result ((desk'.own.items ≡ desk.own.items) × (desk'.told ≡ desk.told))
   pub refused : IfErr result (IsTickRefusal desk.told)
-  pub done : OnOk result (DoesAt (hall_in met.hall) (hall_in left.hall) (tick now) desk.number (own_of desk) (own_of desk'))
-  pub answer : IfOk result (AnswersItsNumber (hall_in met.hall) (tick now))
-  pub both : OnOk result (AddBoth (own_of desk) (own_of desk') (marks_in met) (marks_in left))
-  pub histories : OnOk result (KeepsHistories desk.number (marks_in met) (own_of desk) (marks_in left) (own_of desk'))
-  pub unmarked : OnErr result (left.marks.all.items ≡ met.marks.all.items)
-  pub counted : left.slots ≡ met.slots
-  pub kept : OnOk result (IsAsDurable (hall_in met.hall) (hall_in left.hall))
-  pub no_call : has_same_lent met.hall.issuer left.hall.issuer
-  pub opening : left.opening ≡ met.opening
-  pub reason : IfErr result (IsNotMoved (hall_in met.hall) desk.told now)
-  pub same : OnErr result (IsLeftSame met left)
+  pub done : OnOk result (DoesAt (hall_in before.hall) (hall_in after.hall) (tick now) desk.number (own_of desk) (own_of desk'))
+  pub answer : IfOk result (AnswersItsNumber (hall_in before.hall) (tick now))
+  pub both : OnOk result (AddBoth (own_of desk) (own_of desk') (marks_in before) (marks_in after))
+  pub histories : OnOk result (KeepsHistories desk.number (marks_in before) (own_of desk) (marks_in after) (own_of desk'))
+  pub unmarked : OnErr result (after.marks.all.items ≡ before.marks.all.items)
+  pub counted : after.slots ≡ before.slots
+  pub kept : OnOk result (IsAsDurable (hall_in before.hall) (hall_in after.hall))
+  pub no_call : has_same_lent before.hall.issuer after.hall.issuer
+  pub opening : after.opening ≡ before.opening
+  pub reason : IfErr result (IsNotMoved (hall_in before.hall) desk.told now)
+  pub same : OnErr result (IsLeftSame before after)
   -- the desk tells what this move issued
-  pub issued : OnOk result (IssuedAt (hall_in met.hall) (tick now) desk'.issued)
+  pub issued : OnOk result (IssuedAt (hall_in before.hall) (tick now) desk'.issued)
   pub kept_issued : OnErr result (desk'.issued ≡ desk.issued)
   -- the desk has the slots of just the polls that this move answered
-  pub answered : OnOk result (AnswersPolls (hall_in met.hall) (tick now) desk'.answered.items)
+  pub answered : OnOk result (AnswersPolls (hall_in before.hall) (tick now) desk'.answered.items)
   pub kept_answered : OnErr result (desk'.answered.items ≡ desk.answered.items)
 
 -- just all that is pending was lent, or nothing was, and then the desk is told how much is durable
 pub record LendsTo {L T O : Type 0} {l : LedgerGhosts L} {g : TraceGhosts T O} {o : OpeningGhosts O}
-    (met left : Kept L T O l g o) (desk desk' : Desk L T O g o) (result : Result Loan HallError) : Type 0 where
+    (before after : Locked L T O l g o) (desk desk' : Desk L T O g o) (result : Result Loan HallError) : Type 0 where
   pub told : IfOk result (IsToldByLoan desk.told desk'.told)
   pub number : desk'.number ≡ desk.number
   pub own : desk'.own.items ≡ desk.own.items
   pub answered : desk'.answered ≡ desk.answered
   pub err : OnErr result (desk'.told ≡ desk.told)
-  pub refused : IfErr result (IsNotLentTo desk.told met.hall.issuer)
+  pub refused : IfErr result (IsNotLentTo desk.told before.hall.issuer)
   pub no_fault : IfErr result IsNoFault
-  pub lends : IfOk result (LendsAs met.hall.issuer left.hall.issuer)
-  pub kept : OnErr result (has_same_lent met.hall.issuer left.hall.issuer)
-  pub same : IsLeftSame met left
-  pub opening : left.opening ≡ met.opening
+  pub lends : IfOk result (LendsAs before.hall.issuer after.hall.issuer)
+  pub kept : OnErr result (has_same_lent before.hall.issuer after.hall.issuer)
+  pub same : IsLeftSame before after
+  pub opening : after.opening ≡ before.opening
 
 -- just the batch that was out is durable, which the desk is told, or there is a reason why it is not
 pub record Settles {L T O : Type 0} {l : LedgerGhosts L} {g : TraceGhosts T O} {o : OpeningGhosts O}
-    (met left : Kept L T O l g o) (desk desk' : Desk L T O g o) (outcome : Result Written Failed)
+    (before after : Locked L T O l g o) (desk desk' : Desk L T O g o) (outcome : Result Written Failed)
     (result : Result ℕ HallError) : Type 0 where
   pub told : IfOk result (IsToldMore desk.told desk'.told)
   pub number : desk'.number ≡ desk.number
   pub own : desk'.own.items ≡ desk.own.items
   pub answered : desk'.answered ≡ desk.answered
   pub err : OnErr result (desk'.told ≡ desk.told)
-  pub refused : IfErr result (IsNotDurable met.hall.issuer left.hall.issuer outcome)
-  pub settles : IfOk result (SettlesBy met.hall.issuer left.hall.issuer outcome)
+  pub refused : IfErr result (IsNotDurable before.hall.issuer after.hall.issuer outcome)
+  pub settles : IfOk result (SettlesBy before.hall.issuer after.hall.issuer outcome)
   pub tells : IsToldOf outcome result
-  pub stands : ForEachPast (hall_in met.hall) (λ past. StandsFor (hall_in left.hall) past)
-  pub parts : HasSameParts (hall_in met.hall) (hall_in left.hall)
-  pub all : left.marks.all.items ≡ met.marks.all.items
-  pub counted : left.slots ≡ met.slots
-  pub opening : left.opening ≡ met.opening
+  pub stands : ForEachPast (hall_in before.hall) (λ past. StandsFor (hall_in after.hall) past)
+  pub parts : HasSameParts (hall_in before.hall) (hall_in after.hall)
+  pub all : after.marks.all.items ≡ before.marks.all.items
+  pub counted : after.slots ≡ before.slots
+  pub opening : after.opening ≡ before.opening
 
 -- the reply of this slot was taken, where all that it shows is durable
 pub record Takes {L T O : Type 0} {l : LedgerGhosts L} {g : TraceGhosts T O} {o : OpeningGhosts O}
-    (met left : Kept L T O l g o) (asked : ℕ) (result : Option Released) : Type 0 where
+    (before after : Locked L T O l g o) (asked : ℕ) (result : Option Released) : Type 0 where
   pub slot : IfSome result (λ released. slot_told released ≡ asked)
-  pub gives : Gives (hall_in met.hall) asked result
-  pub by_events : ForEachKept met.hall.slots (GivesFor (hall_in met.hall) asked result)
-  pub done : OnSome result (IsDone (hall_in met.hall) (hall_in left.hall) (take_slot asked))
-  pub none : IfNone result (IsSameHall (hall_in met.hall) (hall_in left.hall))
-  pub issuer : left.hall.issuer ≡ met.hall.issuer
-  pub marks : left.marks.all.items ≡ met.marks.all.items
-  pub counted : left.slots ≡ met.slots
-  pub opening : left.opening ≡ met.opening
+  pub gives : Gives (hall_in before.hall) asked result
+  pub by_events : ForEachKept before.hall.slots (GivesFor (hall_in before.hall) asked result)
+  pub done : OnSome result (IsDone (hall_in before.hall) (hall_in after.hall) (take_slot asked))
+  pub none : IfNone result (IsSameHall (hall_in before.hall) (hall_in after.hall))
+  pub issuer : after.hall.issuer ≡ before.hall.issuer
+  pub marks : after.marks.all.items ≡ before.marks.all.items
+  pub counted : after.slots ≡ before.slots
+  pub opening : after.opening ≡ before.opening
 
 -- how many commands have to be durable before the reply of this slot is told, where it is computed and still wanted
 pub record TellsPoint {L T O : Type 0} {l : LedgerGhosts L} {g : TraceGhosts T O} {o : OpeningGhosts O}
-    (met : Kept L T O l g o) (slot : ℕ) (result : Option ℕ) : Type 0 where
-  pub by_past : ForEachPast (hall_in met.hall) (λ past. result ≡ point_of past slot)
-  pub by_events : ForEachKept met.hall.slots (λ _ events. result ≡ point_in events slot)
+    (before : Locked L T O l g o) (slot : ℕ) (result : Option ℕ) : Type 0 where
+  pub by_past : ForEachPast (hall_in before.hall) (λ past. result ≡ point_of past slot)
+  pub by_events : ForEachKept before.hall.slots (λ _ events. result ≡ point_in events slot)
 
 -- the reply of this slot is not wanted any more
 pub record Forgets {L T O : Type 0} {l : LedgerGhosts L} {g : TraceGhosts T O} {o : OpeningGhosts O}
-    (met left : Kept L T O l g o) (slot : ℕ) : Type 0 where
-  pub done : IsDone (hall_in met.hall) (hall_in left.hall) (forget_slot slot)
-  pub issuer : left.hall.issuer ≡ met.hall.issuer
-  pub marks : left.marks.all.items ≡ met.marks.all.items
-  pub counted : left.slots ≡ met.slots
-  pub opening : left.opening ≡ met.opening
+    (before after : Locked L T O l g o) (slot : ℕ) : Type 0 where
+  pub done : IsDone (hall_in before.hall) (hall_in after.hall) (forget_slot slot)
+  pub issuer : after.hall.issuer ≡ before.hall.issuer
+  pub marks : after.marks.all.items ≡ before.marks.all.items
+  pub counted : after.slots ≡ before.slots
+  pub opening : after.opening ≡ before.opening

@@ -14,12 +14,12 @@ use Rattle.hall_core.specs.declared.error.HallError.TheVariants as error
 use Rattle.hall_core.specs.Past.{HallCall, tick}
 use Rattle.hall_core.specs.Run.{past_after, issued_by}
 use Rattle.hall_core.specs.Hall.{HallView, settings_in, StandsFor, ForEachPast, IsSameHall, CanBeAsked, request, Refuses, KeepsReason}
-use Rattle.receipts.specs.declared.kept.Loan.{Loan}
-use Rattle.receipts.specs.declared.kept.Loan.TheVariants.{Nothing, Out}
+use Rattle.receipts.specs.declared.locked.Loan.{Loan}
+use Rattle.receipts.specs.declared.locked.Loan.TheVariants.{Nothing, Out}
 use Rattle.receipts.specs.declared.mark.Mark.{Mark}
 use Rattle.receipts.specs.Marks.{marks_by}
 use Rattle.receipts.specs.Answers.{IsMismatch}
-use Rattle.receipts.specs.Kept.{number_of, IsNotLentTo}
+use Rattle.receipts.specs.Locked.{number_of, IsNotLentTo}
 
 -- ## What was done
 

@@ -3,7 +3,7 @@ ghost use Rattle.std.specs.Prelude.{◌≡◌, map};
 ghost use Rattle.receipts.specs.Marks.{KeepsHistories, AreHistories};
 
 use crate::desk::Desk;
-use crate::kept::Kept;
+use crate::locked::Locked;
 use crate::mark::Trace;
 use crate::unlocked::Unlocked;
 use api_core::Call;
@@ -25,12 +25,12 @@ pub enum Ask {
 
 /// The place of the desk that asks, and what it asks.
 #[derive(Drop)]
-pub struct Step {
+pub struct DeskStep {
     pub desk: usize,
     pub ask: Ask,
 }
 
-impl<L: Ledger, T: Trace> Kept<L, T> {
+impl<L: Ledger, T: Trace> Locked<L, T> {
     // What the desk asks is done, unless it is refused.
     fn ask(&mut self, desk: &mut Desk<L, T>, ask: Ask)
         ensures histories { KeepsHistories desk.old.number (map T.mark self.old.marks.all.items) (map T.mark desk.old.own.items)
@@ -53,14 +53,14 @@ impl<L: Ledger, T: Trace> Kept<L, T> {
 impl<L: Ledger, T: Trace> Unlocked<L, T> {
     /// Lets desks ask, in any order. Whichever do, the marks of each desk stay its history among all marks. An office that is
     /// just opened has no marks, and the desk at each place has the number of the place.
-    pub fn drill(&mut self, desks: &mut Vec<Desk<L, T>>, steps: Vec<Step>)
-        requires { AreHistories (λ d. d.number) (λ d. map T.mark d.own.items) (map T.mark self.old.kept.marks.all.items) desks.old.items }
+    pub fn drill(&mut self, desks: &mut Vec<Desk<L, T>>, steps: Vec<DeskStep>)
+        requires { AreHistories (λ d. d.number) (λ d. map T.mark d.own.items) (map T.mark self.old.locked.marks.all.items) desks.old.items }
         // claim: Desks that ask in any order each keep their list.
-        ensures { AreHistories (λ d. d.number) (λ d. map T.mark d.own.items) (map T.mark self.new.kept.marks.all.items) desks.new.items }
+        ensures { AreHistories (λ d. d.number) (λ d. map T.mark d.own.items) (map T.mark self.new.locked.marks.all.items) desks.new.items }
     {
         for step in steps {
             if let Some(desk) = desks.get_mut(step.desk) {
-                self.kept.ask(desk, step.ask);
+                self.locked.ask(desk, step.ask);
             }
         }
     }

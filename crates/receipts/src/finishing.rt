@@ -7,7 +7,7 @@ ghost use Rattle.group_commit.specs.Splitting.{broker_of, Joins, IsNotJoined};
 
 use crate::desk::Desk;
 use crate::error::{FinishError, FinishFailure, UnlockedFailure};
-use crate::kept::Kept;
+use crate::locked::Locked;
 use crate::mark::Mark;
 use crate::marks::Marks;
 use crate::office::Office;
@@ -87,15 +87,15 @@ fn are_histories<L: Ledger>(all: &[Mark], desks: &[Desk<L>]) -> bool
     true
 }
 
-/// What was kept under the lock and not closed, and why.
+/// What was locked and not closed, and why.
 #[derive(Drop)]
 pub(crate) struct NotClosed<D: Disk, L: Ledger> {
     pub(crate) cause: FinishError,
-    pub(crate) kept: Kept<L, Mark>,
+    pub(crate) locked: Locked<L, Mark>,
     pub(crate) disk: DiskHalf<D>,
 }
 
-impl<L: Ledger> Kept<L, Mark> {
+impl<L: Ledger> Locked<L, Mark> {
     // Whether these are all its desks, each with its own marks.
     fn has_all(&self, desks: &[Desk<L>]) -> bool
         ensures { IsTrue result ↔ AreAll (λ d. d.number) (λ d. d.own.items) L.parts self.now.marks.all.items desks.now }
@@ -112,10 +112,10 @@ impl<L: Ledger> Kept<L, Mark> {
         ensures joined { IfOk result (λ r. Joins self.hall.issuer (broker_of disk) r.0.issuer) }
         ensures err { IfErr result (λ failure. IsNotMismatch failure.cause) }
         ensures not_joined { IfErr result (λ failure. IsWhyNotJoined
-            (IsNotJoined self.hall.issuer failure.kept.hall.issuer (broker_of disk) (broker_of failure.disk)) failure.cause) }
-        ensures same { IfErr result (λ failure. failure.kept.marks.all.items ≡ self.marks.all.items) }
+            (IsNotJoined self.hall.issuer failure.locked.hall.issuer (broker_of disk) (broker_of failure.disk)) failure.cause) }
+        ensures same { IfErr result (λ failure. failure.locked.marks.all.items ≡ self.marks.all.items) }
     {
-        let Kept {
+        let Locked {
             hall,
             opening,
             marks,
@@ -125,7 +125,7 @@ impl<L: Ledger> Kept<L, Mark> {
         match hall.join(disk) {
             Ok(hall) => Ok((hall, marks)),
             Err(failure) => {
-                let kept = Kept {
+                let locked = Locked {
                     hall: failure.hall,
                     opening,
                     marks,
@@ -134,7 +134,11 @@ impl<L: Ledger> Kept<L, Mark> {
                 };
                 let cause = FinishError::NotJoined(failure.cause);
                 let disk = failure.disk;
-                Err(NotClosed { cause, kept, disk })
+                Err(NotClosed {
+                    cause,
+                    locked,
+                    disk,
+                })
             }
         }
     }
@@ -152,14 +156,14 @@ impl<L: Ledger> Kept<L, Mark> {
         ensures refused { IfErr result (λ failure.
             IsReason (AreAll (λ d. d.number) (λ d. d.own.items) L.parts self.marks.all.items desks.now) failure.cause) }
         ensures not_joined { IfErr result (λ failure. IsWhyNotJoined
-            (IsNotJoined self.hall.issuer failure.kept.hall.issuer (broker_of disk) (broker_of failure.disk)) failure.cause) }
-        ensures same { IfErr result (λ failure. failure.kept.marks.all.items ≡ self.marks.all.items) }
+            (IsNotJoined self.hall.issuer failure.locked.hall.issuer (broker_of disk) (broker_of failure.disk)) failure.cause) }
+        ensures same { IfErr result (λ failure. failure.locked.marks.all.items ≡ self.marks.all.items) }
     {
         if !self.has_all(desks) {
             let cause = FinishError::Mismatch;
             return Err(NotClosed {
                 cause,
-                kept: self,
+                locked: self,
                 disk,
             });
         }

@@ -4,36 +4,36 @@
 //! own. What is kept of a mark is a type parameter, a `Trace`: the mark itself, or `Gone`, which has no bytes and which
 //! proofs alone see. The crates above use that what a desk was told is never undercut, that a call adds the mark of the
 //! command that it tells and no other, and that at the end each desk that kept its marks has its history among all marks.
-//! Whenever the lock is free the table tells what the marks tell. Beside each answer of an office proofs see what its call
-//! met under the lock and what it left there, of which the clauses say what was done. What an operator is shown is withheld until
+//! Whenever the lock is free the table tells what the marks tell. Beside each answer of an office proofs see what stood
+//! under the lock before its call and after it, of which the clauses say what was done. What an operator is shown is unreleased until
 //! all of it is durable.
 #![tactic(auto)]
 
+mod command_counters;
 mod desk;
 mod desk_count;
 mod drill;
 mod error;
 mod finishing;
-mod kept;
 pub mod laws;
+mod locked;
 mod looking;
 mod mark;
 mod marks;
 mod office;
 mod opening;
-mod sight;
-mod tally;
 mod unlocked;
+mod view;
 mod witness;
 
+pub use command_counters::CommandCounters;
 pub use desk::{Desk, desks};
-pub use drill::{Ask, Step};
+pub use drill::{Ask, DeskStep};
 pub use error::{FinishError, FinishFailure, OfficeFailure, UnlockedFailure};
 pub use looking::Rest;
 pub use mark::{Gone, Mark, SharedTrace, Trace};
 pub use office::Office;
 pub use opening::{GoneTable, OpeningTrace, SharedOpening};
-pub use sight::{Sight, Withheld};
-pub use tally::Tally;
 pub use unlocked::Unlocked;
+pub use view::{Unreleased, View};
 pub use witness::Witnessed;

@@ -3,12 +3,12 @@ ghost use Rattle.std.specs.Prelude.{◌≡◌, ◌≤◌, map, IfOk, length};
 ghost use Rattle.group_commit.specs.Issuer.{issued_in};
 ghost use Rattle.hall_core.specs.Hall.{ForEachPast, pending_in, open_slot_count};
 ghost use Rattle.hall_core.specs.Slots.{open_slots};
-ghost use Rattle.receipts.specs.Kept.{hall_in, issuer_in};
-ghost use Rattle.receipts.specs.Sights.{Withholds};
+ghost use Rattle.receipts.specs.Locked.{hall_in, issuer_in};
+ghost use Rattle.receipts.specs.Views.{IsViewOf};
 
 use crate::mark::Trace;
 use crate::office::Office;
-use crate::sight::Withheld;
+use crate::view::Unreleased;
 use crate::witness::Witnessed;
 use group_commit::Ticket;
 use std::alloc::AllocError;
@@ -30,69 +30,69 @@ pub struct Rest {
 impl<L: Ledger, T: Trace> Office<L, T> {
     /// How many commands are issued and not durable: at most 256.
     pub fn pending<R: Wait>(&self, rt: &R) -> Witnessed<usize, L, T>
-        ensures is { result.answer ≡ pending_in (issuer_in result.met.value.hall) }
+        ensures is { result.answer ≡ pending_in (issuer_in result.before.value.hall) }
         ensures few { result.answer ≤ 256 }
-        ensures same { result.left.value ≡ result.met.value }
+        ensures same { result.after.value ≡ result.before.value }
     {
-        let kept = self.kept.lock(rt);
-        let met = Seen::of(&*kept);
-        Witnessed::new(kept.pending(), met, &kept)
+        let locked = self.locked.lock(rt);
+        let before = Seen::of(&*locked);
+        Witnessed::new(locked.pending(), before, &locked)
     }
 
     /// How many slots are open.
     pub fn open_slots<R: Wait>(&self, rt: &R) -> Witnessed<usize, L, T>
         // claim: Open slots, pending commands, a reply's point, and whether the hall is broken or stops are those of the
-        // hall met, which stays so. [Office::pending: is, few, same; Office::is_broken: is, same; Office::rest: stops,
+        // hall before, which stays so. [Office::pending: is, few, same; Office::is_broken: is, same; Office::rest: stops,
         // pending, open, same; Office::point: by_past, by_events, same]
-        ensures by_parts { result.answer ≡ open_slot_count (hall_in result.met.value.hall) }
-        ensures by_past { ForEachPast (hall_in result.met.value.hall)
-            (λ past. result.answer ≡ length (open_slots (issuer_in result.met.value.hall).broken past)) }
-        ensures same { result.left.value ≡ result.met.value }
+        ensures by_parts { result.answer ≡ open_slot_count (hall_in result.before.value.hall) }
+        ensures by_past { ForEachPast (hall_in result.before.value.hall)
+            (λ past. result.answer ≡ length (open_slots (issuer_in result.before.value.hall).broken past)) }
+        ensures same { result.after.value ≡ result.before.value }
     {
-        let kept = self.kept.lock(rt);
-        let met = Seen::of(&*kept);
-        Witnessed::new(kept.open_slots(), met, &kept)
+        let locked = self.locked.lock(rt);
+        let before = Seen::of(&*locked);
+        Witnessed::new(locked.open_slots(), before, &locked)
     }
 
-    /// What an operator is shown of the office, withheld until all of it is durable, with a ticket of that. It changes nothing,
+    /// What an operator is shown of the office, unreleased until all of it is durable, with a ticket of that. It changes nothing,
     /// copies no byte of a payload, and is refused only for want of memory.
-    pub fn look<R: Wait>(&self, rt: &R) -> Witnessed<Result<(Withheld, Ticket), AllocError>, L, T>
-        // claim: An operator is shown the hall met and its marks by kind, withheld by a ticket of all that was issued.
+    pub fn look<R: Wait>(&self, rt: &R) -> Witnessed<Result<(Unreleased, Ticket), AllocError>, L, T>
+        // claim: An operator is shown the hall before and its marks by kind, unreleased by a ticket of all that was issued.
         // Nothing changes.
         ensures shows { IfOk result.answer (λ r.
-            Withholds (hall_in result.met.value.hall) (map T.mark result.met.value.marks.all.items) r.0) }
-        ensures ticket { IfOk result.answer (λ r. r.1 ≡ issued_in (issuer_in result.met.value.hall)) }
-        ensures same { result.left.value ≡ result.met.value }
+            IsViewOf (hall_in result.before.value.hall) (map T.mark result.before.value.marks.all.items) r.0) }
+        ensures ticket { IfOk result.answer (λ r. r.1 ≡ issued_in (issuer_in result.before.value.hall)) }
+        ensures same { result.after.value ≡ result.before.value }
     {
-        let kept = self.kept.lock(rt);
-        let met = Seen::of(&*kept);
-        Witnessed::new(kept.look_with_ticket(), met, &kept)
+        let locked = self.locked.lock(rt);
+        let before = Seen::of(&*locked);
+        Witnessed::new(locked.look_with_ticket(), before, &locked)
     }
 
     /// Whether a request asked the broker to stop, how many commands are pending and how many slots are open, all at one moment.
     pub fn rest<R: Wait>(&self, rt: &R) -> Witnessed<Rest, L, T>
-        ensures stops { result.answer.stops ≡ (hall_in result.met.value.hall).stops }
-        ensures pending { result.answer.pending ≡ pending_in (issuer_in result.met.value.hall) }
-        ensures open { result.answer.open_slots ≡ open_slot_count (hall_in result.met.value.hall) }
-        ensures same { result.left.value ≡ result.met.value }
+        ensures stops { result.answer.stops ≡ (hall_in result.before.value.hall).stops }
+        ensures pending { result.answer.pending ≡ pending_in (issuer_in result.before.value.hall) }
+        ensures open { result.answer.open_slots ≡ open_slot_count (hall_in result.before.value.hall) }
+        ensures same { result.after.value ≡ result.before.value }
     {
-        let kept = self.kept.lock(rt);
-        let met = Seen::of(&*kept);
+        let locked = self.locked.lock(rt);
+        let before = Seen::of(&*locked);
         let rest = Rest {
-            stops: kept.is_stopping(),
-            pending: kept.pending(),
-            open_slots: kept.open_slots(),
+            stops: locked.is_stopping(),
+            pending: locked.pending(),
+            open_slots: locked.open_slots(),
         };
-        Witnessed::new(rest, met, &kept)
+        Witnessed::new(rest, before, &locked)
     }
 
     /// Whether the device failed: the disk has to be opened again.
     pub fn is_broken<R: Wait>(&self, rt: &R) -> Witnessed<bool, L, T>
-        ensures is { result.answer ≡ (issuer_in result.met.value.hall).broken }
-        ensures same { result.left.value ≡ result.met.value }
+        ensures is { result.answer ≡ (issuer_in result.before.value.hall).broken }
+        ensures same { result.after.value ≡ result.before.value }
     {
-        let kept = self.kept.lock(rt);
-        let met = Seen::of(&*kept);
-        Witnessed::new(kept.is_broken(), met, &kept)
+        let locked = self.locked.lock(rt);
+        let before = Seen::of(&*locked);
+        Witnessed::new(locked.is_broken(), before, &locked)
     }
 }

@@ -1,11 +1,11 @@
 // The marks of all desks, and the book that counts them.
 ghost use Rattle.std.specs.Prelude.{◌≡◌, ◌+◌, ◌<◌, ◌++◌, ◌∷◌, [], map, OnOk, length, vec_len, vec_capacity};
 ghost use Rattle.receipts.specs.Marks.{sum_of_lists};
-ghost use Rattle.receipts.specs.Tallies.{tally_of};
+ghost use Rattle.receipts.specs.Counters.{counters_of};
 
+use crate::command_counters::CommandCounters;
 use crate::desk::Desk;
 use crate::mark::{Mark, Trace};
-use crate::tally::Tally;
 use std::alloc::{AllocError, Global};
 use std::sync::ledger::{Book, Ledger, Share};
 
@@ -17,9 +17,9 @@ pub(crate) struct Marks<L: Ledger, T: Trace> {
     /// The sum of what all desks have.
     pub(crate) book: Book<L>,
     /// How many of them are of which kind.
-    pub(crate) tally: Tally,
+    pub(crate) counters: CommandCounters,
     ghost counted: { vec_len all ≡ book.total },
-    ghost tallied: { tally ≡ tally_of (map T.mark all.items) },
+    ghost counters_are: { counters ≡ counters_of (map T.mark all.items) },
 }
 
 // What is counted of these desks together, and of a share beside them.
@@ -45,7 +45,7 @@ impl<L: Ledger, T: Trace> Marks<L, T> {
         Marks {
             all: Vec::new(alloc),
             book,
-            tally: Tally::new(),
+            counters: CommandCounters::new(),
         }
     }
 
@@ -72,11 +72,15 @@ impl<L: Ledger, T: Trace> Marks<L, T> {
         ensures own { map T.mark desk.new.own.items ≡ map T.mark desk.old.own.items ++ mark ∷ [] }
         ensures desk { (desk.new.number ≡ desk.old.number) × (desk.new.told ≡ desk.old.told) }
     {
-        let Marks { all, book, tally } = self;
+        let Marks {
+            all,
+            book,
+            counters,
+        } = self;
         let Desk { own, share, .. } = desk;
         own.push_reserved(T::of(&mark));
         all.push_reserved(T::of(&mark));
-        tally.count(mark.kind);
+        counters.count(mark.kind);
         book.add(share, 1);
     }
 }

@@ -12,7 +12,7 @@ ghost use Rattle.hall_core.specs.Fresh.{IsFresh};
 ghost use Rattle.hall_core.specs.Halves.{HasSameParts};
 ghost use Rattle.receipts.specs.Desks.{desk_count};
 ghost use Rattle.receipts.specs.Answers.{IsToldMore, IsCommitRefusal};
-ghost use Rattle.receipts.specs.Kept.{hall_in};
+ghost use Rattle.receipts.specs.Locked.{hall_in};
 ghost use Rattle.receipts.specs.Told.{Arrives, Moves, LendsTo, Settles, Takes, TellsPoint, Forgets};
 ghost use Rattle.receipts.specs.Serving.{CommitsTo};
 ghost use Rattle.receipts.specs.UnderLock.{IsCommitted, IsNotCommitted};
@@ -21,7 +21,7 @@ ghost use Rattle.group_commit.specs.Batch.{last_in};
 use crate::desk::{Desk, desks};
 use crate::desk_count::DeskCount;
 use crate::error::OfficeFailure;
-use crate::kept::{Kept, Loan};
+use crate::locked::{Loan, Locked};
 use crate::mark::{Mark, Trace};
 use crate::marks::Marks;
 use crate::opening::OpeningTrace;
@@ -38,7 +38,7 @@ use std::sync::{Mutex, Wait};
 /// A hall under a lock. Threads share it by reference, each with a desk of its own.
 #[derive(Drop)]
 pub struct Office<L: Ledger, T: Trace = Mark> {
-    pub(crate) kept: Mutex<Kept<L, T>>,
+    pub(crate) locked: Mutex<Locked<L, T>>,
 }
 
 // What is kept of the table, and room for so many desks.
@@ -146,7 +146,7 @@ impl<L: Ledger, T: Trace> Office<L, T> {
             Ok((hall, disk)) => {
                 let (book, share) = blank.open::<L>();
                 let made = make_desks(alloc, room, share, count);
-                let kept = Kept {
+                let locked = Locked {
                     hall,
                     opening,
                     marks: Marks::new(alloc, book),
@@ -154,7 +154,7 @@ impl<L: Ledger, T: Trace> Office<L, T> {
                     desk_count: DeskCount::new(count),
                 };
                 let office = Office {
-                    kept: Mutex::new(kept),
+                    locked: Mutex::new(locked),
                 };
                 Ok((office, made, disk))
             }
@@ -182,7 +182,7 @@ impl<L: Ledger, T: Trace> Office<L, T> {
         now: u64,
         words: [u64; 2],
     ) -> Witnessed<Result<(Ticket, u64), HallError>, L, T>
-        // claim: A request or a tick does just that call to the hall met under the lock. Its command, and no other, is
+        // claim: A request or a tick does just that call to the hall that was under the lock. Its command, and no other, is
         // marked at its desk and there. Each desk keeps its list. Nothing becomes durable, and no disk is called. [: done,
         // counts, both, histories, ticket, kept, no_call; Office::tick: done, answer, both, histories, counted, kept,
         // no_call]
@@ -195,12 +195,12 @@ impl<L: Ledger, T: Trace> Office<L, T> {
         // claim: A refusal is the first of these: fewer commands than the desk was told, no slot left, unfit, no memory for
         // a mark, the hall's own. A tick has the first and last two. Nothing under the lock changes. [: refused, reason,
         // same; Office::tick: refused, reason, same]
-        ensures { Arrives result.met.value result.left.value desk.old desk.new call now words result.answer }
+        ensures { Arrives result.before.value result.after.value desk.old desk.new call now words result.answer }
     {
-        let mut kept = self.kept.lock(rt);
-        let met = Seen::of(&*kept);
-        let answer = kept.arrive(desk, call, now, words);
-        Witnessed::new(answer, met, &kept)
+        let mut locked = self.locked.lock(rt);
+        let before = Seen::of(&*locked);
+        let answer = locked.arrive(desk, call, now, words);
+        Witnessed::new(answer, before, &locked)
     }
 
     /// Makes one move that is due now, as `Hall::tick` does, and answers the number of its command, of which the desk gets
@@ -216,29 +216,29 @@ impl<L: Ledger, T: Trace> Office<L, T> {
         now: u64,
     ) -> Witnessed<Result<Option<u64>, HallError>, L, T>
         requires { now ≤ greatest_moment }
-        ensures { Moves result.met.value result.left.value desk.old desk.new now result.answer }
+        ensures { Moves result.before.value result.after.value desk.old desk.new now result.answer }
     {
-        let mut kept = self.kept.lock(rt);
-        let met = Seen::of(&*kept);
-        let answer = kept.tick(desk, now);
-        Witnessed::new(answer, met, &kept)
+        let mut locked = self.locked.lock(rt);
+        let before = Seen::of(&*locked);
+        let answer = locked.tick(desk, now);
+        Witnessed::new(answer, before, &locked)
     }
 
-    // Lends what is pending, as `Kept::lend` says.
+    // Lends what is pending, as `Locked::lend` says.
     fn lend<R: Wait>(
         &self,
         rt: &R,
         desk: &mut Desk<L, T>,
     ) -> Witnessed<Result<Loan, HallError>, L, T>
-        ensures { LendsTo result.met.value result.left.value desk.old desk.new result.answer }
+        ensures { LendsTo result.before.value result.after.value desk.old desk.new result.answer }
     {
-        let mut kept = self.kept.lock(rt);
-        let met = Seen::of(&*kept);
-        let loan = kept.lend(desk);
-        Witnessed::new(loan, met, &kept)
+        let mut locked = self.locked.lock(rt);
+        let before = Seen::of(&*locked);
+        let loan = locked.lend(desk);
+        Witnessed::new(loan, before, &locked)
     }
 
-    // Settles what became of the batch that is out, as `Kept::settle` says.
+    // Settles what became of the batch that is out, as `Locked::settle` says.
     fn settle<R: Wait>(
         &self,
         rt: &R,
@@ -246,12 +246,12 @@ impl<L: Ledger, T: Trace> Office<L, T> {
         outcome: Result<Written, Failed>,
     ) -> Witnessed<Result<Durable, HallError>, L, T>
         requires { desk.old.told ≤ last_in outcome }
-        ensures { Settles result.met.value result.left.value desk.old desk.new outcome result.answer }
+        ensures { Settles result.before.value result.after.value desk.old desk.new outcome result.answer }
     {
-        let mut kept = self.kept.lock(rt);
-        let met = Seen::of(&*kept);
-        let settled = kept.settle(desk, outcome);
-        Witnessed::new(settled, met, &kept)
+        let mut locked = self.locked.lock(rt);
+        let before = Seen::of(&*locked);
+        let settled = locked.settle(desk, outcome);
+        Witnessed::new(settled, before, &locked)
     }
 
     /// Makes all that is pending durable: how many commands that is. The commands are lent under the lock, written outside
@@ -280,29 +280,41 @@ impl<L: Ledger, T: Trace> Office<L, T> {
         ensures disk { CommitsTo D.view D.fault_count (broker_of disk.old) (broker_of disk.new) result.answer }
         ensures fault { result.answer ≡ Err HallError.Fault → FaultsHaveRisen D.fault_count (broker_of disk.old) (broker_of disk.new) }
 
-        // claim: Its last step met nothing pending, or settled a batch as written. One refused lent nothing, or settled one
+        // claim: Its last step found nothing pending, or settled a batch as written. One refused lent nothing, or settled one
         // as not written, with its reason. [: committed, reason, refused]
         ensures committed { IfOk result.answer
-            (IsCommitted result.met.value.hall.issuer result.left.value.hall.issuer) }
+            (IsCommitted result.before.value.hall.issuer result.after.value.hall.issuer) }
         ensures reason { IfErr result.answer
-            (IsNotCommitted desk.old.told result.met.value.hall.issuer result.left.value.hall.issuer) }
-        ensures stands { ForEachPast (hall_in result.met.value.hall) (λ past. StandsFor (hall_in result.left.value.hall) past) }
-        ensures unmarked { map T.mark result.left.value.marks.all.items ≡ map T.mark result.met.value.marks.all.items }
-        ensures counted { result.left.value.slots ≡ result.met.value.slots }
-        ensures opening { result.left.value.opening ≡ result.met.value.opening }
+            (IsNotCommitted desk.old.told result.before.value.hall.issuer result.after.value.hall.issuer) }
+        ensures stands { ForEachPast (hall_in result.before.value.hall) (λ past. StandsFor (hall_in result.after.value.hall) past) }
+        ensures unmarked { map T.mark result.after.value.marks.all.items ≡ map T.mark result.before.value.marks.all.items }
+        ensures counted { result.after.value.slots ≡ result.before.value.slots }
+        ensures opening { result.after.value.opening ≡ result.before.value.opening }
     {
-        let Witnessed { answer, met, left } = self.lend(rt, desk);
+        let Witnessed {
+            answer,
+            before,
+            after,
+        } = self.lend(rt, desk);
         let loan = match answer {
             Ok(loan) => loan,
             Err(why) => {
                 let answer = Err(why);
-                return Witnessed { answer, met, left };
+                return Witnessed {
+                    answer,
+                    before,
+                    after,
+                };
             }
         };
         match loan {
             Loan::Nothing(durable) => {
                 let answer = Ok(durable);
-                Witnessed { answer, met, left }
+                Witnessed {
+                    answer,
+                    before,
+                    after,
+                }
             }
             Loan::Out(batch) => {
                 let outcome = disk.write(batch);
@@ -319,15 +331,15 @@ impl<L: Ledger, T: Trace> Office<L, T> {
         slot: u64,
     ) -> Witnessed<Option<Released>, L, T>
         ensures desk { desk.new ≡ desk.old }
-        // claim: A take gives the reply that the hall met gives, to the slot that asked, and does just that; so does a
+        // claim: A take gives the reply that the hall before gives, to the slot that asked, and does just that; so does a
         // forgetting. [: slot, gives, by_events, done, none; Office::forget: done]
-        ensures takes { Takes result.met.value result.left.value slot result.answer }
+        ensures takes { Takes result.before.value result.after.value slot result.answer }
     {
         let _ = desk;
-        let mut kept = self.kept.lock(rt);
-        let met = Seen::of(&*kept);
-        let released = kept.take(slot);
-        Witnessed::new(released, met, &kept)
+        let mut locked = self.locked.lock(rt);
+        let before = Seen::of(&*locked);
+        let released = locked.take(slot);
+        Witnessed::new(released, before, &locked)
     }
 
     /// How many commands have to be durable before the reply of a slot is told, where it is computed and still wanted, as
@@ -339,24 +351,24 @@ impl<L: Ledger, T: Trace> Office<L, T> {
         slot: u64,
     ) -> Witnessed<Option<u64>, L, T>
         ensures desk { desk.new ≡ desk.old }
-        ensures tells { TellsPoint result.met.value slot result.answer }
-        ensures same { result.left.value ≡ result.met.value }
+        ensures tells { TellsPoint result.before.value slot result.answer }
+        ensures same { result.after.value ≡ result.before.value }
     {
         let _ = desk;
-        let kept = self.kept.lock(rt);
-        let met = Seen::of(&*kept);
-        Witnessed::new(kept.point(slot), met, &kept)
+        let locked = self.locked.lock(rt);
+        let before = Seen::of(&*locked);
+        Witnessed::new(locked.point(slot), before, &locked)
     }
 
     /// The reply of a slot is not wanted any more, as `Hall::forget` says. It takes no memory.
     pub fn forget<R: Wait>(&self, rt: &R, desk: &mut Desk<L, T>, slot: u64) -> Witnessed<(), L, T>
         ensures desk { desk.new ≡ desk.old }
-        ensures forgets { Forgets result.met.value result.left.value slot }
+        ensures forgets { Forgets result.before.value result.after.value slot }
     {
         let _ = desk;
-        let mut kept = self.kept.lock(rt);
-        let met = Seen::of(&*kept);
-        kept.forget(slot);
-        Witnessed::new((), met, &kept)
+        let mut locked = self.locked.lock(rt);
+        let before = Seen::of(&*locked);
+        locked.forget(slot);
+        Witnessed::new((), before, &locked)
     }
 }

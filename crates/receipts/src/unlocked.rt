@@ -1,17 +1,17 @@
-// An office out of its lock: what was kept under it can be seen.
+// An office out of its lock: what was locked can be seen.
 ghost use Rattle.std.specs.Prelude.{◌≡◌, ◌+◌, map, length, IfOk, IfErr, OnOk};
 ghost use Rattle.group_commit.specs.Issuer.{issued_in};
 ghost use Rattle.group_commit.specs.Splitting.{broker_of, Joins, IsNotJoined};
 ghost use Rattle.receipts.specs.Desks.{AreAll, IsReason, IsWhyNotJoined};
 ghost use Rattle.receipts.specs.Following.{Follows};
-ghost use Rattle.receipts.specs.Kept.{hall_in, issuer_in};
+ghost use Rattle.receipts.specs.Locked.{hall_in, issuer_in};
 ghost use Rattle.receipts.specs.Marks.{AreNumbered, sum_of_lists};
 ghost use Rattle.receipts.specs.Running.{HasRuns};
 
 use crate::desk::Desk;
 use crate::error::UnlockedFailure;
 use crate::finishing::NotClosed;
-use crate::kept::Kept;
+use crate::locked::Locked;
 use crate::mark::{Mark, Trace};
 use crate::office::Office;
 use group_commit::{Broker, DiskHalf, IssueHalf};
@@ -23,7 +23,7 @@ use std::sync::ledger::Ledger;
 /// An office that no thread shares, out of its lock.
 #[derive(Drop)]
 pub struct Unlocked<L: Ledger, T: Trace = Mark> {
-    pub(crate) kept: Kept<L, T>,
+    pub(crate) locked: Locked<L, T>,
 }
 
 impl<L: Ledger, T: Trace> Office<L, T> {
@@ -32,16 +32,16 @@ impl<L: Ledger, T: Trace> Office<L, T> {
     /// each history that leaves the opening's table there is a run, of which no call was refused, that the hall stands for.
     pub fn unlock(self) -> Unlocked<L, T>
         // claim: Out of its lock it has such marks, such a table, and such runs.
-        ensures numbered { AreNumbered (T.Opening.table result.kept.opening).number (map T.mark result.kept.marks.all.items) }
-        ensures issued { issued_in (issuer_in result.kept.hall)
-            ≡ (T.Opening.table result.kept.opening).number + length (map T.mark result.kept.marks.all.items) }
-        ensures follows { Follows (issuer_in result.kept.hall).settings (T.Opening.table result.kept.opening)
-            (map T.mark result.kept.marks.all.items) (issuer_in result.kept.hall).table }
-        ensures runs { ∥ HasRuns (hall_in result.kept.hall) (T.Opening.table result.kept.opening) ∥₁ }
+        ensures numbered { AreNumbered (T.Opening.table result.locked.opening).number (map T.mark result.locked.marks.all.items) }
+        ensures issued { issued_in (issuer_in result.locked.hall)
+            ≡ (T.Opening.table result.locked.opening).number + length (map T.mark result.locked.marks.all.items) }
+        ensures follows { Follows (issuer_in result.locked.hall).settings (T.Opening.table result.locked.opening)
+            (map T.mark result.locked.marks.all.items) (issuer_in result.locked.hall).table }
+        ensures runs { ∥ HasRuns (hall_in result.locked.hall) (T.Opening.table result.locked.opening) ∥₁ }
     {
-        let Office { kept } = self;
+        let Office { locked } = self;
         Unlocked {
-            kept: kept.into_inner(),
+            locked: locked.into_inner(),
         }
     }
 }
@@ -49,31 +49,31 @@ impl<L: Ledger, T: Trace> Office<L, T> {
 impl<L: Ledger, T: Trace> Unlocked<L, T> {
     /// Puts the office under a lock again.
     pub fn lock(self) -> Office<L, T> {
-        let Unlocked { kept } = self;
+        let Unlocked { locked } = self;
         Office {
-            kept: Mutex::new(kept),
+            locked: Mutex::new(locked),
         }
     }
 
     /// The hall, which tells how many slots are open and commands pending, whether it stops, and whether it is broken.
     pub fn hall(&self) -> &Hall<IssueHalf>
-        ensures { result.now ≡ self.now.kept.hall }
+        ensures { result.now ≡ self.now.locked.hall }
     {
-        &self.kept.hall
+        &self.locked.hall
     }
 
     /// What is kept of the table at the opening.
     pub fn opening(&self) -> &T::Opening
-        ensures { result.now ≡ self.now.kept.opening }
+        ensures { result.now ≡ self.now.locked.opening }
     {
-        &self.kept.opening
+        &self.locked.opening
     }
 
     /// What is kept of the marks of all commands that were issued since the opening, in order.
     pub fn marks(&self) -> &[T]
-        ensures { result.now ≡ self.now.kept.marks.all.items }
+        ensures { result.now ≡ self.now.locked.marks.all.items }
     {
-        &self.kept.marks.all
+        &self.locked.marks.all
     }
 }
 
@@ -90,23 +90,27 @@ impl<L: Ledger> Unlocked<L> {
         // claim: It is closed only where each desk is there once with its own marks and the halves join, and answers just
         // its marks. A refusal tells why. [: all, marks, sum, joined, refused, not_joined; Unlocked::marks; Unlocked::hall;
         // Unlocked::opening]
-        ensures all { OnOk result (AreAll (λ d. d.number) (λ d. d.own.items) L.parts self.kept.marks.all.items desks.items) }
-        ensures marks { IfOk result (λ r. r.1.items ≡ self.kept.marks.all.items) }
-        ensures sum { OnOk result (sum_of_lists (λ d. d.own.items) desks.items ≡ length self.kept.marks.all.items) }
-        ensures joined { IfOk result (λ r. Joins self.kept.hall.issuer (broker_of disk) r.0.issuer) }
+        ensures all { OnOk result (AreAll (λ d. d.number) (λ d. d.own.items) L.parts self.locked.marks.all.items desks.items) }
+        ensures marks { IfOk result (λ r. r.1.items ≡ self.locked.marks.all.items) }
+        ensures sum { OnOk result (sum_of_lists (λ d. d.own.items) desks.items ≡ length self.locked.marks.all.items) }
+        ensures joined { IfOk result (λ r. Joins self.locked.hall.issuer (broker_of disk) r.0.issuer) }
         ensures refused { IfErr result (λ failure.
-            IsReason (AreAll (λ d. d.number) (λ d. d.own.items) L.parts self.kept.marks.all.items desks.items) failure.cause) }
+            IsReason (AreAll (λ d. d.number) (λ d. d.own.items) L.parts self.locked.marks.all.items desks.items) failure.cause) }
         ensures not_joined { IfErr result (λ failure. IsWhyNotJoined
-            (IsNotJoined self.kept.hall.issuer failure.office.kept.hall.issuer (broker_of disk) (broker_of failure.disk)) failure.cause) }
+            (IsNotJoined self.locked.hall.issuer failure.office.locked.hall.issuer (broker_of disk) (broker_of failure.disk)) failure.cause) }
         ensures desks { IfErr result (λ failure. failure.desks.items ≡ desks.items) }
-        ensures same { IfErr result (λ failure. failure.office.kept.marks.all.items ≡ self.kept.marks.all.items) }
+        ensures same { IfErr result (λ failure. failure.office.locked.marks.all.items ≡ self.locked.marks.all.items) }
     {
-        let Unlocked { kept } = self;
-        match kept.close(&desks, disk) {
+        let Unlocked { locked } = self;
+        match locked.close(&desks, disk) {
             Ok((hall, marks)) => Ok((hall, marks.into_list(desks))),
             Err(failure) => {
-                let NotClosed { cause, kept, disk } = failure;
-                let office = Unlocked { kept };
+                let NotClosed {
+                    cause,
+                    locked,
+                    disk,
+                } = failure;
+                let office = Unlocked { locked };
                 Err(UnlockedFailure {
                     cause,
                     office,

@@ -1,5 +1,5 @@
 // Steps on one environment alone: which calls it accepts, and which polls each of them answers.
-use case_runner::{Reply, Text, Words, id_of, number_of_id};
+use case_runner::{StepReply, TextBuffer, Words, id_of, number_of_id};
 use env_phase::{Answered, Env, EnvError, MOST_EXTENSIONS, PollAnswer, Reason, Refusal};
 use invoke_records::GREATEST_MOMENT;
 use std::alloc::Global;
@@ -23,12 +23,12 @@ fn reason_word(reason: Reason) -> &'static str {
     }
 }
 
-fn tell_event(word: &str, id: &[u8; 16], deadline: u64, answer: &mut Text) {
+fn tell_event(word: &str, id: &[u8; 16], deadline: u64, answer: &mut TextBuffer) {
     answer.add_with(word, number_of_id(id));
     answer.add_with(" until ", deadline);
 }
 
-fn tell_poll(slot: u64, told: &PollAnswer, answer: &mut Text) {
+fn tell_poll(slot: u64, told: &PollAnswer, answer: &mut TextBuffer) {
     answer.add_with(" ", slot);
     match told {
         PollAnswer::RuntimeEvent { id, deadline } => tell_event(" event ", id, *deadline, answer),
@@ -44,19 +44,19 @@ fn tell_poll(slot: u64, told: &PollAnswer, answer: &mut Text) {
 }
 
 // `answered SLOT WHAT SLOT WHAT ..`, or `answered none`.
-fn tell_answered(answered: Result<Answered, EnvError>, answer: &mut Text) -> Reply {
+fn tell_answered(answered: Result<Answered, EnvError>, answer: &mut TextBuffer) -> StepReply {
     let polls = match answered {
         Ok(polls) => polls,
-        Err(why) => return Reply::Refused(refusal(why)),
+        Err(why) => return StepReply::Refused(refusal(why)),
     };
     if polls.is_empty() {
-        return Reply::Word("answered none");
+        return StepReply::Word("answered none");
     }
     answer.add("answered");
     for (slot, told) in &polls {
         tell_poll(*slot, told, answer);
     }
-    Reply::Told
+    StepReply::Told
 }
 
 // `at MOMENT`
@@ -72,22 +72,22 @@ fn slot(words: &mut Words) -> u64 {
 }
 
 // `N [invoke] [shutdown]`
-fn register(env: &mut Env, words: &mut Words, answer: &mut Text) -> Reply {
+fn register(env: &mut Env, words: &mut Words, answer: &mut TextBuffer) -> StepReply {
     let identifier = id_of(words.number());
     let invoke = words.takes("invoke");
     let shutdown = words.takes("shutdown");
     if words.are_bad() {
-        return Reply::Unreadable;
+        return StepReply::Unreadable;
     }
     tell_answered(env.register(&identifier, b"name", invoke, shutdown), answer)
 }
 
 // `on SLOT`, or `N on SLOT` of an extension.
-fn next(env: &mut Env, is_runtime: bool, words: &mut Words, answer: &mut Text) -> Reply {
+fn next(env: &mut Env, is_runtime: bool, words: &mut Words, answer: &mut TextBuffer) -> StepReply {
     let identifier = id_of(if is_runtime { 0 } else { words.number() });
     let slot = slot(words);
     if words.are_bad() {
-        return Reply::Unreadable;
+        return StepReply::Unreadable;
     }
     let answered = if is_runtime {
         env.runtime_next(slot)
@@ -98,40 +98,45 @@ fn next(env: &mut Env, is_runtime: bool, words: &mut Words, answer: &mut Text) -
 }
 
 // `ID until DEADLINE`
-fn give(env: &mut Env, words: &mut Words, answer: &mut Text) -> Reply {
+fn give(env: &mut Env, words: &mut Words, answer: &mut TextBuffer) -> StepReply {
     let id = id_of(words.number());
     words.expect("until");
     let deadline = words.number();
     if words.are_bad() || !env.ready() {
-        return Reply::Unreadable;
+        return StepReply::Unreadable;
     }
     tell_answered(env.give(&id, deadline), answer)
 }
 
 // `ID`
-fn answer_event(env: &mut Env, words: &mut Words, answer: &mut Text) -> Reply {
+fn answer_event(env: &mut Env, words: &mut Words, answer: &mut TextBuffer) -> StepReply {
     let id = id_of(words.number());
     if words.are_bad() {
-        return Reply::Unreadable;
+        return StepReply::Unreadable;
     }
     tell_answered(env.answer(&id), answer)
 }
 
 // `N at MOMENT`
-fn extension_error(env: &mut Env, in_init: bool, words: &mut Words, answer: &mut Text) -> Reply {
+fn extension_error(
+    env: &mut Env,
+    in_init: bool,
+    words: &mut Words,
+    answer: &mut TextBuffer,
+) -> StepReply {
     let identifier = id_of(words.number());
     let now = moment(words);
     if words.are_bad() || now > GREATEST_MOMENT {
-        return Reply::Unreadable;
+        return StepReply::Unreadable;
     }
     tell_answered(env.extension_error(&identifier, in_init, now), answer)
 }
 
 // `at MOMENT`
-fn end(env: &mut Env, word: &str, words: &mut Words, answer: &mut Text) -> Reply {
+fn end(env: &mut Env, word: &str, words: &mut Words, answer: &mut TextBuffer) -> StepReply {
     let now = moment(words);
     if words.are_bad() || now > GREATEST_MOMENT {
-        return Reply::Unreadable;
+        return StepReply::Unreadable;
     }
     let answered = match word {
         "runtime-error" => env.init_error(now),
@@ -141,15 +146,15 @@ fn end(env: &mut Env, word: &str, words: &mut Words, answer: &mut Text) -> Reply
     tell_answered(answered, answer)
 }
 
-fn tell_running(running: Option<[u8; 16]>) -> Reply {
-    Reply::number_or_none(match running {
+fn tell_running(running: Option<[u8; 16]>) -> StepReply {
+    StepReply::number_or_none(match running {
         Some(id) => Some(number_of_id(&id)),
         None => None,
     })
 }
 
 // What the environment answers to a call.
-fn call(env: &mut Env, word: &str, words: &mut Words, answer: &mut Text) -> Reply {
+fn call(env: &mut Env, word: &str, words: &mut Words, answer: &mut TextBuffer) -> StepReply {
     match word {
         "runtime-next" => next(env, true, words, answer),
         "register" => register(env, words, answer),
@@ -159,9 +164,9 @@ fn call(env: &mut Env, word: &str, words: &mut Words, answer: &mut Text) -> Repl
         "init-error" => extension_error(env, true, words, answer),
         "exit-error" => extension_error(env, false, words, answer),
         "runtime-error" | "timeout" | "shutdown" => end(env, word, words, answer),
-        "ready" => Reply::yes_or_no(env.ready()),
+        "ready" => StepReply::yes_or_no(env.ready()),
         "runs" => tell_running(env.running()),
-        _ => Reply::Unreadable,
+        _ => StepReply::Unreadable,
     }
 }
 
@@ -174,15 +179,15 @@ pub fn extensions_wanted(words: &mut Words) -> u8 {
 }
 
 // `NUMBER [waiting N]`: an environment in which nobody has asked for anything.
-fn begin(alloc: Global, env: &mut Option<Env>, words: &mut Words) -> Reply {
+fn begin(alloc: Global, env: &mut Option<Env>, words: &mut Words) -> StepReply {
     let number = words.number_to(65535);
     let wanted = extensions_wanted(words);
     match u16::try_from(number) {
         Ok(number) if !words.are_bad() => {
             *env = Some(Env::waiting_for(alloc, number, wanted));
-            Reply::Done
+            StepReply::Done
         }
-        _ => Reply::Unreadable,
+        _ => StepReply::Unreadable,
     }
 }
 
@@ -191,14 +196,14 @@ pub fn environment_step(
     alloc: Global,
     env: &mut Option<Env>,
     words: &mut Words,
-    answer: &mut Text,
-) -> Reply {
+    answer: &mut TextBuffer,
+) -> StepReply {
     let word = words.word();
     if word == "new" {
         return begin(alloc, env, words);
     }
     let Some(env) = env else {
-        return Reply::Unreadable;
+        return StepReply::Unreadable;
     };
     if word != "copy" {
         return call(env, word, words, answer);
@@ -206,8 +211,8 @@ pub fn environment_step(
     match env.copy() {
         Ok(copy) => {
             *env = copy;
-            Reply::Done
+            StepReply::Done
         }
-        Err(_) => Reply::Refused("out of memory"),
+        Err(_) => StepReply::Refused("out of memory"),
     }
 }

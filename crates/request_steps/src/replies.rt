@@ -1,7 +1,7 @@
 // Steps on replies alone: the status, the headers and the body that tell an answer.
 use crate::requests::{dialect, type_of};
 use api_core::{Answer, Audience, Dialect, Refusal, ShutdownReason, Stream, reply_text};
-use case_runner::{Reply, Text, Words, body, id_of};
+use case_runner::{StepReply, TextBuffer, Words, body, id_of};
 use retry_rules::Settings;
 use std::alloc::{AllocError, Global};
 
@@ -29,9 +29,12 @@ const REFUSALS: [Refusal; 19] = [
 ];
 
 /// `STATUS NAME: VALUE .. BODY`
-pub fn tell_reply(replied: Result<api_core::Reply, AllocError>, answer: &mut Text) -> Reply {
+pub fn tell_reply(
+    replied: Result<api_core::Reply, AllocError>,
+    answer: &mut TextBuffer,
+) -> StepReply {
     let Ok(replied) = replied else {
-        return Reply::Refused("out of memory");
+        return StepReply::Refused("out of memory");
     };
     answer.add_number(replied.status as u64);
     for place in 0..replied.headers.len() {
@@ -46,7 +49,7 @@ pub fn tell_reply(replied: Result<api_core::Reply, AllocError>, answer: &mut Tex
         answer.add(" ");
         answer.add_body(replied.body.as_slice());
     }
-    Reply::Told
+    StepReply::Told
 }
 
 // The refusal of this type.
@@ -83,8 +86,8 @@ fn tell_event(
     dialect: Dialect,
     settings: &Settings,
     words: &mut Words,
-    answer: &mut Text,
-) -> Reply {
+    answer: &mut TextBuffer,
+) -> StepReply {
     let id = id_of(words.number());
     let deadline = deadline(words);
     let payload = match body(alloc, words.rest()) {
@@ -92,7 +95,7 @@ fn tell_event(
         Err(reply) => return reply,
     };
     if words.are_bad() {
-        return Reply::Unreadable;
+        return StepReply::Unreadable;
     }
     let event = Answer::RuntimeEvent {
         id,
@@ -146,10 +149,10 @@ fn tell_plain(
     dialect: Dialect,
     settings: &Settings,
     plain: &Answer,
-    answer: &mut Text,
-) -> Reply {
+    answer: &mut TextBuffer,
+) -> StepReply {
     match plain {
-        Answer::Record(_) => Reply::Unreadable,
+        Answer::Record(_) => StepReply::Unreadable,
         _ => tell_reply(reply_text(alloc, dialect, plain, settings), answer),
     }
 }
@@ -160,15 +163,15 @@ pub fn reply_step(
     alloc: Global,
     settings: &Settings,
     words: &mut Words,
-    answer: &mut Text,
-) -> Reply {
+    answer: &mut TextBuffer,
+) -> StepReply {
     let dialect = dialect(words);
     if words.takes("event") {
         return tell_event(alloc, dialect, settings, words, answer);
     }
     let plain = plain_answer(words);
     if words.are_bad() {
-        return Reply::Unreadable;
+        return StepReply::Unreadable;
     }
     tell_plain(alloc, dialect, settings, &plain, answer)
 }

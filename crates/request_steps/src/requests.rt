@@ -1,7 +1,7 @@
 // Steps on requests alone: which call one is, or which check refuses it.
 use api_core::{Call, Dialect, Refusal, RequestError, Stream, read_request};
 use async_core::Side;
-use case_runner::{Reply, Text, Words, body, number_of_id};
+use case_runner::{StepReply, TextBuffer, Words, body, number_of_id};
 use http::Method;
 use http::header::{HeaderMap, HeaderName, HeaderNameError, HeaderValue, HeaderValueError};
 use retry_rules::Settings;
@@ -33,7 +33,7 @@ pub fn type_of(why: Refusal) -> &'static str {
 }
 
 // ` ID`, or ` none` where it is no id.
-fn tell_id(id: Option<[u8; 16]>, answer: &mut Text) {
+fn tell_id(id: Option<[u8; 16]>, answer: &mut TextBuffer) {
     match id {
         Some(id) => answer.add_with(" ", number_of_id(&id)),
         None => answer.add(" none"),
@@ -46,7 +46,7 @@ fn tell_attempt(
     environment: u16,
     id: Option<[u8; 16]>,
     body: &[u8],
-    answer: &mut Text,
+    answer: &mut TextBuffer,
 ) {
     answer.add_with(word, environment as u64);
     tell_id(id, answer);
@@ -55,7 +55,7 @@ fn tell_attempt(
 }
 
 // ` ENVIRONMENT IDENTIFIER`
-fn tell_extension(word: &str, environment: u16, identifier: &[u8; 16], answer: &mut Text) {
+fn tell_extension(word: &str, environment: u16, identifier: &[u8; 16], answer: &mut TextBuffer) {
     answer.add_with(word, environment as u64);
     answer.add_with(" ", number_of_id(identifier));
 }
@@ -66,7 +66,7 @@ fn tell_registration(
     invoke: bool,
     shutdown: bool,
     account: bool,
-    answer: &mut Text,
+    answer: &mut TextBuffer,
 ) {
     answer.add_with("register ", environment as u64);
     answer.add(" ");
@@ -77,7 +77,7 @@ fn tell_registration(
 }
 
 // A call of a runtime or of an extension.
-fn tell_environment_call(call: &Call, answer: &mut Text) {
+fn tell_environment_call(call: &Call, answer: &mut TextBuffer) {
     match call {
         Call::RuntimeNext { environment } => answer.add_with("runtime next ", *environment as u64),
         Call::Response {
@@ -134,7 +134,7 @@ fn tell_environment_call(call: &Call, answer: &mut Text) {
 }
 
 // A payload of more than 64 bytes is told by its length.
-fn tell_payload(payload: &[u8], answer: &mut Text) {
+fn tell_payload(payload: &[u8], answer: &mut TextBuffer) {
     if payload.len() > 64 {
         answer.add_with("invoke ", payload.len() as u64);
         answer.add(" bytes");
@@ -144,7 +144,7 @@ fn tell_payload(payload: &[u8], answer: &mut Text) {
     }
 }
 
-fn tell_call(call: &Call, answer: &mut Text) -> Reply {
+fn tell_call(call: &Call, answer: &mut TextBuffer) -> StepReply {
     match call {
         Call::Invoke { payload } => tell_payload(payload.as_slice(), answer),
         Call::Oldest(Side::Success) => answer.add("oldest success"),
@@ -156,28 +156,28 @@ fn tell_call(call: &Call, answer: &mut Text) -> Reply {
         Call::StopBroker => answer.add("stop"),
         _ => tell_environment_call(call, answer),
     }
-    Reply::Told
+    StepReply::Told
 }
 
 // Adds the header `NAME=VALUE`, in which `~` stands for a space.
-fn add_header(alloc: Global, headers: &mut HeaderMap, pair: &str) -> Reply {
+fn add_header(alloc: Global, headers: &mut HeaderMap, pair: &str) -> StepReply {
     let (name, value) = pair.split_once('=').unwrap_or((pair, ""));
     let Ok(value) = value.replace(alloc, "~", " ") else {
-        return Reply::NoMemory;
+        return StepReply::NoMemory;
     };
     let name = match HeaderName::from_bytes(alloc, name.as_bytes()) {
         Ok(name) => name,
-        Err(HeaderNameError::Invalid) => return Reply::Unreadable,
-        Err(HeaderNameError::OutOfMemory) => return Reply::NoMemory,
+        Err(HeaderNameError::Invalid) => return StepReply::Unreadable,
+        Err(HeaderNameError::OutOfMemory) => return StepReply::NoMemory,
     };
     let value = match HeaderValue::from_bytes(alloc, value.as_bytes()) {
         Ok(value) => value,
-        Err(HeaderValueError::Invalid) => return Reply::Unreadable,
-        Err(HeaderValueError::OutOfMemory) => return Reply::NoMemory,
+        Err(HeaderValueError::Invalid) => return StepReply::Unreadable,
+        Err(HeaderValueError::OutOfMemory) => return StepReply::NoMemory,
     };
     match headers.append(name, value) {
-        Ok(_) => Reply::Done,
-        Err(_) => Reply::NoMemory,
+        Ok(_) => StepReply::Done,
+        Err(_) => StepReply::NoMemory,
     }
 }
 
@@ -191,31 +191,31 @@ pub fn dialect(words: &mut Words) -> Dialect {
 }
 
 /// The call of the request `[aws] PORT METHOD TARGET [NAME=VALUE ..] [body BYTES]`, or what is answered at once.
-pub fn read_call(alloc: Global, settings: &Settings, words: &mut Words) -> Result<Call, Reply> {
+pub fn read_call(alloc: Global, settings: &Settings, words: &mut Words) -> Result<Call, StepReply> {
     let dialect = dialect(words);
     let port = u16::try_from(words.number_to(65535)).unwrap_or(0);
     let Ok(method) = Method::from_bytes(alloc, words.word().as_bytes()) else {
-        return Err(Reply::Unreadable);
+        return Err(StepReply::Unreadable);
     };
     let target = words.word();
     let (pairs, text) = parts_of_rest(words.rest());
     let mut headers: HeaderMap = HeaderMap::new(alloc);
     for pair in pairs.split_whitespace() {
         match add_header(alloc, &mut headers, pair) {
-            Reply::Done => {}
+            StepReply::Done => {}
             reply => return Err(reply),
         }
     }
     let body = body(alloc, text)?;
     if words.are_bad() {
-        return Err(Reply::Unreadable);
+        return Err(StepReply::Unreadable);
     }
     match read_request(
         alloc, dialect, settings, port, &method, target, &headers, body,
     ) {
         Ok(call) => Ok(call),
-        Err(RequestError::Refused(why)) => Err(Reply::Refused(type_of(why))),
-        Err(RequestError::OutOfMemory) => Err(Reply::Refused("out of memory")),
+        Err(RequestError::Refused(why)) => Err(StepReply::Refused(type_of(why))),
+        Err(RequestError::OutOfMemory) => Err(StepReply::Refused("out of memory")),
     }
 }
 
@@ -232,8 +232,8 @@ pub fn request_step(
     alloc: Global,
     settings: &Settings,
     words: &mut Words,
-    answer: &mut Text,
-) -> Reply {
+    answer: &mut TextBuffer,
+) -> StepReply {
     match read_call(alloc, settings, words) {
         Ok(call) => tell_call(&call, answer),
         Err(reply) => reply,

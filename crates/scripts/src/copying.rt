@@ -1,5 +1,5 @@
 // Copying an open broker to a new disk.
-use case_runner::{Reply, Text, Words};
+use case_runner::{StepReply, TextBuffer, Words};
 use disk_copy::{Change, CopyError, copy};
 use disk_steps::{CaseDisk, read_failures, wrapped};
 use group_commit::Broker;
@@ -38,20 +38,20 @@ fn read_change(words: &mut Words) -> Change {
 }
 
 // Why a broker is not copied.
-fn refusal(why: CopyError, answer: &mut Text) -> Reply {
+fn refusal(why: CopyError, answer: &mut TextBuffer) -> StepReply {
     match why {
         CopyError::BadSettings { field } => {
             answer.add_reason(&BadSettings { field });
-            Reply::RefusalTold
+            StepReply::RefusalTold
         }
-        CopyError::Smaller { .. } => Reply::Refused("smaller limit"),
+        CopyError::Smaller { .. } => StepReply::Refused("smaller limit"),
         CopyError::TooSmall { least } => {
             answer.add_with("too small ", least);
-            Reply::RefusalTold
+            StepReply::RefusalTold
         }
-        CopyError::BadTable => Reply::Refused("bad table"),
-        CopyError::OutOfMemory => Reply::Refused("out of memory"),
-        CopyError::Fault => Reply::Refused("fault"),
+        CopyError::BadTable => StepReply::Refused("bad table"),
+        CopyError::OutOfMemory => StepReply::Refused("out of memory"),
+        CopyError::Fault => StepReply::Refused("fault"),
     }
 }
 
@@ -61,10 +61,10 @@ fn copy_onto<D: Disk, E: Disk>(
     broker: &Broker<D>,
     disk: &mut E,
     change: &Change,
-    answer: &mut Text,
-) -> (Reply, bool) {
+    answer: &mut TextBuffer,
+) -> (StepReply, bool) {
     match copy(alloc, broker, disk, change) {
-        Ok(()) => (Reply::Done, true),
+        Ok(()) => (StepReply::Done, true),
         Err(why) => (refusal(why, answer), matches!(why, CopyError::Fault)),
     }
 }
@@ -75,16 +75,16 @@ pub fn copy_to<D: Disk>(
     alloc: Global,
     broker: &Broker<D>,
     words: &mut Words,
-    answer: &mut Text,
-) -> (Reply, Option<CaseDisk>) {
+    answer: &mut TextBuffer,
+) -> (StepReply, Option<CaseDisk>) {
     let sectors = words.number();
     let failures = read_failures(words);
     let change = read_change(words);
     if words.are_bad() {
-        return (Reply::Unreadable, None);
+        return (StepReply::Unreadable, None);
     }
     let Ok(disk) = MemDisk::new(alloc, sectors) else {
-        return (Reply::NoMemory, None);
+        return (StepReply::NoMemory, None);
     };
     let mut disk = wrapped(disk, failures);
     let (reply, is_called) = copy_onto(alloc, broker, &mut disk, &change, answer);

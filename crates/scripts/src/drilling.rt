@@ -1,25 +1,25 @@
 // A drill: a script of the broker's own, run whole.
-use case_runner::{Reply, Text, Words, read_command};
+use case_runner::{StepReply, TextBuffer, Words, read_command};
 use disk_steps::{read_choice, refusals};
 use group_commit::{Drill, DrillFailure, Step, StepAnswer, drill};
 use sector_disk::MemDisk;
 use std::alloc::Global;
 
-fn read_stop(alloc: Global, disk: &mut MemDisk, text: &str) -> Result<Step, Reply> {
+fn read_stop(alloc: Global, disk: &mut MemDisk, text: &str) -> Result<Step, StepReply> {
     match read_choice(alloc, disk, text) {
         Ok(choice) => Ok(Step::Stop(choice)),
         Err(reply) => Err(reply),
     }
 }
 
-fn read_issue(alloc: Global, words: &mut Words) -> Result<Step, Reply> {
+fn read_issue(alloc: Global, words: &mut Words) -> Result<Step, StepReply> {
     match read_command(alloc, words) {
         Ok(command) => Ok(Step::Issue(command)),
         Err(reply) => Err(reply),
     }
 }
 
-fn read_step(alloc: Global, disk: &mut MemDisk, line: &str) -> Result<Step, Reply> {
+fn read_step(alloc: Global, disk: &mut MemDisk, line: &str) -> Result<Step, StepReply> {
     let mut words = Words::of(line);
     if words.takes("commit") {
         return Ok(Step::Commit);
@@ -36,24 +36,24 @@ fn read_step(alloc: Global, disk: &mut MemDisk, line: &str) -> Result<Step, Repl
     words.expect("at");
     let now = words.number();
     if words.are_bad() {
-        return Err(Reply::Unreadable);
+        return Err(StepReply::Unreadable);
     }
     Ok(Step::Resume(now))
 }
 
 // The steps of a drill, between `;`.
-fn read_steps(alloc: Global, disk: &mut MemDisk, text: &str) -> Result<Vec<Step>, Reply> {
+fn read_steps(alloc: Global, disk: &mut MemDisk, text: &str) -> Result<Vec<Step>, StepReply> {
     let mut steps = Vec::new(alloc);
     for line in text.split(';') {
         if steps.push(read_step(alloc, disk, line)?).is_err() {
-            return Err(Reply::NoMemory);
+            return Err(StepReply::NoMemory);
         }
     }
     Ok(steps)
 }
 
 // The answers of a drill, one behind another.
-fn tell_answers(answers: &[StepAnswer], answer: &mut Text) {
+fn tell_answers(answers: &[StepAnswer], answer: &mut TextBuffer) {
     let mut join = "";
     for one in answers {
         answer.add(join);
@@ -66,7 +66,7 @@ fn tell_answers(answers: &[StepAnswer], answer: &mut Text) {
     }
 }
 
-fn tell_failure(failure: DrillFailure, answer: &mut Text) {
+fn tell_failure(failure: DrillFailure, answer: &mut TextBuffer) {
     let cause = match failure {
         DrillFailure::AtOpening(cause) => {
             answer.add("opening");
@@ -85,16 +85,16 @@ fn run_drill(
     alloc: Global,
     disk: MemDisk,
     steps: &[Step],
-    answer: &mut Text,
-) -> (Reply, Option<MemDisk>) {
+    answer: &mut TextBuffer,
+) -> (StepReply, Option<MemDisk>) {
     match drill(alloc, disk, steps) {
         Ok(Drill { answers, broker }) => {
             tell_answers(&answers, answer);
-            (Reply::Told, Some(broker.close()))
+            (StepReply::Told, Some(broker.close()))
         }
         Err(failure) => {
             tell_failure(failure, answer);
-            (Reply::RefusalTold, None)
+            (StepReply::RefusalTold, None)
         }
     }
 }
@@ -104,8 +104,8 @@ pub fn drill_step(
     alloc: Global,
     disk: MemDisk,
     text: &str,
-    answer: &mut Text,
-) -> (Reply, Option<MemDisk>) {
+    answer: &mut TextBuffer,
+) -> (StepReply, Option<MemDisk>) {
     let mut disk = disk;
     match read_steps(alloc, &mut disk, text) {
         Ok(steps) => run_drill(alloc, disk, &steps, answer),

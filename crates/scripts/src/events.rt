@@ -1,7 +1,7 @@
 // Steps on an open broker.
 use async_core::Table;
 use audit_report::explain;
-use case_runner::{Reply, Text, Words, id_of};
+use case_runner::{StepReply, TextBuffer, Words, id_of};
 use disk_steps::{broker_step, keep, refusals};
 use group_commit::{Broker, Ticket};
 use invoke_records::GREATEST_MOMENT;
@@ -9,24 +9,28 @@ use sector_disk::Disk;
 use std::alloc::Global;
 
 // How many commands are durable after a switch.
-fn switch<D: Disk>(broker: &mut Broker<D>) -> Reply {
+fn switch<D: Disk>(broker: &mut Broker<D>) -> StepReply {
     match broker.switch() {
-        Ok(durable) => Reply::Number(durable.number()),
-        Err(why) => Reply::Refused(refusals::commit(why)),
+        Ok(durable) => StepReply::Number(durable.number()),
+        Err(why) => StepReply::Refused(refusals::commit(why)),
     }
 }
 
 // `at MOMENT`
-fn resume<D: Disk>(broker: &mut Broker<D>, tickets: &mut Vec<Ticket>, words: &mut Words) -> Reply {
+fn resume<D: Disk>(
+    broker: &mut Broker<D>,
+    tickets: &mut Vec<Ticket>,
+    words: &mut Words,
+) -> StepReply {
     words.expect("at");
     let now = words.number().min(GREATEST_MOMENT);
     if words.are_bad() {
-        return Reply::Unreadable;
+        return StepReply::Unreadable;
     }
     match broker.resume(now) {
         Ok(Some(ticket)) => keep(tickets, ticket),
-        Ok(None) => Reply::Word("none"),
-        Err(why) => Reply::Refused(refusals::issue(why)),
+        Ok(None) => StepReply::Word("none"),
+        Err(why) => StepReply::Refused(refusals::issue(why)),
     }
 }
 
@@ -35,29 +39,34 @@ fn redeem<D: Disk>(
     broker: &Broker<D>,
     tickets: &[Ticket],
     number: u64,
-    answer: &mut Text,
-) -> Reply {
+    answer: &mut TextBuffer,
+) -> StepReply {
     for ticket in tickets {
         if ticket.number() == number {
             let Some(receipt) = broker.redeem(ticket) else {
-                return Reply::NONE;
+                return StepReply::NONE;
             };
             answer.add_with("receipt ", receipt.number());
-            return Reply::Told;
+            return StepReply::Told;
         }
     }
-    Reply::Unreadable
+    StepReply::Unreadable
 }
 
 // `ID`: the line of an event.
-fn tell_explanation(alloc: Global, table: &Table, words: &mut Words, answer: &mut Text) -> Reply {
+fn tell_explanation(
+    alloc: Global,
+    table: &Table,
+    words: &mut Words,
+    answer: &mut TextBuffer,
+) -> StepReply {
     let id = id_of(words.number());
     match explain(alloc, table, &id) {
         Ok(line) => {
             answer.add(line.as_str());
-            Reply::Told
+            StepReply::Told
         }
-        Err(_) => Reply::Refused("out of memory"),
+        Err(_) => StepReply::Refused("out of memory"),
     }
 }
 
@@ -68,8 +77,8 @@ pub fn whole_broker_step<D: Disk>(
     tickets: &mut Vec<Ticket>,
     word: &str,
     words: &mut Words,
-    answer: &mut Text,
-) -> Reply {
+    answer: &mut TextBuffer,
+) -> StepReply {
     match word {
         "switch" => switch(broker),
         "resume" => resume(broker, tickets, words),

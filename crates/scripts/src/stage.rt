@@ -2,7 +2,7 @@
 use crate::copying::copy_to;
 use crate::drilling::drill_step;
 use crate::events::whole_broker_step;
-use case_runner::{Reply, Text, Words};
+use case_runner::{StepReply, TextBuffer, Words};
 use disk_steps::{Base, CaseDisk, Stage, disk_step, open_broker};
 use env_phase::Env;
 use group_commit::{Broker, Ticket};
@@ -39,12 +39,17 @@ fn set(place: &mut OpenBroker, now: OpenBroker) {
 
 impl BrokerStage {
     // `ID`: the record of an event that has ended.
-    fn tell_record(&mut self, alloc: Global, words: &mut Words, answer: &mut Text) -> Reply {
+    fn tell_record(
+        &mut self,
+        alloc: Global,
+        words: &mut Words,
+        answer: &mut TextBuffer,
+    ) -> StepReply {
         match &self.place {
             OpenBroker::Open(broker) => {
                 tell_record(alloc, broker.table(), &mut self.record, words, answer)
             }
-            _ => Reply::NoStep,
+            _ => StepReply::NoStep,
         }
     }
 
@@ -55,14 +60,14 @@ impl BrokerStage {
         alloc: Global,
         base: &mut Base,
         words: &mut Words,
-        answer: &mut Text,
-    ) -> Reply {
+        answer: &mut TextBuffer,
+    ) -> StepReply {
         let OpenBroker::Open(broker) = &self.place else {
-            return Reply::NoStep;
+            return StepReply::NoStep;
         };
         let issued = broker.issued();
         let (reply, disk) = copy_to(alloc, broker, words, answer);
-        if matches!(reply, Reply::Done) {
+        if matches!(reply, StepReply::Done) {
             base.durable = issued;
             base.issued = issued;
         }
@@ -79,10 +84,10 @@ impl BrokerStage {
         alloc: Global,
         word: &str,
         words: &mut Words,
-        answer: &mut Text,
-    ) -> Reply {
+        answer: &mut TextBuffer,
+    ) -> StepReply {
         match &mut self.place {
-            OpenBroker::Nothing => Reply::NoStep,
+            OpenBroker::Nothing => StepReply::NoStep,
             OpenBroker::Closed(disk) => disk_step(alloc, disk, word, words, answer),
             OpenBroker::Open(broker) => {
                 whole_broker_step(alloc, broker, &mut self.tickets, word, words, answer)
@@ -118,7 +123,13 @@ impl Stage for BrokerStage {
         }
     }
 
-    fn open(&mut self, alloc: Global, base: &Base, disk: CaseDisk, answer: &mut Text) -> Reply {
+    fn open(
+        &mut self,
+        alloc: Global,
+        base: &Base,
+        disk: CaseDisk,
+        answer: &mut TextBuffer,
+    ) -> StepReply {
         match open_broker(alloc, disk, answer) {
             Ok(broker) => {
                 let number = broker.issued();
@@ -137,12 +148,12 @@ impl Stage for BrokerStage {
         disk: MemDisk,
         word: &str,
         text: &str,
-        answer: &mut Text,
-    ) -> (Reply, Option<MemDisk>) {
+        answer: &mut TextBuffer,
+    ) -> (StepReply, Option<MemDisk>) {
         if word == "drill" {
             drill_step(alloc, disk, text, answer)
         } else {
-            (Reply::NoStep, Some(disk))
+            (StepReply::NoStep, Some(disk))
         }
     }
 
@@ -152,8 +163,8 @@ impl Stage for BrokerStage {
         base: &mut Base,
         word: &str,
         words: &mut Words,
-        answer: &mut Text,
-    ) -> Reply {
+        answer: &mut TextBuffer,
+    ) -> StepReply {
         match word {
             "record" => self.tell_record(alloc, words, answer),
             "copy-to" => self.copy_to(alloc, base, words, answer),

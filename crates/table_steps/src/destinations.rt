@@ -1,23 +1,23 @@
 // Steps on the records of events that have ended, and on their members.
 use async_core::Table;
-use case_runner::{Reply, Text, Words, id_of};
+use case_runner::{StepReply, TextBuffer, Words, id_of};
 use destination_json::{record, stamp};
 use invoke_records::GREATEST_MOMENT;
 use serde_json::Value;
 use std::alloc::Global;
 
-const NO_MEMORY: Reply = Reply::Refused("out of memory");
+const NO_MEMORY: StepReply = StepReply::Refused("out of memory");
 
 /// `MOMENT`: its text.
-pub fn tell_stamp(alloc: Global, words: &mut Words, answer: &mut Text) -> Reply {
+pub fn tell_stamp(alloc: Global, words: &mut Words, answer: &mut TextBuffer) -> StepReply {
     let moment = words.number();
     if moment > GREATEST_MOMENT {
-        return Reply::Unreadable;
+        return StepReply::Unreadable;
     }
     match stamp(alloc, moment) {
         Ok(text) => {
             answer.add(text.as_str());
-            Reply::Told
+            StepReply::Told
         }
         Err(_) => NO_MEMORY,
     }
@@ -29,24 +29,24 @@ pub fn tell_record(
     table: &Table,
     kept: &mut Vec<u8>,
     words: &mut Words,
-    answer: &mut Text,
-) -> Reply {
+    answer: &mut TextBuffer,
+) -> StepReply {
     let id = id_of(words.number());
     if words.are_bad() {
-        return Reply::Unreadable;
+        return StepReply::Unreadable;
     }
     kept.clear();
     let Some(ended) = table.ended(&id) else {
-        return Reply::NONE;
+        return StepReply::NONE;
     };
     if ended.at > GREATEST_MOMENT {
-        return Reply::Unreadable;
+        return StepReply::Unreadable;
     }
     match record(alloc, &ended, table.settings()) {
         Ok(bytes) => {
             answer.add_body(&bytes);
             *kept = bytes;
-            Reply::Told
+            StepReply::Told
         }
         Err(_) => NO_MEMORY,
     }
@@ -65,29 +65,34 @@ fn member_at<'a>(value: &'a Value, path: &str) -> Option<&'a Value> {
 }
 
 // A string as it is, and any other value as JSON.
-fn tell_value(alloc: Global, value: &Value, answer: &mut Text) -> Reply {
+fn tell_value(alloc: Global, value: &Value, answer: &mut TextBuffer) -> StepReply {
     if let Some(text) = value.as_str() {
         answer.add(text);
-        return Reply::Told;
+        return StepReply::Told;
     }
     match value.to_string(alloc) {
         Ok(text) => {
             answer.add(text.as_str());
-            Reply::Told
+            StepReply::Told
         }
         Err(_) => NO_MEMORY,
     }
 }
 
 /// `PATH`: a member of the record that was told last, as `serde_json` reads it.
-pub fn tell_member(alloc: Global, record: &[u8], words: &mut Words, answer: &mut Text) -> Reply {
+pub fn tell_member(
+    alloc: Global,
+    record: &[u8],
+    words: &mut Words,
+    answer: &mut TextBuffer,
+) -> StepReply {
     let value = match Value::from_slice(alloc, record) {
         Ok(value) => value,
         Err(why) if why.is_memory() => return NO_MEMORY,
-        Err(_) => return Reply::Unreadable,
+        Err(_) => return StepReply::Unreadable,
     };
     match member_at(&value, words.word()) {
         Some(member) => tell_value(alloc, member, answer),
-        None => Reply::NONE,
+        None => StepReply::NONE,
     }
 }

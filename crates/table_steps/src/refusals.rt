@@ -1,6 +1,6 @@
 // What is answered for each refusal of a record and of a command.
 use async_core::Illegal;
-use case_runner::Reply;
+use case_runner::StepReply;
 use invoke_records::RecordError;
 
 /// The word for the check that a command fails.
@@ -24,8 +24,8 @@ pub fn illegal(why: Illegal) -> &'static str {
 }
 
 /// Why a record is not spelled or not read.
-pub fn record(why: RecordError) -> Reply {
-    Reply::Refused(match why {
+pub fn record(why: RecordError) -> StepReply {
+    StepReply::Refused(match why {
         RecordError::Truncated => "truncated",
         RecordError::BadKind => "bad kind",
         RecordError::TooLong => "too long",

@@ -3,7 +3,7 @@ use crate::records::spelling;
 use crate::refusals;
 use async_core::{Ended, Side, Table};
 use case_runner::{
-    Reply, Text, Words, id_of, kind_word, number_of_id, read_command, read_environment,
+    StepReply, TextBuffer, Words, id_of, kind_word, number_of_id, read_command, read_environment,
 };
 use invoke_records::{Answer, EventRow, Outcome, Standing};
 use std::alloc::{AllocError, Global};
@@ -16,7 +16,7 @@ fn outcome_word(outcome: Outcome) -> &'static str {
     }
 }
 
-fn tell_standing(standing: Standing, answer: &mut Text) -> Reply {
+fn tell_standing(standing: Standing, answer: &mut TextBuffer) -> StepReply {
     match standing {
         Standing::Unknown => answer.add("unknown"),
         Standing::Waiting { due } => answer.add_with("waiting due ", due),
@@ -34,10 +34,10 @@ fn tell_standing(standing: Standing, answer: &mut Text) -> Reply {
             answer.add_with(" ", at);
         }
     }
-    Reply::Told
+    StepReply::Told
 }
 
-fn tell_answer(told: &Answer, answer: &mut Text) {
+fn tell_answer(told: &Answer, answer: &mut TextBuffer) {
     match told {
         Answer::None => answer.add(" no answer"),
         Answer::Response(bytes) => {
@@ -51,9 +51,9 @@ fn tell_answer(told: &Answer, answer: &mut Text) {
     }
 }
 
-fn tell_ended(told: Option<Ended>, answer: &mut Text) -> Reply {
+fn tell_ended(told: Option<Ended>, answer: &mut TextBuffer) -> StepReply {
     let Some(told) = told else {
-        return Reply::NONE;
+        return StepReply::NONE;
     };
     answer.add(outcome_word(told.outcome));
     answer.add_with(" ", told.at);
@@ -61,120 +61,125 @@ fn tell_ended(told: Option<Ended>, answer: &mut Text) -> Reply {
     answer.add(" payload ");
     answer.add_body(told.payload);
     tell_answer(told.answer, answer);
-    Reply::Told
+    StepReply::Told
 }
 
-fn tell_counts(counts: Option<(u32, u32, u32)>, answer: &mut Text) -> Reply {
+fn tell_counts(counts: Option<(u32, u32, u32)>, answer: &mut TextBuffer) -> StepReply {
     let Some((starts, failures, push_backs)) = counts else {
-        return Reply::NONE;
+        return StepReply::NONE;
     };
     answer.add_with("starts ", starts as u64);
     answer.add_with(" failures ", failures as u64);
     answer.add_with(" pushbacks ", push_backs as u64);
-    Reply::Told
+    StepReply::Told
 }
 
 // Retries and an age.
-fn tell_policy(policy: Option<(u8, u32)>, answer: &mut Text) -> Reply {
+fn tell_policy(policy: Option<(u8, u32)>, answer: &mut TextBuffer) -> StepReply {
     let Some((retries, age)) = policy else {
-        return Reply::NONE;
+        return StepReply::NONE;
     };
     answer.add_with("retries ", retries as u64);
     answer.add_with(" age ", age as u64);
-    Reply::Told
+    StepReply::Told
 }
 
-fn tell_payload(bytes: Option<&[u8]>, answer: &mut Text) -> Reply {
+fn tell_payload(bytes: Option<&[u8]>, answer: &mut TextBuffer) -> StepReply {
     let Some(bytes) = bytes else {
-        return Reply::NONE;
+        return StepReply::NONE;
     };
     answer.add_body(bytes);
-    Reply::Told
+    StepReply::Told
 }
 
-fn tell_outcome(outcome: Option<Outcome>) -> Reply {
+fn tell_outcome(outcome: Option<Outcome>) -> StepReply {
     match outcome {
-        Some(outcome) => Reply::Word(outcome_word(outcome)),
-        None => Reply::NONE,
+        Some(outcome) => StepReply::Word(outcome_word(outcome)),
+        None => StepReply::NONE,
     }
 }
 
 // What is told of one event.
-fn event_step(table: &Table, word: &str, id: &[u8; 16], answer: &mut Text) -> Reply {
+fn event_step(table: &Table, word: &str, id: &[u8; 16], answer: &mut TextBuffer) -> StepReply {
     match word {
         "standing" => tell_standing(table.standing(id), answer),
         "counts" => tell_counts(table.counts(id), answer),
         "judged-by" => tell_policy(table.judged_by(id), answer),
         "payload" => tell_payload(table.payload(id), answer),
         "ended" => tell_ended(table.ended(id), answer),
-        "accepted" => Reply::number_or_none(table.accepted(id)),
+        "accepted" => StepReply::number_or_none(table.accepted(id)),
         "outcome" => tell_outcome(table.outcome(id)),
-        _ => Reply::NoStep,
+        _ => StepReply::NoStep,
     }
 }
 
 // `success` or `failure`: the event that ended first on that side.
-fn oldest(table: &Table, words: &mut Words) -> Reply {
+fn oldest(table: &Table, words: &mut Words) -> StepReply {
     let side = match words.word() {
         "success" => Side::Success,
         "failure" => Side::Failure,
-        _ => return Reply::Unreadable,
+        _ => return StepReply::Unreadable,
     };
     match table.oldest_ended(side) {
-        Some(id) => Reply::Number(number_of_id(&id)),
-        None => Reply::NONE,
+        Some(id) => StepReply::Number(number_of_id(&id)),
+        None => StepReply::NONE,
     }
 }
 
-fn running(table: &Table, words: &mut Words, answer: &mut Text) -> Reply {
+fn running(table: &Table, words: &mut Words, answer: &mut TextBuffer) -> StepReply {
     words.expect("after");
     let Some(first) = table.next_running(words.number()) else {
-        return Reply::NONE;
+        return StepReply::NONE;
     };
     let id = first.1;
     answer.add_number(number_of_id(&id));
     answer.add_with(" by ", first.0);
-    Reply::Told
+    StepReply::Told
 }
 
-fn next_move(table: &Table, words: &mut Words, answer: &mut Text) -> Reply {
+fn next_move(table: &Table, words: &mut Words, answer: &mut TextBuffer) -> StepReply {
     words.expect("at");
     let now = words.number();
     let Some(next) = table.next_move(now, read_environment(words, "ready")) else {
-        return Reply::NONE;
+        return StepReply::NONE;
     };
     answer.add(kind_word(next.kind));
     answer.add_with(" ", number_of_id(&next.id));
     if next.environment != 0 {
         answer.add_with(" in ", next.environment as u64);
     }
-    Reply::Told
+    StepReply::Told
 }
 
-fn judge(alloc: Global, table: &Table, words: &mut Words) -> Reply {
+fn judge(alloc: Global, table: &Table, words: &mut Words) -> StepReply {
     let command = match read_command(alloc, words) {
         Ok(command) => command,
         Err(reply) => return reply,
     };
     match table.judge(&command) {
-        Ok(()) => Reply::Word("legal"),
-        Err(why) => Reply::Refused(refusals::illegal(why)),
+        Ok(()) => StepReply::Word("legal"),
+        Err(why) => StepReply::Refused(refusals::illegal(why)),
     }
 }
 
-fn spell_row(alloc: Global, rows: &[EventRow], event: u64, answer: &mut Text) -> Reply {
+fn spell_row(alloc: Global, rows: &[EventRow], event: u64, answer: &mut TextBuffer) -> StepReply {
     for row in rows {
         if number_of_id(&row.id) == event {
             return spelling(row.encode(alloc), answer);
         }
     }
-    Reply::NONE
+    StepReply::NONE
 }
 
 // `snapshot` or `row EVENT`: the spelling of the table's snapshot, or of one event's row of it.
-fn spell_part(alloc: Global, table: &Table, event: Option<u64>, answer: &mut Text) -> Reply {
+fn spell_part(
+    alloc: Global,
+    table: &Table,
+    event: Option<u64>,
+    answer: &mut TextBuffer,
+) -> StepReply {
     let Ok(snapshot) = table.snapshot() else {
-        return Reply::NoMemory;
+        return StepReply::NoMemory;
     };
     match event {
         Some(event) => spell_row(alloc, snapshot.rows.as_slice(), event, answer),
@@ -188,15 +193,15 @@ pub fn table_step(
     table: &Table,
     word: &str,
     words: &mut Words,
-    answer: &mut Text,
-) -> Reply {
+    answer: &mut TextBuffer,
+) -> StepReply {
     match word {
         "oldest" => oldest(table, words),
         "running" => running(table, words, answer),
         "next" => next_move(table, words, answer),
         "judge" => judge(alloc, table, words),
-        "number" => Reply::Number(table.number()),
-        "moment" => Reply::Number(table.last_moment()),
+        "number" => StepReply::Number(table.number()),
+        "moment" => StepReply::Number(table.last_moment()),
         "in-force" => tell_policy(Some(table.in_force()), answer),
         "snapshot" => spell_part(alloc, table, None, answer),
         "row" => spell_part(alloc, table, Some(words.number()), answer),
@@ -219,10 +224,15 @@ fn retake(alloc: Global, table: &Table) -> Result<Table, AllocError> {
 }
 
 /// `STEP`: what a table that is taken up from this one's snapshot answers to a step that reads it.
-pub fn retaken_step(alloc: Global, table: &Table, words: &mut Words, answer: &mut Text) -> Reply {
+pub fn retaken_step(
+    alloc: Global,
+    table: &Table,
+    words: &mut Words,
+    answer: &mut TextBuffer,
+) -> StepReply {
     let word = words.word();
     match retake(alloc, table) {
         Ok(table) => table_step(alloc, &table, word, words, answer),
-        Err(_) => Reply::NoMemory,
+        Err(_) => StepReply::NoMemory,
     }
 }

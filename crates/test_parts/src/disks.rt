@@ -87,16 +87,16 @@ pub const NO_TROUBLE: Trouble = Trouble {
 
 /// What a disk and the threads of a test tell each other.
 #[derive(Drop)]
-pub struct Watch {
+pub struct DiskWatch {
     trouble: Trouble,
     barriers: AtomicU64,
     answers: AtomicU64,
     is_late: AtomicBool,
 }
 
-impl Watch {
-    pub fn new(trouble: Trouble) -> Watch {
-        Watch {
+impl DiskWatch {
+    pub fn new(trouble: Trouble) -> DiskWatch {
+        DiskWatch {
             trouble,
             barriers: AtomicU64::new(0),
             answers: AtomicU64::new(0),
@@ -145,7 +145,7 @@ impl Watch {
 #[derive(Drop)]
 pub struct WatchedDisk<D: Disk> {
     inner: D,
-    watch: Arc<Watch>,
+    watch: Arc<DiskWatch>,
 }
 
 /// The disk of all tests: one call may fail, and it is watched.
@@ -184,7 +184,7 @@ impl<D: Disk> Disk for WatchedDisk<D> {
 }
 
 /// A hall over a new disk that is watched.
-pub fn hall(alloc: Global, watch: &Arc<Watch>) -> Result<Hall<Broker<TestDisk>>, Fail>
+pub fn hall(alloc: Global, watch: &Arc<DiskWatch>) -> Result<Hall<Broker<TestDisk>>, Fail>
     ensures nothing { IfOk result (λ hall. pending_of hall.issuer ≡ []) }
     ensures fresh { IfOk result (λ hall. IsFresh (settings_of hall.issuer) hall) }
 {

@@ -6,5 +6,5 @@
 mod disks;
 mod paths;
 
-pub use disks::{MOST_TURNS, NO_TROUBLE, TestDisk, Trouble, Watch, WatchedDisk, hall};
+pub use disks::{DiskWatch, MOST_TURNS, NO_TROUBLE, TestDisk, Trouble, WatchedDisk, hall};
 pub use paths::path_of;

@@ -20,7 +20,7 @@ use std::sync::ledger::{Blank, Ledger};
 use std::sync::{Arc, Wait};
 use std::test::Fail;
 use std::thread::Threads;
-use test_parts::{TestDisk, Watch, hall};
+use test_parts::{DiskWatch, TestDisk, hall};
 
 /// When all is asked, in milliseconds since 1970.
 pub const NOW: u64 = 1573755365568;
@@ -97,7 +97,13 @@ fn house_over<L: Ledger, D: Disk + Drop>(
 }
 
 // Opens a house over a hall, for a story to happen in it: whether it did.
-fn tell_in<L, R, D>(rt: R, hall: Hall<Broker<D>>, blank: Blank, watch: &Watch, story: Story) -> bool
+fn tell_in<L, R, D>(
+    rt: R,
+    hall: Hall<Broker<D>>,
+    blank: Blank,
+    watch: &DiskWatch,
+    story: Story,
+) -> bool
 where
     L: Ledger + Send + Sync,
     R: Abort + Threads + Wait + RandomSource + AllocGlobal + Copy + Drop + Send + Sync,
@@ -118,7 +124,7 @@ where
 }
 
 /// Lets a story happen over a new disk that is watched.
-pub fn tell<R>(rt: R, watch: &Arc<Watch>, story: Story) -> Result<(), Fail>
+pub fn tell<R>(rt: R, watch: &Arc<DiskWatch>, story: Story) -> Result<(), Fail>
 where
     R: Abort + Threads + Wait + RandomSource + AllocGlobal + Copy + Drop + Send + Sync,
 {

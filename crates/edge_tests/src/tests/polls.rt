@@ -1,8 +1,8 @@
 // Futures of replies, polled on one thread over an office, a board and a bell, and once from another thread.
-mod scene;
+mod rig;
 
 use crate::tests::house::{House, Story, expect, tell};
-use crate::tests::polls::scene::{Pool, Scene, scene_in, slot_of};
+use crate::tests::polls::rig::{PollRig, Pool, rig_in, slot_of};
 use api_core::Call;
 use futures::executor::{LocalPool, block_on};
 use hall_core::HallError;
@@ -15,7 +15,7 @@ use std::sync::{Arc, Wait};
 use std::test::Fail;
 use std::thread;
 use std::thread::Threads;
-use test_parts::{NO_TROUBLE, Trouble, Watch};
+use test_parts::{DiskWatch, NO_TROUBLE, Trouble};
 
 const RUNTIME_NEXT: Call = Call::RuntimeNext { environment: 1 };
 
@@ -38,198 +38,190 @@ pub enum Poll {
     Thread,
 }
 
-fn a_ticket<R, L, D>(rt: &R, scene: &mut Scene<R, L, D>)
+fn a_ticket<R, L, D>(rt: &R, rig: &mut PollRig<R, L, D>)
 where
     R: Abort + Wait + RandomSource + AllocGlobal + Copy + Drop,
     L: Ledger,
     D: Disk + Drop,
 {
-    let ticket = match scene.arrive_invoke(1) {
-        Some(arrived) => scene.check(arrived.ticket).err(),
+    let ticket = match rig.arrive_invoke(1) {
+        Some(arrived) => rig.check(arrived.ticket).err(),
         None => None,
     };
     expect(rt, ticket.is_some(), "a ticket waits");
-    expect(rt, scene.commit() == Ok(1), "a command is durable");
-    scene.raise();
-    expect(
-        rt,
-        scene.shows(ticket),
-        "the board shows the ticket's number",
-    );
+    expect(rt, rig.commit() == Ok(1), "a command is durable");
+    rig.raise();
+    expect(rt, rig.shows(ticket), "the board shows the ticket's number");
 }
 
-fn an_invoke<R, L, D>(rt: &R, scene: &mut Scene<R, L, D>, pool: &mut Pool<R, L>)
+fn an_invoke<R, L, D>(rt: &R, rig: &mut PollRig<R, L, D>, pool: &mut Pool<R, L>)
 where
     R: Abort + Wait + RandomSource + AllocGlobal + Copy + Drop,
     L: Ledger,
     D: Disk + Drop,
 {
-    let slot = scene.invoke(pool, 1);
+    let slot = rig.invoke(pool, 1);
     expect(
         rt,
-        scene.heard(pool).is_nothing(),
+        rig.heard(pool).is_nothing(),
         "nothing is told before a commit",
     );
-    expect(rt, scene.commit() == Ok(1), "a command is durable");
+    expect(rt, rig.commit() == Ok(1), "a command is durable");
     expect(
         rt,
-        scene.heard(pool).has_waited(0),
+        rig.heard(pool).has_waited(0),
         "nobody looks before the ring",
     );
-    scene.raise();
-    scene.ring();
+    rig.raise();
+    rig.ring();
     expect(
         rt,
-        scene.heard(pool).is_one(slot, 202),
+        rig.heard(pool).is_one(slot, 202),
         "the invoke is told 202",
     );
-    expect(rt, scene.open_slots() == 0, "no slot is open");
+    expect(rt, rig.open_slots() == 0, "no slot is open");
 }
 
-fn parked_polls<R, L, D>(rt: &R, scene: &mut Scene<R, L, D>, pool: &mut Pool<R, L>)
+fn parked_polls<R, L, D>(rt: &R, rig: &mut PollRig<R, L, D>, pool: &mut Pool<R, L>)
 where
     R: Abort + Wait + RandomSource + AllocGlobal + Copy + Drop,
     L: Ledger,
     D: Disk + Drop,
 {
-    let first = scene.ask(pool, RUNTIME_NEXT, 1);
+    let first = rig.ask(pool, RUNTIME_NEXT, 1);
+    expect(rt, rig.heard(pool).is_nothing(), "the first poll is parked");
+    let second = rig.ask(pool, RUNTIME_NEXT, 1);
     expect(
         rt,
-        scene.heard(pool).is_nothing(),
-        "the first poll is parked",
-    );
-    let second = scene.ask(pool, RUNTIME_NEXT, 1);
-    expect(
-        rt,
-        scene.heard(pool).is_one(first, 409),
+        rig.heard(pool).is_one(first, 409),
         "the first poll is replaced by the second, which is parked",
     );
-    let accepted = scene.invoke(pool, 1);
-    expect(rt, scene.tick() == 2, "the event starts");
+    let accepted = rig.invoke(pool, 1);
+    expect(rt, rig.tick() == 2, "the event starts");
     expect(
         rt,
-        scene.heard(pool).is_nothing(),
+        rig.heard(pool).is_nothing(),
         "nothing is told before a commit",
     );
     expect(
         rt,
-        scene.commit_and_tell() == Ok(2),
+        rig.commit_and_tell() == Ok(2),
         "both commands are durable",
     );
-    let heard = scene.heard(pool);
+    let heard = rig.heard(pool);
     expect(
         rt,
         heard.are_two((second, 200), (accepted, 202)),
         "both are told",
     );
-    expect(rt, scene.open_slots() == 0, "no slot is open");
+    expect(rt, rig.open_slots() == 0, "no slot is open");
 }
 
-fn a_sleeping_poll<R, L, D>(rt: &R, scene: &mut Scene<R, L, D>, pool: &mut Pool<R, L>)
+fn a_sleeping_poll<R, L, D>(rt: &R, rig: &mut PollRig<R, L, D>, pool: &mut Pool<R, L>)
 where
     R: Abort + Wait + RandomSource + AllocGlobal + Copy + Drop,
     L: Ledger,
     D: Disk + Drop,
 {
-    let parked = scene.ask(pool, RUNTIME_NEXT, 1);
-    expect(rt, scene.heard(pool).has_waited(1), "the poll is parked");
-    let accepted = scene.invoke(pool, 1);
+    let parked = rig.ask(pool, RUNTIME_NEXT, 1);
+    expect(rt, rig.heard(pool).has_waited(1), "the poll is parked");
+    let accepted = rig.invoke(pool, 1);
     expect(
         rt,
-        scene.heard(pool).has_waited(1),
+        rig.heard(pool).has_waited(1),
         "only the invoke has looked",
     );
-    expect(rt, scene.commit_and_tell() == Ok(1), "a command is durable");
-    let heard = scene.heard(pool);
+    expect(rt, rig.commit_and_tell() == Ok(1), "a command is durable");
+    let heard = rig.heard(pool);
     expect(rt, heard.is_one(accepted, 202), "the invoke is told 202");
     expect(rt, heard.has_waited(0), "the parked poll has not looked");
-    expect(rt, scene.tick() == 2, "the event starts");
+    expect(rt, rig.tick() == 2, "the event starts");
     expect(
         rt,
-        scene.heard(pool).has_waited(0),
+        rig.heard(pool).has_waited(0),
         "nobody looks before the commit",
     );
-    expect(rt, scene.commit_and_tell() == Ok(2), "the start is durable");
+    expect(rt, rig.commit_and_tell() == Ok(2), "the start is durable");
     expect(
         rt,
-        scene.heard(pool).is_one(parked, 200),
+        rig.heard(pool).is_one(parked, 200),
         "the parked poll is told the event",
     );
 }
 
-fn a_fault<R, L, D>(rt: &R, scene: &mut Scene<R, L, D>, pool: &mut Pool<R, L>)
+fn a_fault<R, L, D>(rt: &R, rig: &mut PollRig<R, L, D>, pool: &mut Pool<R, L>)
 where
     R: Abort + Wait + RandomSource + AllocGlobal + Copy + Drop,
     L: Ledger,
     D: Disk + Drop,
 {
-    let accepted = scene.invoke(pool, 1);
+    let accepted = rig.invoke(pool, 1);
     expect(
         rt,
-        scene.heard(pool).is_nothing(),
+        rig.heard(pool).is_nothing(),
         "nothing is told before a commit",
     );
-    expect(rt, scene.commit_and_tell() == Ok(1), "a command is durable");
+    expect(rt, rig.commit_and_tell() == Ok(1), "a command is durable");
     expect(
         rt,
-        scene.heard(pool).is_one(accepted, 202),
+        rig.heard(pool).is_one(accepted, 202),
         "the invoke is told 202",
     );
-    let one = scene.ticket();
-    let parked = scene.ask(pool, RUNTIME_NEXT, 1);
-    let refused = scene.invoke(pool, 2);
-    let two = scene.ticket();
-    expect(rt, scene.open_slots() == 2, "two slots are open");
+    let one = rig.ticket();
+    let parked = rig.ask(pool, RUNTIME_NEXT, 1);
+    let refused = rig.invoke(pool, 2);
+    let two = rig.ticket();
+    expect(rt, rig.open_slots() == 2, "two slots are open");
     expect(
         rt,
-        scene.heard(pool).is_nothing(),
+        rig.heard(pool).is_nothing(),
         "nothing is told before a commit",
     );
     expect(
         rt,
-        scene.commit_and_tell() == Err(HallError::Fault),
+        rig.commit_and_tell() == Err(HallError::Fault),
         "the device fails",
     );
-    let heard = scene.heard(pool);
+    let heard = rig.heard(pool);
     expect(
         rt,
         heard.are_two((parked, 503), (refused, 503)),
         "both are told 503",
     );
-    expect(rt, scene.shows(one), "the board shows what is durable");
-    expect(rt, !scene.shows(two), "the board shows no more");
+    expect(rt, rig.shows(one), "the board shows what is durable");
+    expect(rt, !rig.shows(two), "the board shows no more");
     expect(
         rt,
-        scene.commit_and_tell() == Err(HallError::Broken),
+        rig.commit_and_tell() == Err(HallError::Broken),
         "the hall is broken",
     );
 }
 
-fn a_dropped_future<R, L, D>(rt: &R, scene: &mut Scene<R, L, D>)
+fn a_dropped_future<R, L, D>(rt: &R, rig: &mut PollRig<R, L, D>)
 where
     R: Abort + Wait + RandomSource + AllocGlobal + Copy + Drop,
     L: Ledger,
     D: Disk + Drop,
 {
-    let waiting = scene.waiting(scene.arrive_invoke(1));
+    let waiting = rig.waiting(rig.arrive_invoke(1));
     expect(rt, waiting.is_some(), "a future waits");
-    expect(rt, scene.open_slots() == 1, "its slot is open");
+    expect(rt, rig.open_slots() == 1, "its slot is open");
     drop(waiting);
-    expect(rt, scene.open_slots() == 0, "its slot is forgotten");
+    expect(rt, rig.open_slots() == 0, "its slot is forgotten");
 }
 
-fn another_thread<R, L, D>(rt: &R, scene: &mut Scene<R, L, D>) -> bool
+fn another_thread<R, L, D>(rt: &R, rig: &mut PollRig<R, L, D>) -> bool
 where
     R: Abort + Threads + Wait + RandomSource + AllocGlobal + Copy + Drop + Send + Sync,
     L: Ledger + Send + Sync,
     D: Disk + Drop + Send,
 {
-    let arrived = scene.arrive_invoke(1);
+    let arrived = rig.arrive_invoke(1);
     let slot = slot_of(&arrived);
-    let Some(waiting) = scene.waiting(arrived) else {
+    let Some(waiting) = rig.waiting(arrived) else {
         return false;
     };
-    let (released, told) = thread::join(rt, || block_on(rt, waiting), || scene.commit_and_tell());
+    let (released, told) = thread::join(rt, || block_on(rt, waiting), || rig.commit_and_tell());
     expect(rt, told == Ok(1), "a command is durable");
     match released {
         Ok(released) => {
@@ -242,7 +234,7 @@ where
 }
 
 // Polls what needs a pool: whether there was memory for one.
-fn poll_pooled<R, L, D>(rt: &R, scene: &mut Scene<R, L, D>, which: Poll) -> bool
+fn poll_pooled<R, L, D>(rt: &R, rig: &mut PollRig<R, L, D>, which: Poll) -> bool
 where
     R: Abort + Wait + RandomSource + AllocGlobal + Copy + Drop,
     L: Ledger,
@@ -253,26 +245,26 @@ where
     };
     let mut pool: Pool<R, L> = pool;
     match which {
-        Poll::Invoke => an_invoke(rt, scene, &mut pool),
-        Poll::Parked => parked_polls(rt, scene, &mut pool),
-        Poll::Asleep => a_sleeping_poll(rt, scene, &mut pool),
-        _ => a_fault(rt, scene, &mut pool),
+        Poll::Invoke => an_invoke(rt, rig, &mut pool),
+        Poll::Parked => parked_polls(rt, rig, &mut pool),
+        Poll::Asleep => a_sleeping_poll(rt, rig, &mut pool),
+        _ => a_fault(rt, rig, &mut pool),
     }
     true
 }
 
-// Polls replies on a scene: whether there was memory for it.
-fn poll_on<R, L, D>(rt: &R, scene: &mut Scene<R, L, D>, which: Poll) -> bool
+// Polls replies on a rig: whether there was memory for it.
+fn poll_on<R, L, D>(rt: &R, rig: &mut PollRig<R, L, D>, which: Poll) -> bool
 where
     R: Abort + Threads + Wait + RandomSource + AllocGlobal + Copy + Drop + Send + Sync,
     L: Ledger + Send + Sync,
     D: Disk + Drop + Send,
 {
     match which {
-        Poll::Board => a_ticket(rt, scene),
-        Poll::Dropped => a_dropped_future(rt, scene),
-        Poll::Thread => return another_thread(rt, scene),
-        _ => return poll_pooled(rt, scene, which),
+        Poll::Board => a_ticket(rt, rig),
+        Poll::Dropped => a_dropped_future(rt, rig),
+        Poll::Thread => return another_thread(rt, rig),
+        _ => return poll_pooled(rt, rig, which),
     }
     true
 }
@@ -284,10 +276,10 @@ where
     L: Ledger + Send + Sync,
     D: Disk + Drop + Send,
 {
-    match scene_in(rt, house) {
-        Some(scene) => {
-            let mut scene = scene;
-            poll_on(&rt, &mut scene, which)
+    match rig_in(rt, house) {
+        Some(rig) => {
+            let mut rig = rig;
+            poll_on(&rt, &mut rig, which)
         }
         None => false,
     }
@@ -302,7 +294,7 @@ where
         fault,
         ..NO_TROUBLE
     };
-    let watch = Arc::new(rt.alloc(), Watch::new(trouble))?;
+    let watch = Arc::new(rt.alloc(), DiskWatch::new(trouble))?;
     tell(rt, &watch, Story::Polls(which))
 }
 

@@ -10,7 +10,7 @@ use std::sync::{Arc, Wait};
 use std::test::Fail;
 use std::thread;
 use std::thread::Threads;
-use test_parts::{MOST_TURNS, NO_TROUBLE, Trouble, Watch};
+use test_parts::{DiskWatch, MOST_TURNS, NO_TROUBLE, Trouble};
 
 /// How threads ask.
 #[derive(Clone, Copy)]
@@ -57,7 +57,7 @@ fn ask<L: Ledger, R: Wait>(
     office: &Office<L>,
     desk: Desk<L>,
     n: u64,
-    watch: &Watch,
+    watch: &DiskWatch,
 ) -> (Desk<L>, u16) {
     let mut desk = desk;
     let slot = arrive(rt, alloc, office, &mut desk, n);
@@ -105,7 +105,7 @@ fn run<L, R, D>(
     office: &Office<L>,
     (one, half): (Desk<L>, DiskHalf<D>),
     (two, three): (Desk<L>, Desk<L>),
-    watch: &Watch,
+    watch: &DiskWatch,
     plan: Plan,
 ) -> Done<L, D>
 where
@@ -160,7 +160,7 @@ fn close<L: Ledger, R: Abort, D: Disk + Drop>(
 }
 
 /// Two threads are told of their invokes, and the office is closed behind that: whether it was.
-pub fn ask_in_threads<L, R, D>(rt: R, house: House<L, D>, watch: &Watch, plan: Plan) -> bool
+pub fn ask_in_threads<L, R, D>(rt: R, house: House<L, D>, watch: &DiskWatch, plan: Plan) -> bool
 where
     L: Ledger + Send + Sync,
     R: Abort + Threads + Wait + AllocGlobal + Copy + Sync,
@@ -194,7 +194,7 @@ where
 // One barrier is the opening's, and two are those of the commit.
 #[test]
 fn two_invokes_share_a_commit(rt: HostRuntime) -> Result<(), Fail> {
-    let watch = Arc::new(rt.alloc(), Watch::new(NO_TROUBLE))?;
+    let watch = Arc::new(rt.alloc(), DiskWatch::new(NO_TROUBLE))?;
     let plan = Plan {
         pending: 2,
         commits: 1,
@@ -212,7 +212,7 @@ fn an_invoke_beside_a_write_is_told_by_the_next_commit(rt: HostRuntime) -> Resul
         barrier: 3,
         answers: 2,
     };
-    let watch = Arc::new(rt.alloc(), Watch::new(trouble))?;
+    let watch = Arc::new(rt.alloc(), DiskWatch::new(trouble))?;
     let plan = Plan {
         pending: 1,
         commits: 2,

@@ -2,7 +2,7 @@
 use Rattle.std.proofs.Common.{refl}
 use Rattle.std.specs.Fmt.{digits}
 use Rattle.admin_replies.specs.Lines.{last_digits, line_text}
-use Rattle.admin_replies.specs.Metrics.{section_text, label_text, settings_begin, settings_text}
+use Rattle.admin_replies.specs.MetricsText.{section_text, label_text, settings_begin, settings_text}
 use Rattle.admin_replies.specs.Table.{lines_of}
 use Rattle.admin_replies.proofs.examples.lines.Goals as goal
 

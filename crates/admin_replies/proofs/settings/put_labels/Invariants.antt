@@ -1,5 +1,5 @@
 use Rattle.std.proofs.Common.{◌≡◌, ◌++◌, take}
-use Rattle.admin_replies.specs.Metrics.{labels_text}
+use Rattle.admin_replies.specs.MetricsText.{labels_text}
 use Rattle.admin_replies.proofs.settings.put_labels.Given as goal
 
 abbrev pub invariant-loop-field : goal.invariant-loop-field

@@ -11,7 +11,7 @@ returns-then-is_some-clause-stands_failed g c history stands =
 
 pub returns-then-issue-clause-stands : goal.returns-then-issue-clause-stands
 returns-then-issue-clause-stands g c history stands =
-    stands_broken _ _ _ _ _ _ _ _ (stands_none g.D.Disk.view (broker_of c.args.disk) (ahead_of c.args.issue (broker_of c.args.disk)) history stands)
+    stands_broken (stands_none g.D.Disk.view (broker_of c.args.disk) (ahead_of c.args.issue (broker_of c.args.disk)) history stands)
 
 pub returns-in-Ok-clause-headline : goal.returns-in-Ok-clause-headline
 returns-in-Ok-clause-headline g c history shared stands whole =

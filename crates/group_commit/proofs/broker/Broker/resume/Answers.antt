@@ -31,7 +31,7 @@ returns-in-Err-clause-resumes g c history stands =
     c.last_moment.ensures ∙ ap (λ (t : Snapshot). t.last_moment) stands.table_is ∙ moment-table_of (settings_of old) history in
     let same : c.interrupt.result ≡ interrupt_of history now event = c.interrupt.ensures ∙ ap (interrupt_at event.1) (c.max-time.ensures ∙ ap (max now) moment) in
     let legal : refusal_at (settings_of old) (table_in old) c.interrupt.result ≡ None =
-    refusal_is _ _ _ _ _ _ _ history stands c.interrupt.result
+    refusal_is history stands c.interrupt.result
     ∙ ap (refusal_of (settings_of old) history) same
     ∙ interrupt_legal (settings_of old) history now event stands.good stands.legal c.requires (first_runs (settings_of old) history event (c.in-Some.ensures.by_history history stands.table_is)) in
     (history, (own_reason old c.interrupt.result c.in-Err.why legal c.in-Err.ensures.reason, refl), c.in-Err.ensures.stands_refused history stands)

@@ -8,8 +8,8 @@ use Rattle.receipts.proofs.office.Office.new.Goals as goal
 pub make_desks-made-requires-clause-few : goal.make_desks-made-requires-clause-few
 make_desks-made-requires-clause-few g c = few_desks (settings_of c.args.hall.issuer) _ c.args.hall.issuer.good.check (search rules)
 
-pub invariant_of-kept : goal.invariant_of-kept
-invariant_of-kept g c =
+pub invariant_of-locked : goal.invariant_of-locked
+invariant_of-locked g c =
     let split = c.in-Ok-split.ensures.ok in
     record {
       numbered = search rules;

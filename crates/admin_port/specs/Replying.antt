@@ -1,0 +1,27 @@
+-- What an operator is told.
+use Rattle.std.specs.Prelude.{◌≡◌, ◌⊎◌, ℕ, Option, Some, None, IfSome}
+use Rattle.std.specs.Option.{option_map_or}
+use Rattle.admin_replies.specs.declared.measuring.Measures.{Measures}
+use Rattle.admin_replies.specs.declared.admin_reply.AdminReply.{AdminReply}
+use Rattle.admin_replies.specs.declared.telling.Baseline.{Baseline}
+use Rattle.admin_replies.specs.Telling.{TellsOf}
+use Rattle.admin_replies.specs.declared.admin_request.AdminRequest.{AdminRequest}
+use Rattle.receipts.specs.declared.view.View.{View}
+use Rattle.receipts.specs.declared.view.Unreleased.{Unreleased}
+
+-- the status of a reply, or 503 where there is no memory for one
+abbrev pub status_told : Option AdminReply → ℕ
+status_told reply = option_map_or (λ (r : AdminReply). r.status) reply 503
+
+-- the reply tells of what was seen, with what was measured at some moment; or there is no memory for one
+abbrev pub TellsOfView : Baseline → AdminRequest → View → Option AdminReply → Type 0
+TellsOfView baseline request view reply = IfSome reply (λ told. (measures : Measures) × ((now : ℕ) × TellsOf baseline view measures now request told))
+
+-- it is refused: the hall broke before what was asked for became durable
+abbrev pub TellsOfFault : Option AdminReply → Type 0
+TellsOfFault reply = IfSome reply (λ told. told.status ≡ 503)
+
+-- the reply tells of what was unreleased, and of nothing else
+abbrev pub TellsOfUnreleased : Baseline → AdminRequest → Option Unreleased → Option AdminReply → Type 0
+TellsOfUnreleased baseline request (Some unreleased) reply = TellsOfView baseline request unreleased.view reply ⊎ TellsOfFault reply
+TellsOfUnreleased baseline request None reply = TellsOfFault reply

@@ -1,0 +1,33 @@
+// What a request to the operator's port asks for.
+
+use async_core::Side;
+use operator_view::Which;
+
+/// What a request to the operator's port asks for.
+#[derive(Clone, Copy)]
+pub enum AdminRequest {
+    /// `/`: the page for a person.
+    Page,
+    /// `/metrics`: the numbers, as text.
+    Metrics,
+    /// `/healthz`: whether the broker serves.
+    Health,
+    /// `/events`: a list of events.
+    Events {
+        which: Which,
+        /// Only those behind this one.
+        after: Option<[u8; 16]>,
+        /// At most so many, 1 to 1000.
+        limit: usize,
+    },
+    /// `/events/ID`: one event.
+    Event([u8; 16]),
+    /// `/records/success` and `/records/failure`: a list of records.
+    Records {
+        side: Side,
+        /// Only those behind this one.
+        after: Option<[u8; 16]>,
+        /// At most so many, 1 to 1000.
+        limit: usize,
+    },
+}

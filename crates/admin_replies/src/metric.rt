@@ -1,0 +1,94 @@
+// The names of the numbers that are told.
+
+/// A number that is told.
+#[derive(Clone, Copy)]
+pub(crate) enum Metric {
+    Held(HeldMetric),
+    Wait(WaitMetric),
+    Phase(PhaseMetric),
+    Life(LifeMetric),
+    Refusal(RefusalMetric),
+    Commit(CommitMetric),
+    State(StateMetric),
+}
+
+/// Events that are held.
+#[derive(Clone, Copy)]
+pub(crate) enum HeldMetric {
+    Waiting,
+    DueAgain,
+    Running,
+    Success,
+    RetriesExhausted,
+    EventAgeExceeded,
+}
+
+/// What waits, and for how long.
+#[derive(Clone, Copy)]
+pub(crate) enum WaitMetric {
+    OldestWait,
+    OldestRecord,
+    Pending,
+    OpenSlots,
+    ParkedPolls,
+}
+
+/// Environments in a phase.
+#[derive(Clone, Copy)]
+pub(crate) enum PhaseMetric {
+    Init,
+    Ready,
+    Busy,
+    Closing,
+}
+
+/// What became of commands, events and attempts.
+#[derive(Clone, Copy)]
+pub(crate) enum LifeMetric {
+    Issued,
+    Durable,
+    Accepted,
+    Success,
+    RetriesExhausted,
+    EventAgeExceeded,
+    Collected,
+    Started,
+    Throttled,
+    Interrupted,
+}
+
+/// Requests that were refused.
+#[derive(Clone, Copy)]
+pub(crate) enum RefusalMetric {
+    BadRequest,
+    NotFound,
+    Conflict,
+    TooLarge,
+    HeadTooLarge,
+    TooMany,
+    Unavailable,
+    Other,
+}
+
+/// Commits.
+#[derive(Clone, Copy)]
+pub(crate) enum CommitMetric {
+    /// Those of a bucket, by its index.
+    Within(u8),
+    All,
+    /// How long they took in all.
+    Time,
+}
+
+/// The disk and the process.
+#[derive(Clone, Copy)]
+pub(crate) enum StateMetric {
+    Switches,
+    WrittenBytes,
+    Generation,
+    Sectors,
+    FreeSectors,
+    ResidentBytes,
+    Stopping,
+    Fault,
+}

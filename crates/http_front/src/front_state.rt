@@ -1,0 +1,132 @@
+// What the threads of a front share.
+ghost use Rattle.std.specs.Prelude.{◌≡◌, ◌+◌, IfOk, IfErr, max};
+ghost use Rattle.long_poll.specs.Port.{IsSlot};
+ghost use Rattle.http_front.specs.Refusals.{IsArrivalError};
+
+use crate::arriving::{Handed, arrive};
+use crate::error::ArrivalError;
+use crate::wake::Wake;
+use api_core::{Call, Dialect};
+use group_commit::Durable;
+use long_poll::{Arrived, Bell, Port};
+use port_meters::Meters;
+use receipts::{Office, Trace};
+use retry_rules::Settings;
+use std::alloc::{AllocError, Global};
+use std::io::Eprint;
+use std::random::RandomSource;
+use std::sync::ledger::Ledger;
+use std::sync::{Arc, Wait};
+use std::time::Clock;
+use tokio_util::sync::CancellationToken;
+
+/// The greatest body of a request that carries no payload, response or error.
+const MOST_OTHER: u32 = 4096;
+
+// How much of a body is read: a byte more than the greatest that any call may have.
+fn most_read(settings: &Settings) -> usize
+    ensures { result ≡ max (max settings.now.payload settings.now.response) 4096 + 1 }
+{
+    settings.payload.max(settings.response).max(MOST_OTHER) as usize + 1
+}
+
+// What the threads of a new front tell each other by.
+#[derive(Drop)]
+struct Signals {
+    bell: Arc<Bell>,
+    ending: CancellationToken,
+    meters: Arc<Meters>,
+}
+
+impl Signals {
+    // So much is durable, and nothing was told.
+    fn new(alloc: Global, durable: Durable) -> Result<Signals, AllocError> {
+        let meters = Arc::new(alloc, Meters::new())?;
+        let ending = CancellationToken::new(alloc)?;
+        let bell = Arc::new(alloc, Bell::new(alloc, durable))?;
+        Ok(Signals {
+            bell,
+            ending,
+            meters,
+        })
+    }
+}
+
+/// What the threads of a front share: the office and the bell, what the committer sleeps on, and whether the front ends.
+#[derive(Drop)]
+pub struct FrontState<L: Ledger, T: Trace> {
+    pub(crate) alloc: Global,
+    pub(crate) office: Arc<Office<L, T>>,
+    pub(crate) bell: Arc<Bell>,
+    pub(crate) wake: Wake,
+    pub(crate) ending: CancellationToken,
+    /// What is counted for an operator.
+    pub(crate) meters: Arc<Meters>,
+    /// The settings of the broker.
+    pub(crate) settings: Settings,
+    /// In which words requests are read and refused.
+    pub(crate) dialect: Dialect,
+    /// How many bytes of a body are read.
+    pub(crate) most: usize,
+}
+
+impl<L: Ledger, T: Trace> FrontState<L, T> {
+    /// A front over an office of a broker with these settings, of which so much is durable, which no thread serves yet. It reads
+    /// requests in this dialect.
+    pub fn new(
+        alloc: Global,
+        office: Arc<Office<L, T>>,
+        dialect: Dialect,
+        durable: Durable,
+        settings: Settings,
+    ) -> Result<FrontState<L, T>, AllocError>
+        // claim: A front has the office, settings and dialect that it was given: those of its hall. [: office, settings,
+        // dialect; open: dialect, settings]
+        ensures office { IfOk result (λ front. front.office ≡ office) }
+        ensures settings { IfOk result (λ front. front.settings ≡ settings) }
+        ensures dialect { IfOk result (λ front. front.dialect ≡ dialect) }
+    {
+        let Signals {
+            bell,
+            ending,
+            meters,
+        } = Signals::new(alloc, durable)?;
+        let most = most_read(&settings);
+        Ok(FrontState {
+            alloc,
+            office,
+            bell,
+            wake: Wake::new(),
+            ending,
+            meters,
+            settings,
+            dialect,
+            most,
+        })
+    }
+
+    /// A call comes to a port. Where there is something to commit, or the broker is to stop, the committer is called.
+    ///
+    /// It is refused: `System` (the clock or the source of random words failed), and as `Port::arrive` refuses it.
+    pub(crate) fn arrive<R: Wait + Clock + RandomSource + Eprint>(
+        &self,
+        rt: &R,
+        port: &Port<L, T>,
+        call: Call,
+    ) -> Result<Arrived, ArrivalError>
+        // claim: A request gets a slot of some desk, and is refused as an office refuses one, or since clock or random
+        // source failed.
+        ensures slot { IfOk result (λ arrived. IsSlot arrived.slot) }
+        ensures refused { IfErr result IsArrivalError }
+    {
+        let stops = matches!(call, Call::StopBroker);
+        let Handed {
+            arrived,
+            has_command,
+        } = arrive(rt, port, call)?;
+        if stops || has_command {
+            self.wake.call(rt);
+        }
+        Ok(arrived)
+    }
+}

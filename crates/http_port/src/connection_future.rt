@@ -1,0 +1,75 @@
+// A connection that is served to its end.
+ghost use Rattle.std.specs.Prelude.{IfSome};
+ghost use Rattle.futures.specs.Task.{IsArmed, Keeps};
+ghost use Rattle.futures.specs.Poll.{OnPending};
+
+use crate::permits::Permit;
+use crate::timer::Timer;
+use futures::Future;
+use futures::task::{Context, Poll};
+use std::time::Clock;
+
+// A connection that is open, and has a permit.
+#[derive(Drop)]
+struct Connected<C, R> {
+    conn: C,
+    timer: Timer<R>,
+    // It is left when the connection has ended.
+    permit: Permit,
+}
+
+impl<C: Future<Output = T>, T: Drop, R: Clock + Drop> Connected<C, R> {
+    // Ready once the connection has ended, or is to be closed.
+    fn poll(&mut self, cx: &mut Context<'_>) -> Poll<()>
+        requires { C.can_poll self.old.conn }
+        ensures again { OnPending result (C.can_poll self.new.conn) }
+        ensures armed { OnPending result (IsArmed cx.new) }
+        ensures kept { Keeps cx.old cx.new }
+    {
+        if self.conn.poll(cx).is_ready() {
+            return Poll::Ready(());
+        }
+        self.timer.poll(cx)
+    }
+}
+
+/// A connection as a task. How it ended is not told.
+#[derive(Drop)]
+pub(crate) struct ConnectionFuture<C, R> {
+    connected: Option<Connected<C, R>>,
+}
+
+impl<C: Future, R> ConnectionFuture<C, R> {
+    /// Serves a connection that can be polled, in this time, and gives its permit back.
+    pub(crate) fn new(conn: C, timer: Timer<R>, permit: Permit) -> ConnectionFuture<C, R>
+        requires { C.can_poll conn }
+        ensures { IfSome result.connected (λ connected. C.can_poll connected.conn) }
+    {
+        ConnectionFuture {
+            connected: Some(Connected {
+                conn,
+                timer,
+                permit,
+            }),
+        }
+    }
+}
+
+impl<C: Future<Output = T>, T: Drop, R: Clock + Drop> Future for ConnectionFuture<C, R> {
+    type Output = ();
+
+    ghost can_poll = { λ s. IfSome s.connected (λ connected. C.can_poll connected.conn) };
+
+    fn poll(&mut self, cx: &mut Context<'_>) -> Poll<()> {
+        let Some(mut connected) = self.connected.take() else {
+            return Poll::Ready(());
+        };
+        match connected.poll(cx) {
+            Poll::Pending => {
+                self.connected = Some(connected);
+                Poll::Pending
+            }
+            Poll::Ready(()) => Poll::Ready(()),
+        }
+    }
+}

@@ -1,0 +1,96 @@
+// Ending a broker from outside, in order.
+use std::alloc::AllocError;
+use std::io::{ErrorKind, Read, Write};
+use std::net::{Net, SocketAddr, TcpListener, TcpStream};
+use std::time::{Clock, Duration};
+use std::{io, thread};
+use thiserror::Error;
+
+/// How many seconds a reply is waited for.
+const PATIENCE: u64 = 60;
+/// How many milliseconds it is waited before the port is looked at again.
+const PAUSE: u64 = 50;
+/// How often the port is looked at: for a minute.
+const MOST_LOOKS: u32 = 1200;
+/// How a reply begins that takes what was asked.
+const TAKEN: &[u8; 10] = b"HTTP/1.1 2";
+
+/// Why a broker was not stopped, or not seen to end.
+#[derive(Debug, Drop, Error)]
+pub enum StoppingError {
+    #[error("out of memory")]
+    OutOfMemory(#[from] AllocError),
+    /// Nobody listens there.
+    #[error("no broker on {at}")]
+    Nobody { at: SocketAddr },
+    /// What listens there does not take the request: it is broken, or no broker.
+    #[error("{at} does not take it")]
+    NotTaken { at: SocketAddr },
+    /// It takes the request, and listens still a minute later.
+    #[error("{at} is still open")]
+    StillOpen { at: SocketAddr },
+    #[error("{0}")]
+    System(#[from] io::Error),
+}
+
+// A connection to a port. None where nobody listens there.
+fn connect<N>(rt: &N, at: SocketAddr) -> io::Result<Option<TcpStream>>
+where
+    N: Net<Listener = TcpListener, Stream = TcpStream>,
+{
+    match TcpStream::connect(rt, at) {
+        Ok(socket) => Ok(Some(socket)),
+        Err(why) if why.kind() == ErrorKind::ConnectionRefused => Ok(None),
+        Err(why) => Err(why),
+    }
+}
+
+// Asks for the end over a connection: whether that is taken. One that ends without a reply takes nothing.
+fn ask<N: AllocGlobal>(rt: &N, socket: &mut TcpStream, at: SocketAddr) -> io::Result<bool> {
+    let request = format!(in rt.alloc();
+        "POST /broker/stop HTTP/1.1\r\nhost: {at}\r\ncontent-length: 0\r\nconnection: close\r\n\r\n"
+    )?;
+    socket.set_read_timeout(Some(Duration::from_secs(PATIENCE)))?;
+    socket.write_all(request.as_bytes())?;
+    let mut front = [0; TAKEN.len()];
+    match socket.read_exact(&mut front) {
+        Ok(()) => Ok(front == *TAKEN),
+        Err(why) if why.kind() == ErrorKind::UnexpectedEof => Ok(false),
+        Err(why) => Err(why),
+    }
+}
+
+// Waits until nobody listens on a port: whether that came.
+fn wait_for_end<N>(rt: &N, at: SocketAddr) -> io::Result<bool>
+where
+    N: Clock + Net<Listener = TcpListener, Stream = TcpStream>,
+{
+    for _ in 0..MOST_LOOKS {
+        if connect(rt, at)?.is_none() {
+            return Ok(true);
+        }
+        thread::sleep(rt, Duration::from_millis(PAUSE));
+    }
+    Ok(false)
+}
+
+/// Asks the broker whose callers' port is there to stop, and waits until it listens no more, a minute at most.
+///
+/// It is refused by `Nobody`, `NotTaken` and `StillOpen`, and where the system's calls or memory fail.
+pub fn stop_broker<N>(rt: &N, at: SocketAddr) -> Result<(), StoppingError>
+where
+    N: AllocGlobal + Clock + Net<Listener = TcpListener, Stream = TcpStream>,
+{
+    let Some(mut socket) = connect(rt, at)? else {
+        return Err(StoppingError::Nobody { at });
+    };
+    if !ask(rt, &mut socket, at)? {
+        return Err(StoppingError::NotTaken { at });
+    }
+    drop(socket);
+    if wait_for_end(rt, at)? {
+        Ok(())
+    } else {
+        Err(StoppingError::StillOpen { at })
+    }
+}

@@ -1,0 +1,31 @@
+use Rattle.std.proofs.Common.{rules}
+use Rattle.std.proofs.Math.Logic.{∥∥₁_map}
+use Rattle.group_commit.specs.IssuerHalf.{half_view}
+use Rattle.hall_core.specs.Hall.{view_of}
+use Rattle.receipts.proofs.Running.{runs_same}
+use Rattle.receipts.proofs.UnderLock.{lent_no_fault}
+use Rattle.receipts.proofs.locked.Locked.lend.Goals as goal
+
+pub invariant_of-self : goal.invariant_of-self
+invariant_of-self g c = record {
+  numbered = search rules;
+  reached = search rules;
+  followed = search rules;
+  runs = ∥∥₁_map c.args.self.now.runs (runs_same (view_of half_view c.args.self.now.hall) (view_of half_view c.lend.new.self) _ c.lend.ensures.same);
+}
+
+pub returns-in-Err : goal.returns-in-Err
+returns-in-Err g c =
+    record {
+      told = search rules;
+      number = search rules;
+      own = search rules;
+      answered = search rules;
+      err = search rules;
+      refused = search rules;
+      no_fault = lent_no_fault _ c.in-Err.why c.in-Err.ensures.reason;
+      lends = search rules;
+      kept = search rules;
+      same = search rules;
+      opening = search rules;
+    }

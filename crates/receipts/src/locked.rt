@@ -1,0 +1,301 @@
+// What the office keeps under its lock: the hall, and the marks of all that it issued.
+ghost use Rattle.std.specs.Prelude.{◌≡◌, ◌+◌, ◌<◌, ◌≤◌, ◌^◌, ◌++◌, map, length, vec_len, vec_capacity, IfOk, IfErr, OnOk, option_map};
+ghost use Rattle.group_commit.specs.Issuer.{issued_in};
+ghost use Rattle.receipts.specs.Marks.{marks_by, AreNumbered};
+ghost use Rattle.receipts.specs.Following.{Follows};
+ghost use Rattle.receipts.specs.Locked.{hall_in, issuer_in, number_of, either_number};
+ghost use Rattle.receipts.specs.Running.{HasRuns};
+ghost use Rattle.hall_core.specs.Hall.{IsSameHall, answered_slots};
+
+use crate::desk::Desk;
+use crate::desk_count::DeskCount;
+use crate::mark::{Mark, Trace};
+use crate::marks::Marks;
+use crate::view::{Unreleased, View};
+use api_core::Call;
+use group_commit::{Batch, Durable, Failed, IssueHalf, Ticket, Written};
+use hall_core::{Hall, HallError, Issued, Released};
+use std::alloc::AllocError;
+use std::sync::ledger::Ledger;
+
+/// How many slots an office counts.
+pub(crate) const MOST_SLOTS: u64 = 1 << 58;
+
+/// How many desks an office can tell apart in the numbers of slots.
+pub(crate) const MOST_DESKS: u64 = 32;
+
+/// What there is to write.
+#[derive(Drop)]
+pub(crate) enum Loan {
+    /// Nothing: so much is durable.
+    Nothing(Durable),
+    /// These commands.
+    Out(Batch),
+}
+
+/// The hall, and the marks of the commands that it issued since the opening.
+#[derive(Drop)]
+pub(crate) struct Locked<L: Ledger, T: Trace> {
+    pub(crate) hall: Hall<IssueHalf>,
+    /// What is kept of the table at the opening.
+    pub(crate) opening: T::Opening,
+    pub(crate) marks: Marks<L, T>,
+    /// How many slots were counted.
+    pub(crate) slots: u64,
+    /// How many desks there are.
+    pub(crate) desk_count: DeskCount<L>,
+    // claim: Whenever the lock is free, the marks are numbered without a gap up to all that was issued, as many as the
+    // desks have. By them the opening's table leads to the table, bytes and environments aside. [: numbered, reached,
+    // followed; Marks: counted; Desk: one, counted]
+    ghost numbered: { AreNumbered (T.Opening.table opening).number (map T.mark marks.all.items) },
+    ghost reached: { issued_in (issuer_in hall) ≡ (T.Opening.table opening).number + length (map T.mark marks.all.items) },
+    ghost followed: { Follows (issuer_in hall).settings (T.Opening.table opening) (map T.mark marks.all.items)
+        (issuer_in hall).table },
+    // claim: Whenever the lock is free, the hall stands for a run, no call refused, on each history that leaves the
+    // opening's table.
+    ghost runs: { ∥ HasRuns (hall_in hall) (T.Opening.table opening) ∥₁ },
+}
+
+// Marks what a call issued, if it did, where there is room for a mark, and has the desk tell it.
+fn note<L: Ledger, T: Trace>(marks: &mut Marks<L, T>, desk: &mut Desk<L, T>, issued: Option<Issued>)
+    requires room_here { vec_len marks.old.all < vec_capacity marks.old.all }
+    requires room_there { vec_len desk.old.own < vec_capacity desk.old.own }
+    ensures all { map T.mark marks.new.all.items ≡ map T.mark marks.old.all.items ++ marks_by desk.old.number issued }
+    ensures own { map T.mark desk.new.own.items ≡ map T.mark desk.old.own.items ++ marks_by desk.old.number issued }
+    ensures desk { (desk.new.number ≡ desk.old.number) × (desk.new.told ≡ desk.old.told) }
+    ensures issued { desk.new.issued ≡ issued }
+{
+    if let Some(issued) = issued {
+        let mark = Mark::of(issued, desk.number);
+        marks.add(desk, mark);
+    }
+    desk.issued = issued;
+}
+
+// The number of what a tick issued, if it did, which the desk is told.
+fn told_by<L: Ledger, T: Trace>(desk: &mut Desk<L, T>, issued: Option<Issued>) -> Option<u64>
+    ensures number { result ≡ option_map number_of issued }
+    ensures told { desk.new.told ≡ either_number desk.old.told issued }
+    ensures rest { (desk.new.number ≡ desk.old.number) × (desk.new.own.items ≡ desk.old.own.items) }
+    ensures issued { desk.new.issued ≡ desk.old.issued }
+{
+    match issued {
+        Some(issued) => {
+            desk.told = issued.number;
+            Some(issued.number)
+        }
+        None => None,
+    }
+}
+
+// Puts here the slots of the polls that the hall's last request or move answered, while the lock is held: the next request of
+// another desk would put its own in their place. They are moved, so nothing fails once a command is issued.
+fn hand_out(hall: &mut Hall<IssueHalf>, answered: &mut Vec<u64>)
+    ensures slots { answered.new.items ≡ answered_slots hall.old }
+    ensures issuer { hall.new.issuer ≡ hall.old.issuer }
+    ensures same { IsSameHall (hall_in hall.old) (hall_in hall.new) }
+{
+    *answered = hall.take_answered();
+}
+
+impl<L: Ledger, T: Trace> Locked<L, T> {
+    ghost use Rattle.receipts.specs.Told.{Arrives, Moves, LendsTo, Settles, Takes, TellsPoint, Forgets};
+    ghost use Rattle.receipts.specs.Answers.{IsSlotOf, IsMismatch};
+    ghost use Rattle.receipts.specs.UnderLock.{next_slot};
+    ghost use Rattle.receipts.specs.Views.{IsViewOf};
+    ghost use Rattle.invoke_records.specs.Spelling.{greatest_moment};
+    ghost use Rattle.group_commit.specs.Batch.{last_in};
+    ghost use Rattle.hall_core.specs.Slots.{open_slots};
+    ghost use Rattle.hall_core.specs.Hall.{ForEachPast, pending_in, open_slot_count};
+    ghost use Rattle.hall_core.specs.declared.error.HallError.TheVariants.{WornOut};
+
+    // What the hall issued is not below what the desk was told.
+    fn check(&self, desk: &Desk<L, T>) -> Result<(), HallError>
+        ensures ok { OnOk result (desk.now.told ≤ issued_in (issuer_in self.now.hall)) }
+        ensures err { IfErr result (IsMismatch desk.now.told (issued_in (issuer_in self.now.hall))) }
+    {
+        let found = self.hall.issued();
+        if found < desk.told {
+            return Err(HallError::Mismatch {
+                told: desk.told,
+                found,
+            });
+        }
+        Ok(())
+    }
+
+    // The next slot of a desk.
+    fn next_slot(&self, desk: &Desk<L, T>) -> Result<u64, HallError>
+        ensures slot { IfOk result (IsSlotOf desk.now.number) }
+        ensures next { IfOk result (λ slot. slot ≡ next_slot self.now.slots desk.now.number) }
+        ensures room { OnOk result (self.now.slots < 2 ^ 58) }
+        ensures err { IfErr result (λ why. (why ≡ WornOut) × (2 ^ 58 ≤ self.now.slots)) }
+    {
+        if self.slots >= MOST_SLOTS {
+            return Err(HallError::WornOut);
+        }
+        Ok(MOST_DESKS * self.slots + desk.number)
+    }
+
+    /// A request of a desk: `Hall::arrive` with the desk's next slot, and a mark of the command that it issued.
+    pub(crate) fn arrive(
+        &mut self,
+        desk: &mut Desk<L, T>,
+        call: Call,
+        now: u64,
+        words: [u64; 2],
+    ) -> Result<(Ticket, u64), HallError>
+        ensures { Arrives self.old self.new desk.old desk.new call now words result }
+    {
+        self.check(desk)?;
+        let slot = self.next_slot(desk)?;
+        if !self.hall.fits(slot, &call, now, &words) {
+            return Err(HallError::Unfit);
+        }
+        self.marks.reserve(desk)?;
+        let Locked {
+            hall,
+            marks,
+            slots,
+            ..
+        } = self;
+        match hall.arrive(slot, call, now, words) {
+            Ok(issued) => {
+                *slots += 1;
+                note(marks, desk, issued);
+                let ticket = hall.ticket();
+                hand_out(hall, &mut desk.answered);
+                desk.told = ticket.number();
+                Ok((ticket, slot))
+            }
+            Err(why) => Err(why),
+        }
+    }
+
+    /// A move of the hall, and a mark of its command.
+    pub(crate) fn tick(&mut self, desk: &mut Desk<L, T>, now: u64) -> Result<Option<u64>, HallError>
+        requires { now ≤ greatest_moment }
+        ensures { Moves self.old self.new desk.old desk.new now result }
+    {
+        self.check(desk)?;
+        self.marks.reserve(desk)?;
+        let Locked { hall, marks, .. } = self;
+        match hall.tick(now) {
+            Ok(issued) => {
+                note(marks, desk, issued);
+                let told = told_by(desk, issued);
+                hand_out(hall, &mut desk.answered);
+                Ok(told)
+            }
+            Err(why) => Err(why),
+        }
+    }
+
+    /// What is there to write, which is then out; where nothing is, the desk is told how much is durable.
+    pub(crate) fn lend(&mut self, desk: &mut Desk<L, T>) -> Result<Loan, HallError>
+        // claim: Nothing is lent where nothing is pending, else all that is. A settlement makes just the batch that is out
+        // durable, or says why not. [: lends, refused, same; Locked::settle: settles, stands, parts, refused]
+        ensures { LendsTo self.old self.new desk.old desk.new result }
+    {
+        self.check(desk)?;
+        match self.hall.lend() {
+            Ok(Some(batch)) => Ok(Loan::Out(batch)),
+            Ok(None) => {
+                let all = self.hall.durable();
+                desk.told = all.number();
+                Ok(Loan::Nothing(all))
+            }
+            Err(why) => Err(why),
+        }
+    }
+
+    /// What became of the batch that is out. The desk is told how much is durable.
+    pub(crate) fn settle(
+        &mut self,
+        desk: &mut Desk<L, T>,
+        outcome: Result<Written, Failed>,
+    ) -> Result<Durable, HallError>
+        requires { desk.old.told ≤ last_in outcome }
+        ensures { Settles self.old self.new desk.old desk.new outcome result }
+    {
+        match self.hall.settle(outcome) {
+            Ok(durable) => {
+                desk.told = durable.number();
+                Ok(durable)
+            }
+            Err(why) => Err(why),
+        }
+    }
+
+    /// The reply of a slot, where it is told.
+    pub(crate) fn take(&mut self, slot: u64) -> Option<Released>
+        ensures { Takes self.old self.new slot result }
+    {
+        self.hall.take(slot)
+    }
+
+    /// How many commands have to be durable before the reply of a slot is told, where it is computed and still wanted.
+    pub(crate) fn point(&self, slot: u64) -> Option<u64>
+        ensures { TellsPoint self.now slot result }
+    {
+        self.hall.point(slot)
+    }
+
+    /// The reply of a slot is not wanted any more.
+    pub(crate) fn forget(&mut self, slot: u64)
+        ensures { Forgets self.old self.new slot }
+    {
+        self.hall.forget(slot);
+    }
+
+    /// How many commands are issued and not durable.
+    pub(crate) fn pending(&self) -> usize
+        ensures is { result ≡ pending_in (issuer_in self.now.hall) }
+        ensures few { result ≤ 256 }
+    {
+        self.hall.pending() as usize
+    }
+
+    /// How many slots are open.
+    pub(crate) fn open_slots(&self) -> usize
+        ensures by_parts { result ≡ open_slot_count (hall_in self.now.hall) }
+        ensures by_past { ForEachPast (hall_in self.now.hall) (λ past. result ≡ length (open_slots (issuer_in self.now.hall).broken past)) }
+    {
+        self.hall.open_slots()
+    }
+
+    /// What an operator is shown of the hall and of the marks, unreleased until all of it is durable.
+    pub(crate) fn look(&self) -> Result<Unreleased, AllocError>
+        ensures { IfOk result (IsViewOf (hall_in self.now.hall) (map T.mark self.now.marks.all.items)) }
+    {
+        let hall = self.hall.look()?;
+        let counters = self.marks.counters;
+        Ok(Unreleased {
+            view: View { hall, counters },
+            number: self.hall.issued(),
+        })
+    }
+
+    /// The same with a ticket of all that was issued.
+    pub(crate) fn look_with_ticket(&self) -> Result<(Unreleased, Ticket), AllocError>
+        ensures shows { IfOk result (λ r. IsViewOf (hall_in self.now.hall) (map T.mark self.now.marks.all.items) r.0) }
+        ensures ticket { IfOk result (λ r. r.1 ≡ issued_in (issuer_in self.now.hall)) }
+    {
+        let unreleased = self.look()?;
+        Ok((unreleased, self.hall.ticket()))
+    }
+
+    /// Whether a request asked the hall to stop.
+    pub(crate) fn is_stopping(&self) -> bool
+        ensures { result ≡ (hall_in self.now.hall).stops }
+    {
+        self.hall.is_stopping()
+    }
+
+    /// Whether the device failed.
+    pub(crate) fn is_broken(&self) -> bool
+        ensures { result ≡ (issuer_in self.now.hall).broken }
+    {
+        self.hall.is_broken()
+    }
+}

@@ -1,0 +1,34 @@
+// What an operator is shown of an office.
+ghost use Rattle.std.specs.Prelude.{◌≡◌, ◌<◌, ◌≤◌, IfSome, IfNone};
+
+use crate::command_counters::CommandCounters;
+use group_commit::Receipt;
+use hall_core::HallStatus;
+
+/// What an operator is shown of an office at one moment.
+#[derive(Drop)]
+pub struct View {
+    pub hall: HallStatus,
+    /// Of the commands that were issued since the opening.
+    pub counters: CommandCounters,
+}
+
+/// What an operator may be shown once all that it shows is durable. Only a call of an office makes it.
+#[derive(Drop)]
+pub struct Unreleased {
+    pub(crate) view: View,
+    /// How many commands had been issued.
+    pub(crate) number: u64,
+}
+
+impl Unreleased {
+    /// What was unreleased, where this is the receipt of all that it shows. None where fewer commands are durable by it.
+    pub fn release(self, receipt: Receipt) -> Option<View>
+        // claim: It is opened exactly by a receipt of at least that number, and is then what was seen.
+        ensures some { IfSome result (λ view. (view ≡ self.view) × (self.number ≤ receipt)) }
+        ensures none { IfNone result (receipt < self.number) }
+    {
+        let Unreleased { view, number } = self;
+        (number <= receipt.number()).then_some(view)
+    }
+}
