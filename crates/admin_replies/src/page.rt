@@ -49,7 +49,7 @@ td:not(.error) { white-space: nowrap; }
   #plots { grid-template-columns: repeat(2, minmax(0, 1fr)); }
   th, td { padding-right: .6rem; }
   td:not(.id) { white-space: normal; }
-  .id a { display: inline-block; max-width: 5.5rem; overflow: hidden; text-overflow: ellipsis; vertical-align: bottom; }
+  .id a { display: inline-block; max-width: 4.8rem; overflow: hidden; text-overflow: ellipsis; vertical-align: bottom; }
 }
 </style>
 </head>
@@ -224,7 +224,7 @@ const PLOTS = [
   ["waiting or due again", "waiting", null, "events", "waiting", "due_again"],
   ["refused a second", "retries_exhausted", clock, "refused_total"],
   ["a commit, ms", "running", (families) => sum(families, "commit_seconds_count"), "commit_seconds_sum"],
-  ["bytes written a second", "running", clock, "written_bytes_total"],
+  ["bytes a second", "running", clock, "written_bytes_total"],
 ].map(([name, colour, by, ...of]) => {
   const figure = add($("plots"), "figure"), caption = add(figure, "figcaption", name), svg = "http://www.w3.org/2000/svg";
   const picture = figure.appendChild(document.createElementNS(svg, "svg")), path = picture.appendChild(document.createElementNS(svg, "path"));
@@ -311,7 +311,7 @@ function showFacts(state) {
   });
   tell("more", {
     "oldest record": ended(f) ? time("oldest_record_age_seconds") : "none",
-    "in force for new events": `${retries} retries, ${span(age)}`,
+    "in force for new events": `retries ${retries}, age ${span(age)}`,
     "timeout of an attempt": span(timeout),
     "parked polls, of open requests": `${count("parked_polls")} of ${count("open_slots")}`,
     "commands not durable yet": count("pending_commands"),
@@ -340,7 +340,7 @@ function table(id, columns, none) {
     });
   };
 }
-const showRuns = table("runs", [["event", "id"], ["environment", "n"], ["age", "n"], ["deadline in", "n"], ["attempt", "n"]], "No event runs.");
+const showRuns = table("runs", [["event", "id"], ["environ\u00adment", "n"], ["age", "n"], ["deadline in", "n"], ["starts", "n"]], "No event runs.");
 const showFails = table("fails", [["error", "error"], ["events", "n"], ["last", "n"]], "No event that failed is held.");
 const showWaits = table("waits", [["event", "id"], ["waits", "n"], ["due in", "n"], ["starts", "n"], ["failures", "n"]], "No event waits.");
 
