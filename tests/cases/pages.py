@@ -13,7 +13,7 @@ SOURCE = os.path.join(HERE, "..", "crates", "admin_replies", "page.html")
 TELLS = """
 const states = JSON.parse(require("fs").readFileSync(0, "utf8"));
 console.log(JSON.stringify(states.map((state) => {
-  const found = verdict({ ...state, families: read(state.metrics), past: state.past && read(state.past) });
+  const found = verdict(stateOf({ ...state, families: read(state.metrics), past: state.past && read(state.past) }));
   return [headline(found), ...found];
 })));
 """

@@ -109,80 +109,76 @@ function sum(families, family, ...labels) {
     if (!labels.length || Object.values(of).some((label) => labels.includes(label))) total += value;
   return total;
 }
-// The settings, with the retries and the age that are in force.
-function settings(families) { return families.settings_info?.[0].labels || {}; }
-function waiting(families) { return sum(families, "events", "waiting", "due_again"); }
-function ended(families) { return sum(families, "events", "success", "retries_exhausted", "event_age_exceeded"); }
-
-// A state has the families, those at the begin of what the page has seen (past) and how many seconds that is, the events that wait,
-// the moment, and for how many seconds nothing has ended while something was due (still).
-function grown({ families, past }, family, ...labels) {
-  return past ? sum(families, family, ...labels) - sum(past, family, ...labels) : 0;
+// What the page knows: how much each family is (count) and by how much it has grown in the seconds that the page looks back, the
+// settings (limits), the events that wait, and for how many seconds nothing has ended while something was due (still).
+function stateOf({ families, past, waits, now, ...seen }) {
+  const count = (...of) => sum(families, ...of);
+  return { ...seen, families, past, waits, count, grown: (...of) => past ? count(...of) - sum(past, ...of) : 0,
+    limits: families.settings_info?.[0].labels || {}, due: waits.filter((event) => event.moment <= now).length,
+    waiting: count("events", "waiting", "due_again"), ended: count("events", "success", "retries_exhausted", "event_age_exceeded"),
+    lately: `in the last ${span(seen.seconds)}` };
 }
-function due({ waits, now }) { return waits.filter((event) => event.moment <= now).length; }
-function lately({ seconds }) { return `in the last ${span(seconds)}`; }
 
 // The rules. Each tells its level, a title and what to do, or nothing.
 const BAD = "bad", LOOK = "look";
 const MANY = 5, FULL = 0.8, OLD = 5 / 6, SLACK = 6, UNCOLLECTED = 900, SLOW = 0.1, SLOWEST = "0.5", RARE = 0.05;
-function nobodyPolls(state) {
-  const all = sum(state.families, "environments"), missing = sum(state.families, "environments", "init");
-  const wait = missing === all ? waiting(state.families) : due(state);
+function nobodyPolls({ count, waiting, due }) {
+  const all = count("environments"), missing = count("environments", "init"), wait = missing === all ? waiting : due;
   return missing && [wait ? BAD : LOOK, missing === all ? "nobody polls" : "nobody polls an environment",
     `${whole(missing)} of ${some(all, "environment")} without a poll, events that wait for one: ${whole(wait)}. `
     + "Start the runtime, or the extension that --extensions waits for; its log says why it ended."];
 }
-function nothingEnds(state) {
-  const timeout = Number(settings(state.families).timeout_seconds), begun = grown(state, "attempts_started_total");
-  return state.still > timeout + SLACK && [BAD, "nothing ends",
-    `Events are due (now ${whole(due(state))}), and none has ended for ${span(state.still)}; the timeout is ${span(timeout)}. `
+function nothingEnds({ grown, limits, still, due }) {
+  const timeout = Number(limits.timeout_seconds), begun = grown("attempts_started_total");
+  return still > timeout + SLACK && [BAD, "nothing ends",
+    `Events are due (now ${whole(due)}), and none has ended for ${span(still)}; the timeout is ${span(timeout)}. `
     + `${begun ? `${some(begun, "attempt")} began and failed, or hang` : "No attempt began"}: look at the runtimes.`];
 }
-function tableFills({ families }) {
-  const held = sum(families, "events"), most = Number(settings(families).events), over = ended(families);
+function tableFills({ count, limits, ended }) {
+  const held = count("events"), most = Number(limits.events);
   return held >= FULL * most && [held < most ? LOOK : BAD, `the table is ${held < most ? "nearly " : ""}full`,
-    `${whole(held)} of at most ${some(most, "event")} held; when it is full, callers are told 429. ` + (over
-      ? `${whole(over)} ended, and their records wait to be collected: GET /broker/destinations/success and /failure on the callers' port, `
+    `${whole(held)} of at most ${some(most, "event")} held; when it is full, callers are told 429. ` + (ended
+      ? `${whole(ended)} ended, and their records wait to be collected: GET /broker/destinations/success and /failure on the callers' port, `
         + "then DELETE /broker/destinations/ID, as examples/forward.py does."
       : "None has ended: see why they wait.")];
 }
-function eventsExpire(state) {
-  const wait = sum(state.families, "oldest_wait_age_seconds"), age = Number(state.waits[0]?.age ?? settings(state.families).age_seconds);
-  const lost = grown(state, "events_ended_total", "EventAgeExceeded"), soon = wait >= OLD * age;
+function eventsExpire({ count, grown, limits, waits, lately }) {
+  const wait = count("oldest_wait_age_seconds"), age = Number(waits[0]?.age ?? limits.age_seconds);
+  const lost = grown("events_ended_total", "EventAgeExceeded"), soon = wait >= OLD * age;
   return (soon || lost) && [BAD, soon ? "events expire soon" : "events expired",
-    `The oldest wait is ${span(wait)}, and an event is given up at ${span(age)}: ${whole(lost)} ${lately(state)}. `
+    `The oldest wait is ${span(wait)}, and an event is given up at ${span(age)}: ${whole(lost)} ${lately}. `
     + "Bring up runtimes that take them; a changed --age is for later events alone."];
 }
+const READ = "Read the errors below, and the function's log.";
 function attemptsFail(state) {
-  const over = grown(state, "attempts_started_total") - grown(state, "events", "running") - grown(state, "attempts_interrupted_total");
-  const failed = over - grown(state, "events_ended_total", "Success"), advice = "Read the errors below, and the function's log.";
-  return over < MANY ? eventsFailed(state, advice)
-    : 2 * failed > over && [BAD, "most attempts fail", `${whole(failed)} of ${some(over, "attempt")} failed ${lately(state)}. ${advice}`];
+  const { grown, lately } = state, over = grown("attempts_started_total") - grown("events", "running") - grown("attempts_interrupted_total");
+  const failed = over - grown("events_ended_total", "Success");
+  return over < MANY ? eventsFailed(state)
+    : 2 * failed > over && [BAD, "most attempts fail", `${whole(failed)} of ${some(over, "attempt")} failed ${lately}. ${READ}`];
 }
 // The same by what is held, where too few attempts were seen.
-function eventsFailed({ families, waits }, advice) {
-  const again = waits.filter((event) => event.failures).length, failed = sum(families, "events", "retries_exhausted") + again;
-  const good = Math.max(sum(families, "events", "success"), sum(families, "events_ended_total", "Success"));
+function eventsFailed({ count, waits }) {
+  const again = waits.filter((event) => event.failures).length, failed = count("events", "retries_exhausted") + again;
+  const good = Math.max(count("events", "success"), count("events_ended_total", "Success"));
   return failed >= MANY && failed > good && [LOOK, "most events that were tried have failed",
-    `${some(failed, "event")} failed (${whole(again)} due again), ${whole(good)} succeeded. ${advice}`];
+    `${some(failed, "event")} failed (${whole(again)} due again), ${whole(good)} succeeded. ${READ}`];
 }
-function commitsAreSlow(state) {
-  const count = grown(state, "commit_seconds_count"), late = count - grown(state, "commit_seconds_bucket", SLOWEST);
-  const mean = grown(state, "commit_seconds_sum") / count;
-  return count >= MANY && (mean >= SLOW || late >= RARE * count) && [LOOK, "commits are slow",
-    `${rate(1000 * mean)} ms on average, ${whole(late)} of ${whole(count)} above ${SLOWEST} s, ${lately(state)}. `
+function commitsAreSlow({ grown, lately }) {
+  const all = grown("commit_seconds_count"), late = all - grown("commit_seconds_bucket", SLOWEST), mean = grown("commit_seconds_sum") / all;
+  return all >= MANY && (mean >= SLOW || late >= RARE * all) && [LOOK, "commits are slow",
+    `${rate(1000 * mean)} ms on average, ${whole(late)} of ${whole(all)} above ${SLOWEST} s, ${lately}. `
     + "Nothing is lost by that: look at the device, and at who else writes to it."];
 }
-function callersAreRefused(state) {
-  const full = grown(state, "refused_total", "too_many"), busy = grown(state, "refused_total", "unavailable");
-  return (full || busy) && [BAD, "callers are refused", `Told ${lately(state)}: `
+function callersAreRefused({ grown, lately }) {
+  const full = grown("refused_total", "too_many"), busy = grown("refused_total", "unavailable");
+  return (full || busy) && [BAD, "callers are refused", `Told ${lately}: `
     + [full && `${whole(full)} × 429, as the table was full: collect records, and see why the others wait`,
       busy && `${whole(busy)} × 503, as too much was under way, or it stops: look at commits and open requests`].filter(Boolean).join("; ") + "."];
 }
-function recordsStay({ families }) {
-  const oldest = sum(families, "oldest_record_age_seconds");
+function recordsStay({ count, ended }) {
+  const oldest = count("oldest_record_age_seconds");
   return oldest > UNCOLLECTED && [LOOK, "records are not collected",
-    `${some(ended(families), "record")} held, the oldest for ${span(oldest)}. Does examples/forward.py run, or what else collects them, `
+    `${some(ended, "record")} held, the oldest for ${span(oldest)}. Does examples/forward.py run, or what else collects them, `
     + "for success and for failure? Does its URL take them?"];
 }
 // What the rules find, the worst first.
@@ -270,12 +266,11 @@ function grow(piece, n) {
   piece.style.flexGrow = n;
   piece.style.display = n > 0 ? "" : "none";
 }
-function showStandings(families) {
-  const held = sum(families, "events"), most = Number(settings(families).events);
-  for (const { standing, piece, count } of marks) {
-    const n = sum(families, "events", standing);
-    grow(piece, n);
-    put(count, whole(n));
+function showStandings({ count, limits }) {
+  const held = count("events"), most = Number(limits.events);
+  for (const mark of marks) {
+    grow(mark.piece, count("events", mark.standing));
+    put(mark.count, whole(count("events", mark.standing)));
   }
   grow(free, most - held);
   put($("held"), `${whole(held)} of at most ${whole(most)}`);
@@ -298,26 +293,25 @@ function each(families, family, label, past) {
   const counts = (families[family] || []).map(({ labels, value }) => [labels[label], value - (past ? sum(past, family, labels[label]) : 0)]);
   return counts.filter(([, n]) => n > 0).map(([name, n]) => `${name.replaceAll("_", " ")}: ${whole(n)}`).join(", ") || "none";
 }
-function showFacts(state) {
-  const { families: f, past = f, seconds, waits } = state, { retries, age_seconds: age, timeout_seconds: timeout, concurrency } = settings(f);
-  const count = (family, ...labels) => whole(sum(f, family, ...labels)), time = (family) => span(sum(f, family));
+function showFacts({ families, past = families, seconds, waits, count, limits, due, waiting, ended }) {
+  const number = (...of) => whole(count(...of)), { retries, age_seconds: age } = limits;
   tell("now", {
-    "environments": each(f, "environments", "phase"),
-    "running": `${count("events", "running")} of at most ${concurrency}`,
-    "waiting or due again": `${whole(waiting(f))}, due now: ${whole(due(state))}`,
-    "oldest wait": waiting(f) ? `${time("oldest_wait_age_seconds")} of at most ${span(waits[0]?.age ?? age)}` : "none",
-    "refused lately": `${each(f, "refused_total", "reason", past)} in ${span(seconds)}`,
-    "refused since served": each(f, "refused_total", "reason"),
+    "environments": each(families, "environments", "phase"),
+    "running": `${number("events", "running")} of at most ${limits.concurrency}`,
+    "waiting or due again": `${whole(waiting)}, due now: ${whole(due)}`,
+    "oldest wait": waiting ? `${span(count("oldest_wait_age_seconds"))} of at most ${span(waits[0]?.age ?? age)}` : "none",
+    "refused lately": `${each(families, "refused_total", "reason", past)} in ${span(seconds)}`,
+    "refused since served": each(families, "refused_total", "reason"),
   });
   tell("more", {
-    "oldest record": ended(f) ? time("oldest_record_age_seconds") : "none",
+    "oldest record": ended ? span(count("oldest_record_age_seconds")) : "none",
     "in force for new events": `retries ${retries}, age ${span(age)}`,
-    "timeout of an attempt": span(timeout),
-    "parked polls, of open requests": `${count("parked_polls")} of ${count("open_slots")}`,
-    "commands not durable yet": count("pending_commands"),
-    "throttled, interrupted": `${count("attempts_throttled_total")}, ${count("attempts_interrupted_total")}`,
-    "switches, generation": `${count("switches_total")}, ${count("generation")}`,
-    "memory": `${whole(sum(f, "process_resident_memory_bytes") / 1048576)} MiB`,
+    "timeout of an attempt": span(limits.timeout_seconds),
+    "parked polls, of open requests": `${number("parked_polls")} of ${number("open_slots")}`,
+    "commands not durable yet": number("pending_commands"),
+    "throttled, interrupted": `${number("attempts_throttled_total")}, ${number("attempts_interrupted_total")}`,
+    "switches, generation": `${number("switches_total")}, ${number("generation")}`,
+    "memory": `${whole(count("process_resident_memory_bytes") / 1048576)} MiB`,
   });
 }
 
@@ -414,18 +408,18 @@ function showFound(found) {
   });
 }
 // What the page has seen, from the last time on that the broker was served, and no longer than the window.
-const COUNTS = ["events_accepted_total", "attempts_started_total", "events_ended_total", "refused_total", "commit_seconds_count"];
 let readings = [], stillSince = 0, answered = 0, waits = [];
 function remember(families, at) {
-  const last = readings.at(-1);
-  if (last && COUNTS.some((family) => sum(families, family) < sum(last.families, family))) readings = [];
+  const fell = (family) => sum(families, family) < sum(readings.at(-1).families, family);
+  if (readings.length && ["commit_seconds_count", "attempts_started_total", "refused_total"].some(fell)) readings = [];
   while (readings[0]?.at < at - WINDOW) readings.shift();
-  const [first] = readings;
   readings.push({ at, families });
-  return { families, past: first?.families, seconds: first ? (at - first.at) / 1000 : 0, hasEnded: last && grown({ families, past: last.families }, "events_ended_total") };
+  return { families, past: readings[0].families, seconds: (at - readings[0].at) / 1000 };
 }
-function stillness(state, at) {
-  if (!stillSince || !due(state) || state.hasEnded) stillSince = at;
+// For how long nothing has ended while something was due.
+function stillness({ families, now }, at) {
+  const ended = (reading) => sum(reading.families, "events_ended_total"), before = readings.at(-2) || readings[0];
+  if (!stillSince || ended(before) < sum(families, "events_ended_total") || !waits.some((event) => event.moment <= now)) stillSince = at;
   return (at - stillSince) / 1000;
 }
 async function readNumbers(at) {
@@ -443,16 +437,14 @@ async function readLists({ now, families }) {
     return `, but not all of the tables: ${why.message}`;
   }
 }
-function showState(state, at) {
-  const { families } = state;
-  Object.assign(state, { waits, still: stillness({ ...state, waits }, at) });
-  put($("name"), settings(families).function || "Lambda broker");
-  for (const plot of PLOTS) step(plot, families, at);
+function showState(seen, at) {
+  const state = stateOf({ ...seen, waits, still: stillness(seen, at) }), found = verdict(state);
+  put($("name"), state.limits.function || "Lambda broker");
+  for (const plot of PLOTS) step(plot, seen.families, at);
   showFacts(state);
-  showStandings(families);
-  const found = verdict(state);
+  showStandings(state);
   showFound(found);
-  if (state.said) health(`Bad: the broker says ${state.said.trim()}.`, BAD);
+  if (seen.said) health(`Bad: the broker says ${seen.said.trim()}.`, BAD);
   else health(headline(found), found[0]?.[0] ?? "good");
 }
 function showSilence(why, at) {
@@ -463,14 +455,14 @@ function showSilence(why, at) {
   return answered ? `What stands below was read at ${stamp(answered)}.` : "";
 }
 async function readAll(at) {
-  let state;
+  let seen;
   try {
-    state = await readNumbers(at);
+    seen = await readNumbers(at);
   } catch (why) {
     return showSilence(why, at);
   }
-  const missing = await readLists(state);
-  showState(state, at);
+  const missing = await readLists(seen);
+  showState(seen, at);
   return `Read at ${stamp(at)}, and again every ${EVERY / 1000} seconds${missing}.`;
 }
 const opened = Date.now();
