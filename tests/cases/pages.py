@@ -59,10 +59,10 @@ FEW = {"attempts_started_total": 4, 'events_ended_total{outcome="Success"}': 0, 
 # What differs from the broker that is well in its numbers, in their growth and beside them; the first line; and words of what is told.
 CASES = [
     ({}, {}, {}, "The broker is well.", ""),
-    (IDLE, {}, {}, "Bad: nobody polls.", "2 of 2 environments without a poll, events that wait for one: 3"),
-    ({**IDLE, **NO_WAITS}, {}, {"waits": []}, "Look: nobody polls.", "events that wait for one: 0"),
+    (IDLE, {}, {}, "Bad: nobody polls.", "No poll in 2 of 2 environments. Waiting: 3 events."),
+    ({**IDLE, **NO_WAITS}, {}, {"waits": []}, "Look: nobody polls.", "Waiting: 0 events."),
     ({'environments{phase="init"}': 1}, {}, {}, "Look: nobody polls an environment.", "1 of 3 environments"),
-    ({'environments{phase="init"}': 1}, {}, {"waits": [LATER, DUE]}, "Bad: nobody polls an environment.", "wait for one: 1"),
+    ({'environments{phase="init"}': 1}, {}, {"waits": [LATER, DUE]}, "Bad: nobody polls an environment.", "Waiting: 1 event."),
     ({}, {}, {"still": 36}, "The broker is well.", ""),
     ({}, {}, {"still": 37, "waits": [DUE]}, "Bad: nothing ends.", "none has ended for 37 s; the timeout is 30 s. 30 attempts began"),
     ({'events{standing="success"}': 45}, {}, {}, "The broker is well.", ""),

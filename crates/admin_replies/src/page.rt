@@ -125,7 +125,7 @@ const MANY = 5, FULL = 0.8, OLD = 5 / 6, SLACK = 6, UNCOLLECTED = 900, SLOW = 0.
 function nobodyPolls({ count, waiting, due }) {
   const all = count("environments"), missing = count("environments", "init"), wait = missing === all ? waiting : due;
   return missing && [wait ? BAD : LOOK, missing === all ? "nobody polls" : "nobody polls an environment",
-    `${whole(missing)} of ${some(all, "environment")} without a poll, events that wait for one: ${whole(wait)}. `
+    `No poll in ${whole(missing)} of ${some(all, "environment")}. Waiting: ${some(wait, "event")}. `
     + "Start the runtime, or the extension that --extensions waits for; its log says why it ended."];
 }
 function nothingEnds({ grown, limits, still, due }) {
