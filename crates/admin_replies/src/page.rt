@@ -10,27 +10,30 @@ pub const PAGE: &str = r#"<!doctype html>
 <link rel="icon" href="data:,">
 <title>Lambda broker</title>
 <style>
-:root { color-scheme: light dark; --ground: #fff; --ink: #1b1f24; --soft: #57606a; --line: #d0d7de; --good: #116329; --bad: #b3261e; --link: #0a58ca;
+:root { color-scheme: light dark; --ground: #fff; --ink: #1b1f24; --soft: #57606a; --line: #d0d7de; --good: #116329; --look: #8a5300; --bad: #b3261e; --link: #0a58ca;
   --waiting: #bf8700; --due_again: #d4511e; --running: #0969da; --success: #1a7f37; --retries_exhausted: #b3261e; --event_age_exceeded: #8250df; }
-@media (prefers-color-scheme: dark) { :root { --ground: #0f1318; --ink: #e6edf3; --soft: #9aa5b1; --line: #30363d; --good: #56d364; --bad: #ff8a80; --link: #79b8ff;
+@media (prefers-color-scheme: dark) { :root { --ground: #0f1318; --ink: #e6edf3; --soft: #9aa5b1; --line: #30363d; --good: #56d364; --look: #e3b341; --bad: #ff8a80; --link: #79b8ff;
   --waiting: #d9a520; --due_again: #f0883e; --running: #58a6ff; --success: #3fb950; --retries_exhausted: #ff6b62; --event_age_exceeded: #bc8cff; } }
 * { box-sizing: border-box; }
 body { margin: 0 auto; padding: 1rem; max-width: 72rem; background: var(--ground); color: var(--ink); font: 1rem/1.45 system-ui, sans-serif; font-variant-numeric: tabular-nums; }
 h1 { font-size: 1.35rem; margin: 0; }
-h1, .error, #health { overflow-wrap: anywhere; }
+h1, .error, #health, #findings { overflow-wrap: anywhere; }
 h2 { font-size: 1.05rem; margin: 1.75rem 0 .5rem; }
 a { color: var(--link); }
 p { margin: .35rem 0; }
 .soft, figcaption, th { color: var(--soft); font-size: .875rem; }
-#health { font-weight: 600; border-left: .4rem solid var(--soft); padding: .3rem .7rem; margin: .6rem 0 .2rem; }
+#health { font-size: 1.15rem; font-weight: 600; border-left: .4rem solid var(--soft); padding: .3rem .7rem; margin: .6rem 0 .2rem; }
 #health.good { border-color: var(--good); color: var(--good); }
+#health.look { border-color: var(--look); color: var(--look); }
 #health.bad, #health.gone { border-color: var(--bad); color: var(--bad); }
+#findings { margin: .4rem 0; padding-left: 1.2rem; }
+#findings li { margin: .3rem 0; }
 main.gone { filter: grayscale(1); }
 #bar { display: flex; gap: 2px; height: 1.75rem; border: 1px solid var(--line); border-radius: 4px; overflow: hidden; }
-#bar span { min-width: 3px; }
+#bar span { flex-basis: 0; min-width: 3px; }
 #legend, dl { display: grid; grid-template-columns: repeat(auto-fill, minmax(17rem, 1fr)); gap: 0 2rem; margin: .6rem 0 0; padding: 0; }
 #legend li, dl div { display: flex; gap: .6rem; align-items: baseline; border-bottom: 1px solid var(--line); padding: .2rem 0; }
-#legend i { flex: none; width: .8rem; height: .8rem; border-radius: 2px; }
+#legend i { flex: none; width: .8rem; height: .8rem; border: 1px solid var(--line); border-radius: 2px; }
 b, dd { margin: 0 0 0 auto; font-weight: 600; text-align: right; }
 #plots { display: grid; grid-template-columns: repeat(auto-fill, minmax(14rem, 1fr)); gap: 1rem 1.5rem; }
 figure { margin: 0; min-width: 0; }
@@ -41,68 +44,51 @@ table { border-collapse: collapse; width: 100%; }
 th, td { text-align: left; vertical-align: baseline; padding: .3rem 1.25rem .3rem 0; border-bottom: 1px solid var(--line); }
 .n { text-align: right; }
 td:not(.error) { white-space: nowrap; }
-td.id { font: .875rem ui-monospace, monospace; }
+.id a { font: .875rem ui-monospace, monospace; }
 @media (max-width: 44rem) {
   #plots { grid-template-columns: repeat(2, minmax(0, 1fr)); }
-  table:not([hidden]), tbody, tr { display: block; }
-  thead { position: absolute; display: block; width: 1px; overflow: hidden; clip-path: inset(50%); }
-  tr { padding: .4rem 0; border-bottom: 1px solid var(--line); }
-  td { display: inline-block; border: 0; padding: .1rem 1rem .1rem 0; }
-  td.id, td.error { display: block; }
-  td.n::before { content: attr(data-name) " "; color: var(--soft); font-size: .875rem; }
+  th, td { padding-right: .6rem; }
+  td:not(.id) { white-space: normal; }
+  .id a { display: inline-block; max-width: 4.8rem; overflow: hidden; text-overflow: ellipsis; vertical-align: bottom; }
 }
 </style>
 </head>
 <body>
+<header>
 <h1 id="name">Lambda broker</h1>
 <p id="health" role="status">asking the broker</p>
+<ul id="findings" aria-label="What was found"></ul>
 <p class="soft" id="when"></p>
+</header>
 <main id="main">
 <noscript>This page needs JavaScript; the links at its end do not.</noscript>
+<h2>Environments, waits, refusals</h2>
+<dl id="now"></dl>
 <h2>Events held: <span id="held">–</span></h2>
 <div id="bar" role="img" aria-label="not read yet"></div>
 <ul id="legend"></ul>
-<h2>The last five minutes</h2>
-<div id="plots"></div>
-<p class="soft">Plots begin when this page is opened.</p>
+<h2 id="h-runs">Running</h2>
+<table id="runs" aria-labelledby="h-runs"></table><p class="soft" id="runs-none"></p>
+<h2 id="h-fails">Last failures, by error</h2>
+<table id="fails" aria-labelledby="h-fails"></table><p class="soft" id="fails-none"></p>
 <h2 id="h-waits">Oldest waits</h2>
-<table id="waits" role="table" aria-labelledby="h-waits"></table><p class="soft" id="waits-none"></p>
-<h2 id="h-fails">Last failures</h2>
-<table id="fails" role="table" aria-labelledby="h-fails"></table><p class="soft" id="fails-none"></p>
+<table id="waits" aria-labelledby="h-waits"></table><p class="soft" id="waits-none"></p>
+<h2>Seen by this page: <span id="seen">–</span></h2>
+<div id="plots"></div>
 <h2>The broker itself</h2>
 <dl id="more"></dl>
 <p class="soft"><a href="metrics">all numbers</a> · <a href="events">events</a> · <a href="records/failure">failures</a> · <a href="records/success">successes</a></p>
 </main>
 <script>
 "use strict";
-const EVERY = 3000, WINDOW = 300000, PATIENCE = 5000, SHOWN = 6;
-const STANDINGS = { waiting: "waiting, never tried", due_again: "waiting, tried before", running: "running",
-  success: "success", retries_exhausted: "failure, retries exhausted", event_age_exceeded: "failure, too old" };
-const FAILURES = ["RetriesExhausted", "EventAgeExceeded"];
-const $ = (id) => document.getElementById(id);
-
-// Whatever is inserted is text, and never markup.
-function put(node, text) { if (node.textContent !== String(text)) node.textContent = text; }
-function add(parent, tag, text = "", kind = "") {
-  const node = document.createElement(tag);
-  node.textContent = text;
-  if (kind) node.className = kind;
-  return parent.appendChild(node);
-}
-
-// Numbers and spans of time as they are read.
-const whole = new Intl.NumberFormat("en", { maximumFractionDigits: 0 });
-function rate(n) { return n === null ? "–" : n % 1 && n < 10 ? n.toFixed(n < 0.1 ? 2 : 1) : whole.format(n); }
-function size(n) {
-  let place = 0;
-  while (n >= 1024 && place < 4) { n /= 1024; place++; }
-  return `${place && n < 100 ? n.toFixed(1) : whole.format(n)} ${["B", "KiB", "MiB", "GiB", "TiB"][place]}`;
-}
+// What needs no document: numbers as they are read, and the rules of the verdict.
+const whole = new Intl.NumberFormat("en", { maximumFractionDigits: 0 }).format;
+function rate(n) { return n === null ? "–" : n % 1 && n < 10 ? n.toFixed(n < 0.1 ? 2 : 1) : whole(n); }
+function some(n, noun) { return `${whole(n)} ${noun}${n === 1 ? "" : "s"}`; }
 function span(seconds) {
   const s = Math.max(0, Math.round(seconds)), m = Math.floor(s / 60), h = Math.floor(m / 60), d = Math.floor(h / 24);
-  return d ? `${d} d ${h % 24} h` : h ? `${h} h ${m % 60} min` : m ? `${m} min ${s % 60} s` : `${s} s`;
+  return (d ? `${d} d ${h % 24} h` : h ? `${h} h ${m % 60} min` : m ? `${m} min ${s % 60} s` : `${s} s`).replace(/ 0 \w+$/, "");
 }
-const stamp = (moment) => new Date(moment).toLocaleString("sv");
 
 // What /metrics says: each family's values with their labels.
 function read(text) {
@@ -123,21 +109,119 @@ function sum(families, family, ...labels) {
     if (!labels.length || Object.values(of).some((label) => labels.includes(label))) total += value;
   return total;
 }
+// What the page knows: how much each family is (count) and by how much it has grown in the seconds that the page looks back, the
+// settings (limits), the events that wait, and for how many seconds nothing has ended while something was due (still).
+function stateOf({ families, past, waits, now, ...seen }) {
+  const count = (...of) => sum(families, ...of);
+  return { ...seen, families, past, waits, count, grown: (...of) => past ? count(...of) - sum(past, ...of) : 0,
+    limits: families.settings_info?.[0].labels || {}, due: waits.filter((event) => event.moment <= now).length,
+    waiting: count("events", "waiting", "due_again"), ended: count("events", "success", "retries_exhausted", "event_age_exceeded"),
+    lately: `in the last ${span(seen.seconds)}` };
+}
 
-// The settings, with the retries and the age that are in force.
-function labels(families) { return families.settings_info?.[0].labels || {}; }
+// The rules. Each tells its level, a title and what to do, or nothing.
+const BAD = "bad", LOOK = "look";
+const MANY = 5, FULL = 0.8, OLD = 5 / 6, SLACK = 6, UNCOLLECTED = 900, SLOW = 0.1, SLOWEST = "0.5", RARE = 0.05;
+function nobodyPolls({ count, waiting, due }) {
+  const all = count("environments"), missing = count("environments", "init"), wait = missing === all ? waiting : due;
+  return missing && [wait ? BAD : LOOK, missing === all ? "nobody polls" : "nobody polls an environment",
+    `No poll in ${whole(missing)} of ${some(all, "environment")}. Waiting: ${some(wait, "event")}. `
+    + "Start the runtime, or the extension that --extensions waits for; its log says why it ended."];
+}
+function nothingEnds({ grown, limits, still, due }) {
+  const timeout = Number(limits.timeout_seconds), begun = grown("attempts_started_total");
+  return still > timeout + SLACK && [BAD, "nothing ends",
+    `Events are due (now ${whole(due)}), and none has ended for ${span(still)}; the timeout is ${span(timeout)}. `
+    + `${begun ? `${some(begun, "attempt")} began and failed, or hang` : "No attempt began"}: look at the runtimes.`];
+}
+function tableFills({ count, limits, ended }) {
+  const held = count("events"), most = Number(limits.events);
+  return held >= FULL * most && [held < most ? LOOK : BAD, `the table is ${held < most ? "nearly " : ""}full`,
+    `${whole(held)} of at most ${some(most, "event")} held; when it is full, callers are told 429. ` + (ended
+      ? `${whole(ended)} ended, and their records wait to be collected: GET /broker/destinations/success and /failure on the callers' port, `
+        + "then DELETE /broker/destinations/ID, as examples/forward.py does."
+      : "None has ended: see why they wait.")];
+}
+function eventsExpire({ count, grown, limits, waits, lately }) {
+  const wait = count("oldest_wait_age_seconds"), age = Number(waits[0]?.age ?? limits.age_seconds);
+  const lost = grown("events_ended_total", "EventAgeExceeded"), soon = wait >= OLD * age;
+  return (soon || lost) && [BAD, soon ? "events expire soon" : "events expired",
+    `The oldest wait is ${span(wait)}, and an event is given up at ${span(age)}: ${whole(lost)} ${lately}. `
+    + "Bring up runtimes that take them; a changed --age is for later events alone."];
+}
+const READ = "Read the errors below, and the function's log.";
+function attemptsFail(state) {
+  const { grown, lately } = state, over = grown("attempts_started_total") - grown("events", "running") - grown("attempts_interrupted_total");
+  const failed = over - grown("events_ended_total", "Success");
+  return over < MANY ? eventsFailed(state)
+    : 2 * failed > over && [BAD, "most attempts fail", `${whole(failed)} of ${some(over, "attempt")} failed ${lately}. ${READ}`];
+}
+// The same by what is held, where too few attempts were seen.
+function eventsFailed({ count, waits }) {
+  const again = waits.filter((event) => event.failures).length, failed = count("events", "retries_exhausted") + again;
+  const good = Math.max(count("events", "success"), count("events_ended_total", "Success"));
+  return failed >= MANY && failed > good && [LOOK, "most events that were tried have failed",
+    `${some(failed, "event")} failed (${whole(again)} due again), ${whole(good)} succeeded. ${READ}`];
+}
+function commitsAreSlow({ grown, lately }) {
+  const all = grown("commit_seconds_count"), late = all - grown("commit_seconds_bucket", SLOWEST), mean = grown("commit_seconds_sum") / all;
+  return all >= MANY && (mean >= SLOW || late >= RARE * all) && [LOOK, "commits are slow",
+    `${rate(1000 * mean)} ms on average, ${whole(late)} of ${whole(all)} above ${SLOWEST} s, ${lately}. `
+    + "Nothing is lost by that: look at the device, and at who else writes to it."];
+}
+function callersAreRefused({ grown, lately }) {
+  const full = grown("refused_total", "too_many"), busy = grown("refused_total", "unavailable");
+  return (full || busy) && [BAD, "callers are refused", `Told ${lately}: `
+    + [full && `${whole(full)} × 429, as the table was full: collect records, and see why the others wait`,
+      busy && `${whole(busy)} × 503, as too much was under way, or it stops: look at commits and open requests`].filter(Boolean).join("; ") + "."];
+}
+function recordsStay({ count, ended }) {
+  const oldest = count("oldest_record_age_seconds");
+  return oldest > UNCOLLECTED && [LOOK, "records are not collected",
+    `${some(ended, "record")} held, the oldest for ${span(oldest)}. Does examples/forward.py run, or what else collects them, `
+    + "for success and for failure? Does its URL take them?"];
+}
+// What the rules find, the worst first.
+function verdict(state) {
+  return [callersAreRefused, nobodyPolls, nothingEnds, tableFills, eventsExpire, attemptsFail, commitsAreSlow, recordsStay]
+    .map((rule) => rule(state)).filter(Boolean).sort((one, other) => (other[0] === BAD) - (one[0] === BAD));
+}
+// The first line. It has no numbers, so that a screen reader tells it once.
+function word(level) { return level === BAD ? "Bad" : "Look"; }
+function headline(found) {
+  const level = found[0]?.[0], titles = found.filter(([of]) => of === level).map(([, title]) => title);
+  return level ? `${word(level)}: ${titles.join("; ")}.` : "The broker is well.";
+}
+</script>
+<script>
+"use strict";
+const EVERY = 3000, FIRST = 1000, WINDOW = 300000, PATIENCE = 5000, SHOWN = 6, RUNNING = 16, FAILED = 24, LARGE = 65536;
+const STANDINGS = { waiting: "waiting", due_again: "due again", running: "running", success: "ended: Success",
+  retries_exhausted: "ended: RetriesExhausted", event_age_exceeded: "ended: EventAgeExceeded" };
+const $ = (id) => document.getElementById(id);
 
-// What is plotted: a count, by the milliseconds or by another count, or a level.
+// Whatever is inserted is text, and never markup.
+function put(node, text) { if (node.textContent !== String(text)) node.textContent = text; }
+function add(parent, tag, text = "", kind = "") {
+  const node = document.createElement(tag);
+  node.textContent = text;
+  if (kind) node.className = kind;
+  return parent.appendChild(node);
+}
+const stamp = (moment) => new Date(moment).toLocaleString("sv").replaceAll("-", "\u2011");
+
+// What is plotted: how a family grows, by the clock or by another family, or a level.
+function clock(families, at) { return at; }
 const PLOTS = [
-  ["accepted a second", "running", (f) => sum(f, "events_accepted_total"), Date.now],
-  ["successes a second", "success", (f) => sum(f, "events_ended_total", "Success"), Date.now],
-  ["failures a second", "retries_exhausted", (f) => sum(f, "events_ended_total", ...FAILURES), Date.now],
-  ["collected a second", "running", (f) => sum(f, "records_collected_total"), Date.now],
-  ["waiting", "waiting", (f) => sum(f, "events", "waiting", "due_again"), null],
-  ["refused a second", "retries_exhausted", (f) => sum(f, "refused_total"), Date.now],
-  ["a commit, ms", "running", (f) => sum(f, "commit_seconds_sum"), (f) => sum(f, "commit_seconds_count")],
-  ["KiB written a second", "running", (f) => sum(f, "written_bytes_total") / 1024, Date.now],
-].map(([name, colour, of, by]) => {
+  ["accepted a second", "running", clock, "events_accepted_total"],
+  ["successes a second", "success", clock, "events_ended_total", "Success"],
+  ["failures a second", "retries_exhausted", clock, "events_ended_total", "RetriesExhausted", "EventAgeExceeded"],
+  ["collected a second", "running", clock, "records_collected_total"],
+  ["waiting or due again", "waiting", null, "events", "waiting", "due_again"],
+  ["refused a second", "retries_exhausted", clock, "refused_total"],
+  ["a commit, ms", "running", (families) => sum(families, "commit_seconds_count"), "commit_seconds_sum"],
+  ["bytes a second", "running", clock, "written_bytes_total"],
+].map(([name, colour, by, ...of]) => {
   const figure = add($("plots"), "figure"), caption = add(figure, "figcaption", name), svg = "http://www.w3.org/2000/svg";
   const picture = figure.appendChild(document.createElementNS(svg, "svg")), path = picture.appendChild(document.createElementNS(svg, "path"));
   picture.setAttribute("viewBox", "0 0 300 50");
@@ -148,107 +232,127 @@ const PLOTS = [
 });
 // A count that has fallen is that of a broker that was served anew, and gives no rate.
 function step(plot, families, at) {
-  const { by, last } = plot, count = plot.of(families), weight = by?.(families);
+  const { by, last } = plot, count = sum(families, ...plot.of), weight = by?.(families, at);
   let value = by ? null : count;
   if (last && count >= last.count && weight > last.weight) value = (count - last.count) / (weight - last.weight) * 1000;
   plot.points.push({ at, value });
   plot.last = { count, weight };
 }
+// A plot is as wide as what was seen.
 function draw(plot, at) {
-  while (plot.points.length && plot.points[0].at < at - WINDOW) plot.points.shift();
-  const now = rate(plot.points.at(-1)?.value ?? null), most = Math.max(0, ...plot.points.map((p) => p.value));
+  while (plot.points[0].at < at - WINDOW) plot.points.shift();
+  const values = plot.points.filter((point) => point.value !== null), most = Math.max(0, ...values.map((point) => point.value));
+  const now = rate(plot.points.at(-1).value), wide = Math.max(at - values[0]?.at, EVERY);
   let line = "", open = false;
   for (const { at: moment, value } of plot.points) {
-    if (value !== null) line += `${open ? "L" : "M"}${298 - (at - moment) * 300 / WINDOW} ${48 - (most ? value / most * 45 : 0)}${open ? "" : "h1"}`;
+    if (value !== null) line += `${open ? "L" : "M"}${298 - (at - moment) * 297 / wide} ${48 - (most ? value / most * 45 : 0)}${open ? "" : "h1"}`;
     open = value !== null;
   }
   plot.path.setAttribute("d", line);
   put(plot.now, now);
-  put(plot.most, `at most ${rate(most)}`);
-  plot.picture.setAttribute("aria-label", `${plot.name}: ${now} now, at most ${rate(most)} in the last five minutes`);
+  put(plot.most, values.length ? `at most ${rate(most)}` : "nothing yet");
+  plot.picture.setAttribute("aria-label", `${plot.name}: ${now} now, ${plot.most.textContent}`);
 }
 
 const marks = Object.entries(STANDINGS).map(([standing, words]) => {
   const piece = add($("bar"), "span"), item = add($("legend"), "li");
   piece.style.background = add(item, "i").style.background = `var(--${standing})`;
   add(item, "span", words);
-  return { standing, words, piece, count: add(item, "b") };
+  return { standing, piece, count: add(item, "b") };
 });
-function showStandings(families, most) {
-  for (const { standing, piece, count } of marks) {
-    const n = sum(families, "events", standing);
-    piece.style.flexGrow = n;
-    piece.style.display = n ? "" : "none";
-    put(count, whole.format(n));
+// The bar is as full as the table: its last piece is what is free.
+const free = add($("bar"), "span");
+function grow(piece, n) {
+  piece.style.flexGrow = n;
+  piece.style.display = n > 0 ? "" : "none";
+}
+function showStandings({ count, limits }) {
+  const held = count("events"), most = Number(limits.events);
+  for (const mark of marks) {
+    grow(mark.piece, count("events", mark.standing));
+    put(mark.count, whole(count("events", mark.standing)));
   }
-  $("bar").setAttribute("aria-label", marks.map((mark) => `${mark.words}: ${mark.count.textContent}`).join("; "));
-  put($("held"), `${whole.format(sum(families, "events"))}${most ? ` of at most ${whole.format(most)}` : ""}`);
+  grow(free, most - held);
+  put($("held"), `${whole(held)} of at most ${whole(most)}`);
+  $("bar").setAttribute("aria-label", `${$("held").textContent} events are held, as the list below tells`);
 }
 
 const facts = {};
-function tell(name, text) {
-  if (!facts[name]) {
-    const line = add($("more"), "div");
-    add(line, "dt", name);
-    facts[name] = add(line, "dd");
+function tell(list, texts) {
+  for (const [name, text] of Object.entries(texts)) {
+    if (!facts[name]) {
+      const line = add($(list), "div");
+      add(line, "dt", name);
+      facts[name] = add(line, "dd");
+    }
+    put(facts[name], text);
   }
-  put(facts[name], text);
 }
-function each(families, family, label) {
-  const some = (families[family] || []).filter((v) => v.value > 0);
-  return some.map((v) => `${v.labels[label].replaceAll("_", " ")} ${whole.format(v.value)}`).join(", ") || "none";
+// The counts of a family by a label, or by how much they have grown.
+function each(families, family, label, past) {
+  const counts = (families[family] || []).map(({ labels, value }) => [labels[label], value - (past ? sum(past, family, labels[label]) : 0)]);
+  return counts.filter(([, n]) => n > 0).map(([name, n]) => `${name.replaceAll("_", " ")}: ${whole(n)}`).join(", ") || "none";
 }
-function showBroker(f) {
-  const count = (family) => whole.format(sum(f, family)), settings = labels(f);
-  tell("oldest wait", span(sum(f, "oldest_wait_age_seconds")));
-  tell("oldest record", span(sum(f, "oldest_record_age_seconds")));
-  tell("in force for new events", `${settings.retries} retries, ${span(settings.age_seconds)}`);
-  tell("environments", each(f, "environments", "phase"));
-  tell("parked polls, of open requests", `${count("parked_polls")} of ${count("open_slots")}`);
-  tell("commands not durable yet", count("pending_commands"));
-  tell("throttled, interrupted", `${count("attempts_throttled_total")}, ${count("attempts_interrupted_total")}`);
-  tell("refused", each(f, "refused_total", "reason"));
-  tell("free in the segment", `${size(512 * sum(f, "segment_free_sectors"))} of ${size(256 * sum(f, "disk_sectors"))}`);
-  tell("switches, generation", `${count("switches_total")}, ${count("generation")}`);
-  tell("memory", size(sum(f, "process_resident_memory_bytes")));
+function showFacts({ families, past = families, seconds, waits, count, limits, due, waiting, ended }) {
+  const number = (...of) => whole(count(...of)), { retries, age_seconds: age } = limits;
+  tell("now", {
+    "environments": each(families, "environments", "phase"),
+    "running": `${number("events", "running")} of at most ${limits.concurrency}`,
+    "waiting or due again": `${whole(waiting)}, due now: ${whole(due)}`,
+    "oldest wait": waiting ? `${span(count("oldest_wait_age_seconds"))} of at most ${span(waits[0]?.age ?? age)}` : "none",
+    "refused lately": `${each(families, "refused_total", "reason", past)} in ${span(seconds)}`,
+    "refused since served": each(families, "refused_total", "reason"),
+  });
+  tell("more", {
+    "oldest record": ended ? span(count("oldest_record_age_seconds")) : "none",
+    "in force for new events": `retries ${retries}, age ${span(age)}`,
+    "timeout of an attempt": span(limits.timeout_seconds),
+    "parked polls, of open requests": `${number("parked_polls")} of ${number("open_slots")}`,
+    "commands not durable yet": number("pending_commands"),
+    "throttled, interrupted": `${number("attempts_throttled_total")}, ${number("attempts_interrupted_total")}`,
+    "switches, generation": `${number("switches_total")}, ${number("generation")}`,
+    "memory": `${whole(count("process_resident_memory_bytes") / 1048576)} MiB`,
+  });
 }
 
-// Rows and cells are made once: only their text changes.
+// Rows and cells are made once: only their text changes. A list is an event's id, and the words that lead to it.
+function fill(cell, text) {
+  const leads = Array.isArray(text), inner = cell.firstElementChild || add(cell, leads ? "a" : "bdi");
+  if (leads) inner.href = `events/${encodeURIComponent(text[0])}`;
+  put(inner, leads ? text[1] : text);
+}
 function table(id, columns, none) {
   const head = add(add($(id), "thead"), "tr"), body = add($(id), "tbody");
-  head.role = "row";
-  for (const [name, kind] of columns) add(head, "th", name, kind).role = "columnheader";
+  for (const [name, kind] of columns) add(head, "th", name, kind).scope = "col";
   return (rows) => {
     $(id).hidden = !rows.length;
     put($(`${id}-none`), rows.length ? "" : none);
     while (body.rows.length > rows.length) body.deleteRow(-1);
     rows.forEach((texts, at) => {
       const row = body.rows[at] || body.insertRow();
-      row.role = "row";
-      texts.forEach((text, place) => {
-        const [name, kind] = columns[place], cell = row.cells[place] || add(row, "td", "", kind);
-        cell.role = "cell";
-        cell.dataset.name = name;
-        const inner = cell.firstElementChild || add(cell, kind === "id" ? "a" : "bdi");
-        if (kind === "id") inner.href = `events/${encodeURIComponent(text)}`;
-        put(inner, text);
-      });
+      texts.forEach((text, place) => fill(row.cells[place] || add(row, "td", "", columns[place][1]), text));
     });
   };
 }
-const showWaits = table("waits", [["event", "id"], ["waits", "n"], ["due in", "n"], ["starts", "n"], ["failures", "n"], ["payload", "n"]], "No event waits.");
-const showFails = table("fails", [["event", "id"], ["ended", "n"], ["starts", "n"], ["why", ""], ["error", "error"]], "No event that failed is held.");
+const showRuns = table("runs", [["event", "id"], ["environ\u00adment", "n"], ["age", "n"], ["deadline in", "n"], ["starts", "n"]], "No event runs.");
+const showFails = table("fails", [["error", "error"], ["events", "n"], ["last", "n"]], "No event that failed is held.");
+const showWaits = table("waits", [["event", "id"], ["waits", "n"], ["due in", "n"], ["starts", "n"], ["failures", "n"]], "No event waits.");
 
 async function ask(path) {
   const reply = await fetch(path, { cache: "no-store", signal: AbortSignal.timeout(PATIENCE) });
-  if (!reply.ok && path !== "healthz") throw new Error(`${path} was answered ${reply.status}`);
+  if (!reply.ok && path !== "healthz") throw new Error(`${path} was answered ${reply.status} ${(await reply.text()).trim()}`);
   return reply;
 }
 const json = async (path) => (await ask(path)).json();
+const until = (moment, now) => moment > now ? span((moment - now) / 1000) : "now";
+async function readRuns(now) {
+  const { events } = await json(`events?standing=running&limit=${RUNNING}`);
+  showRuns(events.map((e) => [[e.id, e.id], e.environment, span((now - e.accepted) / 1000), until(e.moment, now), e.starts]));
+}
 async function readWaits(now) {
-  const { events } = await json(`events?standing=waiting&limit=${SHOWN}`);
-  showWaits(events.map((e) => [e.id, span((now - e.accepted) / 1000), e.moment > now ? span((e.moment - now) / 1000) : "now",
-    e.starts, e.failures, size(e.payloadBytes)]));
+  const { events } = await json("events?standing=waiting&limit=1000");
+  showWaits(events.slice(0, SHOWN).map((e) => [[e.id, e.id], span((now - e.accepted) / 1000), until(e.moment, now), e.starts, e.failures]));
+  return events;
 }
 // What the function answered last.
 function error(record) {
@@ -258,11 +362,12 @@ function error(record) {
   const text = parts.length ? parts.join(": ") : typeof answer === "string" ? answer : JSON.stringify(answer);
   return text.length > 200 ? text.slice(0, 200) + "…" : text;
 }
-let known = {}, seen = "";
-// The list is in the order of acceptance, so the last that ended are found by all of it: read where a count has changed.
-async function readFails(families) {
-  const state = JSON.stringify([families.events, families.events_ended_total, families.records_collected_total]);
-  if (state === seen) return;
+let known = {}, shown = "";
+async function errorOf({ id, payloadBytes }) {
+  return known[id] ?? (payloadBytes > LARGE ? "not read: the payload is large" : error((await json(`events/${id}`)).record));
+}
+// The list is in the order of acceptance, so the last that ended are found by all of it.
+async function lastFailures() {
   const all = [];
   let after = "";
   do {
@@ -270,11 +375,21 @@ async function readFails(families) {
     all.push(...page.events);
     after = page.next && `&after=${page.next}`;
   } while (after);
-  const last = all.sort((a, b) => b.moment - a.moment).slice(0, SHOWN), errors = {};
-  for (const { id } of last) errors[id] = known[id] ?? error((await json(`events/${id}`)).record);
-  known = errors;
-  showFails(last.map((e) => [e.id, stamp(e.moment), e.starts, e.standing.slice(6).replace(/\B[A-Z]/g, " $&").toLowerCase(), known[e.id]]));
-  seen = state;
+  return all.sort((a, b) => b.moment - a.moment).slice(0, FAILED);
+}
+// Equal errors are one line. They are read where a count has changed.
+async function readFails(families) {
+  const state = JSON.stringify([families.events, families.events_ended_total, families.records_collected_total]);
+  if (state === shown) return;
+  const last = await lastFailures(), errors = await Promise.all(last.map(errorOf)), lines = {};
+  known = {};
+  last.forEach(({ id, moment, standing }, place) => {
+    known[id] = errors[place];
+    const told = (standing.includes("Age") ? "EventAgeExceeded: " : "") + known[id];
+    (lines[told] ||= [told, 0, [id, stamp(moment)]])[1]++;
+  });
+  showFails(Object.values(lines));
+  shown = state;
 }
 
 // A screen reader is told only what has changed.
@@ -283,41 +398,80 @@ function health(text, kind) {
   $("health").className = $("main").className = kind;
   document.title = (kind === "good" ? "" : "! ") + $("name").textContent;
 }
-let answered = 0;
+function showFound(found) {
+  const list = $("findings");
+  while (list.children.length > found.length) list.lastChild.remove();
+  found.forEach(([level, title, text], place) => {
+    const item = list.children[place] || add(list, "li"), name = item.firstChild || add(item, "strong");
+    put(name, found.length > 1 ? `${word(level)}: ${title}. ` : "");
+    put(item.children[1] || add(item, "span"), text);
+  });
+}
+// What the page has seen, from the last time on that the broker was served, and no longer than the window.
+let readings = [], stillSince = 0, answered = 0, waits = [];
+function remember(families, at) {
+  const fell = (family) => sum(families, family) < sum(readings.at(-1).families, family);
+  if (readings.length && ["commit_seconds_count", "attempts_started_total", "refused_total"].some(fell)) readings = [];
+  while (readings[0]?.at < at - WINDOW) readings.shift();
+  readings.push({ at, families });
+  return { families, past: readings[0].families, seconds: (at - readings[0].at) / 1000 };
+}
+// For how long nothing has ended while something was due.
+function stillness({ families, now }, at) {
+  const ended = (reading) => sum(reading.families, "events_ended_total"), before = readings.at(-2) || readings[0];
+  if (!stillSince || ended(before) < sum(families, "events_ended_total") || !waits.some((event) => event.moment <= now)) stillSince = at;
+  return (at - stillSince) / 1000;
+}
 async function readNumbers(at) {
-  const reply = await ask("metrics"), families = read(await reply.text()), said = await ask("healthz");
-  const settings = labels(families);
-  put($("name"), settings.function || "Lambda broker");
-  for (const plot of PLOTS) step(plot, families, at);
-  showStandings(families, Number(settings.events));
-  showBroker(families);
-  if (said.ok) health("The broker is well.", "good");
-  else health(`The broker says: ${await said.text()}.`, "bad");
+  const reply = await ask("metrics"), families = read(await reply.text()), health = await ask("healthz");
   answered = at;
-  return { families, now: Date.parse(reply.headers.get("date")) || at };
+  return { ...remember(families, at), said: health.ok ? "" : await health.text(), now: Date.parse(reply.headers.get("date")) || at };
+}
+async function readLists({ now, families }) {
+  try {
+    waits = await readWaits(now);
+    await readRuns(now);
+    await readFails(families);
+    return "";
+  } catch (why) {
+    return `, but not all of the tables: ${why.message}`;
+  }
+}
+function showState(seen, at) {
+  const state = stateOf({ ...seen, waits, still: stillness(seen, at) }), found = verdict(state);
+  put($("name"), state.limits.function || "Lambda broker");
+  for (const plot of PLOTS) step(plot, seen.families, at);
+  showFacts(state);
+  showStandings(state);
+  showFound(found);
+  if (seen.said) health(`Bad: the broker says ${seen.said.trim()}.`, BAD);
+  else health(headline(found), found[0]?.[0] ?? "good");
+}
+function showSilence(why, at) {
+  for (const plot of PLOTS) plot.points.push({ at, value: null });
+  showFound([]);
+  const said = why.constructor === Error ? why.message : `the broker has not answered${answered ? ` since ${stamp(answered)}` : ""}`;
+  health(`Bad: ${said}. Look at its last lines on standard error.`, "gone");
+  return answered ? `What stands below was read at ${stamp(answered)}.` : "";
 }
 async function readAll(at) {
-  let numbers;
+  let seen;
   try {
-    numbers = await readNumbers(at);
-  } catch {
-    for (const plot of PLOTS) plot.points.push({ at, value: null });
-    health(answered ? `The broker has not answered since ${stamp(answered)}.` : "The broker does not answer.", "gone");
-    return answered ? `What stands below was read at ${stamp(answered)}.` : "";
-  }
-  try {
-    await readWaits(numbers.now);
-    await readFails(numbers.families);
-    return `Read at ${stamp(at)}, and again every ${EVERY / 1000} seconds.`;
+    seen = await readNumbers(at);
   } catch (why) {
-    return `Read at ${stamp(at)}, but not all of the tables: ${why.message}.`;
+    return showSilence(why, at);
   }
+  const missing = await readLists(seen);
+  showState(seen, at);
+  return `Read at ${stamp(at)}, and again every ${EVERY / 1000} seconds${missing}.`;
 }
+const opened = Date.now();
 async function look() {
   const at = Date.now();
   put($("when"), await readAll(at));
   for (const plot of PLOTS) draw(plot, at);
-  setTimeout(look, EVERY);
+  put($("seen"), `the last ${span(Math.min(at - opened, WINDOW) / 1000)}`);
+  setTimeout(look, PLOTS[0].points.length < 3 ? FIRST : EVERY);
 }
 look();
 </script>

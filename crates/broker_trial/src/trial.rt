@@ -163,7 +163,7 @@ fn recovered(alloc: Global, disk: MemDisk) -> Result<Standing, OpenError>
 /// Accepts one event, commits it, closes the disk and opens it again: it is the first command, which is durable after the
 /// commit, and it waits from its acceptance on.
 pub fn run_trial(alloc: Global) -> Result<Trial, TrialError>
-    // claim: At its end the trial's event is command 1, which is durable, and waits after the disk was opened again.
+    // claim: A trial that ends tells that command 1 was accepted, that 1 is durable, and an event that waits.
     ensures { IfOk result (λ t. (t.accepted ≡ 1) × (t.durable ≡ 1) × (t.standing ≡ standing.Waiting 1573755365568)) }
 {
     let disk = formatted(alloc)?;

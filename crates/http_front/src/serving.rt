@@ -230,8 +230,8 @@ where
     // where there is none.
     ensures ports { OnOk result (vec_len listeners + 2 ≤ desk_count (settings_of hall.issuer)) }
     ensures many { IsErrOf result ServeError.TooManyPorts → desk_count (settings_of hall.issuer) < vec_len listeners + 2 }
-    // claim: It then hands the disk half back: its hall's broker, with what its committer made of it. What was beside it
-    // was served.
+    // claim: It then hands the disk half back: its hall's broker, after any number of commits. What was beside it was
+    // served.
     ensures served { IfOk result (λ served. HasServed D.view D.fault_count hall.issuer (broker_of served.half)) }
     ensures beside { IfOk result (λ served. is_some served.beside ≡ is_some beside) }
 {

@@ -148,7 +148,7 @@ impl Waiters {
 
     /// Takes all wakers of this number and below. One for which there is no room wakes its task here.
     pub(crate) fn take_wakers(&mut self, number: u64) -> Vec<Waker>
-        // claim: After a ring nobody waits for its number or one below. [: above, rung; Bell::ring; Bell::ring_all]
+        // claim: Once the wakers up to a number are taken, nobody waits for it or one below. [: above, rung]
         ensures above { AreAbove number (tree.keys self.new.numbered) }
         ensures rung { self.new.rung ≡ max self.old.rung number }
         ensures parked { self.new.parked ≡ self.old.parked }
