@@ -183,7 +183,8 @@ impl<L: Ledger> Office<L> {
         desks: Vec<Desk<L>>,
         disk: DiskHalf<D>,
     ) -> Result<(Hall<Broker<D>>, Vec<Mark>), FinishFailure<D, L>>
-        // claim: An office is closed only where each desk is there once with its own marks. Of the marks it tells only that they are numbered, and as many as the desks have.
+        // claim: An office is closed only where each desk is there once with its own marks. Of the marks it tells only that
+        // they are numbered, and as many as the desks have.
         ensures all { IfOk result (λ r. AreAll (λ d. d.number) (λ d. d.own.items) L.parts r.1.items desks.items) }
         ensures numbered { IfOk result (λ r. AreNumberedFromSome r.1.items) }
         ensures sum { IfOk result (λ r. sum_of_lists (λ d. d.own.items) desks.items ≡ length r.1.items) }
