@@ -43,12 +43,13 @@ path { fill: none; stroke-width: 2; vector-effect: non-scaling-stroke; stroke-li
 table { border-collapse: collapse; width: 100%; }
 th, td { text-align: left; vertical-align: baseline; padding: .3rem 1.25rem .3rem 0; border-bottom: 1px solid var(--line); }
 .n { text-align: right; }
-td:not(.error) { white-space: nowrap; }
+td:not(.error, .wrap) { white-space: nowrap; }
 .id a { font: .875rem ui-monospace, monospace; }
 @media (max-width: 44rem) {
   #plots { grid-template-columns: repeat(2, minmax(0, 1fr)); }
-  th, td { padding-right: .6rem; }
-  td:not(.id) { white-space: normal; }
+  body { padding: .75rem; }
+  table { font-size: .9375rem; }
+  th, td { padding-right: .4rem; }
   .id a { display: inline-block; max-width: 4.4rem; overflow: hidden; text-overflow: ellipsis; vertical-align: bottom; }
 }
 </style>
@@ -335,7 +336,7 @@ function table(id, columns, none) {
   };
 }
 const showRuns = table("runs", [["event", "id"], ["environ\u00adment", "n"], ["age", "n"], ["deadline in", "n"]], "No event runs.");
-const showFails = table("fails", [["error", "error"], ["events", "n"], ["last", "n"]], "No event that failed is held.");
+const showFails = table("fails", [["error", "error"], ["events", "n"], ["last", "n wrap"]], "No event that failed is held.");
 const showWaits = table("waits", [["event", "id"], ["waits", "n"], ["due in", "n"], ["starts", "n"], ["failures", "n"]], "No event waits.");
 
 async function ask(path) {
