@@ -116,7 +116,7 @@ def told(broker, states):
 def the_page_is_that_of_its_source(broker):
     broker.serve()
     with open(SOURCE, "rb") as file:
-        same(broker.look("/").body == file.read(), True)
+        assert broker.look("/").body == file.read(), "the program has another page than crates/admin_replies/page.html"
 
 
 @case()
