@@ -64,14 +64,14 @@ CASES = [
     ({'environments{phase="init"}': 1}, {}, {}, "Look: nobody polls an environment.", "1 of 3 environments"),
     ({'environments{phase="init"}': 1}, {}, {"waits": [LATER, DUE]}, "Bad: nobody polls an environment.", "Waiting: 1 event."),
     ({}, {}, {"still": 36}, "The broker is well.", ""),
-    ({}, {}, {"still": 37, "waits": [DUE]}, "Bad: nothing ends.", "none has ended for 37 s; the timeout is 30 s. 30 attempts began"),
+    ({}, {}, {"still": 37, "waits": [DUE]}, "Bad: nothing ends.", "ended for 37 s, though some were due (now 1); the timeout is 30 s. 30 attempts began"),
     ({'events{standing="success"}': 45}, {}, {}, "The broker is well.", ""),
     ({'events{standing="success"}': 46}, {}, {}, "Look: the table is nearly full.", "52 of at most 64 events held"),
     ({'events{standing="success"}': 58}, {}, {}, "Bad: the table is full.", "59 ended, and their records wait to be collected: GET /broker/destinations/"),
     ({"oldest_wait_age_seconds": 17999}, {}, {}, "The broker is well.", ""),
-    ({"oldest_wait_age_seconds": 18000}, {}, {}, "Bad: events expire soon.", "The oldest wait is 5 h, and an event is given up at 6 h: 0 in the"),
+    ({"oldest_wait_age_seconds": 18000}, {}, {}, "Bad: events expire soon.", "The oldest wait is 5 h, and an event is given up at 6 h. Given up in the last 1 min: 0."),
     ({"oldest_wait_age_seconds": 50}, {}, {"waits": [{**LATER, "age": 60}]}, "Bad: events expire soon.", "is given up at 1 min"),
-    ({}, {'events_ended_total{outcome="EventAgeExceeded"}': 2}, {}, "Bad: events expired.", "2 in the last 1 min"),
+    ({}, {'events_ended_total{outcome="EventAgeExceeded"}': 2}, {}, "Bad: events expired.", "Given up in the last 1 min: 2."),
     ({}, {'events_ended_total{outcome="Success"}': 15}, {}, "The broker is well.", ""),
     ({}, {'events_ended_total{outcome="Success"}': 14}, {}, "Bad: most attempts fail.", "16 of 30 attempts failed in the last 1 min"),
     ({}, {'events{standing="running"}': 1, "attempts_interrupted_total": 1, 'events_ended_total{outcome="Success"}': 14}, {}, "The broker is well.", ""),
@@ -84,7 +84,7 @@ CASES = [
     ({}, {'refused_total{reason="too_many"}': 6}, {}, "Bad: callers are refused.", "6 × 429"),
     ({}, {'refused_total{reason="unavailable"}': 1}, {}, "Bad: callers are refused.", "1 × 503"),
     ({"oldest_record_age_seconds": 90061}, {}, {}, "Look: records are not collected.", "4 records held, the oldest for 1 d 1 h"),
-    ({**IDLE, "oldest_record_age_seconds": 901}, {'refused_total{reason="too_many"}': 1}, {}, "Bad: callers are refused; nobody polls.", "15 min 1 s"),
+    ({**IDLE, "oldest_record_age_seconds": 901}, {'refused_total{reason="too_many"}': 1}, {}, "Bad: callers are refused; nobody polls.", "the oldest for 15 min."),
 ]
 
 
@@ -116,7 +116,7 @@ def told(broker, states):
 def the_page_is_that_of_its_source(broker):
     broker.serve()
     with open(SOURCE, "rb") as file:
-        same(broker.look("/").body == file.read(), True)
+        assert broker.look("/").body == file.read(), "the program has another page than crates/admin_replies/page.html"
 
 
 @case()

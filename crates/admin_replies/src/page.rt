@@ -43,13 +43,14 @@ path { fill: none; stroke-width: 2; vector-effect: non-scaling-stroke; stroke-li
 table { border-collapse: collapse; width: 100%; }
 th, td { text-align: left; vertical-align: baseline; padding: .3rem 1.25rem .3rem 0; border-bottom: 1px solid var(--line); }
 .n { text-align: right; }
-td:not(.error) { white-space: nowrap; }
+td:not(.error, .wrap) { white-space: nowrap; }
 .id a { font: .875rem ui-monospace, monospace; }
 @media (max-width: 44rem) {
   #plots { grid-template-columns: repeat(2, minmax(0, 1fr)); }
-  th, td { padding-right: .6rem; }
-  td:not(.id) { white-space: normal; }
-  .id a { display: inline-block; max-width: 4.8rem; overflow: hidden; text-overflow: ellipsis; vertical-align: bottom; }
+  body { padding: .75rem; }
+  table { font-size: .9375rem; }
+  th, td { padding-right: .4rem; }
+  .id a { display: inline-block; max-width: 4.4rem; overflow: hidden; text-overflow: ellipsis; vertical-align: bottom; }
 }
 </style>
 </head>
@@ -87,7 +88,7 @@ function rate(n) { return n === null ? "–" : n % 1 && n < 10 ? n.toFixed(n < 0
 function some(n, noun) { return `${whole(n)} ${noun}${n === 1 ? "" : "s"}`; }
 function span(seconds) {
   const s = Math.max(0, Math.round(seconds)), m = Math.floor(s / 60), h = Math.floor(m / 60), d = Math.floor(h / 24);
-  return (d ? `${d} d ${h % 24} h` : h ? `${h} h ${m % 60} min` : m ? `${m} min ${s % 60} s` : `${s} s`).replace(/ 0 \w+$/, "");
+  return (d ? `${d} d ${h % 24} h` : h ? `${h} h ${m % 60} min` : m > 9 ? `${m} min` : m ? `${m} min ${s % 60} s` : `${s} s`).replace(/ 0 \w+$/, "");
 }
 
 // What /metrics says: each family's values with their labels.
@@ -131,7 +132,7 @@ function nobodyPolls({ count, waiting, due }) {
 function nothingEnds({ grown, limits, still, due }) {
   const timeout = Number(limits.timeout_seconds), begun = grown("attempts_started_total");
   return still > timeout + SLACK && [BAD, "nothing ends",
-    `Events are due (now ${whole(due)}), and none has ended for ${span(still)}; the timeout is ${span(timeout)}. `
+    `No event has ended for ${span(still)}, though some were due (now ${whole(due)}); the timeout is ${span(timeout)}. `
     + `${begun ? `${some(begun, "attempt")} began and failed, or hang` : "No attempt began"}: look at the runtimes.`];
 }
 function tableFills({ count, limits, ended }) {
@@ -146,7 +147,7 @@ function eventsExpire({ count, grown, limits, waits, lately }) {
   const wait = count("oldest_wait_age_seconds"), age = Number(waits[0]?.age ?? limits.age_seconds);
   const lost = grown("events_ended_total", "EventAgeExceeded"), soon = wait >= OLD * age;
   return (soon || lost) && [BAD, soon ? "events expire soon" : "events expired",
-    `The oldest wait is ${span(wait)}, and an event is given up at ${span(age)}: ${whole(lost)} ${lately}. `
+    `The oldest wait is ${span(wait)}, and an event is given up at ${span(age)}. Given up ${lately}: ${whole(lost)}. `
     + "Bring up runtimes that take them; a changed --age is for later events alone."];
 }
 const READ = "Read the errors below, and the function's log.";
@@ -334,8 +335,8 @@ function table(id, columns, none) {
     });
   };
 }
-const showRuns = table("runs", [["event", "id"], ["environ\u00adment", "n"], ["age", "n"], ["deadline in", "n"], ["starts", "n"]], "No event runs.");
-const showFails = table("fails", [["error", "error"], ["events", "n"], ["last", "n"]], "No event that failed is held.");
+const showRuns = table("runs", [["event", "id"], ["environ\u00adment", "n"], ["age", "n"], ["deadline in", "n"]], "No event runs.");
+const showFails = table("fails", [["error", "error"], ["events", "n"], ["last", "n wrap"]], "No event that failed is held.");
 const showWaits = table("waits", [["event", "id"], ["waits", "n"], ["due in", "n"], ["starts", "n"], ["failures", "n"]], "No event waits.");
 
 async function ask(path) {
@@ -347,7 +348,7 @@ const json = async (path) => (await ask(path)).json();
 const until = (moment, now) => moment > now ? span((moment - now) / 1000) : "now";
 async function readRuns(now) {
   const { events } = await json(`events?standing=running&limit=${RUNNING}`);
-  showRuns(events.map((e) => [[e.id, e.id], e.environment, span((now - e.accepted) / 1000), until(e.moment, now), e.starts]));
+  showRuns(events.map((e) => [[e.id, e.id], e.environment, span((now - e.accepted) / 1000), until(e.moment, now)]));
 }
 async function readWaits(now) {
   const { events } = await json("events?standing=waiting&limit=1000");
@@ -416,10 +417,11 @@ function remember(families, at) {
   readings.push({ at, families });
   return { families, past: readings[0].families, seconds: (at - readings[0].at) / 1000 };
 }
-// For how long nothing has ended while something was due.
+// For how long nothing has ended while something was due. What is throttled was due, and is put off.
 function stillness({ families, now }, at) {
-  const ended = (reading) => sum(reading.families, "events_ended_total"), before = readings.at(-2) || readings[0];
-  if (!stillSince || ended(before) < sum(families, "events_ended_total") || !waits.some((event) => event.moment <= now)) stillSince = at;
+  const before = (readings.at(-2) || readings[0]).families, rose = (family) => sum(families, family) > sum(before, family);
+  const wasDue = rose("attempts_throttled_total") || waits.some((event) => event.moment <= now);
+  if (!stillSince || !wasDue || rose("events_ended_total")) stillSince = at;
   return (at - stillSince) / 1000;
 }
 async function readNumbers(at) {
