@@ -74,6 +74,9 @@ def ephemeral():
     return int(text_of("/proc/sys/net/ipv4/ip_local_port_range").split()[0])
 
 
+RUNTIMES = "runtime@my-function:1", "runtime@my-function:2"
+
+
 @case()
 def a_function_is_added_once(broker):
     url = "http://127.0.0.1:1/x?a=$b"
@@ -85,9 +88,11 @@ def a_function_is_added_once(broker):
         there = tree(root)
         envs = [f"{ETC}/my-function.env", "etc/lambda_forward/my-function:failure.env"]
         envs += [f"etc/lambda_runtime/my-function:{n}.env" for n in (1, 2)]
-        drop_in = f"{UNITS}/lambda_broker@my-function.service.d/function.conf"
-        disk, shared = "var/lib/lambda_broker/my-function/disk", {f"{ETC}/{name}" for name in ("ports", "nginx.conf", "prometheus.json")}
-        same({name for name, what in there.items() if what}, {*envs, drop_in, disk, *shared})
+        drop_in, *users = (f"{UNITS}/lambda_{of}.service.d/function.conf" for of in ("broker@my-function", *RUNTIMES))
+        shared = [f"{ETC}/{name}" for name in ("ports", "nginx.conf", "prometheus.json", "walls/my-function.nft")]
+        disk = "var/lib/lambda_broker/my-function/disk"
+        same({name for name, what in there.items() if what}, {*envs, drop_in, *users, disk, *shared})
+        same([text_of(root, name).splitlines()[1:] for name in users], 2 * [["[Service]", f"User=lambda_{port}"]])
         same({there[name][2] for name in (*envs, disk)}, {0o600})
         wanted = {"PORT": str(port), "ADDRESS": "127.0.0.1", "ADMIN": str(port + 19), "WORDS": "--dialect aws"}
         same(values_of(root, envs[0]), wanted)
@@ -124,7 +129,8 @@ def each_function_has_ports_of_its_own(broker):
         wanted = f"My-Function is removed; its disk stays: {disk}, held 0 waiting 0 running 0 success 0 failure 0"
         same(told[-1], wanted)
         text = "".join(line for line in text_of(root, ETC, "nginx.conf").splitlines(True) if not line.startswith("#"))
-        same(text.split(), FUNCTIONS.format(ports["my-function"], ports["send-mail"]).split())
+        two = ports["my-function"], ports["send-mail"]
+        same(text.split(), FUNCTIONS.format(*two, *(port + 19 for port in two)).split())
         assert os.path.exists(disk) and not os.path.exists(os.path.join(root, ETC, "My-Function.env"))
         same(ctl(root, "remove", "My-Function")[0], 1)
         assert f"kept {disk}, as it was formatted" in done(root, "add", "My-Function", *ADD)
@@ -205,7 +211,10 @@ def a_broker_is_served_and_ended_by_its_unit(broker):
 FILES = """usr/bin/lambda_broker usr/bin/lambda-broker-ctl usr/lib/lambda_broker/forward.py usr/lib/lambda_broker/function.py
 usr/lib/sysusers.d/lambda_broker.conf
 usr/lib/systemd/system/lambda_broker@.service usr/lib/systemd/system/lambda_runtime@.service
-usr/lib/systemd/system/lambda_forward@.service usr/lib/tmpfiles.d/lambda_broker.conf usr/share/lambda_broker/nginx.conf
+usr/lib/systemd/system/lambda_forward@.service usr/lib/systemd/system/lambda_walls.service
+usr/lib/systemd/system/nftables.service.d/lambda_broker.conf usr/lib/tmpfiles.d/lambda_broker.conf
+usr/share/lambda_broker/walls.nft usr/share/lambda_broker/device.conf usr/share/lambda_broker/consoles/lambda_broker.html
+usr/share/lambda_broker/nginx.conf usr/share/lambda_broker/nginx_operators.conf
 usr/share/lambda_broker/prometheus.yml usr/share/lambda_broker/alerts.yml usr/share/lambda_broker/alerts.test.yml
 usr/share/man/man8/lambda_broker.8.gz usr/share/man/man8/lambda-broker-ctl.8.gz usr/share/doc/lambda-broker/copyright
 usr/share/doc/lambda-broker/CHANGELOG.md.gz usr/share/bash-completion/completions/lambda_broker
@@ -239,7 +248,7 @@ def the_package_has_what_an_operator_needs(broker):
         same([run("sh", "-n", os.path.join(root, name))[0] for name in scripts], [0, 0, 0])
         same(filecmp.cmp(os.path.join(root, "usr/bin/lambda_broker"), Built.program, shallow=False), True)
         units = "".join(text_of(root, name) for name in FILES if name.endswith(".service"))
-        run_by_units = {path[1:] for path in re.findall("^Exec[A-Z][A-Za-z]*=(/[^ ]+)", units, re.M)} - {"bin/sh"}
+        run_by_units = {path[1:] for path in re.findall("^Exec[A-Z][A-Za-z]*=-?(/[^ ]+)", units, re.M)} - {"bin/sh", "usr/sbin/nft"}
         same(run_by_units - {*FILES}, set())
         commands = {"trial", "format", "audit", "configure", "migrate", "copy", "serve"}
         with gzip.open(os.path.join(root, "usr/share/man/man8/lambda_broker.8.gz"), "rt") as file:

@@ -19,6 +19,7 @@ client_body_temp_path body; proxy_temp_path proxy; fastcgi_temp_path fastcgi; uw
 
 # The functions, as lambda-broker-ctl writes them.
 FUNCTIONS = """map $function $broker {{ default ""; "~^my-function$" broker-{0}; "~^send-mail$" broker-{1}; }}
+map $function $operator {{ default ""; "~^my-function$" 127.0.0.1:{2}; "~^send-mail$" 127.0.0.1:{3}; }}
 upstream broker-{0} {{ server 127.0.0.1:{0}; keepalive 64; }}
 upstream broker-{1} {{ server 127.0.0.1:{1}; keepalive 64; }}
 """
@@ -35,7 +36,7 @@ class Proxy:
             text = re.sub("(127[.]0[.]0[.]1):([0-9]+)", lambda found: f"{found[1]}:{places[found[2]]}", file.read())
         functions = os.path.join(folder, "functions.conf")
         with open(functions, "w") as file:
-            file.write(FUNCTIONS.format(broker.port, down))
+            file.write(FUNCTIONS.format(broker.port, down, broker.admin, down))
         with open(os.path.join(folder, "nginx.conf"), "w") as file:
             file.write(AROUND + text.replace("/etc/lambda_broker/nginx.conf", functions) + "}\n")
         self.told = os.path.join(folder, "stderr")
