@@ -241,7 +241,7 @@ def the_package_has_what_an_operator_needs(broker):
         made = matches(f"({re.escape(folder)}/lambda-broker_{re.escape(version)}_[a-z0-9]+[.]deb)\n", told)[0]
         told = dict(re.findall("^([A-Z][A-Za-z-]+): (.*)$", run("dpkg-deb", "-f", made)[1], re.M))
         same((told["Package"], told["Version"]), ("lambda-broker", version))
-        matches(r"libc6 \(>= 2\.[0-9]+\), libgcc-s1, python3, systemd", told["Depends"])
+        matches(r"libc6 \(>= 2\.[0-9]+\), libgcc-s1, passwd, python3, systemd", told["Depends"])
         same(run("dpkg-deb", "-R", made, root)[0], 0)
         scripts = ["DEBIAN/postinst", "DEBIAN/prerm", "DEBIAN/postrm"]
         same({name for name, what in tree(root).items() if what}, {*FILES, *scripts, "DEBIAN/control"})
