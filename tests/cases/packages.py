@@ -81,6 +81,7 @@ RUNTIMES = "runtime@my-function:1", "runtime@my-function:2"
 def a_function_is_added_once(broker):
     url = "http://127.0.0.1:1/x?a=$b"
     more = "--environments", 2, "--runtime", "/usr/bin/my-runtime --fast", "--task-root", "/srv/x", "--forward-failure", url, "--dialect", "aws"
+    more += "--handler", "a.b'$c"
     with a_root() as root:
         told = done(root, "add", "my-function", *ADD, *more)
         port = int(matches("my-function: callers ([0-9]+), .*", told[-1])[0])
@@ -98,7 +99,7 @@ def a_function_is_added_once(broker):
         same(values_of(root, envs[0]), wanted)
         same(values_of(root, envs[1]), {"PORT": str(port), "SIDE": "failure", "URL": url, "WORDS": f"--admin {port + 19}"})
         wanted = {"RUNTIME": "/usr/bin/my-runtime --fast", "EXTENSIONS": "", "AWS_LAMBDA_RUNTIME_API": f"127.0.0.1:{port + 2}"}
-        same(values_of(root, envs[3]), {**wanted, "_HANDLER": "app.main", "LAMBDA_TASK_ROOT": "/srv/x"})
+        same(values_of(root, envs[3]), {**wanted, "_HANDLER": '"a.b\'\\$c"', "LAMBDA_TASK_ROOT": "/srv/x"})
         parts = {f"lambda_runtime@my-function:{n}.service" for n in (1, 2)} | {"lambda_forward@my-function:failure.service"}
         same([{*line.split("=")[1].split()} for line in text_of(root, drop_in).splitlines() if "=" in line], 3 * [parts])
         same(done(root, "add", "my-function", *ADD, *more), ["my-function is there already: nothing was changed"])
@@ -112,7 +113,7 @@ def a_function_is_added_once(broker):
 def each_function_has_ports_of_its_own(broker):
     with a_root() as root:
         for name in "my-function", "send-mail", "My-Function":
-            done(root, "add", name, *SMALL, "--arn", ARN.replace("my-function", name))
+            done(root, "add", name, *SMALL, "--arn", ARN.replace("my-function", name), "--runtime", "/usr/bin/my-runtime")
         lines = done(root, "list")
         ports = {name: int(port) for name, port in (matches("(.*): callers ([0-9]+), .*", line) for line in lines)}
         same(sorted(ports), ["My-Function", "my-function", "send-mail"])
@@ -131,7 +132,7 @@ def each_function_has_ports_of_its_own(broker):
         text = "".join(line for line in text_of(root, ETC, "nginx.conf").splitlines(True) if not line.startswith("#"))
         two = ports["my-function"], ports["send-mail"]
         same(text.split(), FUNCTIONS.format(*two, *(port + 19 for port in two)).split())
-        assert os.path.exists(disk) and not os.path.exists(os.path.join(root, ETC, "My-Function.env"))
+        same({os.path.join(root, name) for name in tree(root) if "My-Function" in name}, {os.path.dirname(disk), disk})
         same(ctl(root, "remove", "My-Function")[0], 1)
         assert f"kept {disk}, as it was formatted" in done(root, "add", "My-Function", *ADD)
         # What the program warns of is told.
