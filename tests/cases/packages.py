@@ -74,10 +74,14 @@ def ephemeral():
     return int(text_of("/proc/sys/net/ipv4/ip_local_port_range").split()[0])
 
 
+RUNTIMES = "runtime@my-function:1", "runtime@my-function:2"
+
+
 @case()
 def a_function_is_added_once(broker):
     url = "http://127.0.0.1:1/x?a=$b"
     more = "--environments", 2, "--runtime", "/usr/bin/my-runtime --fast", "--task-root", "/srv/x", "--forward-failure", url, "--dialect", "aws"
+    more += "--handler", "a.b'$c"
     with a_root() as root:
         told = done(root, "add", "my-function", *ADD, *more)
         port = int(matches("my-function: callers ([0-9]+), .*", told[-1])[0])
@@ -85,15 +89,17 @@ def a_function_is_added_once(broker):
         there = tree(root)
         envs = [f"{ETC}/my-function.env", "etc/lambda_forward/my-function:failure.env"]
         envs += [f"etc/lambda_runtime/my-function:{n}.env" for n in (1, 2)]
-        drop_in = f"{UNITS}/lambda_broker@my-function.service.d/function.conf"
-        disk, shared = "var/lib/lambda_broker/my-function/disk", {f"{ETC}/{name}" for name in ("ports", "nginx.conf", "prometheus.json")}
-        same({name for name, what in there.items() if what}, {*envs, drop_in, disk, *shared})
+        drop_in, *users = (f"{UNITS}/lambda_{of}.service.d/function.conf" for of in ("broker@my-function", *RUNTIMES))
+        shared = [f"{ETC}/{name}" for name in ("ports", "nginx.conf", "prometheus.json", "walls/my-function.nft")]
+        disk = "var/lib/lambda_broker/my-function/disk"
+        same({name for name, what in there.items() if what}, {*envs, drop_in, *users, disk, *shared})
+        same([text_of(root, name).splitlines()[1:] for name in users], 2 * [["[Service]", f"User=lambda_{port}"]])
         same({there[name][2] for name in (*envs, disk)}, {0o600})
         wanted = {"PORT": str(port), "ADDRESS": "127.0.0.1", "ADMIN": str(port + 19), "WORDS": "--dialect aws"}
         same(values_of(root, envs[0]), wanted)
         same(values_of(root, envs[1]), {"PORT": str(port), "SIDE": "failure", "URL": url, "WORDS": f"--admin {port + 19}"})
         wanted = {"RUNTIME": "/usr/bin/my-runtime --fast", "EXTENSIONS": "", "AWS_LAMBDA_RUNTIME_API": f"127.0.0.1:{port + 2}"}
-        same(values_of(root, envs[3]), {**wanted, "_HANDLER": "app.main", "LAMBDA_TASK_ROOT": "/srv/x"})
+        same(values_of(root, envs[3]), {**wanted, "_HANDLER": '"a.b\'\\$c"', "LAMBDA_TASK_ROOT": "/srv/x"})
         parts = {f"lambda_runtime@my-function:{n}.service" for n in (1, 2)} | {"lambda_forward@my-function:failure.service"}
         same([{*line.split("=")[1].split()} for line in text_of(root, drop_in).splitlines() if "=" in line], 3 * [parts])
         same(done(root, "add", "my-function", *ADD, *more), ["my-function is there already: nothing was changed"])
@@ -107,7 +113,7 @@ def a_function_is_added_once(broker):
 def each_function_has_ports_of_its_own(broker):
     with a_root() as root:
         for name in "my-function", "send-mail", "My-Function":
-            done(root, "add", name, *SMALL, "--arn", ARN.replace("my-function", name))
+            done(root, "add", name, *SMALL, "--arn", ARN.replace("my-function", name), "--runtime", "/usr/bin/my-runtime")
         lines = done(root, "list")
         ports = {name: int(port) for name, port in (matches("(.*): callers ([0-9]+), .*", line) for line in lines)}
         same(sorted(ports), ["My-Function", "my-function", "send-mail"])
@@ -124,8 +130,9 @@ def each_function_has_ports_of_its_own(broker):
         wanted = f"My-Function is removed; its disk stays: {disk}, held 0 waiting 0 running 0 success 0 failure 0"
         same(told[-1], wanted)
         text = "".join(line for line in text_of(root, ETC, "nginx.conf").splitlines(True) if not line.startswith("#"))
-        same(text.split(), FUNCTIONS.format(ports["my-function"], ports["send-mail"]).split())
-        assert os.path.exists(disk) and not os.path.exists(os.path.join(root, ETC, "My-Function.env"))
+        two = ports["my-function"], ports["send-mail"]
+        same(text.split(), FUNCTIONS.format(*two, *(port + 19 for port in two)).split())
+        same({os.path.join(root, name) for name in tree(root) if "My-Function" in name}, {os.path.dirname(disk), disk})
         same(ctl(root, "remove", "My-Function")[0], 1)
         assert f"kept {disk}, as it was formatted" in done(root, "add", "My-Function", *ADD)
         # What the program warns of is told.
@@ -205,7 +212,10 @@ def a_broker_is_served_and_ended_by_its_unit(broker):
 FILES = """usr/bin/lambda_broker usr/bin/lambda-broker-ctl usr/lib/lambda_broker/forward.py usr/lib/lambda_broker/function.py
 usr/lib/sysusers.d/lambda_broker.conf
 usr/lib/systemd/system/lambda_broker@.service usr/lib/systemd/system/lambda_runtime@.service
-usr/lib/systemd/system/lambda_forward@.service usr/lib/tmpfiles.d/lambda_broker.conf usr/share/lambda_broker/nginx.conf
+usr/lib/systemd/system/lambda_forward@.service usr/lib/systemd/system/lambda_walls.service
+usr/lib/systemd/system/nftables.service.d/lambda_broker.conf usr/lib/tmpfiles.d/lambda_broker.conf
+usr/share/lambda_broker/walls.nft usr/share/lambda_broker/device.conf usr/share/lambda_broker/consoles/lambda_broker.html
+usr/share/lambda_broker/nginx.conf usr/share/lambda_broker/nginx_operators.conf
 usr/share/lambda_broker/prometheus.yml usr/share/lambda_broker/alerts.yml usr/share/lambda_broker/alerts.test.yml
 usr/share/man/man8/lambda_broker.8.gz usr/share/man/man8/lambda-broker-ctl.8.gz usr/share/doc/lambda-broker/copyright
 usr/share/doc/lambda-broker/CHANGELOG.md.gz usr/share/bash-completion/completions/lambda_broker
@@ -232,14 +242,14 @@ def the_package_has_what_an_operator_needs(broker):
         made = matches(f"({re.escape(folder)}/lambda-broker_{re.escape(version)}_[a-z0-9]+[.]deb)\n", told)[0]
         told = dict(re.findall("^([A-Z][A-Za-z-]+): (.*)$", run("dpkg-deb", "-f", made)[1], re.M))
         same((told["Package"], told["Version"]), ("lambda-broker", version))
-        matches(r"libc6 \(>= 2\.[0-9]+\), libgcc-s1, python3, systemd", told["Depends"])
+        matches(r"libc6 \(>= 2\.[0-9]+\), libgcc-s1, passwd, python3, systemd", told["Depends"])
         same(run("dpkg-deb", "-R", made, root)[0], 0)
         scripts = ["DEBIAN/postinst", "DEBIAN/prerm", "DEBIAN/postrm"]
         same({name for name, what in tree(root).items() if what}, {*FILES, *scripts, "DEBIAN/control"})
         same([run("sh", "-n", os.path.join(root, name))[0] for name in scripts], [0, 0, 0])
         same(filecmp.cmp(os.path.join(root, "usr/bin/lambda_broker"), Built.program, shallow=False), True)
         units = "".join(text_of(root, name) for name in FILES if name.endswith(".service"))
-        run_by_units = {path[1:] for path in re.findall("^Exec[A-Z][A-Za-z]*=(/[^ ]+)", units, re.M)} - {"bin/sh"}
+        run_by_units = {path[1:] for path in re.findall("^Exec[A-Z][A-Za-z]*=-?(/[^ ]+)", units, re.M)} - {"bin/sh", "usr/sbin/nft"}
         same(run_by_units - {*FILES}, set())
         commands = {"trial", "format", "audit", "configure", "migrate", "copy", "serve"}
         with gzip.open(os.path.join(root, "usr/share/man/man8/lambda_broker.8.gz"), "rt") as file:

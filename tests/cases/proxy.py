@@ -1,4 +1,7 @@
-"""nginx before a broker, as `deploy/nginx.conf` sets it up: but for its ports, and where its functions stand, it is that file."""
+"""nginx before a broker, as `deploy/nginx.conf` and `deploy/nginx_operators.conf` set it up: but for ports, and where functions and
+passwords stand, it is those files.
+"""
+import base64
 import contextlib
 import os
 import re
@@ -19,6 +22,7 @@ client_body_temp_path body; proxy_temp_path proxy; fastcgi_temp_path fastcgi; uw
 
 # The functions, as lambda-broker-ctl writes them.
 FUNCTIONS = """map $function $broker {{ default ""; "~^my-function$" broker-{0}; "~^send-mail$" broker-{1}; }}
+map $function $operator {{ default ""; "~^my-function$" 127.0.0.1:{2}; "~^send-mail$" 127.0.0.1:{3}; }}
 upstream broker-{0} {{ server 127.0.0.1:{0}; keepalive 64; }}
 upstream broker-{1} {{ server 127.0.0.1:{1}; keepalive 64; }}
 """
@@ -29,13 +33,19 @@ class Proxy:
 
     def __init__(self, broker, folder):
         self.ports = Ports()
-        self.port, self.runtimes, down = range(self.ports.first, self.ports.first + 3)
-        places = {"8080": self.port, "8081": self.runtimes, "20001": broker.port + 1}
-        with open(os.path.join(HERE, "..", "deploy", "nginx.conf")) as file:
-            text = re.sub("(127[.]0[.]0[.]1):([0-9]+)", lambda found: f"{found[1]}:{places[found[2]]}", file.read())
+        self.port, self.runtimes, self.operators, down = range(self.ports.first, self.ports.first + 4)
+        places = {"8080": self.port, "8081": self.runtimes, "8082": self.operators, "20001": broker.port + 1, "9090": down}
+        text = ""
+        for name in "nginx.conf", "nginx_operators.conf":
+            with open(os.path.join(HERE, "..", "deploy", name)) as file:
+                text += re.sub("(127[.]0[.]0[.]1):([0-9]+)", lambda found: f"{found[1]}:{places[found[2]]}", file.read())
+        passwords = os.path.join(folder, "passwords")
+        with open(passwords, "w") as file:
+            file.write("me:{PLAIN}secret\n")
+        text = text.replace("/etc/nginx/lambda_broker.passwords", passwords)
         functions = os.path.join(folder, "functions.conf")
         with open(functions, "w") as file:
-            file.write(FUNCTIONS.format(broker.port, down))
+            file.write(FUNCTIONS.format(broker.port, down, broker.admin, down))
         with open(os.path.join(folder, "nginx.conf"), "w") as file:
             file.write(AROUND + text.replace("/etc/lambda_broker/nginx.conf", functions) + "}\n")
         self.told = os.path.join(folder, "stderr")
@@ -102,3 +112,27 @@ def a_runtime_behind_nginx_tells_a_long_cause_of_an_error(broker):
         broker.kill()
         told = Asked(proxy.runtimes, "GET", f"{RUNTIME}/invocation/next").done()
         same(refusal(told)[:3], (502, "ServiceException", "application/json"))
+
+
+@case({"events": 64})
+def operators_reach_each_page_behind_nginx_by_a_password(broker):
+    with before(broker.serve()) as proxy:
+
+        def look(path, method="GET", word="me:secret", **more):
+            headers = {"Authorization": f"Basic {base64.b64encode(word.encode()).decode()}"} if word else {}
+            return Asked(proxy.operators, method, path, None, {**headers, **more}).done()
+
+        page, link = "/brokers/my-function/", {"Sec-Fetch-Site": "same-origin"}
+        same([look(page, word=word).status for word in ("", "me:other", "you:secret")], 3 * [401])
+        same(look(page, **link).body, broker.look("/").body)
+        event = broker.invoke("{}").id
+        same(look(f"{page}events?limit=1", **link).json["events"][0]["id"], event)
+        same(look(f"{page}events/{event}").json["id"], event)
+        same(look(f"{page}healthz").status, 200)
+        # Only pages of functions that are here, and of brokers that are not down.
+        same([look(path).status for path in ("/brokers/other/", "/brokers/send-mail/", "/metrics", "/api/v1/query")], [404, 502, 404, 404])
+        same([look(page, method).status for method in ("POST", "DELETE")], [403, 403])
+        # Prometheus, which is down here, stands behind /consoles/ alone, where a first look is led to.
+        same((look("/consoles/x").status, look("/consoles/x", word="").status), (502, 401))
+        told = look("/")
+        same((told.status, told.headers["Location"].endswith("/consoles/lambda_broker.html")), (302, True))
