@@ -212,6 +212,33 @@ def an_event_that_was_not_read_goes_to_the_next_process(broker):
             assert answered_at_once(broker, event) != process
 
 
+# A runtime that sends a part of its answer to an event, by a connection of its own, and ends at once.
+ENDS = """
+import http.client, os, socket
+broker = http.client.HTTPConnection(os.environ["AWS_LAMBDA_RUNTIME_API"])
+broker.request("GET", "/2018-06-01/runtime/invocation/next")
+given = broker.getresponse()
+part = int(given.read())
+event = given.headers["Lambda-Runtime-Aws-Request-Id"]
+answer = socket.create_connection((broker.host, broker.port))
+head = f"POST /2018-06-01/runtime/invocation/{event}/response HTTP/1.1\\r\\nHost: 127.0.0.1\\r\\nContent-Length: 6\\r\\n\\r\\n"
+answer.sendall(head.encode() + b'"done"'[:part])
+os._exit(7)
+"""
+
+
+@case({"retries": 0})
+def an_answer_counts_where_it_was_sent_to_its_end_before_the_death(broker):
+    broker.serve()
+    with supervised(broker, ["python3", "-c", ENDS]):
+        for n in range(6):
+            part = 6 if n % 2 else 5
+            event = broker.invoke(str(part)).id
+            record = ended(broker, event, "success" if part == 6 else "failure")
+            wanted = "done" if part == 6 else f"RequestId: {event} Error: Runtime exited with error: exit status 7"
+            same(record["responsePayload"] if part == 6 else record["responsePayload"]["errorMessage"], wanted)
+
+
 @case()
 def who_dies_before_it_polls_is_started_ever_more_rarely(broker):
     broker.serve()
@@ -395,6 +422,24 @@ def large_events_and_answers_pass_as_they_are(broker):
                 told.append((sorted(given.headers.keys()), taken.status, taken.body, sorted(taken.headers.keys())))
             same(told[0], told[1])
         same(runtime.lines(), [])
+
+
+@case()
+def an_answer_in_chunks_reaches_its_event(broker):
+    broker.serve()
+    port = broker.port + 19
+    with supervised(broker, ["sleep", "900"], listen=port) as runtime:
+        until("the supervisor", runtime.process)
+        chunks = b'4\r\n"chu\r\n', b'4;x="y"\r\nnks"\r\n', b"0\r\nX-Trailer: x\r\n", b"\r\n"
+        event = broker.invoke("{}").id
+        same(Asked(port, "GET", f"{RUNTIME}/invocation/next").done().id, event)
+        with socket.create_connection(("127.0.0.1", port), timeout=DEADLINE) as client:
+            client.sendall(request("POST", f"{RUNTIME}/invocation/{event}/response", "Transfer-Encoding: chunked", "Trailer: X-Trailer"))
+            for chunk in chunks:
+                time.sleep(0.05)
+                client.sendall(chunk)
+            same(client.recv(1 << 16).split(b"\r\n")[0], b"HTTP/1.1 202 Accepted")
+        same(ended(broker, event)["responsePayload"], "chunks")
 
 
 @case()
