@@ -28,12 +28,15 @@ for port in sys.argv[1:]:
 """
 
 
-@contextlib.contextmanager
-def a_network(root):
-    """How a command is run in a network of its own, with the users of this folder."""
+def needs_a_network():
     missing = [word for word in ("nft", "ip", "unshare", "nsenter", "setpriv") if not shutil.which(word)]
     if os.geteuid() or missing:
         raise Apart(f"there is no {missing[0]}" if missing else "not root")
+
+
+@contextlib.contextmanager
+def a_network(root):
+    """How a command is run in a network of its own, with the users of this folder."""
     words = ["unshare", "--net", "--mount", "sh", "-c", BEGIN, root]
     holder = subprocess.Popen(words, stdout=subprocess.PIPE, stderr=subprocess.DEVNULL, bufsize=0)
     try:
@@ -88,6 +91,7 @@ def reached(within, ports, user, group=61099):
 
 @case()
 def each_function_has_walls(broker):
+    needs_a_network()
     with a_root() as root:
         names = "my-function", "send-mail"
         told = [done(root, "add", name, *SMALL, "--arn", ARN.replace("my-function", name), "--environments", 2)[-1] for name in names]
