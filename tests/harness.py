@@ -360,11 +360,11 @@ class Broker:
 
     # Its serving
 
-    def serve(self, *words, admin=True, under=()):
-        """Serves its disk, with an operator's port unless that is not wanted."""
+    def serve(self, *words, admin=True, under=(), ports=None):
+        """Serves its disk, with an operator's port unless that is not wanted, and at these ports, if any are named."""
         watch = self.watch.env if self.watch else {}
         for _ in range(20):
-            self.ports = Ports()
+            self.ports = ports or Ports()
             self.port, self.admin = self.ports.first, self.ports.first + self.environments + 1
             told = [*under, Built.program, "serve", self.disk, "--port", str(self.port), *self.words, *words]
             told += ["--admin", str(self.admin)] if admin else []

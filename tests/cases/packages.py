@@ -101,7 +101,10 @@ def a_function_is_added_once(broker):
         wanted = {"RUNTIME": "/usr/bin/my-runtime --fast", "EXTENSIONS": "", "AWS_LAMBDA_RUNTIME_API": f"127.0.0.1:{port + 2}"}
         same(values_of(root, envs[3]), {**wanted, "_HANDLER": '"a.b\'\\$c"', "LAMBDA_TASK_ROOT": "/srv/x"})
         parts = {f"lambda_runtime@my-function:{n}.service" for n in (1, 2)} | {"lambda_forward@my-function:failure.service"}
-        same([{*line.split("=")[1].split()} for line in text_of(root, drop_in).splitlines() if "=" in line], 3 * [parts])
+        found = dict(line.split("=") for line in text_of(root, drop_in).splitlines() if "=" in line)
+        same([{*found[key].split()} for key in ("Wants", "PropagatesStopTo")], 2 * [parts])
+        same({*found["After"].split()}, {f"lambda_runtime@my-function:{n}.service" for n in (1, 2)})
+        same(found["Before"], "lambda_forward@my-function:failure.service")
         same(done(root, "add", "my-function", *ADD, *more), ["my-function is there already: nothing was changed"])
         same(tree(root), there)
         status, told, why = ctl(root, "add", "my-function", *ADD)
@@ -210,6 +213,7 @@ def a_broker_is_served_and_ended_by_its_unit(broker):
 
 
 FILES = """usr/bin/lambda_broker usr/bin/lambda-broker-ctl usr/lib/lambda_broker/forward.py usr/lib/lambda_broker/function.py
+usr/lib/lambda_broker/supervise
 usr/lib/sysusers.d/lambda_broker.conf
 usr/lib/systemd/system/lambda_broker@.service usr/lib/systemd/system/lambda_runtime@.service
 usr/lib/systemd/system/lambda_forward@.service usr/lib/systemd/system/lambda_walls.service
