@@ -504,6 +504,7 @@ class Broker:
 
     def park_and_leave(self, send, *words):
         """Sends a poll, waits until it is parked, and lets its client go, which the broker is seen to notice."""
+        self.until_all_serve()
         without = until("a number of open files that stays", self.rests)
         poll = send(*words)
         self.until_parked(1)

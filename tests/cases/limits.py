@@ -489,17 +489,22 @@ def who_comes_when_all_connections_are_taken_waits_for_the_end_of_one(broker):
         raise Skipped(f"fewer than {3 * CONNECTIONS} files may be open")
     broker.serve()
 
-    def served(client):
+    def ask(client):
         client.sendall(b"GET /x HTTP/1.1\r\nhost: h\r\n\r\n")
+        return client
+
+    def hear(client):
         same(statuses_in(told_until(client, b"}")), [404])
         return client
 
-    with contextlib.ExitStack() as clients:
-        first, second, *_ = [served(clients.enter_context(broker.socket())) for _ in range(CONNECTIONS)]
+    with contextlib.ExitStack() as open_ones:
+        # All ask before one is heard: else a busy machine takes longer than a connection may be idle.
+        asked = [ask(open_ones.enter_context(broker.socket())) for _ in range(CONNECTIONS)]
+        first, second, *_ = [hear(client) for client in asked]
         late = Asked(broker.port, "GET", "/x")
         for _ in range(2):
             # Behind its reply the port's thread has seen who came before.
-            served(first)
+            hear(ask(first))
         same(late.is_answered(), False)
         second.close()
         same(late.done().status, 404)
