@@ -237,7 +237,7 @@ fn admin_over<D: Disk>(
     admin: Option<Admin>,
 ) -> Result<Option<AdminPort>, AllocError>
     ensures same { IfOk result (λ port. is_some port ≡ is_some admin) }
-    ensures settings { IfOk result (λ port. IfSome port (λ port. port.facts.settings ≡ settings_of hall.now.issuer)) }
+    ensures settings { IfOk result (λ port. IfSome port (λ port. port.baseline.settings ≡ settings_of hall.now.issuer)) }
 {
     match admin {
         Some(admin) => Ok(Some(admin.over(hall.table())?)),
