@@ -121,6 +121,11 @@ def is_receiving(process):
         return call.read().split()[0] == {"x86_64": "45", "aarch64": "207"}[os.uname().machine]
 
 
+def has_stopped(process):
+    with open(f"/proc/{process}/stat") as stat:
+        return stat.read().rpartition(")")[2].split()[0] == "T"
+
+
 def until_polled(broker, runtime):
     """Waits until the broker has a poll of this runtime, whatever it had before."""
     until("a poll", lambda: runtime.process() and connections(runtime.process()))
@@ -208,6 +213,7 @@ def an_event_that_was_not_read_goes_to_the_next_process(broker):
             process = until("a process", runtime.process)
             until("a process that waits for an event", lambda: connections(process) and is_receiving(process))
             os.kill(process, signal.SIGSTOP)
+            until("a process that has stopped", lambda: has_stopped(process))
             event = broker.invoke(json.dumps({"a": 500 * "b"})).id
             broker.until_number('events{standing="running"}', 1)
             # Until the event lies at the process that has stopped.
