@@ -282,12 +282,16 @@ def names_address(line, address, port):
 def a_port_in_use_is_named_on_standard_error(broker):
     ports = Ports()
     words = ["serve", broker.disk, "--port", ports.first, "--admin", ports.first + 3]
-    for place in range(4):
-        with taken(ports.first + place):
-            done = broker.command(*words)
-        same((place, done.returncode, done.stdout), (place, 1, "refused: port in use\n"))
-        named = [line for line in done.stderr.splitlines() if names_address(line, "127.0.0.1", ports.first + place)]
-        same((place, len(named)), (place, 1))
+
+    def names(port):
+        done = broker.command(*words)
+        same((port, done.returncode, done.stdout), (port, 1, "refused: port in use\n"))
+        return sum(bool(names_address(line, "127.0.0.1", port)) for line in done.stderr.splitlines()) == 1
+
+    for port in range(ports.first, ports.first + 4):
+        with taken(port):
+            # A process that another case begins has the port before this one open until it runs its program.
+            until("a line that names this port", lambda: names(port))
     ports.close()
 
 
