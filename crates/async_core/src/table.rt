@@ -74,7 +74,8 @@ impl Table {
         snapshot: Snapshot,
         settings: Settings,
     ) -> Result<Table, AllocError>
-        // claim: A table can be taken as a snapshot and made of one again. [Table::snapshot]
+        // claim: A table made of a snapshot has just that, and its snapshot is the table. Want of memory may refuse both.
+        // [Table::snapshot]
         ensures { IfOk result (λ table. table ≡ record { settings = settings; table = snapshot }) }
     {
         let Snapshot {

@@ -102,8 +102,8 @@ fn turn<R: Wait, G: Gate, T: Ticking>(rt: &R, gate: &G, ticker: &mut T) -> bool
 /// At each turn makes all moves that are due and calls the committer, where the gate says `Commit`, and sleeps; at `Skip` it
 /// only sleeps. It goes on until the gate ends the loop.
 pub fn tick_all<R: Wait, G: Gate, T: Ticking>(rt: &R, gate: &G, ticker: &mut T)
-    // claim: Where its gate says `Commit`, a turn makes moves until none is due, calls the committer and sleeps. Else it
-    // sleeps.
+    // claim: Where its gate says `Commit`, a turn makes moves until one is not made, calls the committer and sleeps. Else
+    // it sleeps.
     ensures { IsRun T.leads (G.says gate.now) ticker.old ticker.new }
 {
     for _ in rt.forever() {

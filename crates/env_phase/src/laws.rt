@@ -14,7 +14,7 @@ ghost use Rattle.env_phase.specs.laws.Calls.{more};
 /// Each poll that came on a slot was answered once or waits: none is answered twice, and none is lost.
 #[tactic(auto, using(crate::specs::laws::Slots::each_poll_is_answered_once_or_waits))]
 pub fn each_poll_is_answered_once_or_waits()
-    // claim: Each poll was answered once or waits: none is answered twice, none lost.
+    // claim: Of each slot as many polls came as were answered or wait: none is answered too often, none lost.
     ensures { (wanted : ℕ) (calls : List EnvCall) → IsLegal wanted calls → (slot : ℕ)
         → polled slot calls ≡ times_answered slot calls + waiting slot calls }
 {}
@@ -35,8 +35,8 @@ pub fn all_wait_where_one_is_ready()
 /// is never ready.
 #[tactic(auto, using(crate::specs::laws::Waiting::waiting_is_in_init, crate::specs::laws::Waiting::waiting_registers, crate::specs::laws::Waiting::is_met_zero, crate::specs::laws::Waiting::more_are_never_ready,))]
 pub fn it_waits_for_its_extensions()
-    // claim: With fewer it is in Init and takes registrations, until it is shut down. One that waits for more than ten is
-    // never ready.
+    // claim: With fewer it is in Init until it is shut down. Where it waits for ten at most it takes registrations; where for
+    // more, it is never ready.
     ensures in_init { (wanted : ℕ) (calls : List EnvCall) → IsWaiting wanted calls → phase_of wanted calls ≡ init }
     ensures open { (wanted : ℕ) (calls : List EnvCall) (identifier : List ℕ) (events end : Bool) → IsWaiting wanted calls → wanted ≤ 10
         → is_known identifier (registered calls) ≡ false → refusal_of wanted calls (Register identifier events end) ≡ None }

@@ -128,7 +128,8 @@ impl Journal {
         // claim: After Ok the batch is there, if nothing waited for a flush, and nothing outside the log has changed.
         ensures acknowledged { Acknowledges (D.view disk.old) (D.view disk.new) self.old self.new commands.now result }
 
-        // claim: A crash at any moment leaves the frames from before, or those and the whole batch.
+        // claim: Where nothing waited for a flush, a crash at any moment leaves the frames from before, or those and the whole
+        // batch.
         ensures any_moment { LeavesBeforeOrAfter (D.view disk.old) (D.view disk.new) self.old commands.now }
     {
         let size = batch_size(commands);

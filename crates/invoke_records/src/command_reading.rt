@@ -199,8 +199,9 @@ impl Command {
     /// `BadKind`; missing bytes are `Truncated`; a bad cause or a Configure's bad retry policy is `BadKind`; bytes after
     /// the causes Timeout and Exited are `TooLong`; then `OutOfMemory`.
     pub fn decode(alloc: Global, bytes: &[u8]) -> Result<(Command, usize), RecordError>
-        // claim: A record is read exactly where the bytes begin with a spelling. Else their first fault is told, or memory
-        // is wanting. [EventRow::decode, Snapshot::decode; SettingsRecord::decode: exact, size, found, good, only]
+        // claim: A record is read only where the bytes begin with a spelling, and refused there for want of memory alone.
+        // Of others the first fault is told, or want of memory. [EventRow::decode, Snapshot::decode; SettingsRecord::decode:
+        // exact, size, found, good, only]
         ensures exact { Gives (λ x. (x.0, drop x.1 bytes.now)) result (command_at bytes.now) }
         ensures spelled { IfOk result (λ x. IsCommand x.0) }
         ensures size { IfOk result (λ x. x.1 ≡ length (command_text x.0)) }

@@ -5,7 +5,7 @@ ghost use Rattle.std.specs.Prelude.{◌≡◌, ◌+◌, ◌-◌, ◌*◌, ◌^�
 ///
 /// The settings allow at most two retries, so no event of theirs waits after a third one.
 pub fn after_failure(n: u32) -> u64
-    // claim: After its n-th function error an event waits n minutes.
+    // claim: The wait after the n-th function error is n minutes.
     ensures { result ≡ 60000 * n }
 {
     60000 * n as u64
@@ -15,7 +15,7 @@ pub fn after_failure(n: u32) -> u64
 /// then twice as long each time, and never more than five minutes.
 pub fn after_pushback(k: u32) -> u64
     requires { 1 ≤ k }
-    // claim: After its k-th push-back it waits a second, doubled each time, five minutes at most.
+    // claim: The wait after the k-th push-back is a second, doubled each time, five minutes at most.
     ensures { result ≡ 1000 * min (2 ^ (k - 1)) 300 }
 {
     if 9 < k {
