@@ -18,4 +18,6 @@ pub struct Address<'a> {
     pub admin: Option<u16>,
     pub dialect: Dialect,
     pub extensions: u8,
+    /// Whether it waits for a disk that another program has open.
+    pub is_standby: bool,
 }

@@ -213,6 +213,7 @@ fn serve_command<'a>(alloc: Global) -> Result<Command<'a>, AllocError> {
     let extensions = "Extensions for which an environment waits before its first event, 0 to 10";
     let address = "IP address of the callers' and the environments' ports";
     let host = "A host name under which the ports are asked, beside localhost and addresses";
+    let standby = "Wait for a disk that another program has open";
     let admin = "Port of the operator, who only looks, 1024 to 65535, on the loopback address";
     Command::new(alloc, "serve")
         .about("Serve a disk until POST /broker/stop")
@@ -235,6 +236,7 @@ fn serve_command<'a>(alloc: Global) -> Result<Command<'a>, AllocError> {
         ))?
         .arg(reach(alloc, address))?
         .arg(option(alloc, "host", host).value_name("NAME"))?
+        .arg(flag(alloc, "standby", standby))?
         .arg(option(alloc, "admin", admin).value_parser(value_parser!(u16).range(1024..65536)))
 }
 
@@ -418,6 +420,7 @@ fn address_at<'a>(matches: &ArgMatches<'a>, reach: IpAddr) -> Option<Address<'a>
         admin: matches.get_one("admin"),
         dialect: dialect(matches.get_str("dialect")?),
         extensions: matches.get_one("extensions")?,
+        is_standby: matches.get_flag("standby"),
     })
 }
 

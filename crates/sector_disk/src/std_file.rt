@@ -3,8 +3,10 @@ ghost use Rattle.std.specs.Prelude.{◌≡◌, ◌≤◌, length, IfOk};
 
 use crate::logged_file::Untold;
 use crate::{Fault, FileDisk, FileError, LoggedFile, Place, RandomAccessFile};
+use libc::{POSIX_FADV_DONTNEED, posix_fadvise};
 use std::fs::{File, FileType, OpenOptions};
 use std::io::{ErrorKind, Seek, SeekFrom};
+use std::os::fd::AsRawFd;
 use std::os::unix::fs::{FileExt, FileTypeExt};
 use std::path::Path;
 use std::rt::Files;
@@ -92,11 +94,21 @@ pub(crate) fn sync_folder<R: Files<File = File>>(rt: &R, path: &str) -> Result<(
     Ok(())
 }
 
+// Has the reads that follow ask the device, and not what this machine kept of it while another one may have written: what was
+// not yet written is flushed, and then all that was kept is dropped.
+fn drop_cached(file: &File) -> Result<(), FileError> {
+    file.sync_data()?;
+    match posix_fadvise(file.as_raw_fd(), 0, 0, POSIX_FADV_DONTNEED) {
+        0 => Ok(()),
+        _ => Err(FileError::Fault),
+    }
+}
+
 impl FileDisk<File> {
     ghost use Rattle.sector_disk.specs.File.{faults_of, sectors_of};
 
     /// Opens a disk for reading and writing, with the file's exclusive lock. It has as many sectors as the file or the
-    /// device. Nothing is written.
+    /// device. Nothing is written, but what this machine has of it is flushed and dropped, so that reads ask the device.
     ///
     /// Refused: `NotFound`, `NotDisk`, `PermissionDenied`, `InUse` where any other disk is open over it, `NotWhole`, and
     /// `Fault`.
@@ -106,6 +118,7 @@ impl FileDisk<File> {
         check_kind(rt, path)?;
         let file = OpenOptions::new().read(true).write(true).open(rt, path)?;
         file.try_lock()?;
+        drop_cached(&file)?;
         FileDisk::over(file)
     }
 
@@ -121,6 +134,7 @@ impl FileDisk<File> {
         check_kind(rt, path)?;
         let file = OpenOptions::new().read(true).open(rt, path)?;
         file.try_lock_shared()?;
+        drop_cached(&file)?;
         FileDisk::over(file)
     }
 
