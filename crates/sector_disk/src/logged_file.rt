@@ -1,5 +1,5 @@
 // A file of the system, of which each call that failed is told.
-ghost use Rattle.std.specs.Prelude.{IsErr};
+ghost use Rattle.std.specs.Prelude.{◌≡◌, Ok, IfOk, IfErr, IsErr};
 
 use crate::std_file::{read_again, write_again};
 use crate::{Fault, FileError, RandomAccessFile};
@@ -41,12 +41,16 @@ pub struct LoggedFile<L: Drop> {
 
 impl<L: FaultLog + Drop> LoggedFile<L> {
     /// This file, whose faults are told to this log.
-    pub fn new(file: File, log: L) -> LoggedFile<L> {
+    pub fn new(file: File, log: L) -> LoggedFile<L>
+        ensures { result ≡ record { file = file; log = log } }
+    {
         LoggedFile { file, log }
     }
 
     /// The file.
-    pub fn into_file(self) -> File {
+    pub fn into_file(self) -> File
+        ensures { result ≡ self.file }
+    {
         let LoggedFile { file, .. } = self;
         file
     }
@@ -57,7 +61,10 @@ impl<L: FaultLog + Drop> LoggedFile<L> {
         call: FileCall,
         at: u64,
         answered: io::Result<T>,
-    ) -> Result<T, FileError> {
+    ) -> Result<T, FileError>
+        ensures ok { IfOk answered (λ done. result ≡ Ok done) }
+        ensures err { IfErr answered (λ why. IsErr result) }
+    {
         match answered {
             Ok(done) => Ok(done),
             Err(why) => {
