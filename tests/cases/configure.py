@@ -1,5 +1,5 @@
 """Configuring a disk: what is in force for later events alone, and what a stop in the middle of it leaves."""
-from harness import case, matches, same
+from harness import OPENING, case, matches, same
 
 
 @case()
@@ -59,10 +59,10 @@ def a_worn_disk_is_not_configured(broker):
 
 
 # Where a stop may come: what the watch is told, and whether what was asked for is in force behind it. The opening makes the first
-# flush. The frame's body is written, then its gate, each with a flush behind it.
+# flushes. The frame's body is written, then its gate, each with a flush behind it.
 STOPS = (
-    ({"kill_flush": 1}, False), ({"kill_write": 1}, False), ({"kill_write": 1, "torn": 512}, False), ({"kill_flush": 2}, False),
-    ({"kill_write": 2}, False), ({"kill_flush": 3}, True), ({"kill_print": 1}, True),
+    ({"kill_flush": 1}, False), ({"kill_flush": OPENING}, False), ({"kill_write": 1}, False), ({"kill_write": 1, "torn": 512}, False),
+    ({"kill_flush": OPENING + 1}, False), ({"kill_write": 2}, False), ({"kill_flush": OPENING + 2}, True), ({"kill_print": 1}, True),
 )
 
 

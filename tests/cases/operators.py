@@ -4,7 +4,7 @@ import socket
 import threading
 import time
 
-from harness import DEADLINE, EVENT, INVOKE, RUNTIME, case, same, until
+from harness import DEADLINE, EVENT, INVOKE, OPENING, RUNTIME, case, same, until
 
 
 def all_of(broker, path, key="id"):
@@ -229,9 +229,9 @@ def there_is_no_operators_port_where_none_is_asked_for(broker):
 def a_health_check_tells_that_it_ends(broker):
     watch = broker.watches_disk()
     broker.serve()
-    watch.hold_flush = 2
+    watch.hold_flush = OPENING + 1
     invoke = broker.send_invoke("{}")
-    until("a flush", lambda: watch.flushes == 2)
+    until("a flush", lambda: watch.flushes == OPENING + 1)
     stop = broker.send("POST", "/broker/stop")
     broker.until_read()
     health = broker.send_look("/healthz")

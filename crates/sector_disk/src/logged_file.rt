@@ -3,9 +3,11 @@ ghost use Rattle.std.specs.Prelude.{◌≡◌, Ok, IfOk, IfErr, IsErr};
 
 use crate::std_file::{read_again, write_again};
 use crate::{Fault, FileError, RandomAccessFile};
+use libc::{POSIX_FADV_DONTNEED, posix_fadvise};
 use std::fs::File;
 use std::io;
 use std::io::{ErrorKind, Seek, SeekFrom};
+use std::os::fd::AsRawFd;
 
 /// A call of a file.
 #[derive(Clone, Copy)]
@@ -53,6 +55,16 @@ impl<L: FaultLog + Drop> LoggedFile<L> {
     {
         let LoggedFile { file, .. } = self;
         file
+    }
+
+    /// Has the reads that follow ask the device, and not what this machine kept of it while another may have written: what was
+    /// not written yet is flushed, and what was kept is dropped. Refused where the device fails, which is told.
+    pub fn drop_cached(&self) -> Result<(), FileError> {
+        self.note(FileCall::Sync, 0, self.file.sync_data())?;
+        match posix_fadvise(self.file.as_raw_fd(), 0, 0, POSIX_FADV_DONTNEED) {
+            0 => Ok(()),
+            _ => self.note(FileCall::Sync, 0, Err(io::Error::from(ErrorKind::Other))),
+        }
     }
 
     // Tells of a call that failed, where the device did.
