@@ -1,0 +1,3 @@
+-- Laws that the contracts rest on.
+pub mod Histories
+pub mod Endings

@@ -1,0 +1,2 @@
+//! What is promised to whoever was answered, from the reply to the disk.
+#![tactic(auto)]
