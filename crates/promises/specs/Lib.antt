@@ -1,2 +1,4 @@
-pub mod Later
+pub mod Promises
+pub mod Giving
+pub mod Halves
 pub mod laws

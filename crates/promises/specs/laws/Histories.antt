@@ -15,41 +15,34 @@ use Rattle.async_core.specs.Readers.{where_held, payload_at, payload_after}
 use Rattle.async_core.specs.laws.Lives.{life-snoc}
 use Rattle.async_core.specs.laws.Held.{by_last, bytes_eq-refl, named_by, is_nil, nil_before, IsLegal-take, IsLegal-last}
 use Rattle.async_core.specs.laws.Tables.{payload-by_history}
-use Rattle.promises.specs.Later.{GoesOn}
+use Rattle.promises.specs.Promises.{GoesOn}
 
 -- ## Fronts
 
-take_take : {A : Type 0} (p q : ℕ) (xs : List A) → p ≤ q → p ≤ length xs → take p (take q xs) ≡ take p xs
+pub take_take : {A : Type 0} (p q : ℕ) (xs : List A) → p ≤ q → p ≤ length xs → take p (take q xs) ≡ take p xs
 take_take p q xs le most =
     sym (take-append-le p (take q xs) (drop q xs) (omega (arith, length-take q xs))) ∙ ap (take p) (take-append-drop q xs)
 
-pub goes_on_itself : (point : ℕ) (history : List Command) → point ≤ length history → GoesOn point history history
-goes_on_itself point history le = record { reaches = le; begins = refl }
+pub goes_on_itself : (s : Settings) (point : ℕ) (history : List Command) → IsLegal s history → point ≤ length history → GoesOn s point history history
+goes_on_itself s point history legal le = record { legal = legal; reaches = le; begins = refl }
 
-pub goes_on_longer : (point : ℕ) (history later more : List Command) → GoesOn point history later → GoesOn point history (later ++ more)
-goes_on_longer point history later more goes = record {
+pub goes_on_longer : (s : Settings) (point : ℕ) (history later more : List Command) → IsLegal s (later ++ more) → GoesOn s point history later → GoesOn s point history (later ++ more)
+goes_on_longer s point history later more legal goes = record {
+  legal = legal;
   reaches = omega (arith, goes.reaches, length-append later more);
   begins = take-append-le point later more goes.reaches ∙ goes.begins;
 }
 
-pub goes_on_stopped : (point size : ℕ) (history later : List Command) → point ≤ size → GoesOn point history later → GoesOn point history (take size later)
-goes_on_stopped point size history later le goes = record {
+pub goes_on_stopped : (s : Settings) (point size : ℕ) (history later : List Command) → point ≤ size → GoesOn s point history later → GoesOn s point history (take size later)
+goes_on_stopped s point size history later le goes = record {
+  legal = IsLegal-take s later size goes.legal;
   reaches = omega (arith, goes.reaches, le, length-take size later);
   begins = take_take point size later le goes.reaches ∙ goes.begins;
 }
 
-pub goes_on_again : (point more : ℕ) (history later last : List Command) → point ≤ more → GoesOn point history later → GoesOn more later last → GoesOn point history last
-goes_on_again point more history later last le first then =
-    let within : point ≤ length last = omega (arith, le, then.reaches) in
-    record {
-      reaches = within;
-      begins =
-          sym (take_take point more last le within) ∙ ap (take point) then.begins ∙ take_take point more later le first.reaches ∙ first.begins;
-    }
-
 -- a history is its front and what came since
-pub since_front : (point : ℕ) (history later : List Command) → GoesOn point history later → take point history ++ drop point later ≡ later
-since_front point history later goes = ap (λ l. l ++ drop point later) (sym goes.begins) ∙ take-append-drop point later
+pub since_front : (s : Settings) (point : ℕ) (history later : List Command) → GoesOn s point history later → take point history ++ drop point later ≡ later
+since_front s point history later goes = ap (λ l. l ++ drop point later) (sym goes.begins) ∙ take-append-drop point later
 
 -- ## Lives
 
@@ -94,19 +87,19 @@ held_so : (h : List Command) (id payload : List ℕ) (time : ℕ) (more : List C
 held_so h id payload time more is = ap (λ l. where_held l (payload_of l)) is
 
 module _ (s : Settings) (point : ℕ) (history later before : List Command) (id payload : List ℕ) (time : ℕ)
-    (ends : take point history ≡ before ++ acceptance id time payload ∷ []) (goes : GoesOn point history later) (legal : IsLegal s later) where
+    (ends : take point history ≡ before ++ acceptance id time payload ∷ []) (goes : GoesOn s point history later) where
   front_legal : IsLegal s (before ++ acceptance id time payload ∷ [])
-  front_legal = subst (λ l. IsLegal s l) (goes.begins ∙ ends) (IsLegal-take s later point legal)
+  front_legal = subst (λ l. IsLegal s l) (goes.begins ∙ ends) (IsLegal-take s later point goes.legal)
 
   life_is : list_any (collects id) (drop point later) ≡ false → life id later ≡ acceptance id time payload ∷ filter (names id) (drop point later)
   life_is none =
-      ap (life id) (sym (since_front point history later goes))
+      ap (life id) (sym (since_front s point history later goes))
       ∙ life_goes_on id (take point history) (drop point later) none
       ∙ ap (λ l. l ++ filter (names id) (drop point later)) (ap (life id) ends ∙ begins s before id payload time front_legal)
 
   row_is : list_any (collects id) (drop point later) ≡ false → payload_at (row_at (table_of s later) id) ≡ Some payload
   row_is none =
-      payload-by_history s (table_of s later) later id legal refl
+      payload-by_history s (table_of s later) later id goes.legal refl
       ∙ held_so later id payload time (filter (names id) (drop point later)) (life_is none)
 
   -- the table has the event with its payload, or a Collect of it came since

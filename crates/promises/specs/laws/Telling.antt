@@ -1,7 +1,7 @@
 -- Laws: which call computed the reply to a slot, and what the history was then.
-use Rattle.std.proofs.Common.{◌≡◌, ℕ, ◌≤◌, List, [], ◌∷◌, ◌++◌, length, take, Bool, true, false, ◌||◌, ◌==◌, cond, refl, sym, subst, ap, ◌∙◌, arith, Option, Some, None, ◌⊎◌, inl, inr, map}
+use Rattle.std.proofs.Common.{◌≡◌, ℕ, ◌≤◌, List, [], ◌∷◌, ◌++◌, length, length-append, take, Bool, true, false, ◌||◌, ◌==◌, cond, refl, sym, subst, ap, ◌∙◌, arith, Option, Some, None, ◌⊎◌, inl, inr, map}
 use Rattle.std.specs.Prelude.{slice_get, flat_map, nat_le}
-use Rattle.std.specs.List.{filter_map, list_any, after_last}
+use Rattle.std.specs.List.{filter_map, list_any, after_last, cons_option}
 use Rattle.std.proofs.lemmas.Bool.{or_parts, eqb-true, leb-true}
 use Rattle.std.proofs.lemmas.List.{append_assoc, append-nil}
 use Rattle.std.proofs.lemmas.List.Folds.{list_any-append}
@@ -226,7 +226,7 @@ history_longer s past (call ∷ run) =
     let own = option_list (effect_of s past call).command in
     (own ++ rest.0, rest.1 ∙ ap (λ l. l ++ rest.0) (history_grows s past call) ∙ append_assoc past.history own rest.0)
 
-run_parts : (s : Settings) (past : Past) (front : List HallCall) (call : HallCall) (later : List HallCall) → after s past (front ++ call ∷ later) ≡ after s (past_after s (after s past front) call) later
+pub run_parts : (s : Settings) (past : Past) (front : List HallCall) (call : HallCall) (later : List HallCall) → after s past (front ++ call ∷ later) ≡ after s (past_after s (after s past front) call) later
 run_parts s past [] call later = refl
 run_parts s past (c ∷ front) call later = run_parts s (past_after s past c) front call later
 
