@@ -2,7 +2,8 @@
 --
 -- 1. An event that was answered 202 is kept: whatever is called, wherever the broker stops and however often it is opened
 --    again, the table has the event with the payload that it came with, until a Collect of it.
--- 2. A record that was shown is that of the history, and stays the record of its event until a Collect of it.
+-- 2. A record that was shown is that of the history, and is shown again to whoever asks for the oldest of its side, until a
+--    Collect of its event.
 -- 3. A reply says what the hall computed from the first so many commands, and a stop takes none of them away.
 -- 4. What a stop leaves follows the written rules: where each event stands, its attempts, its age, and which moves next.
 -- 5. A disk that was migrated or copied goes on with all of that.
@@ -13,16 +14,18 @@ use Rattle.invoke_records.specs.declared.snapshot.Snapshot.{Snapshot}
 use Rattle.invoke_records.specs.declared.command.Command.{Command}
 use Rattle.invoke_records.specs.declared.command.Kind.TheVariants.{Accept}
 use Rattle.async_core.specs.declared.choice.Move.{Move}
+use Rattle.async_core.specs.declared.choice.Side.{Side}
 use Rattle.async_core.specs.Lives.{collects}
 use Rattle.async_core.specs.History.{standing_in, table_of, IsLegal}
 use Rattle.async_core.specs.Rules.{row_at, standing_at}
 use Rattle.async_core.specs.Readers.{Ending, payload_at, counts_at, counts_after, accepted_at, accepted_after, judge_at, judge_after, ending_at, ending_after}
 use Rattle.async_core.specs.Choice.{IsNextAt, IsNextMove}
 use Rattle.api_core.specs.declared.call.Call.{Call}
-use Rattle.api_core.specs.declared.call.Call.TheVariants.{Invoke}
-use Rattle.api_core.specs.Replies.{Told, accepted}
+use Rattle.api_core.specs.declared.call.Call.TheVariants.{Invoke, Oldest}
+use Rattle.api_core.specs.Replies.{Told, accepted, record_of}
 use Rattle.hall_core.specs.Past.{HallCall, arrive, Past}
-use Rattle.hall_core.specs.Effects.{command_for}
+use Rattle.hall_core.specs.Effects.{command_for, ending_of_event}
+use Rattle.hall_core.specs.Firsts.{oldest_ended}
 use Rattle.hall_core.specs.Run.{past_of}
 use Rattle.hall_core.specs.Slots.{reply_of, released}
 use Rattle.hall_core.specs.Promises.{comes_with, IsRunFrom}
@@ -73,6 +76,18 @@ pub record WasAnswered202 (s : Settings) (t : Telling s) (id payload : List ℕ)
   pub time : ℕ
   pub accepts : take t.point (issued s t) ≡ before ++ command_for Accept id time payload ∷ []
 
+-- the record of the event that ended first on this side, which a request for the oldest one is told
+abbrev pub oldest_record : Settings → List Command → Side → Option Ending
+oldest_record s history side = ending_of_event s history (oldest_ended s history side)
+
+-- a request for the oldest record of this side was told this one, as the first so many commands have it
+pub record WasShown (s : Settings) (t : Telling s) (side : Side) (e : Ending) : Type 0 where
+  pub told : t.told ≡ record_of e
+  pub request : IsLastRequest s t (Oldest side)
+  pub durable : t.point ≤ t.durable
+  pub is_oldest : oldest_record s (take t.point (issued s t)) side ≡ Some e
+  pub is_its : ending_after s e.id (take t.point (issued s t)) ≡ Some e
+
 -- the calls up to one of them computed it, and had issued just the first so many commands, which are durable
 pub record IsToldOfPrefix (s : Settings) (t : Telling s) : Type 0 where
   pub front : List HallCall
@@ -99,9 +114,10 @@ IsCollected point later id = list_any (collects id) (drop point later) ≡ true
 abbrev pub IsKept : Settings → ℕ → List Command → List ℕ → List ℕ → Type 0
 IsKept s point later id payload = (payload_at (row_at (table_of s later) id) ≡ Some payload) ⊎ IsCollected point later id
 
--- the table of the later history tells this record of the event, or the event was collected
-abbrev pub IsShown : Settings → ℕ → List Command → Ending → Type 0
-IsShown s point later e = (ending_at (row_at (table_of s later) e.id) ≡ Some e) ⊎ IsCollected point later e.id
+-- the table of the later history tells this record of the event, which is still the oldest of its side, or the event was collected
+abbrev pub IsShown : Settings → ℕ → List Command → Side → Ending → Type 0
+IsShown s point later side e =
+    ((ending_at (row_at (table_of s later) e.id) ≡ Some e) × (oldest_record s later side ≡ Some e)) ⊎ IsCollected point later e.id
 
 -- the image recovers to the table of a history that goes on so
 pub record Leaves (s : Settings) (point : ℕ) (history : List Command) (image : List ℕ) : Type 0 where

@@ -3,6 +3,7 @@ pub mod Histories
 pub mod Endings
 pub mod Telling
 pub mod Saying
+pub mod Oldest
 pub mod Promised
 pub mod Disks
 pub mod Copies

@@ -23,8 +23,6 @@ use Rattle.async_core.specs.laws.Lives.{life-snoc}
 use Rattle.async_core.specs.laws.Rows.{judged_kept}
 use Rattle.async_core.specs.laws.Held.{by_last, named_id, named_kind, IsLegal-front, IsLegal-last}
 use Rattle.async_core.specs.laws.Tables.{ending-by_history}
-use Rattle.promises.specs.Promises.{GoesOn}
-use Rattle.promises.specs.laws.Histories.{since_front}
 
 -- ## Only a Collect is legal of an event that has ended
 
@@ -58,7 +56,7 @@ of_kind s x c Expire named h ended =
 of_kind s x c Collect named h ended = refl
 of_kind s x c (Configure policy) named h ended = absurd (true≢false (sym named))
 
-only_collected : (s : Settings) (h : List Command) (c : Command) (id : List ℕ) → refusal_of s h c ≡ None → names id c ≡ true → is_ended (standing_in s h id) ≡ true → kind_is_collect c.kind ≡ true
+pub only_collected : (s : Settings) (h : List Command) (c : Command) (id : List ℕ) → refusal_of s h c ≡ None → names id c ≡ true → is_ended (standing_in s h id) ≡ true → kind_is_collect c.kind ≡ true
 unfolding refusal_of
 only_collected s h c id passes named ended =
     of_kind s (situation_of s h c) c c.kind (named_kind id c named) (state_passes s (situation_of s h c) c passes)
@@ -75,7 +73,7 @@ kept_life false false l c e = append-nil l
 same_life : (id : List ℕ) (h : List Command) (c : Command) → names id c ≡ false → life id (h ++ c ∷ []) ≡ life id h
 same_life id h c other = life-snoc id h c ∙ kept_life (kind_is_collect c.kind) (names id c) (life id h) c other
 
-same_standing : (s : Settings) (h : List Command) (c : Command) (id : List ℕ) → names id c ≡ false → standing_in s (h ++ c ∷ []) id ≡ standing_in s h id
+pub same_standing : (s : Settings) (h : List Command) (c : Command) (id : List ℕ) → names id c ≡ false → standing_in s (h ++ c ∷ []) id ≡ standing_in s h id
 unfolding standing_in
 same_standing s h c id other =
     ap (λ p. standing_of (rules_with s p) (life id (h ++ c ∷ []))) (judged_kept s h c id other)
@@ -101,22 +99,9 @@ module _ (s : Settings) (id : List ℕ) (e : Ending) (front : List Command) (tol
   stays_ended since = by_last (λ since. IsLegal s (front ++ since) → list_any (collects id) since ≡ false → ending_after s id (front ++ since) ≡ Some e)
       (λ legal none. subst (λ l. ending_after s id l ≡ Some e) (sym (append-nil front)) told)
       (λ since c before legal none.
-          let parts = or_parts (list_any (collects id) since) (collects id c || false) (sym (list_any-append (collects id) since (c ∷ [])) ∙ none) in
-          let last = or_parts (collects id c) false parts.1 in
-          let whole : IsLegal s ((front ++ since) ++ c ∷ []) = subst (λ l. IsLegal s l) (sym (append_assoc front since (c ∷ []))) legal in
-          subst (λ l. ending_after s id l ≡ Some e) (append_assoc front since (c ∷ []))
-          (one_more (front ++ since) c whole last.0 (before (IsLegal-front s (front ++ since) (c ∷ []) whole) parts.0)))
+      let parts = or_parts (list_any (collects id) since) (collects id c || false) (sym (list_any-append (collects id) since (c ∷ [])) ∙ none) in
+      let last = or_parts (collects id c) false parts.1 in
+      let whole : IsLegal s ((front ++ since) ++ c ∷ []) = subst (λ l. IsLegal s l) (sym (append_assoc front since (c ∷ []))) legal in
+      subst (λ l. ending_after s id l ≡ Some e) (append_assoc front since (c ∷ []))
+      (one_more (front ++ since) c whole last.0 (before (IsLegal-front s (front ++ since) (c ∷ []) whole) parts.0)))
       since
-
--- the record of an event that has ended is that of each later history, and of its table, until a Collect of it comes
-pub told_again : (s : Settings) (point : ℕ) (history later : List Command) (id : List ℕ) (e : Ending) → ending_after s id (take point history) ≡ Some e → GoesOn s point history later
-    → (ending_at (row_at (table_of s later) id) ≡ Some e) ⊎ (list_any (collects id) (drop point later) ≡ true)
-told_again s point history later id e told goes = by (list_any (collects id) (drop point later)) refl
-  where
-    by : (b : Bool) → list_any (collects id) (drop point later) ≡ b → (ending_at (row_at (table_of s later) id) ≡ Some e) ⊎ (list_any (collects id) (drop point later) ≡ true)
-    by true is = inr is
-    by false is =
-        let whole = since_front s point history later goes in
-        inl (ending-by_history s (table_of s later) later id goes.legal refl
-        ∙ subst (λ l. ending_after s id l ≡ Some e) whole
-        (stays_ended s id e (take point history) told (drop point later) (subst (λ l. IsLegal s l) (sym whole) goes.legal) is))

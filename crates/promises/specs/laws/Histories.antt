@@ -56,12 +56,12 @@ pub life_goes_on : (id : List ℕ) (front since : List Command) → list_any (co
 life_goes_on id front since = by_last (λ since. list_any (collects id) since ≡ false → life id (front ++ since) ≡ life id front ++ filter (names id) since)
     (λ none. ap (life id) (append-nil front) ∙ sym (append-nil (life id front)))
     (λ since c before none.
-        let parts = or_parts (list_any (collects id) since) (collects id c || false) (sym (list_any-append (collects id) since (c ∷ [])) ∙ none) in
-        let last = or_parts (collects id c) false parts.1 in
-        ap (life id) (sym (append_assoc front since (c ∷ [])))
-        ∙ life-snoc id (front ++ since) c
-        ∙ uncollected (collects id c) (life id (front ++ since)) (life id front) (filter (names id) since) (cond (names id c) (c ∷ []) []) last.0 (before parts.0)
-        ∙ ap (λ l. life id front ++ l) (sym (filter-append (names id) since (c ∷ []))))
+    let parts = or_parts (list_any (collects id) since) (collects id c || false) (sym (list_any-append (collects id) since (c ∷ [])) ∙ none) in
+    let last = or_parts (collects id c) false parts.1 in
+    ap (life id) (sym (append_assoc front since (c ∷ [])))
+    ∙ life-snoc id (front ++ since) c
+    ∙ uncollected (collects id c) (life id (front ++ since)) (life id front) (filter (names id) since) (cond (names id c) (c ∷ []) []) last.0 (before parts.0)
+    ∙ ap (λ l. life id front ++ l) (sym (filter-append (names id) since (c ∷ []))))
     since
 
 -- ## Acceptance

@@ -10,6 +10,7 @@ use Rattle.invoke_records.specs.declared.command.Kind.TheVariants.{Accept, Succe
 use Rattle.invoke_records.specs.declared.command.Cause.TheVariants.{Reported}
 use Rattle.invoke_records.specs.declared.row.Standing.{Standing}
 use Rattle.invoke_records.specs.declared.row.Standing.TheVariants as standing
+use Rattle.async_core.specs.declared.choice.Side.{Side}
 use Rattle.async_core.specs.declared.illegal.Illegal.{Illegal}
 use Rattle.async_core.specs.declared.illegal.Illegal.TheVariants as illegal
 use Rattle.async_core.specs.Lives.{life}
@@ -112,7 +113,7 @@ request_accepts x slot drawn (calls.Subscribe environment stream) id h = other_i
 
 -- ## A record
 
-ended_id : (id payload : List ℕ) (answer : _) (n : ℕ) (st : Standing) (e : Ending) → ending_by id payload answer n st ≡ Some e → id ≡ e.id
+pub ended_id : (id payload : List ℕ) (answer : _) (n : ℕ) (st : Standing) (e : Ending) → ending_by id payload answer n st ≡ Some e → id ≡ e.id
 ended_id id payload answer n standing.Unknown e h = absurd (none-some e h)
 ended_id id payload answer n (standing.Waiting due) e h = absurd (none-some e h)
 ended_id id payload answer n (standing.DueAgain due) e h = absurd (none-some e h)
@@ -123,7 +124,7 @@ said : (o : Option Ending) (e : Ending) → (says_record o).reply ≡ Some (repl
 said None e h = absurd (cc)
 said (Some other) e h = let same : other ≡ e = cc in ap Some same
 
-of_event : (s : Settings) (h : List Command) (event : Option Event) (e : Ending) → ending_of_event s h event ≡ Some e → ending_after s e.id h ≡ Some e
+pub of_event : (s : Settings) (h : List Command) (event : Option Event) (e : Ending) → ending_of_event s h event ≡ Some e → ending_after s e.id h ≡ Some e
 of_event s h None e is = absurd (none-some e is)
 of_event s h (Some event) e is =
     let same : event.1 ≡ e.id = ended_id event.1 _ _ _ (standing_in s h event.1) e is in
@@ -134,22 +135,25 @@ accepted_no_record None c e h = absurd (cc)
 accepted_no_record (Some illegal.Full) c e h = other_is_not _ (reply.record_of e) refl refl h
 accepted_no_record (Some why) c e h = other_is_not _ (reply.record_of e) refl refl h
 
--- the command is none, and the record is that of the history
-abbrev pub ShowsRecord : Scene → Effect → Ending → Type 0
-ShowsRecord x effect e = (effect.command ≡ None) × (ending_after x.settings e.id x.past.history ≡ Some e)
+-- the request is for the oldest record of this side, and this is it; there is no command
+pub record IsShowing (x : Scene) (call : Call) (effect : Effect) (e : Ending) : Type 0 where
+  pub side : Side
+  pub is : call ≡ calls.Oldest side
+  pub command : effect.command ≡ None
+  pub first : ending_of_event x.settings x.past.history (oldest_ended x.settings x.past.history side) ≡ Some e
 
 no_command : (o : Option Ending) → (says_record o).command ≡ None
 no_command None = refl
 no_command (Some e) = refl
 
-request_shows : (x : Scene) (slot : ℕ) (drawn : List ℕ) (call : Call) (e : Ending) → (effect_of_request x slot drawn call).reply ≡ Some (reply.record_of e) → ShowsRecord x (effect_of_request x slot drawn call) e
+request_shows : (x : Scene) (slot : ℕ) (drawn : List ℕ) (call : Call) (e : Ending) → (effect_of_request x slot drawn call).reply ≡ Some (reply.record_of e)
+    → IsShowing x call (effect_of_request x slot drawn call) e
 request_shows x slot drawn (calls.Invoke payload) e h =
     let c = command_for Accept drawn x.now payload in
     accepted_no_record (refusal_of x.settings x.past.history c) c e h
 request_shows x slot drawn (calls.Oldest side) e h =
-    let event = oldest_ended x.settings x.past.history side in
-    let ending = ending_of_event x.settings x.past.history event in
-    (no_command ending, of_event x.settings x.past.history event e (said ending e h))
+    let ending = ending_of_event x.settings x.past.history (oldest_ended x.settings x.past.history side) in
+    record { side = side; is = refl; command = no_command ending; first = said ending e h }
 request_shows x slot drawn (calls.Delete event) e h = other_is_not _ (reply.record_of e) (deleting x event) refl h
 request_shows x slot drawn calls.StopBroker e h = other_is_not _ (reply.record_of e) refl refl h
 request_shows x slot drawn (calls.RuntimeNext environment) e h = other_is_not _ (reply.record_of e) (requested x environment _ _ _ refl) refl h
@@ -200,12 +204,28 @@ accepts_it s past call slot id (inr own) =
       history = history_grows s past call ∙ ap (λ c. past.history ++ option_list (command_of s past c)) own.is ∙ ap (λ o. past.history ++ option_list o) invoked.command;
     }
 
-pub shows_it : (s : Settings) (past : Past) (call : HallCall) (slot : ℕ) (e : Ending) → IsPolled past (reply.record_of e) ⊎ IsOwn s past call slot (reply.record_of e)
-    → ending_after s e.id (past_after s past call).history ≡ Some e
+-- the call asks for the oldest record of this side, and this is it; the history stays
+pub record IsShow (s : Settings) (past : Past) (call : HallCall) (slot : ℕ) (e : Ending) : Type 0 where
+  pub side : Side
+  pub now : ℕ
+  pub words : ℕ × ℕ
+  pub is : call ≡ arrive slot (calls.Oldest side) now words
+  pub history : (past_after s past call).history ≡ past.history
+  pub first : ending_of_event s past.history (oldest_ended s past.history side) ≡ Some e
+
+pub shows_it : (s : Settings) (past : Past) (call : HallCall) (slot : ℕ) (e : Ending) → IsPolled past (reply.record_of e) ⊎ IsOwn s past call slot (reply.record_of e) → IsShow s past call slot e
 unfolding effect_of
 shows_it s past call slot e (inl poll) = no_poll past (reply.record_of e) refl poll
 shows_it s past call slot e (inr own) =
     let x = scene s past own.now in
     let shown = request_shows x slot _ own.request e own.reply in
-    let same : (past_after s past call).history ≡ past.history ++ [] = history_grows s past call ∙ ap (λ c. past.history ++ option_list (command_of s past c)) own.is ∙ ap (λ o. past.history ++ option_list o) shown.0 in
-    subst (λ l. ending_after s e.id l ≡ Some e) (sym (same ∙ append-nil past.history)) shown.1
+    let same : (past_after s past call).history ≡ past.history ++ [] =
+    history_grows s past call ∙ ap (λ c. past.history ++ option_list (command_of s past c)) own.is ∙ ap (λ o. past.history ++ option_list o) shown.command in
+    record {
+      side = shown.side;
+      now = own.now;
+      words = own.words;
+      is = own.is ∙ ap (λ c. arrive slot c own.now own.words) shown.is;
+      history = same ∙ append-nil past.history;
+      first = shown.first;
+    }

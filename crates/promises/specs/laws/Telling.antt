@@ -28,7 +28,7 @@ use Rattle.hall_core.specs.laws.Adding.{history_grows}
 
 -- ## Lists
 
-in_append : {A : Type 0} (x : A) (xs ys : List A) → IsIn x (xs ++ ys) → IsIn x xs ⊎ IsIn x ys
+pub in_append : {A : Type 0} (x : A) (xs ys : List A) → IsIn x (xs ++ ys) → IsIn x xs ⊎ IsIn x ys
 in_append x [] ys there = inr there
 in_append x (y ∷ xs) ys (inl is) = inl (inl is)
 in_append x (y ∷ xs) ys (inr there) = elim (in_append x xs ys there) [ inl left ↦ inl (inr left) | inr right ↦ inr right ]
@@ -64,12 +64,12 @@ first_behind : {A B : Type 0} (h : A → Option B) (p : A → Bool) (xs ys : Lis
 first_behind h p xs [] r is = inl (ap (λ l. first (filter_map h (after_last p l))) (sym (append-nil xs)) ∙ is, refl)
 first_behind h p xs (y ∷ ys) r is =
     elim (first_behind h p (xs ++ y ∷ []) ys r (ap (λ l. first (filter_map h (after_last p l))) (append_assoc xs (y ∷ []) ys) ∙ is)) [
-      inr new ↦ inr (record { of = new.of; there = inr new.there; gives = new.gives })
-    | inl (old, none) ↦
-        elim (seam h p (p y) (after_last p xs) y r (sym (ap (λ l. first (filter_map h l)) (after_last-snoc p xs y)) ∙ old)) [
-          inl (before, other) ↦ inl (before, none_of (p y) (list_any p ys) other none)
-        | inr gives ↦ inr (record { of = y; there = inl refl; gives = gives })
-        ]
+      | inr new ↦ inr (record { of = new.of; there = inr new.there; gives = new.gives })
+      | inl (old, none) ↦
+          elim (seam h p (p y) (after_last p xs) y r (sym (ap (λ l. first (filter_map h l)) (after_last-snoc p xs y)) ∙ old)) [
+            | inl (before, other) ↦ inl (before, none_of (p y) (list_any p ys) other none)
+            | inr gives ↦ inr (record { of = y; there = inl refl; gives = gives })
+          ]
     ]
 
 -- ## The replies of one call
@@ -126,8 +126,8 @@ of_all_polls : (slot point : ℕ) (past : Past) (made : List (ℕ × EnvCall)) (
 of_all_polls slot point past [] event r there gives = absurd there
 of_all_polls slot point past (m ∷ made) event r there gives =
     elim (in_append event (replies_to_polls past point m) (flat_map (replies_to_polls past point) made) there) [
-      inl here ↦ of_polls slot point past (answered_by (calls_of past m.0) m.1) event r here gives
-    | inr rest ↦ of_all_polls slot point past made event r rest gives
+      | inl here ↦ of_polls slot point past (answered_by (calls_of past m.0) m.1) event r here gives
+      | inr rest ↦ of_all_polls slot point past made event r rest gives
     ]
 
 of_own : (slot point : ℕ) (call : HallCall) (answer : Option Told) (event : SlotEvent) (r : Reply) → IsIn event (own_reply point call answer) → reply_by slot event ≡ Some r
@@ -146,19 +146,19 @@ computed_by : (s : Settings) (past : Past) (call : HallCall) (slot point : ℕ) 
 computed_by s past call slot point r at new =
     let effect = effect_of s past call in
     elim (in_append new.of (own_event call ++ flat_map (replies_to_polls past point) effect.made) (own_reply point call effect.reply) new.there) [
-      inl front ↦
-        elim (in_append new.of (own_event call) (flat_map (replies_to_polls past point) effect.made) front) [
-          inl own ↦ own_is_silent slot call new.of r own new.gives
-        | inr polls ↦
-            let is = of_all_polls slot point past effect.made new.of r polls new.gives in
-            record { point = is.1 ∙ at; told = inl is.0 }
-        ]
-    | inr last ↦
-        let is = of_own slot point call effect.reply new.of r last new.gives in
-        record {
-          point = is.5 ∙ at;
-          told = inr (record { request = is.0; now = is.1; words = is.2; is = is.3; reply = ap (λ c. (effect_of s past c).reply) (sym is.3) ∙ is.4 });
-        }
+      | inl front ↦
+          elim (in_append new.of (own_event call) (flat_map (replies_to_polls past point) effect.made) front) [
+            | inl own ↦ own_is_silent slot call new.of r own new.gives
+            | inr polls ↦
+                let is = of_all_polls slot point past effect.made new.of r polls new.gives in
+                record { point = is.1 ∙ at; told = inl is.0 }
+          ]
+      | inr last ↦
+          let is = of_own slot point call effect.reply new.of r last new.gives in
+          record {
+            point = is.5 ∙ at;
+            told = inr (record { request = is.0; now = is.1; words = is.2; is = is.3; reply = ap (λ c. (effect_of s past c).reply) (sym is.3) ∙ is.4 });
+          }
     ]
 
 uncalled : (slot : ℕ) (past : Past) (call : HallCall) (effect : Effect) (point : ℕ) → list_any (asks slot) (slot_events past call effect point) ≡ false → comes_with slot call ≡ false
@@ -176,8 +176,8 @@ one_call s past call slot r is =
     let effect = effect_of s past call in
     let point = length (past.history ++ option_list effect.command) in
     elim (first_behind (reply_by slot) (asks slot) past.slots (slot_events past call effect point) r is) [
-      inl (old, none) ↦ inl (old, uncalled slot past call effect point none)
-    | inr new ↦ inr (computed_by s past call slot point r refl new)
+      | inl (old, none) ↦ inl (old, uncalled slot past call effect point none)
+      | inr new ↦ inr (computed_by s past call slot point r refl new)
     ]
 
 -- ## The replies of a run
@@ -197,13 +197,13 @@ origin_since : (s : Settings) (past : Past) (run : List HallCall) (slot : ℕ) (
 origin_since s past [] slot r is = inl (is, refl)
 origin_since s past (call ∷ run) slot r is =
     elim (origin_since s (past_after s past call) run slot r is) [
-      inl (there, none) ↦
-        elim (one_call s past call slot r there) [
-          inl (before, unasked) ↦ inl (before, none_of (comes_with slot call) (list_any (comes_with slot) run) unasked none)
-        | inr computed ↦ inr (record { front = []; call = call; later = run; split = refl; computed = computed; there = there; unasked = none })
-        ]
-    | inr o ↦
-        inr (record { front = call ∷ o.front; call = o.call; later = o.later; split = ap (λ l. call ∷ l) o.split; computed = o.computed; there = o.there; unasked = o.unasked })
+      | inl (there, none) ↦
+          elim (one_call s past call slot r there) [
+            | inl (before, unasked) ↦ inl (before, none_of (comes_with slot call) (list_any (comes_with slot) run) unasked none)
+            | inr computed ↦ inr (record { front = []; call = call; later = run; split = refl; computed = computed; there = there; unasked = none })
+          ]
+      | inr o ↦
+          inr (record { front = call ∷ o.front; call = o.call; later = o.later; split = ap (λ l. call ∷ l) o.split; computed = o.computed; there = o.there; unasked = o.unasked })
     ]
 
 no_reply_yet : (wanted : ℕ) (history : List Command) (slot : ℕ) (r : Reply) → reply_of (opening wanted history) slot ≡ Some r → ⊥
@@ -271,8 +271,8 @@ released_when true false durable None r h = absurd (none-some r h)
 released_when true true durable None r h = inr (let same : unavailable durable ≡ r = cc in ap (λ (v : Reply). v.0) (sym same))
 released_when true broken durable (Some told) r h =
     elim (told_when durable told.1 broken (nat_le told.1 durable) told.0 (refused Caller Unavailable) r refl h) [
-      inl (answer, point, within) ↦ inl (let same : told ≡ r = pair_is told r answer point in ap Some same, subst (λ n. n ≤ durable) point within)
-    | inr is ↦ inr is
+      | inl (answer, point, within) ↦ inl (let same : told ≡ r = pair_is told r answer point in ap Some same, subst (λ n. n ≤ durable) point within)
+      | inr is ↦ inr is
     ]
 
 -- what is released was computed, and is durable up to its point, or it is that the broker is not available

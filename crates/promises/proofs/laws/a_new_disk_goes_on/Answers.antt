@@ -1,4 +1,5 @@
-use Rattle.promises.specs.laws.Copies.{migrated_leaves, copied_leaves, copied_shows}
+use Rattle.promises.specs.laws.Copies.{migrated_leaves, copied_leaves}
+use Rattle.disk_copy.specs.laws.Histories.{table_of-same}
 use Rattle.promises.proofs.laws.a_new_disk_goes_on.Goals as goal
 
 pub returns : goal.returns
@@ -8,5 +9,5 @@ returns g c =
     record {
       migrated = λ migration point history later image goes is may. migrated_leaves old new migration point history later image goes is may;
       copied = λ s now point history later image copied goes may. copied_leaves new s now point history later image copied goes may;
-      records = copied_shows;
+      tables = λ s now history allows. table_of-same s now allows history;
     }
