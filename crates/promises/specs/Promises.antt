@@ -114,10 +114,13 @@ IsCollected point later id = list_any (collects id) (drop point later) ≡ true
 abbrev pub IsKept : Settings → ℕ → List Command → List ℕ → List ℕ → Type 0
 IsKept s point later id payload = (payload_at (row_at (table_of s later) id) ≡ Some payload) ⊎ IsCollected point later id
 
--- the table of the later history tells this record of the event, which is still the oldest of its side, or the event was collected
-abbrev pub IsShown : Settings → ℕ → List Command → Side → Ending → Type 0
-IsShown s point later side e =
-    ((ending_at (row_at (table_of s later) e.id) ≡ Some e) × (oldest_record s later side ≡ Some e)) ⊎ IsCollected point later e.id
+-- the table of the later history tells this record of the event, or the event was collected
+abbrev pub IsShown : Settings → ℕ → List Command → Ending → Type 0
+IsShown s point later e = (ending_at (row_at (table_of s later) e.id) ≡ Some e) ⊎ IsCollected point later e.id
+
+-- it is still what a request for the oldest record of its side is told, or the event was collected
+abbrev pub IsShownFirst : Settings → ℕ → List Command → Side → Ending → Type 0
+IsShownFirst s point later side e = (oldest_record s later side ≡ Some e) ⊎ IsCollected point later e.id
 
 -- the image recovers to the table of a history that goes on so
 pub record Leaves (s : Settings) (point : ℕ) (history : List Command) (image : List ℕ) : Type 0 where

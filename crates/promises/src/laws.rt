@@ -1,6 +1,5 @@
 // What follows from the definitions alone, for readers.
 ghost use Rattle.std.specs.Prelude.{◌≡◌, ◌≤◌, [], ◌++◌, ◌⊎◌, ℕ, List, Some};
-ghost use Rattle.sector_disk.specs.Disk.{DiskView};
 ghost use Rattle.retry_rules.specs.declared.settings.Settings.{Settings};
 ghost use Rattle.invoke_records.specs.declared.command.Command.{Command};
 ghost use Rattle.async_core.specs.History.{IsLegal, table_of};
@@ -10,14 +9,14 @@ ghost use Rattle.api_core.specs.declared.dialect.Audience.TheVariants.{Caller};
 ghost use Rattle.api_core.specs.declared.refusal.Refusal.TheVariants.{Unavailable};
 ghost use Rattle.api_core.specs.Replies.{Told, Words, accepted, record_of, refused, reply_in};
 ghost use Rattle.group_commit.specs.History.{IsLegalStop};
-ghost use Rattle.group_commit.specs.Broker.{disk_of, settings_of, durable_of, issued_of, Stands};
+ghost use Rattle.group_commit.specs.Broker.{disk_of, settings_of, durable_of, Stands};
 ghost use Rattle.group_commit.specs.IssuerHalf.{half_view};
 ghost use Rattle.group_commit.specs.Splitting.{broker_of};
 ghost use Rattle.group_commit.specs.Migrating.{Migrates};
 ghost use Rattle.disk_copy.specs.Limits.{AllowsAll};
 ghost use Rattle.disk_copy.specs.Copying.{GoesOnWith};
 ghost use Rattle.hall_core.specs.Hall.{view_of, settings_in, words_in, StandsFor, Gives};
-ghost use Rattle.promises.specs.Promises.{Life, done, Telling, issued, WasAnswered202, WasShown, IsToldOfPrefix, GoesOn, IsKept, IsShown, FollowsRules, Leaves, LeavesEvent};
+ghost use Rattle.promises.specs.Promises.{Life, done, Telling, issued, WasAnswered202, WasShown, IsToldOfPrefix, GoesOn, IsKept, IsShown, IsShownFirst, FollowsRules, Leaves, LeavesEvent};
 ghost use Rattle.promises.specs.Giving.{IsTold};
 ghost use Rattle.promises.specs.Halves.{IsBehind};
 
@@ -90,10 +89,16 @@ pub fn the_halves_keep_it<D: Disk>(issue: &IssueHalf, disk: &DiskHalf<D>)
 /// A record that was shown is that of the history, durable, and stays the record of its event until a Collect of it.
 pub fn a_record_that_was_shown_is_shown_again()
     // claim: A record that was told is the history's oldest on its side, durable, and stays so in each later one, until its
-    // Collect.
+    // Collect. [: shown, again; it_is_shown_to_who_asks_for_the_oldest]
     ensures shown { (s : Settings) (t : Telling s) (e : Ending) → t.told ≡ record_of e → (side : Side) × WasShown s t side e }
     ensures again { (s : Settings) (t : Telling s) (side : Side) (e : Ending) (later : List Command) → WasShown s t side e
-        → GoesOn s t.point (issued s t) later → IsShown s t.point later side e }
+        → GoesOn s t.point (issued s t) later → IsShown s t.point later e }
+{}
+
+/// And it stays what a request for the oldest record of its side is told.
+pub fn it_is_shown_to_who_asks_for_the_oldest()
+    ensures { (s : Settings) (t : Telling s) (side : Side) (e : Ending) (later : List Command) → WasShown s t side e
+        → GoesOn s t.point (issued s t) later → IsShownFirst s t.point later side e }
 {}
 
 /// A reply shows nothing that a stop may take away: the first calls of the run computed it, which had issued just the first

@@ -1,5 +1,5 @@
 -- Laws: a reply of status 202 without a body says that an event was accepted.
-use Rattle.std.proofs.Common.{◌≡◌, ℕ, List, [], ◌∷◌, refl, sym, ap, ◌∙◌, arith}
+use Rattle.std.proofs.Common.{◌≡◌, ℕ, List, [], refl, arith}
 use Rattle.api_core.specs.declared.dialect.Dialect.{Dialect}
 use Rattle.api_core.specs.declared.dialect.Dialect.TheVariants.{Profile, Aws}
 use Rattle.api_core.specs.declared.dialect.Audience.{Audience}

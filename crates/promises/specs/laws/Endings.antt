@@ -23,6 +23,8 @@ use Rattle.async_core.specs.laws.Lives.{life-snoc}
 use Rattle.async_core.specs.laws.Rows.{judged_kept}
 use Rattle.async_core.specs.laws.Held.{by_last, named_id, named_kind, IsLegal-front, IsLegal-last}
 use Rattle.async_core.specs.laws.Tables.{ending-by_history}
+use Rattle.promises.specs.Promises.{GoesOn}
+use Rattle.promises.specs.laws.Histories.{since_front}
 
 -- ## Only a Collect is legal of an event that has ended
 
@@ -105,3 +107,16 @@ module _ (s : Settings) (id : List ℕ) (e : Ending) (front : List Command) (tol
       subst (λ l. ending_after s id l ≡ Some e) (append_assoc front since (c ∷ []))
       (one_more (front ++ since) c whole last.0 (before (IsLegal-front s (front ++ since) (c ∷ []) whole) parts.0)))
       since
+
+-- the record of an event that has ended is that of the table of each later history, until a Collect of it comes
+pub told_again : (s : Settings) (point : ℕ) (history later : List Command) (id : List ℕ) (e : Ending) → ending_after s id (take point history) ≡ Some e → GoesOn s point history later
+    → (ending_at (row_at (table_of s later) id) ≡ Some e) ⊎ (list_any (collects id) (drop point later) ≡ true)
+told_again s point history later id e told goes = by (list_any (collects id) (drop point later)) refl
+  where
+    by : (b : Bool) → list_any (collects id) (drop point later) ≡ b → (ending_at (row_at (table_of s later) id) ≡ Some e) ⊎ (list_any (collects id) (drop point later) ≡ true)
+    by true is = inr is
+    by false is =
+        let whole = since_front s point history later goes in
+        inl (ending-by_history s (table_of s later) later id goes.legal refl
+        ∙ subst (λ l. ending_after s id l ≡ Some e) whole
+        (stays_ended s id e (take point history) told (drop point later) (subst (λ l. IsLegal s l) (sym whole) goes.legal) is))

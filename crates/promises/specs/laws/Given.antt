@@ -1,5 +1,5 @@
 -- Laws: what a take gives was told by the hall's run.
-use Rattle.std.proofs.Common.{◌≡◌, ℕ, refl, sym, ap, ◌∙◌, Option, Some, None}
+use Rattle.std.proofs.Common.{◌≡◌, ℕ, refl, sym, Option, Some, None}
 use Rattle.std.specs.Prelude.{option_map}
 use Rattle.std.proofs.lemmas.Option.{none-some}
 use Rattle.retry_rules.specs.declared.settings.Settings.{Settings}
@@ -7,7 +7,7 @@ use Rattle.api_core.specs.Replies.{Words}
 use Rattle.hall_core.specs.declared.released.Released.{Released}
 use Rattle.hall_core.specs.Slots.{Reply, released}
 use Rattle.hall_core.specs.Hall.{HallView, StandsFor, Gives, settings_in, words_in, released_to}
-use Rattle.promises.specs.Promises.{Life, done, Telling}
+use Rattle.promises.specs.Promises.{Life, done}
 use Rattle.promises.specs.Giving.{IsTold}
 
 same : (a b : Released) → Some a ≡ Some b → a ≡ b

@@ -8,10 +8,10 @@ use Rattle.std.proofs.lemmas.List.Elements.{filter-append}
 use Rattle.retry_rules.specs.declared.settings.Settings.{Settings}
 use Rattle.invoke_records.specs.declared.command.Command.{Command}
 use Rattle.invoke_records.specs.declared.command.Kind.TheVariants.{Accept}
-use Rattle.async_core.specs.Lives.{kind_is_collect, names, collects, life, payload_of}
+use Rattle.async_core.specs.Lives.{names, collects, life, payload_of}
 use Rattle.async_core.specs.History.{table_of, IsLegal}
 use Rattle.async_core.specs.Rules.{row_at}
-use Rattle.async_core.specs.Readers.{where_held, payload_at, payload_after}
+use Rattle.async_core.specs.Readers.{where_held, payload_at}
 use Rattle.async_core.specs.laws.Lives.{life-snoc}
 use Rattle.async_core.specs.laws.Held.{by_last, bytes_eq-refl, named_by, is_nil, nil_before, IsLegal-take, IsLegal-last}
 use Rattle.async_core.specs.laws.Tables.{payload-by_history}

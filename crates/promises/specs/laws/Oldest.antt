@@ -1,11 +1,10 @@
 -- Laws: the record that is told first on its side is told first in each later history, until its event is collected.
-use Rattle.std.proofs.Common.{◌≡◌, ℕ, suc, ◌+◌, ◌<◌, ◌≤◌, List, [], ◌∷◌, ◌++◌, length, take, drop, filter, Bool, true, false, not, ◌&&◌, ◌||◌, ◌==◌, cond, refl, sym, subst, ap, ◌∙◌, arith, Option, Some, None, ◌⊎◌, inl, inr, nat_lt}
-use Rattle.std.specs.Prelude.{option_map, Contains, All}
+use Rattle.std.proofs.Common.{◌≡◌, ℕ, zero, suc, ◌+◌, ◌<◌, ◌≤◌, List, [], ◌∷◌, ◌++◌, length, take, drop, filter, Bool, true, false, not, ◌&&◌, ◌||◌, ◌==◌, cond, refl, sym, subst, ap, ◌∙◌, arith, Option, Some, None, ◌⊎◌, inl, inr, nat_lt}
+use Rattle.std.specs.Prelude.{option_map}
 use Rattle.std.specs.List.{filter_map, list_any, cons_option}
 use Rattle.std.proofs.lemmas.Bool.{true≢false, or_parts, ltb-true, ltb-false, eqb-true}
 use Rattle.std.proofs.lemmas.List.{append_assoc, append-nil}
 use Rattle.std.proofs.lemmas.List.Folds.{list_any-append}
-use Rattle.std.proofs.lemmas.List.Elements.{All-from_recursion}
 use Rattle.std.proofs.lemmas.Option.{none-some, same_Some}
 use Rattle.retry_rules.specs.declared.settings.Settings.{Settings}
 use Rattle.invoke_records.specs.declared.command.Command.{Command}
@@ -14,19 +13,18 @@ use Rattle.invoke_records.specs.declared.command.Kind.TheVariants.{Configure}
 use Rattle.invoke_records.specs.declared.row.Standing.{Standing}
 use Rattle.invoke_records.specs.declared.row.Standing.TheVariants as standing
 use Rattle.async_core.specs.declared.choice.Side.{Side}
-use Rattle.async_core.specs.Lives.{kind_is_accept, kind_names, is_accept, names, collects}
-use Rattle.async_core.specs.Standings.{is_ended}
-use Rattle.async_core.specs.History.{held, standing_in, last_number, table_of, IsLegal}
-use Rattle.async_core.specs.Choice.{ended_on, goes_before, IsOldestEnded}
+use Rattle.async_core.specs.Lives.{kind_is_accept, kind_names, is_accept, names, collects, life}
+use Rattle.async_core.specs.Standings.{is_unknown, is_ended}
+use Rattle.async_core.specs.History.{held, standing_in, last_number, IsLegal}
+use Rattle.async_core.specs.Choice.{ended_on, goes_before}
 use Rattle.async_core.specs.Readers.{Ending, ending_after}
-use Rattle.async_core.specs.laws.Lives.{held-snoc, last_number-snoc}
-use Rattle.async_core.specs.laws.Held.{by_last, bytes_eq-refl, named_by, IsLegal-front, IsLegal-last}
-use Rattle.hall_core.specs.Firsts.{Event, sooner, first_ranked, ranked, first_by, ended_rank, oldest_ended}
+use Rattle.async_core.specs.laws.Lives.{life-snoc, life-nil, held-snoc, last_number-snoc}
+use Rattle.async_core.specs.laws.Held.{by_last, bytes_eq-refl, named_id, named_by, is_nil, unknown-nil, IsLegal-front, IsLegal-last}
+use Rattle.hall_core.specs.Firsts.{Event, sooner, first_ranked, ranked, ended_rank, oldest_ended}
 use Rattle.hall_core.specs.Effects.{ending_of_event}
-use Rattle.hall_core.specs.laws.Ranks.{IsIn, all_in}
-use Rattle.hall_core.proofs.Oldest.{ending_is}
-use Rattle.async_core.specs.laws.Tables.{ending-by_history}
-use Rattle.promises.specs.Promises.{GoesOn, IsShown, oldest_record}
+use Rattle.hall_core.specs.laws.Ranks.{IsIn}
+use Rattle.hall_core.specs.laws.Choosing.{first_by-none_ranked}
+use Rattle.promises.specs.Promises.{GoesOn, IsShownFirst, oldest_record}
 use Rattle.promises.specs.laws.Histories.{since_front}
 use Rattle.promises.specs.laws.Endings.{only_collected, same_standing, stays_ended}
 use Rattle.promises.specs.laws.Telling.{in_append}
@@ -150,21 +148,70 @@ oldest_is s h side event is =
           omega (arith, le, parts.1);
     }
 
-contains_it : {A : Type 0} (xs : List A) (x : A) → IsIn x xs → Contains xs x
-contains_it [] x there = absurd there
-contains_it (y ∷ ys) x (inl is) = (0, omega arith, is)
-contains_it (y ∷ ys) x (inr i) = let rest = contains_it ys x i in (suc rest.0, omega (arith, rest.1), rest.2)
+-- ## There is one oldest
 
-pub oldest_told : (s : Settings) (h : List Command) (side : Side) (id : List ℕ) → IsLegal s h → IsOldest s h side id → ending_of_event s h (oldest_ended s h side) ≡ ending_after s id h
-oldest_told s h side id legal o =
-    ending_is s h side legal (Some id) (
-      (o.place, id),
-      refl,
-      contains_it (held h) (o.place, id) o.there,
-      o.ends,
-      All-from_recursion (λ (e : Event). ended_on side (standing_in s h e.1) ≡ true → last_number id h ≤ last_number e.1 h) (held h)
-          (all_in (λ (e : Event). ended_on side (standing_in s h e.1) ≡ true → last_number id h ≤ last_number e.1 h) (held h) o.least),
-    )
+last_least : (id : List ℕ) (h : List Command) → last_number id h ≤ length h
+unfolding last_number
+last_least id h = omega arith
+
+same_by : (a b : List ℕ) (h : List Command) (c : Command) (x y : Bool) → names a c ≡ x → names b c ≡ y
+    → (last_number a h ≡ last_number b h → 0 < last_number a h → a ≡ b)
+    → cond x (length h + 1) (last_number a h) ≡ cond y (length h + 1) (last_number b h) → 0 < cond x (length h + 1) (last_number a h) → a ≡ b
+same_by a b h c true true p q rest e more = named_id a c p ∙ sym (named_id b c q)
+same_by a b h c true false p q rest e more = absurd (omega (arith, last_least b h))
+same_by a b h c false true p q rest e more = absurd (omega (arith, last_least a h))
+same_by a b h c false false p q rest e more = rest e more
+
+-- two events whose last command is the same are one
+same_last : (a b : List ℕ) (h : List Command) → last_number a h ≡ last_number b h → 0 < last_number a h → a ≡ b
+same_last a b h =
+    by_last (λ h. last_number a h ≡ last_number b h → 0 < last_number a h → a ≡ b)
+    (λ e more. absurd (omega (arith, last_least a [])))
+    (λ h c rest.
+    rw (last_number-snoc a h c, last_number-snoc b h c) (same_by a b h c (names a c) (names b c) refl refl rest)) h
+
+quiet_by : (id : List ℕ) (h : List Command) (c : Command) (kind named : Bool) → (last_number id h ≡ 0 → life id h ≡ []) → cond named (length h + 1) (last_number id h) ≡ 0
+    → cond kind [] (life id h ++ cond named (c ∷ []) []) ≡ []
+quiet_by id h c true named rest e = refl
+quiet_by id h c false true rest e = absurd (omega arith)
+quiet_by id h c false false rest e = rw (rest e) refl
+
+-- an event without a last command has no life
+no_life : (id : List ℕ) (h : List Command) → last_number id h ≡ 0 → life id h ≡ []
+no_life id h =
+    by_last (λ h. last_number id h ≡ 0 → life id h ≡ []) (λ e. life-nil id)
+    (λ h c rest. rw (last_number-snoc id h c, life-snoc id h c) (quiet_by id h c (collects id c) (names id c) rest)) h
+
+ended_known : (side : Side) (st : Standing) → is_unknown st ≡ true → ended_on side st ≡ true → ⊥
+ended_known side standing.Unknown unknown ended = true≢false (sym ended)
+ended_known side (standing.Waiting due) unknown ended = true≢false (sym unknown)
+ended_known side (standing.Running environment deadline) unknown ended = true≢false (sym unknown)
+ended_known side (standing.DueAgain due) unknown ended = true≢false (sym unknown)
+ended_known side (standing.Ended outcome at) unknown ended = true≢false (sym unknown)
+
+has_last : (s : Settings) (h : List Command) (side : Side) (id : List ℕ) (n : ℕ) → last_number id h ≡ n → ended_on side (standing_in s h id) ≡ true → 0 < n
+has_last s h side id zero none ended =
+    absurd (ended_known side (standing_in s h id) (unknown-nil s h id ∙ ap is_nil (no_life id h none)) ended)
+has_last s h side id (suc n) some ended = omega arith
+
+nobody : (s : Settings) (h : List Command) (side : Side) (id : List ℕ) → IsOldest s h side id → oldest_ended s h side ≡ None → ⊥
+unfolding oldest_ended
+nobody s h side id o none =
+    none-some (last_number id h, 0)
+    (sym (first_by-none_ranked (ended_rank s h side) (held h) (o.place, id) none o.there) ∙ ap (λ b. cond {A = Option (ℕ × ℕ)} b (Some (last_number id h, 0)) None) o.ends)
+
+oldest_by : (s : Settings) (h : List Command) (side : Side) (id : List ℕ) → IsOldest s h side id → (event : Option Event) → oldest_ended s h side ≡ event → ending_of_event s h event ≡ ending_after s id h
+oldest_by s h side id o None none = absurd (nobody s h side id o none)
+oldest_by s h side id o (Some event) is =
+    let other = oldest_is s h side event is in
+    let one : last_number id h ≤ last_number event.1 h = o.least (other.place, event.1) other.there other.ends in
+    let two : last_number event.1 h ≤ last_number id h = other.least (o.place, id) o.there o.ends in
+    let same : last_number event.1 h ≡ last_number id h = omega (arith, one, two) in
+    let ids : event.1 ≡ id = same_last event.1 id h same (has_last s h side event.1 (last_number event.1 h) refl other.ends) in
+    ap (λ n. ending_after s n h) ids
+
+oldest_told : (s : Settings) (h : List Command) (side : Side) (id : List ℕ) → IsOldest s h side id → ending_of_event s h (oldest_ended s h side) ≡ ending_after s id h
+oldest_told s h side id o = oldest_by s h side id o (oldest_ended s h side) refl
 
 -- ## One command more
 
@@ -199,10 +246,6 @@ new_is_named : (b : Bool) (n : ℕ) (c : Command) (e : Event) → is_accept c �
 new_is_named true n c e is (inl same) = subst (λ (v : Event). names v.1 c ≡ true) same (named_by c.id c (accept_names c.kind is) (bytes_eq-refl c.id))
 new_is_named true n c e is (inr none) = absurd none
 new_is_named false n c e is there = absurd there
-
-last_least : (id : List ℕ) (h : List Command) → last_number id h ≤ length h
-unfolding last_number
-last_least id h = omega arith
 
 ended_so : (side : Side) (st : Standing) → ended_on side st ≡ true → is_ended st ≡ true
 ended_so side standing.Unknown h = absurd (true≢false (sym h))
@@ -280,21 +323,16 @@ told_first_since s front since side e is legal none =
     let event = ended_event s front (oldest_ended s front side) e is in
     let oldest : IsOldest s front side e.id = oldest_is s front side (event.0, e.id) event.1 in
     let told : ending_after s e.id front ≡ Some e = of_event s front (oldest_ended s front side) e is in
-    oldest_told s (front ++ since) side e.id legal (oldest_since s front side e.id oldest since legal none)
+    oldest_told s (front ++ since) side e.id (oldest_since s front side e.id oldest since legal none)
     ∙ stays_ended s e.id e front told since legal none
 
--- the table tells the record of the event, which is still the oldest of its side, until a Collect of it comes
-pub shown_later : (s : Settings) (point : ℕ) (history later : List Command) (side : Side) (e : Ending) → ending_after s e.id (take point history) ≡ Some e → oldest_record s (take point history) side ≡ Some e
-    → GoesOn s point history later → IsShown s point later side e
-shown_later s point history later side e told first goes = by (list_any (collects e.id) (drop point later)) refl
+-- it is told first in each later history, until a Collect of its event comes
+pub shown_first : (s : Settings) (point : ℕ) (history later : List Command) (side : Side) (e : Ending) → oldest_record s (take point history) side ≡ Some e → GoesOn s point history later → IsShownFirst s point later side e
+shown_first s point history later side e first goes = by (list_any (collects e.id) (drop point later)) refl
   where
-    by : (b : Bool) → list_any (collects e.id) (drop point later) ≡ b → IsShown s point later side e
+    by : (b : Bool) → list_any (collects e.id) (drop point later) ≡ b → IsShownFirst s point later side e
     by true is = inr is
     by false is =
         let whole = since_front s point history later goes in
         let legal : IsLegal s (take point history ++ drop point later) = subst (λ l. IsLegal s l) (sym whole) goes.legal in
-        inl (
-          ending-by_history s (table_of s later) later e.id goes.legal refl
-              ∙ subst (λ l. ending_after s e.id l ≡ Some e) whole (stays_ended s e.id e (take point history) told (drop point later) legal is),
-          subst (λ l. oldest_record s l side ≡ Some e) whole (told_first_since s (take point history) (drop point later) side e first legal is),
-        )
+        inl (subst (λ l. oldest_record s l side ≡ Some e) whole (told_first_since s (take point history) (drop point later) side e first legal is))

@@ -1,5 +1,5 @@
 -- Laws: what a hall told holds of each later history.
-use Rattle.std.proofs.Common.{◌≡◌, ℕ, ◌≤◌, List, [], ◌∷◌, ◌++◌, length, take, refl, sym, subst, ap, ◌∙◌, arith, Some, ◌⊎◌, inl, inr}
+use Rattle.std.proofs.Common.{◌≡◌, ℕ, ◌≤◌, List, [], ◌∷◌, ◌++◌, take, refl, sym, subst, ap, ◌∙◌, ◌⊎◌, inl, inr}
 use Rattle.std.proofs.lemmas.List.{append_assoc}
 use Rattle.retry_rules.specs.declared.settings.Settings.{Settings}
 use Rattle.invoke_records.specs.declared.command.Command.{Command}
@@ -12,13 +12,13 @@ use Rattle.api_core.specs.declared.dialect.Audience.TheVariants.{Caller}
 use Rattle.api_core.specs.declared.refusal.Refusal.TheVariants.{Unavailable}
 use Rattle.api_core.specs.Replies.{Told, accepted, record_of, refused}
 use Rattle.hall_core.specs.Firsts.{oldest_ended}
-use Rattle.hall_core.specs.Past.{HallCall, Past, opening}
+use Rattle.hall_core.specs.Past.{Past, opening}
 use Rattle.hall_core.specs.Run.{past_after, after}
 use Rattle.hall_core.specs.Slots.{reply_of}
 use Rattle.hall_core.specs.laws.Sound.{every_run_is_sound}
-use Rattle.promises.specs.Promises.{Life, done, Telling, issued, WasAnswered202, IsToldOfPrefix, GoesOn, IsKept, IsShown, FollowsRules, WasShown, oldest_record}
+use Rattle.promises.specs.Promises.{done, Telling, issued, WasAnswered202, IsToldOfPrefix, GoesOn, IsKept, IsShown, FollowsRules, WasShown, oldest_record}
 use Rattle.promises.specs.laws.Histories.{goes_on_itself, kept_or_collected}
-use Rattle.promises.specs.laws.Oldest.{shown_later}
+use Rattle.promises.specs.laws.Endings.{told_again}
 use Rattle.promises.specs.laws.Telling.{IsOwn, IsPolled, Origin, origin, released_is, run_parts, history_then, point_within}
 use Rattle.promises.specs.laws.Saying.{accepts_it, shows_it, of_event}
 
@@ -130,8 +130,8 @@ issued_goes_on s t available =
 pub event_is_kept : (s now : Settings) (t : Telling s) (id payload : List ℕ) (later : List Command) → WasAnswered202 s t id payload → GoesOn now t.point (issued s t) later → IsKept now t.point later id payload
 event_is_kept s now t id payload later was goes = kept_or_collected now t.point (issued s t) later was.before id payload was.time was.accepts goes
 
-pub record_is_shown : (s : Settings) (t : Telling s) (side : Side) (e : Ending) (later : List Command) → WasShown s t side e → GoesOn s t.point (issued s t) later → IsShown s t.point later side e
-record_is_shown s t side e later was goes = shown_later s t.point (issued s t) later side e was.is_its was.is_oldest goes
+pub record_is_shown : (s : Settings) (t : Telling s) (side : Side) (e : Ending) (later : List Command) → WasShown s t side e → GoesOn s t.point (issued s t) later → IsShown s t.point later e
+record_is_shown s t side e later was goes = told_again s t.point (issued s t) later e.id e was.is_its goes
 
 -- ## The rules
 

@@ -13,20 +13,19 @@ use Rattle.invoke_records.specs.declared.row.Standing.TheVariants as standing
 use Rattle.async_core.specs.declared.choice.Side.{Side}
 use Rattle.async_core.specs.declared.illegal.Illegal.{Illegal}
 use Rattle.async_core.specs.declared.illegal.Illegal.TheVariants as illegal
-use Rattle.async_core.specs.Lives.{life}
 use Rattle.async_core.specs.History.{standing_in, refusal_of}
-use Rattle.async_core.specs.Readers.{Ending, ending_by, ending_in, ending_after}
+use Rattle.async_core.specs.Readers.{Ending, ending_by, ending_after}
 use Rattle.env_phase.specs.declared.answer.PollAnswer.{PollAnswer}
 use Rattle.env_phase.specs.declared.answer.PollAnswer.TheVariants as polled
 use Rattle.env_phase.specs.declared.call.EnvCall.{EnvCall}
 use Rattle.env_phase.specs.declared.refusal.Refusal.{Refusal as EnvRefusal}
-use Rattle.env_phase.specs.Environment.{runs, running}
+use Rattle.env_phase.specs.Environment.{runs}
 use Rattle.env_phase.specs.Polls.{refusal_of as env_refusal_of}
 use Rattle.api_core.specs.declared.call.Call.{Call}
 use Rattle.api_core.specs.declared.call.Call.TheVariants as calls
 use Rattle.api_core.specs.Replies.{Told}
 use Rattle.api_core.specs.Replies as reply
-use Rattle.hall_core.specs.Past.{HallCall, arrive, Past, calls_of, moment}
+use Rattle.hall_core.specs.Past.{HallCall, arrive, Past, calls_of}
 use Rattle.hall_core.specs.Firsts.{Event, oldest_ended}
 use Rattle.hall_core.specs.Effects.{Effect, Scene, scene, command_for, command_of, effect_of, effect_of_request, accept_by, collect_by, collects, says_record, ending_of_event, where_accepted, requests, is_late, answers_event, responds}
 use Rattle.hall_core.specs.Run.{option_list, reply_to_poll, past_after}
