@@ -15,8 +15,8 @@ use sector_disk::Written;
 use std::alloc::{AllocError, Global};
 use std::fs::File;
 use std::io;
-use std::sync::{Arc, Mutex};
 use std::sync::ledger::Ledger;
+use std::sync::{Arc, Mutex};
 use tokio_util::sync::CancellationToken;
 
 /// Where an operator asks, and what he is told beside what is seen of a broker.
