@@ -107,13 +107,12 @@ def a_configure_outlives_the_switches_behind_it(broker):
 @case()
 def an_operator_is_shown_what_is_in_force(broker):
     def shown():
-        told = broker.look("/metrics").body.decode()
-        line = [line for line in told.splitlines() if line.startswith("lambda_broker_settings_info{")][0]
-        return matches('.*,retries="([0-9]+)",age_seconds="([0-9]+)",.*', line)
+        told = broker.numbers()
+        return told["retries_limit"], told["age_limit_seconds"]
 
     broker.serve()
-    same(shown(), ("2", "21600"))
+    same(shown(), (2, 21600))
     same(broker.stop(), (202, 0, ""))
     broker.configure("--retries", 1, "--age", 77)
     broker.serve()
-    same(shown(), ("1", "77"))
+    same(shown(), (1, 77))
