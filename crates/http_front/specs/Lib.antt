@@ -1,3 +1,4 @@
+pub mod Calls
 pub mod Learning
 pub mod Marking
 pub mod Refusals
