@@ -76,11 +76,17 @@ abbrev pub with_json : ℕ → List (List ℕ × List ℕ) → List ℕ → Repl
 with_json status headers body =
     record { status = status; headers = headers ++ header "Content-Type" (codes "application/json") ∷ []; body = body }
 
+-- a reply that tells of an event, whose id it tells in a dialect that has that
+abbrev pub of_event : Dialect → List ℕ → Reply → Reply
+of_event Profile id reply = reply
+of_event Aws id reply =
+    record { status = reply.status; headers = reply.headers ++ request_id id ∷ []; body = reply.body }
+
 -- a refusal, as it is told to callers and to environments
-abbrev pub refusing : Dialect → Audience → Refusal → Reply
-refusing Aws Caller why =
-    with_json (fault_of why).status (header "X-Amzn-ErrorType" (error_name why) ∷ []) (service_text (fault_of why))
-refusing d who why = with_json (fault_of why).status [] (error_text (fault_of why))
+abbrev pub refusing : Dialect → Settings → Audience → Refusal → Reply
+refusing Aws s Caller why =
+    with_json (fault_of why).status (header "X-Amzn-ErrorType" (error_name why) ∷ []) (service_text s why)
+refusing d s who why = with_json (fault_of why).status [] (error_text (fault_of why))
 
 abbrev pub ok_body : List ℕ
 ok_body = object (member "status" (in_quotes (codes "OK")) ∷ [])
@@ -159,7 +165,7 @@ not_supported_text Logs = error_object (codes "Logs API is not supported") (code
 
 abbrev pub reply_of_told : Dialect → Settings → Told → Reply
 reply_of_told d s (accepted id) = bare 202 (request_id id ∷ [])
-reply_of_told d s (record_of e) = with_json 200 [] (record_text s e)
+reply_of_told d s (record_of e) = of_event d e.id (with_json 200 [] (record_text s e))
 reply_of_told d s no_record = bare 204 []
 reply_of_told d s deleted = bare 204 []
 reply_of_told d s taken = with_json 202 [] ok_body
@@ -169,7 +175,7 @@ reply_of_told d s (runtime_event id deadline payload) = with_json 200 (runtime_h
 reply_of_told d s (invoke_event id deadline) = with_json 200 [] (invoke_text s id deadline)
 reply_of_told d s (shutdown_event reason deadline) = with_json 200 [] (shutdown_text d reason deadline)
 reply_of_told d s (not_supported stream) = with_json 202 [] (not_supported_text stream)
-reply_of_told d s (refused who why) = refusing d who why
+reply_of_told d s (refused who why) = refusing d s who why
 
 -- in which words, and of which function, replies tell
 pub record Words : Type 0 where

@@ -6,7 +6,8 @@ pub enum Dialect {
     /// This broker's own: each error has one type and one message, on every port.
     Profile,
     /// Those that AWS's kits know: errors of callers as the public models of the Lambda API name them, partial ARNs, reasons
-    /// of a shutdown in lower case, and requests for telemetry and logs, which are answered as AWS's emulator does.
+    /// of a shutdown in lower case, a response that is too large as the function's error, and requests for telemetry and
+    /// logs, which are answered as AWS's emulator does.
     Aws,
 }
 

@@ -8,6 +8,7 @@
 
 mod answer;
 mod bodies;
+mod body;
 mod call;
 mod calls;
 mod checks;
@@ -29,6 +30,7 @@ mod routing;
 mod texts;
 
 pub use answer::{Answer, ShutdownReason};
+pub use body::Body;
 pub use call::Call;
 pub use dialect::{Audience, Dialect, Stream};
 pub use reading::read_request;

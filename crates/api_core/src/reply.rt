@@ -4,7 +4,7 @@ ghost use Rattle.std.specs.List.{list_any};
 ghost use Rattle.api_core.specs.Reply.{pairs};
 
 use invoke_records::Bytes;
-use std::alloc::Global;
+use std::alloc::{AllocError, Global};
 use std::marker::Model;
 
 /// A name and a value. The value is bytes, since an ARN is.
@@ -39,7 +39,7 @@ fn has_name(list: &[Header], name: &str) -> bool
 }
 
 impl Headers {
-    ghost use Rattle.std.specs.Prelude.{◌⊎◌, ◌++◌, ◌∷◌, [], length, option_map, slice_get};
+    ghost use Rattle.std.specs.Prelude.{◌⊎◌, ◌++◌, ◌∷◌, [], length, option_map, slice_get, OnOk, OnErr};
 
     pub(crate) fn from_list(list: Vec<Header>) -> Headers
         ensures { result ≡ pairs list.items }
@@ -54,13 +54,26 @@ impl Headers {
         has_name(&self.list, name)
     }
 
+    /// One more, behind the others.
+    pub(crate) fn try_add(
+        &mut self,
+        alloc: Global,
+        name: &'static str,
+        value: &[u8],
+    ) -> Result<(), AllocError>
+        ensures ok { OnOk result (self.new ≡ self.old ++ (name.now, value.now) ∷ []) }
+        ensures err { OnErr result (self.new ≡ self.old) }
+    {
+        let value = Bytes::from_slice(alloc, value)?;
+        self.list.push(Header { name, value })?;
+        Ok(())
+    }
+
     /// One more, behind the others. Where memory is wanting there is none.
     pub(crate) fn add(&mut self, alloc: Global, name: &'static str, value: &[u8])
         ensures { (self.new ≡ self.old ++ (name.now, value.now) ∷ []) ⊎ (self.new ≡ self.old) }
     {
-        if let Ok(value) = Bytes::from_slice(alloc, value) {
-            let _ = self.list.push(Header { name, value });
-        }
+        let _ = self.try_add(alloc, name, value);
     }
 
     /// How many there are.

@@ -1,6 +1,6 @@
 // The reply of an answer.
 ghost use Rattle.std.specs.Prelude.{◌≡◌, ◌⊎◌, [], ◌∷◌, ◌++◌, IfOk};
-ghost use Rattle.api_core.specs.Replies.{bare, with_json, request_id, refusing, IsTellable, reply_text};
+ghost use Rattle.api_core.specs.Replies.{bare, with_json, request_id, of_event, refusing, IsTellable, reply_text};
 ghost use Rattle.api_core.specs.declared.dialect.Dialect.TheVariants.{Aws};
 ghost use Rattle.api_core.specs.declared.dialect.Audience.TheVariants.{Caller};
 ghost use Rattle.api_core.specs.Replies.{reply_of_told, registered, runtime_headers, with_request_id};
@@ -39,6 +39,34 @@ fn accepted(alloc: Global, id: &[u8; 16]) -> Result<Reply, AllocError>
     let mut headers = HeaderDraft::new(alloc);
     headers.add(REQUEST_ID, id.as_bytes());
     headers.bare(202)
+}
+
+// A reply that tells of an event, with its id in a dialect that tells it.
+fn of_event(
+    alloc: Global,
+    dialect: Dialect,
+    id: &[u8; 16],
+    reply: Reply,
+) -> Result<Reply, AllocError>
+    ensures { IfOk result (λ told. told ≡ of_event dialect id.now reply) }
+{
+    match dialect {
+        Dialect::Profile => Ok(reply),
+        Dialect::Aws => {
+            let id = id_text(alloc, id)?;
+            let Reply {
+                status,
+                mut headers,
+                body,
+            } = reply;
+            headers.try_add(alloc, REQUEST_ID, id.as_bytes())?;
+            Ok(Reply {
+                status,
+                headers,
+                body,
+            })
+        }
+    }
 }
 
 fn registered(
@@ -82,10 +110,10 @@ fn runtime_event(
 }
 
 // A refusal in the words of AWS's services, whose kits look for its name in a header.
-fn refusing_callers(alloc: Global, why: Refusal) -> Result<Reply, AllocError>
-    ensures { IfOk result (λ reply. reply ≡ refusing Aws Caller why) }
+fn refusing_callers(alloc: Global, settings: &Settings, why: Refusal) -> Result<Reply, AllocError>
+    ensures { IfOk result (λ reply. reply ≡ refusing Aws settings.now Caller why) }
 {
-    let text = service_text(alloc, why)?;
+    let text = service_text(alloc, settings, why)?;
     let mut headers = HeaderDraft::new(alloc);
     headers.add("X-Amzn-ErrorType", why.error_name().as_bytes());
     headers.with_json(why.status(), text)
@@ -94,13 +122,14 @@ fn refusing_callers(alloc: Global, why: Refusal) -> Result<Reply, AllocError>
 fn refusing(
     alloc: Global,
     dialect: Dialect,
+    settings: &Settings,
     audience: Audience,
     why: Refusal,
 ) -> Result<Reply, AllocError>
-    ensures { IfOk result (λ reply. reply ≡ refusing dialect audience why) }
+    ensures { IfOk result (λ reply. reply ≡ refusing dialect settings.now audience why) }
 {
     match (dialect, audience) {
-        (Dialect::Aws, Audience::Caller) => refusing_callers(alloc, why),
+        (Dialect::Aws, Audience::Caller) => refusing_callers(alloc, settings, why),
         _ => json(alloc, why.status(), error_text(alloc, why)?),
     }
 }
@@ -122,7 +151,10 @@ pub fn reply_text(
 {
     match answer {
         Answer::Accepted(id) => accepted(alloc, id),
-        Answer::Record(ended) => json(alloc, 200, record(alloc, ended, settings)?),
+        Answer::Record(ended) => {
+            let reply = json(alloc, 200, record(alloc, ended, settings)?)?;
+            of_event(alloc, dialect, ended.id, reply)
+        }
         Answer::NoRecord => empty(alloc, 204),
         Answer::Deleted => empty(alloc, 204),
         Answer::Taken => json(alloc, 202, Vec::from_slice(alloc, OK_BODY)?),
@@ -146,7 +178,7 @@ pub fn reply_text(
             )
         }
         Answer::NotSupported(stream) => json(alloc, 202, not_supported_text(alloc, *stream)?),
-        Answer::Refusal(audience, why) => refusing(alloc, dialect, *audience, *why),
+        Answer::Refusal(audience, why) => refusing(alloc, dialect, settings, *audience, *why),
     }
 }
 

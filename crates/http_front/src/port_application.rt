@@ -6,12 +6,13 @@ use crate::drawing::new_id;
 use crate::front_state::FrontState;
 use crate::replying::{Manner, Telling, refuse};
 use crate::resets::{ResetReport, note_report};
-use api_core::{Audience, Call, Dialect, Refusal, RequestError, read_request};
+use api_core::{Audience, Body, Call, Dialect, Refusal, RequestError, read_request};
 use futures::Future;
 use futures::task::{Context, Poll};
 use http::request::Parts;
 use http_port::{Application, BodyError, Refused};
 use hyper::StatusCode;
+use invoke_records::Bytes;
 use long_poll::{Arrived, Port, Waiting};
 use receipts::Trace;
 use std::alloc::Global;
@@ -60,6 +61,19 @@ fn target_of(head: &Parts) -> &str {
     match head.uri.path_and_query() {
         Some(target) => target.as_str(),
         None => "/",
+    }
+}
+
+// A body as requests have it, or why it is refused. An empty one takes no memory.
+fn body_of(body: Result<Vec<u8>, BodyError>) -> Result<Body, BodyError> {
+    match body {
+        Ok(bytes) if bytes.is_empty() => Ok(Body::Whole(Bytes::empty())),
+        Ok(bytes) => match Bytes::from_vec(bytes) {
+            Ok(bytes) => Ok(Body::Whole(bytes)),
+            Err(_) => Err(BodyError::OutOfMemory),
+        },
+        Err(BodyError::TooLarge) => Ok(Body::TooLarge),
+        Err(why) => Err(why),
     }
 }
 
@@ -112,7 +126,7 @@ impl<R: Wait + Clock + RandomSource + Eprint + Copy, L: Ledger, T: Trace> PortAp
     }
 
     // The call of a request.
-    fn read(&self, head: &Parts, body: Vec<u8>) -> Result<Call, Refusal> {
+    fn read(&self, head: &Parts, body: Body) -> Result<Call, Refusal> {
         let front = &self.front;
         match read_request(
             front.alloc,
@@ -151,7 +165,7 @@ impl<R: Wait + Clock + RandomSource + Eprint + Copy, L: Ledger, T: Trace> PortAp
     fn reply_to(
         &self,
         head: &Parts,
-        body: Vec<u8>,
+        body: Body,
         id: Option<[u8; 16]>,
     ) -> Result<Replying<R, L, T>, Refusal> {
         let Ok(front) = Arc::try_clone(&self.front) else {
@@ -191,13 +205,13 @@ impl<R: Wait + Clock + RandomSource + Eprint + Drop + Copy, L: Ledger, T: Trace>
         body: Result<Vec<u8>, BodyError>,
     ) -> Result<Replying<R, L, T>, Refused> {
         let id = self.request_id();
-        match body {
+        match body_of(body) {
             Ok(body) => match self.reply_to(head, body, id) {
                 Ok(replying) => Ok(replying),
                 Err(why) => Err(self.refuse(why, id)),
             },
-            Err(BodyError::OutOfMemory) => Err(self.refuse(Refusal::Unavailable, id)),
             Err(BodyError::CutOff) => Err(cut_off(self.front.alloc)),
+            Err(_) => Err(self.refuse(Refusal::Unavailable, id)),
         }
     }
 }

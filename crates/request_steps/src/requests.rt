@@ -1,9 +1,10 @@
 // Steps on requests alone: which call one is, or which check refuses it.
-use api_core::{Call, Dialect, Refusal, RequestError, Stream, read_request};
+use api_core::{Body, Call, Dialect, Refusal, RequestError, Stream, read_request};
 use async_core::Side;
 use case_runner::{StepReply, TextBuffer, Words, body, number_of_id};
 use http::Method;
 use http::header::{HeaderMap, HeaderName, HeaderNameError, HeaderValue, HeaderValueError};
+use invoke_records::Bytes;
 use retry_rules::Settings;
 use std::alloc::Global;
 
@@ -190,6 +191,17 @@ pub fn dialect(words: &mut Words) -> Dialect {
     }
 }
 
+// `too-large`, or the bytes of a body.
+fn body_of(alloc: Global, text: &str) -> Result<Body, StepReply> {
+    if text == "too-large" {
+        return Ok(Body::TooLarge);
+    }
+    match Bytes::from_vec(body(alloc, text)?) {
+        Ok(bytes) => Ok(Body::Whole(bytes)),
+        Err(_) => Err(StepReply::NoMemory),
+    }
+}
+
 /// The call of the request `[aws] PORT METHOD TARGET [NAME=VALUE ..] [body BYTES]`, or what is answered at once.
 pub fn read_call(alloc: Global, settings: &Settings, words: &mut Words) -> Result<Call, StepReply> {
     let dialect = dialect(words);
@@ -206,7 +218,7 @@ pub fn read_call(alloc: Global, settings: &Settings, words: &mut Words) -> Resul
             reply => return Err(reply),
         }
     }
-    let body = body(alloc, text)?;
+    let body = body_of(alloc, text)?;
     if words.are_bad() {
         return Err(StepReply::Unreadable);
     }
