@@ -64,12 +64,13 @@ def boto3_raises_a_typed_exception_for_each_refusal(broker):
     client = by_boto3(in_dialect(broker))
     other = f"no such path or function: only {ARN} is here"
     same(called(client, name="other"), ("ResourceNotFoundException", 404, other))
-    kinds = "InvocationType must be Event"
+    kinds = "InvocationType must be Event or DryRun"
     same(called(client, kind="RequestResponse"), ("InvalidParameterValueException", 400, kinds))
     no_json = "Could not parse request body into json: the payload for my-function is not JSON"
     same(called(client, payload=b"{"), ("InvalidRequestContentException", 400, no_json))
     large = "body is too large: a payload for my-function has at most 1024 bytes, any other body 4096"
     same(called(client, payload=b'"' + 1024 * b"a" + b'"'), ("RequestTooLargeException", 413, large))
+    same(called(client, kind="DryRun"), 204)
     same(called(client), 202)
     full = "table is full: my-function holds at most 1 events, with those whose records wait to be collected"
     same(called(client), ("TooManyRequestsException", 429, full))
@@ -119,11 +120,16 @@ def each_reply_to_a_caller_has_an_id(broker):
 
 
 @case()
-def a_record_has_the_id_of_its_event(broker):
+def a_reply_that_names_an_event_has_its_id(broker):
     in_dialect(broker)
-    held = broker.live("{}", "1")
+    held = broker.invoke("{}").id
+    same(broker.delete(held).headers["X-Amzn-RequestId"], held)
+    same(broker.next().id, held)
+    same(broker.respond(held, "1").status, 202)
     record = broker.record()
     same((record.json["requestContext"]["requestId"], record.headers["X-Amzn-RequestId"]), (held, held))
+    deleted = broker.delete(held)
+    same((deleted.status, deleted.headers["X-Amzn-RequestId"]), (204, held))
 
 
 @case({"retries": 0, "response": 512})
@@ -140,6 +146,27 @@ def an_answer_that_is_too_large_ends_its_attempt_as_an_error(broker):
             "errorMessage": "Response payload size exceeded maximum allowed payload size (512 bytes).",
         })
         same(broker.delete(held).status, 204)
+
+
+@case({"concurrency": 10})
+def boto3_asks_what_the_function_is(broker):
+    client = by_boto3(in_dialect(broker))
+    client.get_waiter("function_exists").wait(FunctionName="my-function")
+    client.get_waiter("function_active_v2").wait(FunctionName=ARN)
+    told = client.get_function(FunctionName="my-function")
+    same(told["Concurrency"], {"ReservedConcurrentExecutions": 10})
+    configuration = client.get_function_configuration(FunctionName="my-function", Qualifier="$LATEST")
+    same({name: configuration[name] for name in told["Configuration"]}, told["Configuration"])
+    same((configuration["FunctionArn"], configuration["Timeout"], configuration["State"]), (ARN, 900, "Active"))
+    try:
+        client.get_function(FunctionName="other")
+        raise AssertionError("another function is told")
+    except client.exceptions.ResourceNotFoundException:
+        pass
+    accepted = client.invoke_async(FunctionName="my-function", InvokeArgs=b'{"a": 1}')
+    same((accepted["Status"], accepted["ResponseMetadata"]["HTTPStatusCode"]), (202, 202))
+    event = broker.next()
+    same((event.id, event.json), (accepted["ResponseMetadata"]["RequestId"], {"a": 1}))
 
 
 @case()

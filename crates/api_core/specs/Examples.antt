@@ -68,6 +68,10 @@ invoke_aws name = call_of Aws usual 0 (codes "POST") (invocations name "") event
 abbrev pub asks_aws : String → String → RequestHeaders → Result Call Refusal
 asks_aws method target headers = call_of Aws usual 1 (codes method) (codes target) headers (Whole [])
 
+-- a caller asks so
+abbrev pub caller_asks_aws : String → String → RequestHeaders → Result Call Refusal
+caller_asks_aws method target headers = call_of Aws usual 0 (codes method) (codes target) headers (Whole [])
+
 -- the runtime of environment 1 tells of an attempt by this id
 abbrev pub told_of : String → String → List ℕ
 told_of id what = codes "/2018-06-01/runtime/invocation/" ++ (codes id ++ codes what)
@@ -160,6 +164,26 @@ abbrev pub error_reply : ℕ → String → String → Reply
 error_reply status error_type message =
     json_reply status []
     (codes "{\"errorMessage\":\"" ++ (codes message ++ (codes "\",\"errorType\":\"" ++ (codes error_type ++ codes "\"}"))))
+
+-- what is told of the function
+abbrev pub configuration_shown : List ℕ
+configuration_shown =
+    codes "{\"FunctionName\":\"my-function\","
+    ++ (codes "\"FunctionArn\":\"arn:aws:lambda:us-east-2:123456789012:function:my-function\",\"Handler\":\"app.main\","
+    ++ codes "\"Timeout\":3,\"Version\":\"$LATEST\",\"State\":\"Active\",\"LastUpdateStatus\":\"Successful\"}")
+
+abbrev pub function_shown : List ℕ
+function_shown =
+    codes "{\"Configuration\":"
+    ++ (configuration_shown ++ codes ",\"Concurrency\":{\"ReservedConcurrentExecutions\":10}}")
+
+-- a refusal for an event, with its id
+abbrev pub not_ended_headers : List (List ℕ × List ℕ)
+not_ended_headers =
+    header "X-Amzn-ErrorType" "ResourceConflictException"
+    ∷ header "Content-Type" "application/json"
+    ∷ header "X-Amzn-RequestId" "00000000-0000-4000-8000-000000000001"
+    ∷ []
 
 -- the same to a caller, in the dialect of AWS
 abbrev pub refusal_aws : Refusal → Reply

@@ -7,18 +7,19 @@ use Rattle.destination_json.specs.Json.{is_json}
 use Rattle.destination_json.specs.Record.{latest}
 use Rattle.api_core.specs.declared.dialect.Dialect.{Dialect}
 use Rattle.api_core.specs.declared.dialect.Dialect.TheVariants.{Aws}
+use Rattle.api_core.specs.declared.dialect.Description.TheVariants as description
 use Rattle.api_core.specs.declared.dialect.Stream.TheVariants as stream
 use Rattle.api_core.specs.declared.body.Body.{Body}
 use Rattle.api_core.specs.declared.body.Body.TheVariants as came
 use Rattle.api_core.specs.declared.call.Call.{Call}
 use Rattle.api_core.specs.declared.call.Call.TheVariants as call
 use Rattle.api_core.specs.declared.route.Route.{Route}
-use Rattle.api_core.specs.declared.route.Route.TheVariants.{Invoke, OldestSuccess, OldestFailure, Delete, StopBroker, RuntimeNext, Response, RuntimeError, RuntimeInitError, Register, ExtensionNext, ExtensionInitError, ExtensionExitError, Telemetry, Logs}
+use Rattle.api_core.specs.declared.route.Route.TheVariants.{Invoke, InvokeAsync, InvokeAsyncSlash, GetFunction, GetConfiguration, OldestSuccess, OldestFailure, Delete, StopBroker, RuntimeNext, Response, RuntimeError, RuntimeInitError, Register, ExtensionNext, ExtensionInitError, ExtensionExitError, Telemetry, Logs}
 use Rattle.api_core.specs.declared.refusal.Refusal.{Refusal}
 use Rattle.api_core.specs.declared.refusal.Refusal.TheVariants.{NotFound, UnsupportedInvocationType, InvalidExtensionHeader, TooLarge, InvalidRequestContent, BadSubscription}
 use Rattle.api_core.specs.Ids.{id_of}
 use Rattle.api_core.specs.Paths.{query_pairs, segments_of, in_hole, route_of}
-use Rattle.api_core.specs.Headers.{RequestHeaders, is_event, has_extension_name, extension_name, extension_identifier, features}
+use Rattle.api_core.specs.Headers.{RequestHeaders, is_event, is_dry_run, has_extension_name, extension_name, extension_identifier, features}
 use Rattle.api_core.specs.Dialect.{is_function, accepts_account}
 use Rattle.api_core.specs.Bodies.{or_empty_object, subscription_of}
 use Rattle.api_core.specs.Refusals.{response_too_large}
@@ -29,21 +30,30 @@ use Rattle.api_core.specs.Refusals.{response_too_large}
 abbrev pub is_good_pair : List ℕ × List ℕ → Bool
 is_good_pair pair = not (bytes_eq (codes "Qualifier") pair.0) || bytes_eq latest pair.1
 
+abbrev pub names_function : Dialect → Settings → List ℕ → List ℕ → Bool
+names_function d s target name = is_function d s name && list_all is_good_pair (query_pairs target)
+
 abbrev pub function_check : Dialect → Settings → List ℕ → List ℕ → Route → Bool × Refusal
-function_check d s target name Invoke = (not (is_function d s name && list_all is_good_pair (query_pairs target)), NotFound)
+function_check d s target name Invoke = (not (names_function d s target name), NotFound)
+function_check d s target name InvokeAsync = (not (names_function d s target name), NotFound)
+function_check d s target name InvokeAsyncSlash = (not (names_function d s target name), NotFound)
+function_check d s target name GetFunction = (not (names_function d s target name), NotFound)
+function_check d s target name GetConfiguration = (not (names_function d s target name), NotFound)
 function_check d s target name route = (false, NotFound)
 
-abbrev pub header_check : RequestHeaders → Route → Bool × Refusal
-header_check headers Invoke = (not (is_event headers), UnsupportedInvocationType)
-header_check headers Register = (not (has_extension_name headers), InvalidExtensionHeader)
-header_check headers ExtensionNext = (is_none (extension_identifier headers), InvalidExtensionHeader)
-header_check headers ExtensionInitError = (is_none (extension_identifier headers), InvalidExtensionHeader)
-header_check headers ExtensionExitError = (is_none (extension_identifier headers), InvalidExtensionHeader)
-header_check headers route = (false, InvalidExtensionHeader)
+abbrev pub header_check : Dialect → RequestHeaders → Route → Bool × Refusal
+header_check d headers Invoke = (not (is_event headers || is_dry_run d headers), UnsupportedInvocationType)
+header_check d headers Register = (not (has_extension_name headers), InvalidExtensionHeader)
+header_check d headers ExtensionNext = (is_none (extension_identifier headers), InvalidExtensionHeader)
+header_check d headers ExtensionInitError = (is_none (extension_identifier headers), InvalidExtensionHeader)
+header_check d headers ExtensionExitError = (is_none (extension_identifier headers), InvalidExtensionHeader)
+header_check d headers route = (false, InvalidExtensionHeader)
 
 -- how many bytes a body may have
 abbrev pub most_bytes : Settings → Route → ℕ
 most_bytes s Invoke = s.payload
+most_bytes s InvokeAsync = s.payload
+most_bytes s InvokeAsyncSlash = s.payload
 most_bytes s Response = s.response
 most_bytes s RuntimeError = s.response
 most_bytes s route = 4096
@@ -68,6 +78,8 @@ size_check d s body route = (is_too_large s body route && not (is_told_as_error 
 
 abbrev pub content_check : List ℕ → Route → Bool × Refusal
 content_check bytes Invoke = (not (is_json (or_empty_object bytes)), InvalidRequestContent)
+content_check bytes InvokeAsync = (not (is_json (or_empty_object bytes)), InvalidRequestContent)
+content_check bytes InvokeAsyncSlash = (not (is_json (or_empty_object bytes)), InvalidRequestContent)
 content_check bytes Register = (is_none (subscription_of bytes), BadSubscription)
 content_check bytes route = (false, BadSubscription)
 
@@ -75,7 +87,7 @@ content_check bytes route = (false, BadSubscription)
 abbrev pub checks : Dialect → Settings → List ℕ → RequestHeaders → Body → List ℕ → Route → List (Bool × Refusal)
 checks d s target headers body name route =
     function_check d s target name route
-    ∷ header_check headers route
+    ∷ header_check d headers route
     ∷ size_check d s body route
     ∷ content_check (bytes_of body) route
     ∷ []
@@ -91,9 +103,17 @@ name_or_none headers = unwrap_or (extension_name headers) []
 abbrev pub events_or_none : List ℕ → Bool × Bool
 events_or_none body = unwrap_or (subscription_of body) (false, false)
 
+-- the invocation of a request, or the question whether it could be made
+abbrev pub invoked_by : Dialect → RequestHeaders → List ℕ → Call
+invoked_by d headers bytes = if is_dry_run d headers then call.Describe description.DryRun else call.Invoke (or_empty_object bytes)
+
 -- what a request with these bytes calls, by the segment in its hole
 abbrev pub call_with : Dialect → ℕ → RequestHeaders → List ℕ → List ℕ → Route → Call
-call_with d port headers bytes hole Invoke = call.Invoke (or_empty_object bytes)
+call_with d port headers bytes hole Invoke = invoked_by d headers bytes
+call_with d port headers bytes hole InvokeAsync = call.InvokeAsync (or_empty_object bytes)
+call_with d port headers bytes hole InvokeAsyncSlash = call.InvokeAsync (or_empty_object bytes)
+call_with d port headers bytes hole GetFunction = call.Describe description.Function
+call_with d port headers bytes hole GetConfiguration = call.Describe description.Configuration
 call_with d port headers bytes hole OldestSuccess = call.Oldest side.Success
 call_with d port headers bytes hole OldestFailure = call.Oldest side.Failure
 call_with d port headers bytes hole Delete = call.Delete (id_of hole)

@@ -3,17 +3,17 @@ ghost use Rattle.std.specs.Prelude.{◌≡◌, [], IfOk};
 ghost use Rattle.percent_encoding.specs.Percent.{percent_decode};
 ghost use Rattle.api_core.specs.Ids.{id_of};
 ghost use Rattle.api_core.specs.Bodies.{or_empty_object};
-ghost use Rattle.api_core.specs.Requests.{call_by, call_with, bytes_of, name_or_none, events_or_none, identifier_or_zeros};
+ghost use Rattle.api_core.specs.Requests.{call_by, call_with, invoked_by, bytes_of, name_or_none, events_or_none, identifier_or_zeros};
 ghost use Rattle.api_core.specs.Refusals.{response_too_large};
 
 use crate::bodies::subscription_of;
 use crate::checks::is_too_large;
 use crate::features::accepts_account;
-use crate::headers::{extension_identifier, extension_name, features};
+use crate::headers::{extension_identifier, extension_name, features, is_dry_run};
 use crate::ids::read_id;
 use crate::route::Route;
 use crate::texts::response_too_large;
-use crate::{Body, Call, Dialect, Stream};
+use crate::{Body, Call, Description, Dialect, Stream};
 use async_core::Side;
 use http::header::HeaderMap;
 use invoke_records::Bytes;
@@ -30,15 +30,36 @@ fn id_in(alloc: Global, part: &str) -> Result<Option<[u8; 16]>, AllocError>
 }
 
 // A payload is an empty object where the body is empty.
-fn invoke(alloc: Global, bytes: Bytes) -> Result<Call, AllocError>
-    ensures { IfOk result (λ call. call ≡ Call.Invoke (or_empty_object bytes)) }
+fn payload(alloc: Global, bytes: Bytes) -> Result<Bytes, AllocError>
+    ensures { IfOk result (λ payload. payload ≡ or_empty_object bytes) }
 {
-    let payload = if bytes.as_slice().is_empty() {
-        Bytes::from_slice(alloc, b"{}")?
+    if bytes.as_slice().is_empty() {
+        Bytes::from_slice(alloc, b"{}")
     } else {
-        bytes
-    };
+        Ok(bytes)
+    }
+}
+
+fn invoked_by(
+    alloc: Global,
+    dialect: Dialect,
+    headers: &HeaderMap,
+    bytes: Bytes,
+) -> Result<Call, AllocError>
+    ensures { IfOk result (λ call. call ≡ invoked_by dialect headers.now bytes) }
+{
+    if is_dry_run(dialect, headers) {
+        return Ok(Call::Describe(Description::DryRun));
+    }
+    let payload = payload(alloc, bytes)?;
     Ok(Call::Invoke { payload })
+}
+
+fn invoked_async(alloc: Global, bytes: Bytes) -> Result<Call, AllocError>
+    ensures { IfOk result (λ call. call ≡ Call.InvokeAsync (or_empty_object bytes)) }
+{
+    let payload = payload(alloc, bytes)?;
+    Ok(Call::InvokeAsync { payload })
 }
 
 fn name_in(alloc: Global, headers: &HeaderMap) -> Result<Bytes, AllocError>
@@ -130,7 +151,10 @@ fn call_with(
 {
     let identifier = identifier_in(headers);
     match route {
-        Route::Invoke => invoke(alloc, bytes),
+        Route::Invoke => invoked_by(alloc, dialect, headers, bytes),
+        Route::InvokeAsync | Route::InvokeAsyncSlash => invoked_async(alloc, bytes),
+        Route::GetFunction => Ok(Call::Describe(Description::Function)),
+        Route::GetConfiguration => Ok(Call::Describe(Description::Configuration)),
         Route::OldestSuccess => Ok(Call::Oldest(Side::Success)),
         Route::OldestFailure => Ok(Call::Oldest(Side::Failure)),
         Route::Delete => Ok(Call::Delete(id_in(alloc, part)?)),

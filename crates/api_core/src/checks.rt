@@ -6,7 +6,7 @@ ghost use Rattle.api_core.specs.Requests.{function_check, header_check, size_che
 
 use crate::bodies::{or_empty_object, subscription_of};
 use crate::functions::{has_good_qualifier, is_function};
-use crate::headers::{extension_identifier, has_extension_name, is_event};
+use crate::headers::{extension_identifier, has_extension_name, is_dry_run, is_event};
 use crate::route::Route;
 use crate::texts::response_too_large;
 use crate::{Body, Dialect, Refusal};
@@ -34,7 +34,11 @@ fn bad_function(
     ensures { IfOk result (λ bad. bad ≡ failed (function_check dialect settings.now target.now (percent_decode part.now) route)) }
 {
     match route {
-        Route::Invoke => {
+        Route::Invoke
+        | Route::InvokeAsync
+        | Route::InvokeAsyncSlash
+        | Route::GetFunction
+        | Route::GetConfiguration => {
             let is_named = is_function(alloc, dialect, settings, part)?;
             let is_qualified = has_good_qualifier(alloc, target)?;
             Ok(unless(is_named && is_qualified, Refusal::NotFound))
@@ -44,11 +48,14 @@ fn bad_function(
 }
 
 // What is wrong with the headers.
-fn bad_headers(headers: &HeaderMap, route: Route) -> Option<Refusal>
-    ensures { result ≡ failed (header_check headers.now route) }
+fn bad_headers(dialect: Dialect, headers: &HeaderMap, route: Route) -> Option<Refusal>
+    ensures { result ≡ failed (header_check dialect headers.now route) }
 {
     match route {
-        Route::Invoke => unless(is_event(headers), Refusal::UnsupportedInvocationType),
+        Route::Invoke => unless(
+            is_event(headers) || is_dry_run(dialect, headers),
+            Refusal::UnsupportedInvocationType,
+        ),
         Route::Register => unless(has_extension_name(headers), Refusal::InvalidExtensionHeader),
         Route::ExtensionNext | Route::ExtensionInitError | Route::ExtensionExitError => unless(
             extension_identifier(headers).is_some(),
@@ -63,7 +70,7 @@ fn most_bytes(settings: &Settings, route: Route) -> u32
     ensures { result ≡ most_bytes settings.now route }
 {
     match route {
-        Route::Invoke => settings.payload,
+        Route::Invoke | Route::InvokeAsync | Route::InvokeAsyncSlash => settings.payload,
         Route::Response | Route::RuntimeError => settings.response,
         _ => 4096,
     }
@@ -129,7 +136,7 @@ fn bad_content(alloc: Global, body: &[u8], route: Route) -> Result<Option<Refusa
     ensures { IfOk result (λ bad. bad ≡ failed (content_check body.now route)) }
 {
     match route {
-        Route::Invoke => {
+        Route::Invoke | Route::InvokeAsync | Route::InvokeAsyncSlash => {
             let is_good = is_json(alloc, or_empty_object(body))?;
             Ok(unless(is_good, Refusal::InvalidRequestContent))
         }
@@ -157,7 +164,7 @@ pub(crate) fn first_failed(
     if let Some(why) = bad_function(alloc, dialect, settings, target, part, route)? {
         return Ok(Some(why));
     }
-    if let Some(why) = bad_headers(headers, route) {
+    if let Some(why) = bad_headers(dialect, headers, route) {
         return Ok(Some(why));
     }
     if let Some(why) = bad_size(alloc, dialect, settings, body, route)? {

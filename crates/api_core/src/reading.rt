@@ -51,8 +51,8 @@ fn read_call(
 /// The requests are those of the public references: Invoke of the Lambda API for asynchronous invocation, the Lambda
 /// runtime API (2018-06-01), and the Lambda extensions API (2020-01-01); those under `/broker` are this broker's own. In the
 /// dialect `Aws` a partial ARN names the function too, an extension may accept the account's id, a response that is too large
-/// is the function's error that says so, and there are the paths of the telemetry API (2022-07-01) and the logs API
-/// (2020-08-15).
+/// is the function's error that says so, and there are dry runs, InvokeAsync (2014-11-13), GetFunction, its configuration, and
+/// the paths of the telemetry API (2022-07-01) and the logs API (2020-08-15).
 pub fn read_request(
     alloc: Global,
     dialect: Dialect,

@@ -1,7 +1,8 @@
 // The bodies of replies.
 ghost use Rattle.std.specs.Prelude.{◌≡◌, ℕ, List, ◌∷◌, ◌++◌, IfOk, decimal, string_bytes};
 ghost use Rattle.api_core.specs.Refusals.{error_object, error_text, service_message, service_text, response_too_large, fault_of};
-ghost use Rattle.api_core.specs.Replies.{ok_body, trace_id, tracing, invoke_text, reason_text, shutdown_text, function_members, account_member, account_members, function_text, not_supported_text};
+ghost use Rattle.api_core.specs.Replies.{ok_body, trace_id, tracing, invoke_text, reason_text, shutdown_text, function_members, account_member, account_members, function_text, not_supported_text, async_body};
+ghost use Rattle.api_core.specs.Replies.{configuration_text, concurrency_text, described_text};
 ghost use Rattle.api_core.specs.Steps.{Begun};
 
 use crate::functions::account_of;
@@ -13,6 +14,9 @@ use std::alloc::{AllocError, Global};
 
 /// What is told where something that was reported is taken.
 pub(crate) const OK_BODY: &[u8] = b"{\"status\":\"OK\"}";
+
+/// What InvokeAsync tells of an event that is accepted.
+pub(crate) const ASYNC_BODY: &[u8] = b"{\"Status\":202}";
 
 /// No request is traced.
 pub(crate) const TRACE_ID: &[u8] = b"Root=1-00000000-000000000000000000000000;Sampled=0";
@@ -78,7 +82,7 @@ fn service_message(alloc: Global, settings: &Settings, why: Refusal) -> Result<V
 {
     match why {
         Refusal::UnsupportedInvocationType => {
-            Vec::from_slice(alloc, b"InvocationType must be Event")
+            Vec::from_slice(alloc, b"InvocationType must be Event or DryRun")
         }
         Refusal::InvalidRequestContent => naming(
             alloc,
@@ -143,6 +147,39 @@ pub(crate) fn response_too_large(alloc: Global, settings: &Settings) -> Result<V
     )?;
     let mut object = Object::of_text(alloc, "errorType", b"Function.ResponseSizeTooLarge");
     object.add_text("errorMessage", &message);
+    object.end()
+}
+
+/// The function's configuration, as GetFunctionConfiguration tells it.
+pub(crate) fn configuration_text(alloc: Global, settings: &Settings) -> Result<Vec<u8>, AllocError>
+    ensures { IfOk result (λ text. text.items ≡ configuration_text settings.now) }
+{
+    let timeout = digits(alloc, settings.timeout as u64)?;
+    let mut object = Object::of_text(alloc, "FunctionName", settings.name.as_bytes());
+    object.add_text("FunctionArn", settings.arn.as_bytes());
+    object.add_text("Handler", settings.handler.as_bytes());
+    object.add_member("Timeout", timeout.as_bytes());
+    object.add_text("Version", b"$LATEST");
+    object.add_text("State", b"Active");
+    object.add_text("LastUpdateStatus", b"Successful");
+    object.end()
+}
+
+fn concurrency_text(alloc: Global, settings: &Settings) -> Result<Vec<u8>, AllocError>
+    ensures { IfOk result (λ text. text.items ≡ concurrency_text settings.now) }
+{
+    let most = digits(alloc, settings.concurrency as u64)?;
+    Object::of_member(alloc, "ReservedConcurrentExecutions", most.as_bytes()).end()
+}
+
+/// What the function is, as GetFunction tells it.
+pub(crate) fn described_text(alloc: Global, settings: &Settings) -> Result<Vec<u8>, AllocError>
+    ensures { IfOk result (λ text. text.items ≡ described_text settings.now) }
+{
+    let configuration = configuration_text(alloc, settings)?;
+    let concurrency = concurrency_text(alloc, settings)?;
+    let mut object = Object::of_member(alloc, "Configuration", &configuration);
+    object.add_member("Concurrency", &concurrency);
     object.end()
 }
 

@@ -1,5 +1,5 @@
 // Steps on requests alone: which call one is, or which check refuses it.
-use api_core::{Body, Call, Dialect, Refusal, RequestError, Stream, read_request};
+use api_core::{Body, Call, Description, Dialect, Refusal, RequestError, Stream, read_request};
 use async_core::Side;
 use case_runner::{StepReply, TextBuffer, Words, body, number_of_id};
 use http::Method;
@@ -135,19 +135,23 @@ fn tell_environment_call(call: &Call, answer: &mut TextBuffer) {
 }
 
 // A payload of more than 64 bytes is told by its length.
-fn tell_payload(payload: &[u8], answer: &mut TextBuffer) {
+fn tell_payload(word: &str, payload: &[u8], answer: &mut TextBuffer) {
     if payload.len() > 64 {
-        answer.add_with("invoke ", payload.len() as u64);
+        answer.add_with(word, payload.len() as u64);
         answer.add(" bytes");
     } else {
-        answer.add("invoke ");
+        answer.add(word);
         answer.add_body(payload);
     }
 }
 
 fn tell_call(call: &Call, answer: &mut TextBuffer) -> StepReply {
     match call {
-        Call::Invoke { payload } => tell_payload(payload.as_slice(), answer),
+        Call::Invoke { payload } => tell_payload("invoke ", payload.as_slice(), answer),
+        Call::InvokeAsync { payload } => tell_payload("invoke async ", payload.as_slice(), answer),
+        Call::Describe(Description::DryRun) => answer.add("dry run"),
+        Call::Describe(Description::Function) => answer.add("function"),
+        Call::Describe(Description::Configuration) => answer.add("configuration"),
         Call::Oldest(Side::Success) => answer.add("oldest success"),
         Call::Oldest(Side::Failure) => answer.add("oldest failure"),
         Call::Delete(id) => {

@@ -1,5 +1,5 @@
 -- Law: what a request calls keeps to the settings, where a payload may have two bytes.
-use Rattle.std.proofs.Common.{◌≡◌, ℕ, ◌≤◌, nat_le, nat_lt, ◌==◌, ◌&&◌, not, Bool, true, false, List, [], ◌∷◌, length, Option, Some, None, Result, Ok, Err, refl, subst, arith, if◌then◌else◌}
+use Rattle.std.proofs.Common.{◌≡◌, ℕ, ◌≤◌, nat_le, ◌==◌, ◌&&◌, not, Bool, true, false, List, [], ◌∷◌, length, Option, Some, None, Result, Ok, Err, refl, subst, arith, if◌then◌else◌}
 use Rattle.std.specs.Prelude.{filter, find}
 use Rattle.std.proofs.lemmas.Bool.{eqb-false, leb-true, ltb-false}
 use Rattle.retry_rules.specs.declared.settings.Settings.{Settings}
@@ -11,13 +11,13 @@ use Rattle.api_core.specs.declared.call.Call.{Call}
 use Rattle.api_core.specs.declared.call.Call.TheVariants as call
 use Rattle.api_core.specs.Ids.{id_of}
 use Rattle.api_core.specs.declared.route.Route.{Route}
-use Rattle.api_core.specs.declared.route.Route.TheVariants.{Invoke, OldestSuccess, OldestFailure, Delete, StopBroker, RuntimeNext, Response, RuntimeError, RuntimeInitError, Register, ExtensionNext, ExtensionInitError, ExtensionExitError, Telemetry, Logs}
+use Rattle.api_core.specs.declared.route.Route.TheVariants.{Invoke, InvokeAsync, InvokeAsyncSlash, GetFunction, GetConfiguration, OldestSuccess, OldestFailure, Delete, StopBroker, RuntimeNext, Response, RuntimeError, RuntimeInitError, Register, ExtensionNext, ExtensionInitError, ExtensionExitError, Telemetry, Logs}
 use Rattle.api_core.specs.declared.refusal.Refusal.{Refusal}
 use Rattle.api_core.specs.Paths.{callers_routes, common_routes, environment_routes, routes_at, fits, has_method, or_not_allowed, route_among, segments_of, in_hole, route_of}
-use Rattle.api_core.specs.Headers.{RequestHeaders}
+use Rattle.api_core.specs.Headers.{RequestHeaders, is_dry_run}
 use Rattle.api_core.specs.Refusals.{response_too_large}
 use Rattle.api_core.specs.Bodies.{or_empty_object}
-use Rattle.api_core.specs.Requests.{failed, or_later, first_failed, function_check, header_check, size_check, content_check, most_bytes, bytes_of, is_too_large, is_told_as_error, refusal_of, unless_refused, call_with, call_by, call_on, call_of}
+use Rattle.api_core.specs.Requests.{failed, or_later, first_failed, function_check, header_check, size_check, content_check, most_bytes, bytes_of, is_too_large, is_told_as_error, refusal_of, unless_refused, invoked_by, call_with, call_by, call_on, call_of}
 use Rattle.api_core.specs.Within.{IsEnvironment, IsWithin}
 
 -- ## The routes of a port
@@ -25,6 +25,10 @@ use Rattle.api_core.specs.Within.{IsEnvironment, IsWithin}
 -- where the route is one of an environment, the port is that of an environment
 abbrev IsAt : Settings → ℕ → Route → Type 0
 IsAt s port Invoke = Unit {0}
+IsAt s port InvokeAsync = Unit {0}
+IsAt s port InvokeAsyncSlash = Unit {0}
+IsAt s port GetFunction = Unit {0}
+IsAt s port GetConfiguration = Unit {0}
 IsAt s port OldestSuccess = Unit {0}
 IsAt s port OldestFailure = Unit {0}
 IsAt s port Delete = Unit {0}
@@ -51,9 +55,13 @@ of_environment : (d : Dialect) (s : Settings) (port : ℕ) → IsEnvironment s p
 of_environment Profile s port h = common s port h
 of_environment Aws s port h = (h, (h, common s port h))
 
+of_callers : (d : Dialect) (s : Settings) (port : ℕ) → Each s port (callers_routes d)
+of_callers Profile s port = (tt, (tt, (tt, (tt, (tt, tt)))))
+of_callers Aws s port = (tt, (tt, (tt, (tt, (tt, (tt, (tt, (tt, (tt, tt)))))))))
+
 each_at : (d : Dialect) (s : Settings) (port : ℕ) (b c : Bool) → (port == 0) ≡ b → nat_le port s.environments ≡ c
-    → Each s port (if b then callers_routes else if c then environment_routes d else [])
-each_at d s port true c e f = (tt, (tt, (tt, (tt, (tt, tt)))))
+    → Each s port (if b then callers_routes d else if c then environment_routes d else [])
+each_at d s port true c e f = of_callers d s port
 each_at d s port false true e f =
     let low : 1 ≤ port = omega (arith, eqb-false port 0 e) in
     of_environment d s port (low, leb-true port s.environments f)
@@ -114,8 +122,8 @@ passes_size : (d : Dialect) (s : Settings) (target : List ℕ) (headers : Reques
 passes_size d s target headers body hole route e =
     let content = content_check (bytes_of body) route in
     let later = first_failed (size_check d s body route ∷ content ∷ []) in
-    let one = none_of (failed (function_check d s target hole route)) (or_later (failed (header_check headers route)) later) e in
-    let two = none_of (failed (header_check headers route)) later one.1 in
+    let one = none_of (failed (function_check d s target hole route)) (or_later (failed (header_check d headers route)) later) e in
+    let two = none_of (failed (header_check d headers route)) later one.1 in
     let three = none_of (failed (size_check d s body route)) (first_failed (content ∷ [])) two.1 in
     passes (size_check d s body route).0 (size_check d s body route).1 three.0
 
@@ -128,9 +136,18 @@ not_empty : (s : Settings) (body : List ℕ) → 2 ≤ s.payload → length body
 not_empty s [] two small = (omega arith, two)
 not_empty s (b ∷ bytes) two small = (omega arith, small)
 
+invokes : (d : Dialect) (s : Settings) (headers : RequestHeaders) (bytes : List ℕ) (dry : Bool) → is_dry_run d headers ≡ dry
+    → 2 ≤ s.payload → length bytes ≤ s.payload → IsWithin s (invoked_by d headers bytes)
+invokes d s headers bytes true is two small = rw is tt
+invokes d s headers bytes false is two small = rw is (not_empty s bytes two small)
+
 keeps : (d : Dialect) (s : Settings) (port : ℕ) (headers : RequestHeaders) (bytes hole : List ℕ) (route : Route) → 2 ≤ s.payload
     → IsAt s port route → length bytes ≤ most_bytes s route → IsWithin s (call_with d port headers bytes hole route)
-keeps d s port headers bytes hole Invoke two at small = not_empty s bytes two small
+keeps d s port headers bytes hole Invoke two at small = invokes d s headers bytes (is_dry_run d headers) refl two small
+keeps d s port headers bytes hole InvokeAsync two at small = not_empty s bytes two small
+keeps d s port headers bytes hole InvokeAsyncSlash two at small = not_empty s bytes two small
+keeps d s port headers bytes hole GetFunction two at small = tt
+keeps d s port headers bytes hole GetConfiguration two at small = tt
 keeps d s port headers bytes hole OldestSuccess two at small = tt
 keeps d s port headers bytes hole OldestFailure two at small = tt
 keeps d s port headers bytes hole Delete two at small = tt
