@@ -7,7 +7,7 @@ ghost use Rattle.hall_core.specs.Fresh.{IsFresh};
 ghost use Rattle.receipts.specs.Desks.{desk_count};
 
 use crate::notes::{Opening, note_opening, note_port, note_stop, warn};
-use crate::standby::{OpenDisk, open_in_turn};
+use crate::standby::open_in_turn;
 use admin_port::{Admin, AdminPort};
 use broker_commands::{Address, Device, DiskError, now, open};
 use group_commit::{Broker, CommitError, IssueError, OpenError};
@@ -327,7 +327,7 @@ where
     R: Files<File = File> + Machine,
     W: Write,
 {
-    let OpenDisk { disk, start } = open_in_turn(&rt, at, out)?;
+    let (disk, start) = open_in_turn(&rt, at, out)?;
     warn(&rt, at);
     let written = Written::new(rt.alloc())?;
     let counting = CountingDisk::over(disk, written.another()?);

@@ -13,11 +13,7 @@ use std::{io, thread};
 const PAUSE: u64 = 50;
 
 /// A disk that is open, and when its opening began.
-#[derive(Drop)]
-pub struct OpenDisk<R: Eprint + AllocGlobal + Copy + Drop> {
-    pub disk: Device<R>,
-    pub start: io::Result<Instant>,
-}
+pub type OpenDisk<R> = (Device<R>, io::Result<Instant>);
 
 // Opens a disk.
 fn open_now<R>(rt: &R, path: &str) -> Result<OpenDisk<R>, DiskError>
@@ -26,7 +22,7 @@ where
 {
     let start = Instant::now(rt);
     let disk = open_device(rt, path)?;
-    Ok(OpenDisk { disk, start })
+    Ok((disk, start))
 }
 
 // Whether another program has the disk open.
