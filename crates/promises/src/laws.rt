@@ -30,7 +30,7 @@ pub fn what_was_answered_202_is_kept()
     // claim: A 202 says that the slot's request was accepted, durably. Each later history's table has the event with its
     // payload, until its Collect. [: answered, kept, stopped; calls_and_stops_go_on: at_first, issued, stopped;
     // a_202_without_a_body_accepts; a_202_that_says_so_accepts; what_is_given_was_told]
-    ensures answered { (s : Settings) (t : Telling s) (id : List ℕ) → t.told ≡ accepted id
+    ensures answered { (s : Settings) (t : Telling s) (id : List ℕ) → (t.told ≡ accepted id) ⊎ (t.told ≡ accepted_async id)
         → (payload : List ℕ) × WasAnswered202 s t id payload }
     ensures kept { (s now : Settings) (t : Telling s) (id payload : List ℕ) (later : List Command) → WasAnswered202 s t id payload
         → GoesOn now t.point (issued s t) later → IsKept now t.point later id payload }
