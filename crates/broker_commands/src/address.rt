@@ -18,4 +18,7 @@ pub struct Address<'a> {
     pub admin: Option<u16>,
     pub dialect: Dialect,
     pub extensions: u8,
+    /// Whether the records of events that succeeded are collected at once, and those of the others.
+    pub discards_success: bool,
+    pub discards_failure: bool,
 }

@@ -206,6 +206,9 @@ fn reach<'a>(alloc: Global, help: &'a str) -> Arg<'a> {
         .default_value("127.0.0.1")
 }
 
+/// Whose records may be discarded.
+const SIDES: [&str; 3] = ["success", "failure", "both"];
+
 fn serve_command<'a>(alloc: Global) -> Result<Command<'a>, AllocError> {
     let help = "Port of the callers, 1024 to 65519; environment n has the port n behind it";
     let port = option(alloc, "port", help);
@@ -213,6 +216,8 @@ fn serve_command<'a>(alloc: Global) -> Result<Command<'a>, AllocError> {
     let extensions = "Extensions for which an environment waits before its first event, 0 to 10";
     let address = "IP address of the callers' and the environments' ports";
     let host = "A host name under which the ports are asked, beside localhost and addresses";
+    let discard =
+        "Whose records are collected as soon as they are durable, so that nobody reads them";
     let admin = "Port of the operator, who only looks, 1024 to 65535, on the loopback address";
     Command::new(alloc, "serve")
         .about("Serve a disk until POST /broker/stop")
@@ -233,6 +238,7 @@ fn serve_command<'a>(alloc: Global) -> Result<Command<'a>, AllocError> {
             "0",
             value_parser!(u8).range(0..11),
         ))?
+        .arg(option(alloc, "discard", discard).value_parser(SIDES.as_slice()))?
         .arg(reach(alloc, address))?
         .arg(option(alloc, "host", host).value_name("NAME"))?
         .arg(option(alloc, "admin", admin).value_parser(value_parser!(u16).range(1024..65536)))
@@ -409,6 +415,11 @@ fn bad_address(
     command.error(ErrorKind::ValueValidation, message.as_str())
 }
 
+// Whether the records of one side are discarded, where it is said of which sides they are.
+fn discards(matches: &ArgMatches<'_>, side: &str) -> bool {
+    matches!(matches.get_str("discard"), Some(sides) if sides == side || sides == "both")
+}
+
 fn address_at<'a>(matches: &ArgMatches<'a>, reach: IpAddr) -> Option<Address<'a>> {
     Some(Address {
         path: matches.get_str("disk")?,
@@ -418,6 +429,8 @@ fn address_at<'a>(matches: &ArgMatches<'a>, reach: IpAddr) -> Option<Address<'a>
         admin: matches.get_one("admin"),
         dialect: dialect(matches.get_str("dialect")?),
         extensions: matches.get_one("extensions")?,
+        discards_success: discards(matches, "success"),
+        discards_failure: discards(matches, "failure"),
     })
 }
 
