@@ -11,6 +11,7 @@ use crate::wake::{Slept, Wake};
 use api_core::Call;
 use front_board::Seated;
 use group_commit::Ticket;
+use hall_core::HallError;
 use invoke_records::{EventRow, Outcome, Standing};
 use long_poll::{Port, Waiting};
 use port_meters::{Machine, Moment};
@@ -148,7 +149,10 @@ fn collect_all<R: Wait + Clock + Drop + Copy, L: Ledger, T: Trace>(
 {
     let mut all = Vec::with_capacity(alloc, ids.len())?;
     for id in ids {
-        all.push(collect(rt, port, *id)?)?;
+        let collected = collect(rt, port, *id)?;
+        if all.push(collected).is_err() {
+            return Err(ArrivalError::Hall(HallError::OutOfMemory));
+        }
     }
     Ok(all)
 }
