@@ -118,7 +118,7 @@ struct Collected<L: Ledger, T: Trace> {
     at: u64,
     seen: Witnessed<(), L, T>,
     // claim: A record is collected by one DELETE, as a caller sends it: just that was done to the hall before.
-    ghost done: { IsDone (hall_in seen.before.value.hall) (hall_in seen.after.value.hall) (delete slot id at) },
+    ghost done: { ∥ IsDone (hall_in seen.before.value.hall) (hall_in seen.after.value.hall) (delete slot id at) ∥₁ },
 }
 
 // A DELETE of a record comes to a port now, as from a caller who does not wait for the reply.

@@ -138,10 +138,10 @@ fn furnish<L: Ledger, T: Trace, D: Disk + Drop>(
     let Some((desk, ticker)) = pop_two(&mut desks) else {
         unreachable!();
     };
-    let Some((seated, seat)) = pop_two(&mut seats) else {
+    let Some(collector_seat) = seats.pop() else {
         unreachable!();
     };
-    let Some(collector_seat) = seats.pop() else {
+    let Some((seated, seat)) = pop_two(&mut seats) else {
         unreachable!();
     };
     let (reader, ports) = places(alloc, &front, seat, desks, seats)?;
