@@ -38,6 +38,9 @@ DEADLINE = 60
 # The limits of a port, in seconds: for a head and for a body, and for an idle connection; and how many connections it has open.
 REQUEST, IDLE, CONNECTIONS = 30, 120, 1100
 
+# How many flushes an opening makes: one before it drops what the machine kept of the disk, and one before it reads.
+OPENING = 2
+
 # How long a port reads on behind a refusal, in seconds. Who sends the rest later sees a connection that breaks.
 LINGER = 2
 

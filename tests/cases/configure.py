@@ -1,5 +1,5 @@
 """Configuring a disk: what is in force for later events alone, and what a stop in the middle of it leaves."""
-from harness import case, matches, same
+from harness import OPENING, case, matches, same
 
 
 @case()
@@ -59,10 +59,10 @@ def a_worn_disk_is_not_configured(broker):
 
 
 # Where a stop may come: what the watch is told, and whether what was asked for is in force behind it. The opening makes the first
-# flush. The frame's body is written, then its gate, each with a flush behind it.
+# flushes. The frame's body is written, then its gate, each with a flush behind it.
 STOPS = (
-    ({"kill_flush": 1}, False), ({"kill_write": 1}, False), ({"kill_write": 1, "torn": 512}, False), ({"kill_flush": 2}, False),
-    ({"kill_write": 2}, False), ({"kill_flush": 3}, True), ({"kill_print": 1}, True),
+    ({"kill_flush": 1}, False), ({"kill_flush": OPENING}, False), ({"kill_write": 1}, False), ({"kill_write": 1, "torn": 512}, False),
+    ({"kill_flush": OPENING + 1}, False), ({"kill_write": 2}, False), ({"kill_flush": OPENING + 2}, True), ({"kill_print": 1}, True),
 )
 
 
@@ -107,13 +107,12 @@ def a_configure_outlives_the_switches_behind_it(broker):
 @case()
 def an_operator_is_shown_what_is_in_force(broker):
     def shown():
-        told = broker.look("/metrics").body.decode()
-        line = [line for line in told.splitlines() if line.startswith("lambda_broker_settings_info{")][0]
-        return matches('.*,retries="([0-9]+)",age_seconds="([0-9]+)",.*', line)
+        told = broker.numbers()
+        return told["retries_limit"], told["age_limit_seconds"]
 
     broker.serve()
-    same(shown(), ("2", "21600"))
+    same(shown(), (2, 21600))
     same(broker.stop(), (202, 0, ""))
     broker.configure("--retries", 1, "--age", 77)
     broker.serve()
-    same(shown(), ("1", "77"))
+    same(shown(), (1, 77))

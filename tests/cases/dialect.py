@@ -2,7 +2,7 @@
 import json
 import uuid
 
-from harness import ARN, EVENT, INVOKE, Beside, Skipped, case, same
+from harness import ARN, EVENT, INVOKE, OPENING, Beside, Skipped, case, same
 
 
 def in_dialect(broker, *words):
@@ -72,7 +72,7 @@ def boto3_raises_a_typed_exception_for_each_refusal(broker):
 
 @case()
 def boto3_raises_a_service_exception_where_the_device_failed(broker):
-    broker.watches_disk().fail_flush = 2
+    broker.watches_disk().fail_flush = OPENING + 1
     same(called(by_boto3(in_dialect(broker))), ("ServiceException", 503, "broker is not available"))
     same(broker.ended(), (3, "device fault\n"))
 

@@ -4,7 +4,7 @@ import re
 import shutil
 import time
 
-from harness import case, same, statuses, until
+from harness import OPENING, case, same, statuses, until
 
 
 @case()
@@ -23,39 +23,39 @@ def a_format_flushes_the_file_its_folder_and_each_step(broker):
 def an_invoke_makes_two_flushes_and_two_writes_and_what_is_read_none(broker):
     watch = broker.watches_disk()
     broker.serve()
-    same((watch.flushed, watch.written), (1, 0))
+    same((watch.flushed, watch.written), (OPENING, 0))
     for n in range(1, 4):
         same(broker.invoke("{}").status, 202)
-        same((watch.flushed, watch.written), (1 + 2 * n, 2 * n))
+        same((watch.flushed, watch.written), (OPENING + 2 * n, 2 * n))
     same((broker.record().status, broker.ask("GET", "/x").status, broker.look("/events").status), (204, 404, 200))
-    same((watch.flushed, watch.written), (7, 6))
+    same((watch.flushed, watch.written), (OPENING + 6, 6))
     same(broker.number("written_bytes_total"), 3 * 3 * 512)
     same(broker.stop(), (202, 0, ""))
-    same((watch.flushed, watch.written), (7, 6))
+    same((watch.flushed, watch.written), (OPENING + 6, 6))
 
 
 @case()
 def an_audit_writes_and_flushes_nothing_but_its_opening(broker):
     watch = broker.watches_disk()
     broker.audit()
-    same((watch.flushes, watch.writes), (1, 0))
+    same((watch.flushes, watch.writes), (OPENING, 0))
 
 
 @case()
 def nothing_is_told_before_its_flush(broker):
     watch = broker.watches_disk()
-    # The opening's flush comes first. An invoke makes one behind the frame's body, and one behind its gate.
-    watch.hold_flush = 2
+    # The opening's flushes come first. An invoke makes one behind the frame's body, and one behind its gate.
+    watch.hold_flush = OPENING + 1
     broker.serve()
     invoke = broker.send_invoke("{}")
-    until("a flush", lambda: watch.flushes == 2)
+    until("a flush", lambda: watch.flushes == OPENING + 1)
     events, record, numbers = broker.send_look("/events"), broker.send("GET", "/broker/destinations/success"), broker.send_look("/metrics")
     broker.until_read()
     broker.until_looked()
     asked = [invoke, events, record, numbers]
     same([one.is_answered() for one in asked], 4 * [False])
-    watch.release = 2
-    until("the next flush", lambda: watch.flushes == 3)
+    watch.release = OPENING + 1
+    until("the next flush", lambda: watch.flushes == OPENING + 2)
     broker.until_read()
     broker.until_looked()
     same([one.is_answered() for one in asked], 4 * [False])
@@ -68,10 +68,10 @@ def nothing_is_told_before_its_flush(broker):
 @case()
 def requests_are_answered_while_the_disk_makes_a_flush(broker):
     watch = broker.watches_disk()
-    watch.hold_flush = 2
+    watch.hold_flush = OPENING + 1
     broker.serve()
     first, second = broker.send_invoke("{}"), broker.send_invoke("{}")
-    until("a flush", lambda: watch.flushes == 2)
+    until("a flush", lambda: watch.flushes == OPENING + 1)
     oldest = broker.send("GET", "/broker/destinations/success")
     for environment in 0, 1:
         same(broker.ask("GET", "/x", environment=environment).status, 404)
@@ -84,26 +84,26 @@ def requests_are_answered_while_the_disk_makes_a_flush(broker):
 @case()
 def what_comes_during_a_flush_shares_the_next_commit(broker):
     watch = broker.watches_disk()
-    watch.hold_flush = 2
+    watch.hold_flush = OPENING + 1
     broker.serve()
     first = broker.send_invoke("{}")
-    until("a flush", lambda: watch.flushes == 2)
+    until("a flush", lambda: watch.flushes == OPENING + 1)
     others = [broker.send_invoke("{}") for _ in range(8)]
     broker.until_read()
     watch.let_go()
     same([invoke.done().status for invoke in (first, *others)], 9 * [202])
     same(broker.stop(), (202, 0, ""))
-    # One is the opening's, two are those of the first invoke, and two those of the other eight.
-    same(watch.flushed, 5)
+    # Behind the opening's two are those of the first invoke, and two those of the other eight.
+    same(watch.flushed, OPENING + 4)
 
 
 @case({"events": 400, "sectors": 8192})
 def the_257th_command_that_is_not_durable_is_refused(broker):
     watch = broker.watches_disk()
-    watch.hold_flush = 2
+    watch.hold_flush = OPENING + 1
     broker.serve()
     first = [broker.send_invoke("{}")]
-    until("a flush", lambda: watch.flushes == 2)
+    until("a flush", lambda: watch.flushes == OPENING + 1)
     first += [broker.send_invoke("{}") for _ in range(255)]
     broker.until_read()
     refused = broker.invoke("{}")
@@ -142,10 +142,10 @@ def those_who_wait_for_a_flush_take_no_processor(broker):
 @case()
 def a_stop_waits_for_what_is_not_durable(broker):
     watch = broker.watches_disk()
-    watch.hold_flush = 2
+    watch.hold_flush = OPENING + 1
     broker.serve()
     invoke = broker.send_invoke("{}")
-    until("a flush", lambda: watch.flushes == 2)
+    until("a flush", lambda: watch.flushes == OPENING + 1)
     broker.until_read()
     stop, late = broker.send("POST", "/broker/stop"), None
     broker.until_read()
@@ -197,8 +197,8 @@ def works_again(broker):
 
 @case()
 def a_device_fault_ends_the_program_though_an_extension_has_gone(broker):
-    # The opening's flush is the first, and a first invoke makes two more.
-    fails(broker, fail_flush=4).serve()
+    # A first invoke makes two flushes behind the opening's.
+    fails(broker, fail_flush=OPENING + 3).serve()
     accepted = broker.invoke("{}")
     same(accepted.status, 202)
     broker.park_and_leave(broker.send_extension_next, broker.extension())
@@ -210,7 +210,7 @@ def a_device_fault_ends_the_program_though_an_extension_has_gone(broker):
 
 @case()
 def a_device_fault_ends_the_program_though_a_runtime_has_gone(broker):
-    fails(broker, fail_flush=2).serve()
+    fails(broker, fail_flush=OPENING + 1).serve()
     broker.park_and_leave(broker.send_next)
     same(broker.invoke("{}").status, 503)
     same(broker.ended(), (3, "device fault\n"))
@@ -218,12 +218,12 @@ def a_device_fault_ends_the_program_though_a_runtime_has_gone(broker):
 
 @case()
 def a_device_fault_ends_the_program_though_a_caller_has_gone(broker):
-    watch = fails(broker, fail_flush=2, hold_flush=2).watch
+    watch = fails(broker, fail_flush=OPENING + 1, hold_flush=OPENING + 1).watch
     broker.serve()
     broker.until_all_serve()
     without = until("a number of open files that stays", broker.rests)
     invoke = broker.send_invoke("{}")
-    until("a flush", lambda: watch.flushes == 2)
+    until("a flush", lambda: watch.flushes == OPENING + 1)
     invoke.leave()
     until("the end of the connection", lambda: broker.open_files() == without)
     watch.let_go()
@@ -233,7 +233,7 @@ def a_device_fault_ends_the_program_though_a_caller_has_gone(broker):
 def ends_though_it_goes(broker, waiting):
     """The device fails at its next flush, which is held. Who waits goes once a caller was told so, and reads nothing."""
     invoke = broker.send_invoke("{}")
-    until("a flush", lambda: broker.watch.flushes == 2)
+    until("a flush", lambda: broker.watch.flushes == OPENING + 1)
     for environment in 0, 1:
         broker.until_read(environment)
     same((invoke.is_answered(), waiting.is_answered()), (False, False))
@@ -245,13 +245,13 @@ def ends_though_it_goes(broker, waiting):
 
 @case()
 def a_device_fault_ends_the_program_though_a_caller_goes_behind_it(broker):
-    fails(broker, fail_flush=2, hold_flush=2).serve()
+    fails(broker, fail_flush=OPENING + 1, hold_flush=OPENING + 1).serve()
     ends_though_it_goes(broker, broker.send_invoke("{}"))
 
 
 @case()
 def a_device_fault_ends_the_program_though_a_runtime_goes_behind_it(broker):
-    fails(broker, fail_flush=2, hold_flush=2).serve()
+    fails(broker, fail_flush=OPENING + 1, hold_flush=OPENING + 1).serve()
     parked = broker.send_next()
     broker.until_parked(1)
     ends_though_it_goes(broker, parked)
@@ -259,7 +259,7 @@ def a_device_fault_ends_the_program_though_a_runtime_goes_behind_it(broker):
 
 @case()
 def a_device_fault_ends_the_program_though_an_extension_goes_behind_it(broker):
-    fails(broker, fail_flush=2, hold_flush=2).serve()
+    fails(broker, fail_flush=OPENING + 1, hold_flush=OPENING + 1).serve()
     parked = broker.send_extension_next(broker.extension())
     broker.until_parked(1)
     ends_though_it_goes(broker, parked)
@@ -267,13 +267,13 @@ def a_device_fault_ends_the_program_though_an_extension_goes_behind_it(broker):
 
 @case()
 def a_device_fault_is_told_to_those_who_wait(broker):
-    watch = fails(broker, fail_flush=2, hold_flush=2).watch
+    watch = fails(broker, fail_flush=OPENING + 1, hold_flush=OPENING + 1).watch
     broker.serve()
     extension = broker.send_extension_next(broker.extension())
     runtime = broker.send_next()
     broker.until_parked(2)
     invokes = [broker.send_invoke("{}") for _ in range(2)]
-    until("a flush", lambda: watch.flushes == 2)
+    until("a flush", lambda: watch.flushes == OPENING + 1)
     looks = [broker.send_look(path) for path in ("/events", "/metrics", "/healthz")]
     broker.until_looked()
     broker.until_read()
@@ -286,7 +286,7 @@ def a_device_fault_is_told_to_those_who_wait(broker):
 
 @case()
 def what_was_accepted_before_a_device_fault_is_there_behind_it(broker):
-    places = ({"fail_write": 3}, 1), ({"fail_write": 4}, 1), ({"fail_flush": 4}, 1), ({"fail_flush": 5}, 2)
+    places = ({"fail_write": 3}, 1), ({"fail_write": 4}, 1), ({"fail_flush": OPENING + 3}, 1), ({"fail_flush": OPENING + 4}, 2)
     for number, (words, held) in enumerate(places):
         disk = f"{broker.disk}.{number}"
         shutil.copy(broker.disk, disk)
@@ -309,8 +309,8 @@ def a_device_that_fails_is_told_by_each_command(broker):
             same((words, command, broker.said(command[0], broker.disk, *command[1:])), (words, command, (3, "device fault\n")))
             broker.watch.reads = broker.watch.flushes = 0
         same(broker.said("serve", broker.disk, "--port", 20000), (3, "device fault\n"))
-    for word in "fail_write", "fail_flush":
-        for number in 1, 2:
+    for word, most in ("fail_write", 2), ("fail_flush", OPENING + 2):
+        for number in range(1, most + 1):
             fails(broker, **{word: number})
             same((word, number, broker.said("configure", broker.disk)), (word, number, (3, "device fault\n")))
     made = broker.disk + "1"
@@ -353,8 +353,8 @@ def a_device_that_fails_is_named_on_standard_error(broker):
 
 @case()
 def a_device_that_fails_while_it_is_served_is_named_on_standard_error(broker):
-    # The opening's flush is the first, and each invoke makes two writes and two flushes.
-    for word, number in ("fail_write", 1), ("fail_write", 2), ("fail_flush", 2), ("fail_flush", 3):
+    # Each invoke makes two writes and two flushes.
+    for word, number in ("fail_write", 1), ("fail_write", 2), ("fail_flush", OPENING + 1), ("fail_flush", OPENING + 2):
         fails(broker, **{word: number}).serve()
         same(broker.invoke("{}").status, 503)
         same((word, number, broker.ended()), (word, number, (3, "device fault\n")))

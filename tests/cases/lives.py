@@ -5,7 +5,7 @@ import socket
 import threading
 import time
 
-from harness import ARN, DEADLINE, EVENT, EXTENSION, INVOKE, OK, RUNTIME, case, same, until
+from harness import ARN, DEADLINE, EVENT, EXTENSION, INVOKE, OK, OPENING, RUNTIME, case, same, until
 
 
 @case()
@@ -231,7 +231,7 @@ def half_a_body_is_no_event(broker):
         assert b" 202 " not in said, said
     broker.until_read()
     # The opening makes one flush, and each commit two.
-    same((broker.record().status, broker.number("commands_issued_total"), watch.flushes), (204, 0, 1))
+    same((broker.record().status, broker.number("commands_issued_total"), watch.flushes), (204, 0, OPENING))
     event = broker.live("{}", "ok")
     parked = broker.send_next()
     broker.until_parked(1)

@@ -3,7 +3,7 @@ import fcntl
 import os
 import re
 
-from harness import EXTENSION, RUNTIME, case, same, until
+from harness import EXTENSION, OPENING, RUNTIME, case, same, until
 
 STOPPED = (202, 0, "")
 
@@ -45,7 +45,7 @@ def an_end_in_order_is_told_with_who_asked_for_it(broker):
 
 @case()
 def a_device_fault_is_no_end_in_order(broker):
-    broker.watches_disk().fail_flush = 2
+    broker.watches_disk().fail_flush = OPENING + 1
     broker.serve()
     same(broker.invoke("{}").status, 503)
     same(broker.ended(), (3, "device fault\n"))

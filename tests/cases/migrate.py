@@ -6,7 +6,7 @@ import shutil
 
 import disks
 from disks import ACCEPT, DUE_AGAIN, ENDED, RETRIES_EXHAUSTED, SUCCESS, WAITING, Row, Settings, command, id_of
-from harness import HERE, case, matches, same, until
+from harness import HERE, OPENING, case, matches, same, until
 
 MOMENT = 1573755365568
 FIRST = id_of(1)
@@ -118,10 +118,10 @@ def disks_that_the_older_program_wrote_are_migrated_with_what_it_told(broker):
             same(broker.audit(), [next_one, events, "older agrees"])
 
 
-# Where a stop may come. The opening makes the first flush. The segment is written, then its gate, each with a flush behind it.
+# Where a stop may come. The opening makes the first flushes. The segment is written, then its gate, each with a flush behind it.
 STOPS = (
-    {"kill_flush": 1}, {"kill_write": 1}, {"kill_write": 1, "torn": 512}, {"kill_write": 1, "torn": 1000}, {"kill_flush": 2},
-    {"kill_write": 2}, {"kill_write": 2, "torn": 1}, {"kill_flush": 3}, {"kill_print": 1},
+    {"kill_flush": 1}, {"kill_flush": OPENING}, {"kill_write": 1}, {"kill_write": 1, "torn": 512}, {"kill_write": 1, "torn": 1000},
+    {"kill_flush": OPENING + 1}, {"kill_write": 2}, {"kill_write": 2, "torn": 1}, {"kill_flush": OPENING + 2}, {"kill_print": 1},
 )
 
 
@@ -147,7 +147,8 @@ def a_migration_that_is_killed_is_done_by_the_next_one(broker):
 @case()
 def a_migration_whose_device_fails_is_done_by_the_next_one(broker):
     watch = broker.watches_disk()
-    for word, number in ("fail_flush", 1), ("fail_write", 1), ("fail_flush", 2), ("fail_write", 2), ("fail_flush", 3), ("fail_read", 1):
+    flushes = [("fail_flush", number) for number in range(1, OPENING + 3)]
+    for word, number in *flushes, ("fail_write", 1), ("fail_write", 2), ("fail_read", 1):
         become(broker, old_disk())
         watch.clear()
         setattr(watch, word, number)

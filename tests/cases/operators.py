@@ -4,7 +4,7 @@ import socket
 import threading
 import time
 
-from harness import DEADLINE, EVENT, INVOKE, RUNTIME, case, same, until
+from harness import DEADLINE, EVENT, INVOKE, OPENING, RUNTIME, case, same, until
 
 
 def all_of(broker, path, key="id"):
@@ -45,14 +45,14 @@ def an_operator_is_shown_what_becomes_of_events(broker):
         'events{standing="success"}': 1,
         'events{standing="retries_exhausted"}': 1,
         "events_accepted_total": 3,
-        'events_ended_total{outcome="Success"}': 1,
-        'events_ended_total{outcome="RetriesExhausted"}': 1,
+        'events_ended_total{outcome="success"}': 1,
+        'events_ended_total{outcome="retries_exhausted"}': 1,
         "attempts_started_total": 2,
         "records_collected_total": 0,
         "commands_issued_total": 7,
         "commands_durable_total": 7,
         "generation": 1,
-        "disk_sectors": 4096,
+        "disk_bytes": 4096 * 512,
         "switches_total": 0,
         'refused_total{reason="not_found"}': 0,
     }
@@ -63,7 +63,7 @@ def an_operator_is_shown_what_becomes_of_events(broker):
     same(broker.delete(good).status, 204)
     same(broker.delete(good).status, 404)
     told = broker.numbers()
-    same(told['events_ended_total{outcome="Success"}'], 1)
+    same(told['events_ended_total{outcome="success"}'], 1)
     same(told["records_collected_total"], 1)
     same(told['refused_total{reason="not_found"}'], 1)
     same(broker.look(f"/events/{good}").status, 404)
@@ -75,12 +75,15 @@ def the_numbers_of_a_broker_that_was_just_served_are_these(broker):
     broker.serve()
     told = broker.numbers()
     same(told.pop("process_resident_memory_bytes") > 1 << 20, True)
+    same(told.pop("process_start_time_seconds") > 1 << 30, True)
     # The segment has half of the sectors, of which gate, header and the empty snapshot take one each.
-    nonzero = {'environments{phase="init"}': 2, "generation": 1, "disk_sectors": 4096, "segment_free_sectors": 2048 - 3}
-    settings = [name for name in told if name.startswith("settings_info{")]
-    same([told.pop(name) for name in settings], [1])
+    nonzero = {'environments{phase="init"}': 2, "generation": 1, "disk_bytes": 4096 * 512, "segment_free_bytes": (2048 - 3) * 512}
+    nonzero |= {"table_limit": 16, "attempts_limit": 10, "timeout_seconds": 900, "retries_limit": 2, "age_limit_seconds": 21600}
+    nonzero |= {"payload_limit_bytes": 1024, "response_limit_bytes": 1024, 'problem{reason="nobody_polls"}': 1}
+    settings = [name for name in told if name.startswith(("settings_info{", "build_info{"))]
+    same([told.pop(name) for name in settings], [1, 1])
     same({name: value for name, value in told.items() if value}, nonzero)
-    same(len(told), 51)
+    same(len(told), 67)
 
 
 @case({"events": 2})
@@ -229,9 +232,9 @@ def there_is_no_operators_port_where_none_is_asked_for(broker):
 def a_health_check_tells_that_it_ends(broker):
     watch = broker.watches_disk()
     broker.serve()
-    watch.hold_flush = 2
+    watch.hold_flush = OPENING + 1
     invoke = broker.send_invoke("{}")
-    until("a flush", lambda: watch.flushes == 2)
+    until("a flush", lambda: watch.flushes == OPENING + 1)
     stop = broker.send("POST", "/broker/stop")
     broker.until_read()
     health = broker.send_look("/healthz")

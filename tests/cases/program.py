@@ -7,7 +7,7 @@ import sys
 
 import disks
 from disks import ACCEPT, Settings, command, id_of
-from harness import DEADLINE, HERE, Built, Ports, case, needs, same, until
+from harness import DEADLINE, HERE, OPENING, Built, Ports, case, needs, same, until
 
 FUNCTION = ["--name", "f", "--handler", "h", "--arn", "a"]
 
@@ -341,7 +341,7 @@ def a_device_fault_has_its_status_though_standard_output_takes_nothing(broker):
 
 @case()
 def a_fault_while_it_serves_has_its_status_though_nobody_reads_what_it_prints(broker):
-    broker.watches_disk().fail_flush = 2
+    broker.watches_disk().fail_flush = OPENING + 1
     broker.serve()
     broker.served.stdout.close()
     same(broker.invoke("{}").status, 503)

@@ -8,14 +8,15 @@ use admin_replies::Baseline;
 use async_core::Table;
 use http_port::{HttpLimits, Listening};
 use long_poll::AdminReader;
-use port_meters::{Beside, Machine, Meters};
+use operator_view::Memory;
+use port_meters::{Beside, Machine, Meters, Moment};
 use receipts::Trace;
 use sector_disk::Written;
 use std::alloc::{AllocError, Global};
 use std::fs::File;
 use std::io;
-use std::sync::Arc;
 use std::sync::ledger::Ledger;
+use std::sync::{Arc, Mutex};
 use tokio_util::sync::CancellationToken;
 
 /// Where an operator asks, and what he is told beside what is seen of a broker.
@@ -64,6 +65,7 @@ fn context_of<L: Ledger, T: Trace>(
     port: AdminPort,
     reader: Arc<AdminReader<L, T>>,
     meters: Arc<Meters>,
+    started_at: u64,
 ) -> (AdminContext<L, T>, Listening)
     ensures baseline { result.0.baseline ≡ port.baseline }
     ensures reader { result.0.reader ≡ reader }
@@ -81,6 +83,8 @@ fn context_of<L: Ledger, T: Trace>(
         meters,
         written,
         memory,
+        started_at,
+        looks: Mutex::new(Memory::begun(started_at)),
     };
     (context, listening)
 }
@@ -97,7 +101,8 @@ impl<R: Machine, L: Ledger, T: Trace> Beside<R, AdminReader<L, T>> for AdminPort
     ) -> io::Result<AdminServed> {
         let alloc = rt.alloc();
         let reader = Arc::new(alloc, reader)?;
-        let (context, listening) = context_of(alloc, self, reader, meters);
+        let started_at = Moment::now(&rt)?.millis();
+        let (context, listening) = context_of(alloc, self, reader, meters, started_at);
         let context = Arc::new(alloc, context)?;
         let application = AdminApplication { rt, context };
         http_port::serve(rt, application, listening, HttpLimits::default(), ending)?;

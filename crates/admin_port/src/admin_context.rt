@@ -3,15 +3,16 @@ ghost use Rattle.std.specs.Prelude.{◌≡◌};
 
 use crate::admin_response::AdminResponse;
 use crate::memory::resident_bytes;
-use admin_replies::{AdminRequest, Baseline, Measures, tell};
+use admin_replies::{AdminRequest, Baseline, Measures, counts_of, tell};
 use long_poll::AdminReader;
-use port_meters::{Meters, Moment};
+use operator_view::{Counts, Memory};
+use port_meters::{Counters, Meters, Moment};
 use receipts::{Trace, View};
 use sector_disk::Written;
 use std::alloc::Global;
 use std::fs::File;
 use std::sync::ledger::Ledger;
-use std::sync::{Arc, Wait};
+use std::sync::{Arc, Mutex, Wait};
 use std::time::Clock;
 
 /// What the requests of the operator's port share: what they look at, and what they tell beside what is seen.
@@ -26,15 +27,28 @@ pub(crate) struct AdminContext<L: Ledger, T: Trace> {
     pub(crate) written: Written,
     /// Where Linux tells how many pages the process has.
     pub(crate) memory: Option<File>,
+    /// When it was begun to be served, in milliseconds since 1970.
+    pub(crate) started_at: u64,
+    /// What is remembered of the looks up to now.
+    pub(crate) looks: Mutex<Memory>,
 }
 
 impl<L: Ledger, T: Trace> AdminContext<L, T> {
     ghost use Rattle.admin_port.specs.Replying.{TellsOfView};
 
+    // What is remembered after a look at which so much was counted.
+    fn remember<R: Wait>(&self, rt: &R, seen: Counts) -> Memory {
+        let mut looks = self.looks.lock(rt);
+        *looks = looks.after(seen);
+        *looks
+    }
+
     // What was counted and measured now.
-    fn measures<R: Wait>(&self, rt: &R) -> Measures {
+    fn measures<R: Wait>(&self, rt: &R, counters: Counters, memory: Memory) -> Measures {
         Measures {
-            counters: self.meters.read(rt),
+            counters,
+            started_at: self.started_at,
+            memory,
             written_bytes: self.written.bytes(),
             resident_bytes: resident_bytes(self.memory.as_ref()),
             has_fault: self.reader.bell().has_broken(),
@@ -54,7 +68,9 @@ impl<L: Ledger, T: Trace> AdminContext<L, T> {
             Ok(at) => at.millis(),
             Err(_) => 0,
         };
-        let measures = self.measures(rt);
+        let counters = self.meters.read(rt);
+        let seen = counts_of(&self.baseline, view, &counters, now);
+        let measures = self.measures(rt, counters, self.remember(rt, seen));
         let reply = tell(self.alloc, &self.baseline, request, view, &measures, now);
         AdminResponse { reply: reply.ok() }
     }

@@ -2,6 +2,7 @@
 use Rattle.std.specs.Prelude.{ℕ, List, [], ◌∷◌, ◌++◌, false, true, Result, Some, None, codes}
 use Prim.Native.String.{String}
 use Rattle.retry_rules.specs.declared.settings.Settings.{Settings}
+use Rattle.operator_view.specs.declared.verdict.Problem.TheVariants as problem
 use Rattle.admin_replies.specs.declared.admin_request.AdminRequest.{AdminRequest}
 use Rattle.admin_replies.specs.declared.admin_refusal.AdminRefusal.{AdminRefusal}
 use Rattle.admin_replies.specs.declared.metrics.Metrics.{Metrics}
@@ -36,6 +37,7 @@ numbers = record {
     event_age_exceeded = 17;
     collected = 18;
     started = 19;
+    failed = 46;
     throttled = 20;
     interrupted = 22;
   };
@@ -46,9 +48,10 @@ numbers = record {
     commit_microseconds = 4500042;
     buckets = 23 ∷ 24 ∷ 25 ∷ 26 ∷ 27 ∷ 28 ∷ 29 ∷ 30 ∷ [];
     generation = 34;
-    sectors = 35;
-    free_sectors = 36;
+    bytes = 35;
+    free_bytes = 36;
     resident_bytes = 37;
+    started_at = 47;
     is_stopping = true;
     has_fault = false;
     refused = record {
@@ -62,6 +65,8 @@ numbers = record {
       other = 45;
     };
   };
+  limits = record { retries = 48; age = 49; timeout = 50; concurrency = 51; events = 52; payload = 53; response = 54 };
+  problems = None ∷ Some (problem.NobodyPolls 1 2 3) ∷ None ∷ None ∷ None ∷ None ∷ None ∷ None ∷ None ∷ [];
 }
 
 abbrev pub usual : Settings
@@ -124,12 +129,24 @@ commits_text =
     ++ (codes "lambda_broker_commit_seconds_bucket{le=\"+Inf\"} 31\n"
     ++ (codes "lambda_broker_commit_seconds_sum 4.500042\n" ++ codes "lambda_broker_commit_seconds_count 31\n")))))))))))
 
--- the settings
+-- the version and the function
 abbrev pub usual_text : List ℕ
 usual_text =
-    codes "# HELP lambda_broker_settings_info The settings of the function, with the retries and the age in force.\n"
-    ++ (codes "# TYPE lambda_broker_settings_info gauge\n"
+    codes "# HELP lambda_broker_build_info The version of the program.\n# TYPE lambda_broker_build_info gauge\n"
+    ++ (codes "lambda_broker_build_info{version=\"0.1.0\"} 1\n"
+    ++ (codes "# HELP lambda_broker_settings_info The function.\n# TYPE lambda_broker_settings_info gauge\n"
     ++ (codes "lambda_broker_settings_info{function=\"my-function\","
-    ++ (codes "arn=\"arn:aws:lambda:us-east-2:123456789012:function:my-function\",handler=\"index.handler\","
-    ++ (codes "retries=\"2\",age_seconds=\"21600\",timeout_seconds=\"3\",concurrency=\"4\",environments=\"5\","
-    ++ codes "events=\"64\",payload_bytes=\"262144\",response_bytes=\"1024\",} 1\n"))))
+    ++ codes "arn=\"arn:aws:lambda:us-east-2:123456789012:function:my-function\",handler=\"index.handler\",} 1\n")))
+
+-- what is wrong: nobody polls
+abbrev pub problems_text : List ℕ
+problems_text =
+    codes "# HELP lambda_broker_problem 1 where this is wrong, else 0.\n# TYPE lambda_broker_problem gauge\n"
+    ++ (codes "lambda_broker_problem{reason=\"callers_are_refused\"} 0\n"
+    ++ (codes "lambda_broker_problem{reason=\"nobody_polls\"} 1\n"
+    ++ (codes "lambda_broker_problem{reason=\"nothing_ends\"} 0\n"
+    ++ (codes "lambda_broker_problem{reason=\"table_full\"} 0\n"
+    ++ (codes "lambda_broker_problem{reason=\"table_nearly_full\"} 0\n"
+    ++ (codes "lambda_broker_problem{reason=\"events_expire\"} 0\n"
+    ++ (codes "lambda_broker_problem{reason=\"most_attempts_fail\"} 0\n"
+    ++ (codes "lambda_broker_problem{reason=\"commits_are_slow\"} 0\n" ++ codes "lambda_broker_problem{reason=\"records_not_collected\"} 0\n"))))))))

@@ -1,18 +1,30 @@
 -- The numbers of a broker, by what was seen of it.
-use Rattle.std.specs.Prelude.{◌≡◌, ℕ, ◌+◌, ◌-◌, ◌^◌, ◌≤◌, ◌↔◌, Bool, true, false, List, [], Option, Some, None, min, IfSome, IsNone, All, Contains}
+use Rattle.std.specs.Prelude.{◌≡◌, ℕ, ◌+◌, ◌-◌, ◌*◌, ◌^◌, ◌≤◌, ◌↔◌, Bool, true, false, List, [], Option, Some, None, min, length, slice_index, IfSome, IsNone, All, Contains}
 use Rattle.std.specs.List.{count_by, sum_by}
 use Rattle.env_phase.specs.declared.phase.Phase.{Phase}
 use Rattle.env_phase.specs.declared.phase.Phase.TheVariants.{Init, Ready, Busy, Closing}
 use Rattle.hall_core.specs.declared.looking.EnvironmentStatus.{EnvironmentStatus}
 use Rattle.operator_view.specs.declared.numbers.Census.{Census}
 use Rattle.operator_view.specs.Census.{IsCensus, oldest_waiting, ends}
+use Rattle.operator_view.specs.declared.memory.Counts.{Counts}
+use Rattle.operator_view.specs.declared.memory.Memory.{Memory}
+use Rattle.operator_view.specs.declared.sight.Sight.{Sight}
+use Rattle.operator_view.specs.declared.verdict.Problem.{Problem}
+use Rattle.operator_view.specs.Memory.{lately}
+use Rattle.operator_view.specs.Verdict.{problems}
+use Rattle.operator_view.specs.Waiting.{dues, is_due, expires_soon}
+use Rattle.port_meters.specs.declared.counters.Counters.{Counters}
+use Rattle.retry_rules.specs.declared.policy.RetryPolicy.{RetryPolicy}
+use Rattle.retry_rules.specs.declared.settings.Settings.{Settings}
 use Rattle.receipts.specs.declared.view.View.{View}
 use Rattle.receipts.specs.declared.command_counters.CommandCounters.{CommandCounters}
+use Rattle.admin_replies.specs.declared.metrics.Limits.{Limits}
 use Rattle.admin_replies.specs.declared.metrics.Metrics.{Metrics}
 use Rattle.admin_replies.specs.declared.metrics.Phases.{Phases}
 use Rattle.admin_replies.specs.declared.metrics.Process.{Process}
 use Rattle.admin_replies.specs.declared.metrics.EventCounters.{EventCounters}
 use Rattle.admin_replies.specs.declared.measuring.Measures.{Measures}
+use Rattle.admin_replies.specs.declared.telling.Baseline.{Baseline}
 use Rattle.port_meters.specs.Counting.{sum_up_to}
 
 -- how long ago that was, in milliseconds, if it was: 0 where it will be
@@ -73,11 +85,16 @@ event_counters before ended counted = record {
   event_age_exceeded = counted.expired;
   collected = counted.collected;
   started = counted.started;
+  failed = counted.failed;
   throttled = counted.throttled;
   interrupted = counted.interrupted;
 }
 
 -- ## Of the process
+
+-- a sector has 512 bytes
+abbrev pub in_bytes : ℕ → ℕ
+in_bytes sectors = min (sectors * 512) (2 ^ 64 - 1)
 
 abbrev pub process_told : Measures → Bool → Process
 process_told measures is_stopping = record {
@@ -87,18 +104,70 @@ process_told measures is_stopping = record {
   commit_microseconds = measures.counters.commit_microseconds;
   buckets = measures.counters.buckets;
   generation = measures.counters.generation;
-  sectors = measures.counters.sectors;
-  free_sectors = measures.counters.free_sectors;
+  bytes = in_bytes measures.counters.sectors;
+  free_bytes = in_bytes measures.counters.free_sectors;
   resident_bytes = measures.resident_bytes;
+  started_at = measures.started_at;
   is_stopping = is_stopping;
   has_fault = measures.has_fault;
   refused = measures.counters.refused;
 }
 
+-- ## What is wrong
+
+-- what is counted up to now
+abbrev pub counts_told : ℕ → EventCounters → Counters → Counts
+counts_told now events counters = record {
+  at = now;
+  started = events.started;
+  succeeded = events.success;
+  failed = events.failed;
+  ended = sum_up_to (sum_up_to events.success events.retries_exhausted) events.event_age_exceeded;
+  expired = events.event_age_exceeded;
+  commits = counters.commits;
+  commit_microseconds = counters.commit_microseconds;
+  quick_commits = slice_index counters.buckets 6;
+  refused_full = counters.refused.too_many;
+  refused_busy = counters.refused.unavailable;
+}
+
+-- what the port sees by which a verdict is found
+pub record IsSight (settings : Settings) (view : View) (census : Census) (memory : Memory) (counts : Counts) (sight : Sight) : Type 0 where
+  pub at : sight.at ≡ counts.at
+  pub environments : sight.environments ≡ length view.hall.environments.items
+  pub without_poll : sight.without_poll ≡ count_by (is_in_phase Init) view.hall.environments.items
+  pub held : sight.held ≡ census.held
+  pub most_events : sight.most_events ≡ settings.events
+  pub ended : sight.ended ≡ min (ended_in census) (2 ^ 64 - 1)
+  pub timeout : sight.timeout ≡ settings.timeout
+  pub due : sight.due ≡ count_by (is_due counts.at) view.hall.table.rows
+  pub first_due : IsFirst (dues view.hall.table.rows) sight.first_due
+  pub quiet_since : sight.quiet_since ≡ memory.quiet_since
+  pub expiring : sight.expiring ≡ count_by (expires_soon counts.at) view.hall.table.rows
+  pub oldest_record : IsOldestAge counts.at (ends view.hall.table.rows) sight.oldest_record_age
+  pub lately : sight.lately ≡ lately memory counts
+
+-- what is found in what is seen
+abbrev pub AreProblems : Settings → View → Census → Memory → Counts → List (Option Problem) → Type 0
+AreProblems settings view census memory counts found =
+    (sight : Sight) × IsSight settings view census memory counts sight × (found ≡ problems sight)
+
 -- ## All of them
 
+-- the settings that are numbers, under the policy that is in force
+abbrev pub limits_of : RetryPolicy → Settings → Limits
+limits_of policy s = record {
+  retries = policy.retries;
+  age = policy.age;
+  timeout = s.timeout;
+  concurrency = s.concurrency;
+  events = s.events;
+  payload = s.payload;
+  response = s.response;
+}
+
 -- the numbers of what was seen: those of its table's rows are the census of these
-pub record AreMetrics (before : ℕ) (view : View) (measures : Measures) (now : ℕ) (metrics : Metrics) : Type 0 where
+pub record AreMetrics (baseline : Baseline) (view : View) (measures : Measures) (now : ℕ) (metrics : Metrics) : Type 0 where
   pub census : IsCensus view.hall.table.rows metrics.census
   pub oldest_wait : metrics.oldest_wait_age ≡ age_of now (oldest_waiting view.hall.table.rows)
   pub oldest_record : IsOldestAge now (ends view.hall.table.rows) metrics.oldest_record_age
@@ -108,5 +177,7 @@ pub record AreMetrics (before : ℕ) (view : View) (measures : Measures) (now : 
   pub open_slots : metrics.open_slots ≡ view.hall.open_slots
   pub parked : metrics.parked_polls ≡ min (parked_in view.hall.environments.items) (2 ^ 64 - 1)
   pub environments : metrics.environments ≡ phases_of view.hall.environments.items
-  pub events : metrics.events ≡ event_counters before (min (ended_in metrics.census) (2 ^ 64 - 1)) view.counters
+  pub events : metrics.events ≡ event_counters baseline.ended_before (min (ended_in metrics.census) (2 ^ 64 - 1)) view.counters
   pub process : metrics.process ≡ process_told measures view.hall.is_stopping
+  pub limits : metrics.limits ≡ limits_of view.hall.table.policy baseline.settings
+  pub problems : AreProblems baseline.settings view metrics.census measures.memory (counts_told now metrics.events measures.counters) metrics.problems

@@ -1,5 +1,5 @@
 -- What a request to the operator's port asks for, by its method and its target, or the first check that refuses it.
-use Rattle.std.specs.Prelude.{ℕ, ◌+◌, ◌*◌, ◌-◌, nat_le, ◌==◌, ◌&&◌, ◌||◌, List, [], ◌∷◌, length, drop, Bool, Option, Some, None, Result, Ok, Err, find, count_by, option_map, if◌then◌else◌, codes, bytes_eq, take}
+use Rattle.std.specs.Prelude.{ℕ, ◌+◌, ◌*◌, ◌-◌, nat_le, ◌==◌, ◌&&◌, ◌||◌, List, [], ◌∷◌, length, drop, Bool, Option, Some, None, Result, Ok, Err, find, count_by, option_map, if◌then◌else◌, codes, bytes_eq, take, is_some}
 use Rattle.std.specs.List.{before_first, after_first, slice_split, list_all, list_any}
 use Rattle.std.specs.Str.{byte, is_utf8, all_ascii_digits}
 use Rattle.uuid.specs.Text.{parsed}
@@ -70,6 +70,7 @@ abbrev pub text_of : Name → List ℕ
 text_of name.Standing = codes "standing"
 text_of name.After = codes "after"
 text_of name.Limit = codes "limit"
+text_of name.Deep = codes "deep"
 
 abbrev pub is_named : Name → List ℕ → Bool
 is_named name part = bytes_eq (name_in part) (text_of name)
@@ -134,6 +135,7 @@ limit_of (Some text) = if is_empty text then Err why.Limit else positive (number
 abbrev pub names_at : Resource → List Name
 names_at resource.Events = name.Standing ∷ name.After ∷ name.Limit ∷ []
 names_at (resource.Records s) = name.After ∷ name.Limit ∷ []
+names_at resource.Health = name.Deep ∷ []
 names_at other = []
 
 abbrev pub events_asked : Result Which AdminRefusal → Result (Option (List ℕ)) AdminRefusal → Result ℕ AdminRefusal → Result AdminRequest AdminRefusal
@@ -151,7 +153,7 @@ records_asked s (Ok after) (Ok limit) = Ok (request.Records s after limit)
 abbrev pub told_at : Resource → List (List ℕ) → Result AdminRequest AdminRefusal
 told_at resource.Page parts = Ok request.Page
 told_at resource.Metrics parts = Ok request.Metrics
-told_at resource.Health parts = Ok request.Health
+told_at resource.Health parts = Ok (request.Health (is_some (given name.Deep parts)))
 told_at (resource.Event id) parts = Ok (request.Event id)
 told_at resource.Events parts =
     events_asked (standing_of (given name.Standing parts)) (after_of (given name.After parts)) (limit_of (given name.Limit parts))

@@ -6,6 +6,7 @@ use Rattle.admin_replies.specs.declared.metric.Metric.TheVariants as metric
 use Rattle.admin_replies.specs.declared.metric.CommitMetric.TheVariants as commit
 use Rattle.admin_replies.specs.declared.metric.HeldMetric.TheVariants as held
 use Rattle.admin_replies.specs.declared.metric.LifeMetric.TheVariants as life
+use Rattle.admin_replies.specs.declared.metric.LimitMetric.TheVariants as limit
 use Rattle.admin_replies.specs.declared.metric.PhaseMetric.TheVariants as phase
 use Rattle.admin_replies.specs.declared.metric.RefusalMetric.TheVariants as refusal
 use Rattle.admin_replies.specs.declared.metric.StateMetric.TheVariants as state
@@ -35,6 +36,20 @@ abbrev pub more : List ℕ → Metric → Line
 more name metric = record { head = []; name = name; metric = metric }
 
 -- ## The table
+
+-- what is wrong
+abbrev pub problem_lines : List Line
+problem_lines =
+    first (family "problem" "gauge" "1 where this is wrong, else 0.") (labelled "problem" "reason" "callers_are_refused") (metric.Problem 0)
+    ∷ more (labelled "problem" "reason" "nobody_polls") (metric.Problem 1)
+    ∷ more (labelled "problem" "reason" "nothing_ends") (metric.Problem 2)
+    ∷ more (labelled "problem" "reason" "table_full") (metric.Problem 3)
+    ∷ more (labelled "problem" "reason" "table_nearly_full") (metric.Problem 4)
+    ∷ more (labelled "problem" "reason" "events_expire") (metric.Problem 5)
+    ∷ more (labelled "problem" "reason" "most_attempts_fail") (metric.Problem 6)
+    ∷ more (labelled "problem" "reason" "commits_are_slow") (metric.Problem 7)
+    ∷ more (labelled "problem" "reason" "records_not_collected") (metric.Problem 8)
+    ∷ []
 
 -- where the events stand
 abbrev pub held_lines : List Line
@@ -72,11 +87,12 @@ life_lines =
     first (family "commands_issued_total" "counter" "Commands that were issued.") (plain "commands_issued_total") (metric.Life life.Issued)
     ∷ first (family "commands_durable_total" "counter" "Commands that are durable.") (plain "commands_durable_total") (metric.Life life.Durable)
     ∷ first (family "events_accepted_total" "counter" "Events that were accepted.") (plain "events_accepted_total") (metric.Life life.Accepted)
-    ∷ first (family "events_ended_total" "counter" "Events that ended, by outcome.") (labelled "events_ended_total" "outcome" "Success") (metric.Life life.Success)
-    ∷ more (labelled "events_ended_total" "outcome" "RetriesExhausted") (metric.Life life.RetriesExhausted)
-    ∷ more (labelled "events_ended_total" "outcome" "EventAgeExceeded") (metric.Life life.EventAgeExceeded)
+    ∷ first (family "events_ended_total" "counter" "Events that ended, by outcome.") (labelled "events_ended_total" "outcome" "success") (metric.Life life.Success)
+    ∷ more (labelled "events_ended_total" "outcome" "retries_exhausted") (metric.Life life.RetriesExhausted)
+    ∷ more (labelled "events_ended_total" "outcome" "event_age_exceeded") (metric.Life life.EventAgeExceeded)
     ∷ first (family "records_collected_total" "counter" "Records that were collected.") (plain "records_collected_total") (metric.Life life.Collected)
     ∷ first (family "attempts_started_total" "counter" "Attempts that were started.") (plain "attempts_started_total") (metric.Life life.Started)
+    ∷ first (family "attempts_failed_total" "counter" "Attempts that failed.") (plain "attempts_failed_total") (metric.Life life.Failed)
     ∷ first (family "attempts_throttled_total" "counter" "Attempts that were throttled.") (plain "attempts_throttled_total") (metric.Life life.Throttled)
     ∷ first (family "attempts_interrupted_total" "counter" "Attempts that were interrupted.") (plain "attempts_interrupted_total") (metric.Life life.Interrupted)
     ∷ []
@@ -88,7 +104,6 @@ refusal_lines =
     ∷ more (labelled "refused_total" "reason" "not_found") (metric.Refusal refusal.NotFound)
     ∷ more (labelled "refused_total" "reason" "conflict") (metric.Refusal refusal.Conflict)
     ∷ more (labelled "refused_total" "reason" "too_large") (metric.Refusal refusal.TooLarge)
-    ∷ more (labelled "refused_total" "reason" "head_too_large") (metric.Refusal refusal.HeadTooLarge)
     ∷ more (labelled "refused_total" "reason" "too_many") (metric.Refusal refusal.TooMany)
     ∷ more (labelled "refused_total" "reason" "unavailable") (metric.Refusal refusal.Unavailable)
     ∷ more (labelled "refused_total" "reason" "other") (metric.Refusal refusal.Other)
@@ -116,14 +131,28 @@ disk_lines =
     first (family "switches_total" "counter" "Switches to the other segment of the disk.") (plain "switches_total") (metric.State state.Switches)
     ∷ first (family "written_bytes_total" "counter" "Bytes that were written to the disk.") (plain "written_bytes_total") (metric.State state.WrittenBytes)
     ∷ first (family "generation" "gauge" "Generation of the segment that is written.") (plain "generation") (metric.State state.Generation)
-    ∷ first (family "disk_sectors" "gauge" "Sectors of the disk.") (plain "disk_sectors") (metric.State state.Sectors)
-    ∷ first (family "segment_free_sectors" "gauge" "Sectors that are left in the segment that is written.") (plain "segment_free_sectors") (metric.State state.FreeSectors)
+    ∷ first (family "disk_bytes" "gauge" "Size of the disk.") (plain "disk_bytes") (metric.State state.Bytes)
+    ∷ first (family "segment_free_bytes" "gauge" "Room that is left in the segment that is written.") (plain "segment_free_bytes") (metric.State state.FreeBytes)
     ∷ first (family "process_resident_memory_bytes" "gauge" "Memory of the process that is resident.") (plain "process_resident_memory_bytes") (metric.State state.ResidentBytes)
+    ∷ first (family "process_start_time_seconds" "gauge" "When the broker was started, since 1970.") (plain "process_start_time_seconds") (metric.State state.StartedAt)
     ∷ first (family "stopping" "gauge" "1 while the broker stops, else 0.") (plain "stopping") (metric.State state.Stopping)
     ∷ first (family "device_fault" "gauge" "1 once the disk has failed, else 0.") (plain "device_fault") (metric.State state.Fault)
     ∷ []
 
+-- what is allowed at most
+abbrev pub limit_lines : List Line
+limit_lines =
+    first (family "table_limit" "gauge" "Events that are held at most.") (plain "table_limit") (metric.Limit limit.Events)
+    ∷ first (family "attempts_limit" "gauge" "Attempts that run at once at most.") (plain "attempts_limit") (metric.Limit limit.Concurrency)
+    ∷ first (family "timeout_seconds" "gauge" "Time that an attempt may take.") (plain "timeout_seconds") (metric.Limit limit.Timeout)
+    ∷ first (family "retries_limit" "gauge" "Retries of a new event.") (plain "retries_limit") (metric.Limit limit.Retries)
+    ∷ first (family "age_limit_seconds" "gauge" "Age at which a new event is given up.") (plain "age_limit_seconds") (metric.Limit limit.Age)
+    ∷ first (family "payload_limit_bytes" "gauge" "Greatest payload.") (plain "payload_limit_bytes") (metric.Limit limit.Payload)
+    ∷ first (family "response_limit_bytes" "gauge" "Greatest response.") (plain "response_limit_bytes") (metric.Limit limit.Response)
+    ∷ []
+
 unfoldable pub lines_of : Section → List Line
+lines_of section.Problems = problem_lines
 lines_of section.Held = held_lines
 lines_of section.Waits = wait_lines
 lines_of section.Environments = phase_lines
@@ -131,6 +160,7 @@ lines_of section.Lives = life_lines
 lines_of section.Refusals = refusal_lines
 lines_of section.Commits = commit_lines
 lines_of section.Disk = disk_lines
+lines_of section.Limits = limit_lines
 
 abbrev pub sections : List Section
-sections = section.Held ∷ section.Waits ∷ section.Environments ∷ section.Lives ∷ section.Refusals ∷ section.Commits ∷ section.Disk ∷ []
+sections = section.Problems ∷ section.Held ∷ section.Waits ∷ section.Environments ∷ section.Lives ∷ section.Refusals ∷ section.Commits ∷ section.Disk ∷ section.Limits ∷ []

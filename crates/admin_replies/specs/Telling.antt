@@ -1,10 +1,10 @@
 -- What is told to an operator of what was seen of a broker.
-use Rattle.std.specs.Prelude.{◌≡◌, ℕ, ◌-◌, ◌^◌, Bool, List, min, if◌then◌else◌}
-use Rattle.retry_rules.specs.declared.policy.RetryPolicy.{RetryPolicy}
-use Rattle.retry_rules.specs.declared.settings.Settings.{Settings}
+use Rattle.std.specs.Prelude.{◌≡◌, ℕ, ◌-◌, ◌^◌, Bool, true, false, List, Option, is_some, min, if◌then◌else◌}
+use Rattle.std.specs.List.{list_any}
 use Rattle.invoke_records.specs.declared.row.EventRow.{EventRow}
 use Rattle.operator_view.specs.declared.numbers.Census.{Census}
 use Rattle.operator_view.specs.Census.{IsCensus}
+use Rattle.operator_view.specs.declared.verdict.Problem.{Problem}
 use Rattle.receipts.specs.declared.view.View.{View}
 use Rattle.admin_replies.specs.declared.admin_request.AdminRequest.{AdminRequest}
 use Rattle.admin_replies.specs.declared.admin_request.AdminRequest.TheVariants as request
@@ -24,21 +24,28 @@ CountsEnded rows count = (census : Census) × IsCensus rows census × (count ≡
 abbrev pub health_status : Bool → Bool → ℕ
 health_status has_fault is_stopping = if has_fault then 503 else if is_stopping then 503 else 200
 
--- the settings as they are told: with the retries and the age that are in force
-abbrev pub under : RetryPolicy → Settings → Settings
-under policy s = record s { retries = policy.retries; age = policy.age }
+-- 503 too where something is wrong
+abbrev pub deep_status : Bool → Bool → List (Option Problem) → ℕ
+deep_status has_fault is_stopping found = if list_any is_some found then 503 else health_status has_fault is_stopping
 
--- the text of the numbers of what was seen, and of the settings under what was in force
+-- whether the broker serves, and, where it is asked for, whether nothing is wrong with it
+abbrev pub TellsHealth : Baseline → View → Measures → ℕ → Bool → AdminReply → Type 0
+TellsHealth baseline view measures now false reply = reply.status ≡ health_status measures.has_fault view.hall.is_stopping
+TellsHealth baseline view measures now true reply =
+    (metrics : Metrics) × AreMetrics baseline view measures now metrics
+    × (reply.status ≡ deep_status measures.has_fault view.hall.is_stopping metrics.problems)
+
+-- the text of the numbers of what was seen
 abbrev pub TellsNumbers : Baseline → View → Measures → ℕ → AdminReply → Type 0
 TellsNumbers baseline view measures now reply =
-    (metrics : Metrics) × AreMetrics baseline.ended_before view measures now metrics
-    × (reply.status ≡ 200) × (reply.body.items ≡ metrics_text metrics (under view.hall.table.policy baseline.settings))
+    (metrics : Metrics) × AreMetrics baseline view measures now metrics
+    × (reply.status ≡ 200) × (reply.body.items ≡ metrics_text metrics baseline.settings)
 
 -- each list, event and number is that of the table that was seen
 abbrev pub TellsOf : Baseline → View → Measures → ℕ → AdminRequest → AdminReply → Type 0
 TellsOf baseline view measures now request.Page reply = reply.status ≡ 200
 TellsOf baseline view measures now request.Metrics reply = TellsNumbers baseline view measures now reply
-TellsOf baseline view measures now request.Health reply = reply.status ≡ health_status measures.has_fault view.hall.is_stopping
+TellsOf baseline view measures now (request.Health is_deep) reply = TellsHealth baseline view measures now is_deep reply
 TellsOf baseline view measures now (request.Events which after limit) reply =
     TellsEvents which after limit view.hall.table.rows reply
 TellsOf baseline view measures now (request.Event id) reply = TellsEvent baseline.settings id view.hall.table.rows reply

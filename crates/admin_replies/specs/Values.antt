@@ -1,6 +1,9 @@
 -- The number that each metric names.
-use Rattle.std.specs.Prelude.{ℕ, Bool, true, false, Option, slice_index, unwrap_or}
+use Rattle.std.specs.Prelude.{ℕ, Bool, true, false, List, Option, slice_get, slice_index, unwrap_or, is_some}
+use Rattle.std.specs.Option.{option_map_or}
 use Rattle.operator_view.specs.declared.numbers.Census.{Census}
+use Rattle.operator_view.specs.declared.verdict.Problem.{Problem}
+use Rattle.admin_replies.specs.declared.metrics.Limits.{Limits}
 use Rattle.admin_replies.specs.declared.metrics.Metrics.{Metrics}
 use Rattle.admin_replies.specs.declared.metrics.Phases.{Phases}
 use Rattle.admin_replies.specs.declared.metrics.Process.{Process}
@@ -13,6 +16,8 @@ use Rattle.admin_replies.specs.declared.metric.HeldMetric.{HeldMetric}
 use Rattle.admin_replies.specs.declared.metric.HeldMetric.TheVariants as held
 use Rattle.admin_replies.specs.declared.metric.LifeMetric.{LifeMetric}
 use Rattle.admin_replies.specs.declared.metric.LifeMetric.TheVariants as life
+use Rattle.admin_replies.specs.declared.metric.LimitMetric.{LimitMetric}
+use Rattle.admin_replies.specs.declared.metric.LimitMetric.TheVariants as limit
 use Rattle.admin_replies.specs.declared.metric.PhaseMetric.{PhaseMetric}
 use Rattle.admin_replies.specs.declared.metric.PhaseMetric.TheVariants as phase
 use Rattle.admin_replies.specs.declared.metric.RefusalMetric.{RefusalMetric}
@@ -63,6 +68,7 @@ life_value f life.RetriesExhausted = f.events.retries_exhausted
 life_value f life.EventAgeExceeded = f.events.event_age_exceeded
 life_value f life.Collected = f.events.collected
 life_value f life.Started = f.events.started
+life_value f life.Failed = f.events.failed
 life_value f life.Throttled = f.events.throttled
 life_value f life.Interrupted = f.events.interrupted
 
@@ -71,7 +77,6 @@ refusal_value r refusal.BadRequest = r.bad_request
 refusal_value r refusal.NotFound = r.not_found
 refusal_value r refusal.Conflict = r.conflict
 refusal_value r refusal.TooLarge = r.too_large
-refusal_value r refusal.HeadTooLarge = r.head_too_large
 refusal_value r refusal.TooMany = r.too_many
 refusal_value r refusal.Unavailable = r.unavailable
 refusal_value r refusal.Other = r.other
@@ -82,15 +87,29 @@ commit_value p (commit.Within index) = Whole (slice_index p.buckets index)
 commit_value p commit.All = Whole p.commits
 commit_value p commit.Time = Microseconds p.commit_microseconds
 
-abbrev pub state_value : Process → StateMetric → ℕ
-state_value p state.Switches = p.switches
-state_value p state.WrittenBytes = p.written_bytes
-state_value p state.Generation = p.generation
-state_value p state.Sectors = p.sectors
-state_value p state.FreeSectors = p.free_sectors
-state_value p state.ResidentBytes = p.resident_bytes
-state_value p state.Stopping = indicator p.is_stopping
-state_value p state.Fault = indicator p.has_fault
+abbrev pub state_value : Process → StateMetric → Value
+state_value p state.Switches = Whole p.switches
+state_value p state.WrittenBytes = Whole p.written_bytes
+state_value p state.Generation = Whole p.generation
+state_value p state.Bytes = Whole p.bytes
+state_value p state.FreeBytes = Whole p.free_bytes
+state_value p state.ResidentBytes = Whole p.resident_bytes
+state_value p state.StartedAt = Milliseconds p.started_at
+state_value p state.Stopping = Whole (indicator p.is_stopping)
+state_value p state.Fault = Whole (indicator p.has_fault)
+
+abbrev pub limit_value : Limits → LimitMetric → ℕ
+limit_value l limit.Events = l.events
+limit_value l limit.Concurrency = l.concurrency
+limit_value l limit.Timeout = l.timeout
+limit_value l limit.Retries = l.retries
+limit_value l limit.Age = l.age
+limit_value l limit.Payload = l.payload
+limit_value l limit.Response = l.response
+
+-- 1 where there is a problem at this place, else 0
+abbrev pub problem_value : List (Option Problem) → ℕ → ℕ
+problem_value problems place = option_map_or (λ (p : Option Problem). indicator (is_some p)) (slice_get problems place) 0
 
 abbrev pub value_of : Metrics → Metric → Value
 value_of f (metric.Held g) = Whole (held_value f.census g)
@@ -99,4 +118,6 @@ value_of f (metric.Phase g) = Whole (phase_value f.environments g)
 value_of f (metric.Life g) = Whole (life_value f g)
 value_of f (metric.Refusal g) = Whole (refusal_value f.process.refused g)
 value_of f (metric.Commit g) = commit_value f.process g
-value_of f (metric.State g) = Whole (state_value f.process g)
+value_of f (metric.State g) = state_value f.process g
+value_of f (metric.Limit g) = Whole (limit_value f.limits g)
+value_of f (metric.Problem place) = Whole (problem_value f.problems place)

@@ -56,6 +56,19 @@ impl AdminReply {
         }
     }
 
+    /// A status with this text.
+    pub(crate) fn of(status: u16, body: Vec<u8>) -> AdminReply
+        ensures status { result.status ≡ status }
+        ensures body { result.body ≡ body }
+    {
+        AdminReply {
+            status,
+            media: Media::Text,
+            body,
+            next: None,
+        }
+    }
+
     /// A status with a line of text.
     pub fn line(alloc: Global, status: u16, words: &str) -> Result<AdminReply, AllocError>
         ensures status { IfOk result (λ reply. reply.status ≡ status) }

@@ -10,8 +10,10 @@ pub enum AdminRequest {
     Page,
     /// `/metrics`: the numbers, as text.
     Metrics,
-    /// `/healthz`: whether the broker serves.
-    Health,
+    /// `/healthz`: whether the broker serves, and with `?deep` what is wrong with it too.
+    Health {
+        is_deep: bool,
+    },
     /// `/events`: a list of events.
     Events {
         which: Which,

@@ -1,19 +1,20 @@
 // Worked examples of what is meant, computed by the check: a definition that changes one is refused.
-ghost use Rattle.std.specs.Prelude.{◌≡◌, Ok, Err, Some, None};
+ghost use Rattle.std.specs.Prelude.{◌≡◌, Ok, Err, Some, None, true, false};
 ghost use Rattle.async_core.specs.declared.choice.Side.TheVariants as side;
 ghost use Rattle.operator_view.specs.declared.standings.Which.TheVariants as which;
 ghost use Rattle.admin_replies.specs.declared.admin_request.AdminRequest.TheVariants as request;
 ghost use Rattle.admin_replies.specs.declared.admin_refusal.AdminRefusal.TheVariants as why;
 ghost use Rattle.admin_replies.specs.declared.table.Section.TheVariants as section;
-ghost use Rattle.admin_replies.specs.MetricsText.{section_text, settings_text};
-ghost use Rattle.admin_replies.specs.Examples.{asks, gets, third, numbers, usual, held_text, waits_text, commits_text, usual_text};
+ghost use Rattle.admin_replies.specs.MetricsText.{section_text, info_text};
+ghost use Rattle.admin_replies.specs.Examples.{asks, gets, third, numbers, usual, held_text, waits_text, commits_text, usual_text, problems_text};
 
 /// Requests that are understood.
 pub fn requests()
     // claim: The prover computes worked requests, refusals and lines. [: behind; refusals: twice; lines: waits]
     ensures page { gets "/" ≡ Ok request.Page }
     ensures metrics { gets "/metrics" ≡ Ok request.Metrics }
-    ensures health { gets "/healthz?" ≡ Ok request.Health }
+    ensures health { gets "/healthz?" ≡ Ok (request.Health false) }
+    ensures deep { gets "/healthz?deep" ≡ Ok (request.Health true) }
     ensures events { gets "/events" ≡ Ok (request.Events which.All None 100) }
     ensures some_events { gets "/events?limit=1000&standing=waiting" ≡ Ok (request.Events which.Waiting None 1000) }
     ensures behind { gets "/events?after=00000000-0000-4000-8000-000000000003&standing=failure" ≡ Ok (request.Events which.Failure (Some third) 100) }
@@ -47,5 +48,6 @@ pub fn lines()
     ensures held { section_text numbers section.Held ≡ held_text }
     ensures waits { section_text numbers section.Waits ≡ waits_text }
     ensures commits { section_text numbers section.Commits ≡ commits_text }
-    ensures settings { settings_text usual ≡ usual_text }
+    ensures info { info_text usual ≡ usual_text }
+    ensures problems { section_text numbers section.Problems ≡ problems_text }
 {}

@@ -1,15 +1,18 @@
 // The numbers of a broker.
 ghost use Rattle.std.specs.Prelude.{◌≡◌, ◌^◌, ◌-◌, min, count_by};
 ghost use Rattle.operator_view.specs.Census.{ends};
-ghost use Rattle.admin_replies.specs.Numbers.{age_of, is_in_phase, phases_of, parked_in, ended_in, event_counters, process_told, IsOldestAge, AreMetrics};
+ghost use Rattle.admin_replies.specs.Numbers.{age_of, is_in_phase, phases_of, parked_in, ended_in, event_counters, in_bytes, process_told, IsOldestAge, AreMetrics, limits_of};
 
-use crate::metrics::{EventCounters, Metrics, Phases, Process};
+use crate::judging::{counts_told, problems_of};
+use crate::metrics::{EventCounters, Limits, Metrics, Phases, Process};
+use crate::telling::Baseline;
 use env_phase::Phase;
 use hall_core::EnvironmentStatus;
 use invoke_records::EventRow;
-use operator_view::{Census, census, oldest_record, oldest_waiting};
+use operator_view::{Census, Memory, census, oldest_record, oldest_waiting};
 use port_meters::Counters;
 use receipts::View;
+use retry_rules::{RetryPolicy, Settings};
 
 /// What was counted and measured of a process.
 #[derive(Clone, Copy)]
@@ -19,6 +22,10 @@ pub struct Measures {
     pub written_bytes: u64,
     /// How many bytes of memory the process has.
     pub resident_bytes: u64,
+    /// When it was started to serve, in milliseconds since 1970.
+    pub started_at: u64,
+    /// What is remembered of the looks up to this one.
+    pub memory: Memory,
     /// The device failed.
     pub has_fault: bool,
 }
@@ -33,15 +40,16 @@ fn age_of(now: u64, moment: Option<u64>) -> Option<u64>
     }
 }
 
-// How long ago the first of the events that ended did so.
-fn oldest_record_age(now: u64, rows: &[EventRow]) -> Option<u64>
+/// How long ago the first of the events that ended did so.
+pub(crate) fn oldest_record_age(now: u64, rows: &[EventRow]) -> Option<u64>
     ensures { IsOldestAge now (ends rows.now) result }
 {
     let oldest = oldest_record(rows);
     age_of(now, oldest)
 }
 
-fn count_in_phase(environments: &[EnvironmentStatus], phase: Phase) -> u64
+/// How many environments are in this phase.
+pub(crate) fn count_in_phase(environments: &[EnvironmentStatus], phase: Phase) -> u64
     ensures { result ≡ count_by (is_in_phase phase) environments.now }
 {
     environments
@@ -81,9 +89,13 @@ pub(crate) fn ended_in(census: &Census) -> u64
     (census.success as u64).saturating_add(failures)
 }
 
-// What became of events since the opening, when so many had ended. An event that ended and is not held was collected; one that
-// ended neither with success nor by its age had no retries left.
-fn event_counters(before: u64, ended: u64, counted: &receipts::CommandCounters) -> EventCounters
+/// What became of events since the opening, when so many had ended. An event that ended and is not held was collected; one that
+/// ended neither with success nor by its age had no retries left.
+pub(crate) fn event_counters(
+    before: u64,
+    ended: u64,
+    counted: &receipts::CommandCounters,
+) -> EventCounters
     ensures { result ≡ event_counters before ended counted.now }
 {
     let all = ended
@@ -97,9 +109,17 @@ fn event_counters(before: u64, ended: u64, counted: &receipts::CommandCounters) 
         event_age_exceeded: counted.expired,
         collected: counted.collected,
         started: counted.started,
+        failed: counted.failed,
         throttled: counted.throttled,
         interrupted: counted.interrupted,
     }
+}
+
+// A sector has 512 bytes.
+fn in_bytes(sectors: u64) -> u64
+    ensures { result ≡ in_bytes sectors }
+{
+    sectors.saturating_mul(512)
 }
 
 fn process_told(measures: &Measures, is_stopping: bool) -> Process
@@ -113,25 +133,41 @@ fn process_told(measures: &Measures, is_stopping: bool) -> Process
         commit_microseconds: counters.commit_microseconds,
         buckets: counters.buckets,
         generation: counters.generation,
-        sectors: counters.sectors,
-        free_sectors: counters.free_sectors,
+        bytes: in_bytes(counters.sectors),
+        free_bytes: in_bytes(counters.free_sectors),
         resident_bytes: measures.resident_bytes,
+        started_at: measures.started_at,
         is_stopping,
         has_fault: measures.has_fault,
         refused: counters.refused,
     }
 }
 
-/// The numbers of a broker that was seen so, of which so much was counted and measured, now, in milliseconds since 1970. At the
-/// opening so many events had ended.
-pub(crate) fn metrics_of(before: u64, view: &View, measures: &Measures, now: u64) -> Metrics
+fn limits_of(policy: &RetryPolicy, settings: &Settings) -> Limits
+    ensures { result ≡ limits_of policy.now settings.now }
+{
+    Limits {
+        retries: policy.retries as u64,
+        age: policy.age as u64,
+        timeout: settings.timeout as u64,
+        concurrency: settings.concurrency as u64,
+        events: settings.events as u64,
+        payload: settings.payload as u64,
+        response: settings.response as u64,
+    }
+}
+
+/// The numbers of a broker that was seen so, of which so much was counted and measured, now, in milliseconds since 1970.
+pub(crate) fn metrics_of(baseline: &Baseline, view: &View, measures: &Measures, now: u64) -> Metrics
     // claim: The numbers are of what was seen: a census of rows, environments by phase, what ended since the opening.
-    ensures { AreMetrics before view.now measures.now now result }
+    ensures { AreMetrics baseline.now view.now measures.now now result }
 {
     let hall = &view.hall;
     let rows = hall.table.rows.as_slice();
     let census = census(rows);
     let issued = hall.table.number;
+    let events = event_counters(baseline.ended_before, ended_in(&census), &view.counters);
+    let counts = counts_told(now, &events, &measures.counters);
     Metrics {
         census,
         oldest_wait_age: age_of(now, oldest_waiting(rows)),
@@ -142,7 +178,9 @@ pub(crate) fn metrics_of(before: u64, view: &View, measures: &Measures, now: u64
         open_slots: hall.open_slots as u64,
         parked_polls: parked_in(&hall.environments),
         environments: phases_of(&hall.environments),
-        events: event_counters(before, ended_in(&census), &view.counters),
+        events,
         process: process_told(measures, hall.is_stopping),
+        limits: limits_of(&hall.table.policy, &baseline.settings),
+        problems: problems_of(&baseline.settings, view, &census, &measures.memory, &counts),
     }
 }

@@ -10,6 +10,9 @@ pub(crate) enum Metric {
     Refusal(RefusalMetric),
     Commit(CommitMetric),
     State(StateMetric),
+    Limit(LimitMetric),
+    /// Whether something is wrong, by its place among the problems.
+    Problem(u8),
 }
 
 /// Events that are held.
@@ -53,8 +56,21 @@ pub(crate) enum LifeMetric {
     EventAgeExceeded,
     Collected,
     Started,
+    Failed,
     Throttled,
     Interrupted,
+}
+
+/// What is allowed at most.
+#[derive(Clone, Copy)]
+pub(crate) enum LimitMetric {
+    Events,
+    Concurrency,
+    Timeout,
+    Retries,
+    Age,
+    Payload,
+    Response,
 }
 
 /// Requests that were refused.
@@ -64,7 +80,6 @@ pub(crate) enum RefusalMetric {
     NotFound,
     Conflict,
     TooLarge,
-    HeadTooLarge,
     TooMany,
     Unavailable,
     Other,
@@ -86,9 +101,10 @@ pub(crate) enum StateMetric {
     Switches,
     WrittenBytes,
     Generation,
-    Sectors,
-    FreeSectors,
+    Bytes,
+    FreeBytes,
     ResidentBytes,
+    StartedAt,
     Stopping,
     Fault,
 }

@@ -1,6 +1,6 @@
 // The numbers that a monitor collects.
 
-use operator_view::Census;
+use operator_view::{Census, Problem};
 use port_meters::Refusals;
 
 /// The numbers that a monitor collects, as they are at one moment.
@@ -24,6 +24,21 @@ pub struct Metrics {
     pub environments: Phases,
     pub events: EventCounters,
     pub process: Process,
+    pub limits: Limits,
+    /// What is wrong, in the order in which it is told.
+    pub problems: [Option<Problem>; 9],
+}
+
+/// The settings that are numbers, with the retries and the age that are in force.
+#[derive(Clone, Copy)]
+pub struct Limits {
+    pub retries: u64,
+    pub age: u64,
+    pub timeout: u64,
+    pub concurrency: u64,
+    pub events: u64,
+    pub payload: u64,
+    pub response: u64,
 }
 
 /// How many environments are in which phase.
@@ -44,6 +59,7 @@ pub struct EventCounters {
     pub event_age_exceeded: u64,
     pub collected: u64,
     pub started: u64,
+    pub failed: u64,
     pub throttled: u64,
     pub interrupted: u64,
 }
@@ -64,10 +80,12 @@ pub struct Process {
     /// Of the segment that is written.
     pub generation: u64,
     /// Of the disk.
-    pub sectors: u64,
+    pub bytes: u64,
     /// In the segment that is written.
-    pub free_sectors: u64,
+    pub free_bytes: u64,
     pub resident_bytes: u64,
+    /// When the program was started to serve, in milliseconds since 1970.
+    pub started_at: u64,
     pub is_stopping: bool,
     /// The disk has failed.
     pub has_fault: bool,

@@ -5,12 +5,13 @@ ghost use Rattle.admin_replies.specs.Table.{sections};
 
 use crate::lines::put_sections;
 use crate::metrics::Metrics;
-use crate::settings::put_settings;
+use crate::settings::put_info;
 use crate::table::Section;
 use retry_rules::Settings;
 use std::alloc::{AllocError, Global};
 
-const SECTIONS: [Section; 7] = [
+const SECTIONS: [Section; 9] = [
+    Section::Problems,
     Section::Held,
     Section::Waits,
     Section::Environments,
@@ -18,6 +19,7 @@ const SECTIONS: [Section; 7] = [
     Section::Refusals,
     Section::Commits,
     Section::Disk,
+    Section::Limits,
 ];
 
 fn sections() -> &'static [Section]
@@ -37,6 +39,6 @@ pub(crate) fn metrics_text(
 {
     let mut out = Vec::new(alloc);
     put_sections(alloc, &mut out, sections(), metrics)?;
-    put_settings(alloc, &mut out, settings)?;
+    put_info(&mut out, settings)?;
     Ok(out)
 }

@@ -8,6 +8,7 @@ pub(crate) enum Name {
     Standing,
     After,
     Limit,
+    Deep,
 }
 
 impl Name {
@@ -19,6 +20,7 @@ impl Name {
             Name::Standing => "standing",
             Name::After => "after",
             Name::Limit => "limit",
+            Name::Deep => "deep",
         }
     }
 }

@@ -1,7 +1,7 @@
 // The page that an operator sees. tools/page makes this file of page.html: change that one, and run it.
 
 /// The page at `/` of the admin port, whole: style and script are in it.
-pub const PAGE: &str = r#"<!doctype html>
+pub const PAGE: &str = r##"<!doctype html>
 <html lang="en">
 <head>
 <meta charset="utf-8">
@@ -17,7 +17,7 @@ pub const PAGE: &str = r#"<!doctype html>
 * { box-sizing: border-box; }
 body { margin: 0 auto; padding: 1rem; max-width: 72rem; background: var(--ground); color: var(--ink); font: 1rem/1.45 system-ui, sans-serif; font-variant-numeric: tabular-nums; }
 h1 { font-size: 1.35rem; margin: 0; }
-h1, .error, #health, #findings { overflow-wrap: anywhere; }
+h1, .error, #health, #findings, #h-one { overflow-wrap: anywhere; }
 h2 { font-size: 1.05rem; margin: 1.75rem 0 .5rem; }
 a { color: var(--link); }
 p { margin: .35rem 0; }
@@ -35,6 +35,8 @@ main.gone { filter: grayscale(1); }
 #legend li, dl div { display: flex; gap: .6rem; align-items: baseline; border-bottom: 1px solid var(--line); padding: .2rem 0; }
 #legend i { flex: none; width: .8rem; height: .8rem; border: 1px solid var(--line); border-radius: 2px; }
 b, dd { margin: 0 0 0 auto; font-weight: 600; text-align: right; }
+dd { overflow-wrap: anywhere; }
+#event { grid-template-columns: 1fr; }
 #plots { display: grid; grid-template-columns: repeat(auto-fill, minmax(14rem, 1fr)); gap: 1rem 1.5rem; }
 figure { margin: 0; min-width: 0; }
 figcaption { display: flex; justify-content: space-between; align-items: end; gap: .5rem; color: var(--ink); }
@@ -63,6 +65,11 @@ td:not(.error, .wrap) { white-space: nowrap; }
 </header>
 <main id="main">
 <noscript>This page needs JavaScript; the links at its end do not.</noscript>
+<section id="one" hidden aria-labelledby="h-one">
+<h2 id="h-one">Event</h2>
+<dl id="event"></dl>
+<p class="soft"><a id="whole" href="events">as JSON</a> · <a href="#">close</a></p>
+</section>
 <h2>Environments, waits, refusals</h2>
 <dl id="now"></dl>
 <h2>Events held: <span id="held">–</span></h2>
@@ -82,10 +89,9 @@ td:not(.error, .wrap) { white-space: nowrap; }
 </main>
 <script>
 "use strict";
-// What needs no document: numbers as they are read, and the rules of the verdict.
+// What needs no document: numbers and lines as they are read.
 const whole = new Intl.NumberFormat("en", { maximumFractionDigits: 0 }).format;
 function rate(n) { return n === null ? "–" : n % 1 && n < 10 ? n.toFixed(n < 0.1 ? 2 : 1) : whole(n); }
-function some(n, noun) { return `${whole(n)} ${noun}${n === 1 ? "" : "s"}`; }
 function span(seconds) {
   const s = Math.max(0, Math.round(seconds)), m = Math.floor(s / 60), h = Math.floor(m / 60), d = Math.floor(h / 24);
   return (d ? `${d} d ${h % 24} h` : h ? `${h} h ${m % 60} min` : m > 9 ? `${m} min` : m ? `${m} min ${s % 60} s` : `${s} s`).replace(/ 0 \w+$/, "");
@@ -110,82 +116,19 @@ function sum(families, family, ...labels) {
     if (!labels.length || Object.values(of).some((label) => labels.includes(label))) total += value;
   return total;
 }
-// What the page knows: how much each family is (count) and by how much it has grown in the seconds that the page looks back, the
-// settings (limits), the events that wait, and for how many seconds nothing has ended while something was due (still).
-function stateOf({ families, past, waits, now, ...seen }) {
+// What the page knows: how much each family is (count).
+function stateOf({ families, ...seen }) {
   const count = (...of) => sum(families, ...of);
-  return { ...seen, families, past, waits, count, grown: (...of) => past ? count(...of) - sum(past, ...of) : 0,
-    limits: families.settings_info?.[0].labels || {}, due: waits.filter((event) => event.moment <= now).length,
-    waiting: count("events", "waiting", "due_again"), ended: count("events", "success", "retries_exhausted", "event_age_exceeded"),
-    lately: `in the last ${span(seen.seconds)}` };
+  return { ...seen, families, count, waiting: count("events", "waiting", "due_again"),
+    ended: count("events", "success", "retries_exhausted", "event_age_exceeded") };
 }
 
-// The rules. Each tells its level, a title and what to do, or nothing.
-const BAD = "bad", LOOK = "look";
-const MANY = 5, FULL = 0.8, OLD = 5 / 6, SLACK = 6, UNCOLLECTED = 900, SLOW = 0.1, SLOWEST = "0.5", RARE = 0.05;
-function nobodyPolls({ count, waiting, due }) {
-  const all = count("environments"), missing = count("environments", "init"), wait = missing === all ? waiting : due;
-  return missing && [wait ? BAD : LOOK, missing === all ? "nobody polls" : "nobody polls an environment",
-    `No poll in ${whole(missing)} of ${some(all, "environment")}. Waiting: ${some(wait, "event")}. `
-    + "Start the runtime, or the extension that --extensions waits for; its log says why it ended."];
-}
-function nothingEnds({ grown, limits, still, due }) {
-  const timeout = Number(limits.timeout_seconds), begun = grown("attempts_started_total");
-  return still > timeout + SLACK && [BAD, "nothing ends",
-    `No event has ended for ${span(still)}, though some were due (now ${whole(due)}); the timeout is ${span(timeout)}. `
-    + `${begun ? `${some(begun, "attempt")} began and failed, or hang` : "No attempt began"}: look at the runtimes.`];
-}
-function tableFills({ count, limits, ended }) {
-  const held = count("events"), most = Number(limits.events);
-  return held >= FULL * most && [held < most ? LOOK : BAD, `the table is ${held < most ? "nearly " : ""}full`,
-    `${whole(held)} of at most ${some(most, "event")} held; when it is full, callers are told 429. ` + (ended
-      ? `${whole(ended)} ended, and their records wait to be collected: GET /broker/destinations/success and /failure on the callers' port, `
-        + "then DELETE /broker/destinations/ID, as examples/forward.py does."
-      : "None has ended: see why they wait.")];
-}
-function eventsExpire({ count, grown, limits, waits, lately }) {
-  const wait = count("oldest_wait_age_seconds"), age = Number(waits[0]?.age ?? limits.age_seconds);
-  const lost = grown("events_ended_total", "EventAgeExceeded"), soon = wait >= OLD * age;
-  return (soon || lost) && [BAD, soon ? "events expire soon" : "events expired",
-    `The oldest wait is ${span(wait)}, and an event is given up at ${span(age)}. Given up ${lately}: ${whole(lost)}. `
-    + "Bring up runtimes that take them; a changed --age is for later events alone."];
-}
-const READ = "Read the errors below, and the function's log.";
-function attemptsFail(state) {
-  const { grown, lately } = state, over = grown("attempts_started_total") - grown("events", "running") - grown("attempts_interrupted_total");
-  const failed = over - grown("events_ended_total", "Success");
-  return over < MANY ? eventsFailed(state)
-    : 2 * failed > over && [BAD, "most attempts fail", `${whole(failed)} of ${some(over, "attempt")} failed ${lately}. ${READ}`];
-}
-// The same by what is held, where too few attempts were seen.
-function eventsFailed({ count, waits }) {
-  const again = waits.filter((event) => event.failures).length, failed = count("events", "retries_exhausted") + again;
-  const good = Math.max(count("events", "success"), count("events_ended_total", "Success"));
-  return failed >= MANY && failed > good && [LOOK, "most events that were tried have failed",
-    `${some(failed, "event")} failed (${whole(again)} due again), ${whole(good)} succeeded. ${READ}`];
-}
-function commitsAreSlow({ grown, lately }) {
-  const all = grown("commit_seconds_count"), late = all - grown("commit_seconds_bucket", SLOWEST), mean = grown("commit_seconds_sum") / all;
-  return all >= MANY && (mean >= SLOW || late >= RARE * all) && [LOOK, "commits are slow",
-    `${rate(1000 * mean)} ms on average, ${whole(late)} of ${whole(all)} above ${SLOWEST} s, ${lately}. `
-    + "Nothing is lost by that: look at the device, and at who else writes to it."];
-}
-function callersAreRefused({ grown, lately }) {
-  const full = grown("refused_total", "too_many"), busy = grown("refused_total", "unavailable");
-  return (full || busy) && [BAD, "callers are refused", `Told ${lately}: `
-    + [full && `${whole(full)} × 429, as the table was full: collect records, and see why the others wait`,
-      busy && `${whole(busy)} × 503, as too much was under way, or it stops: look at commits and open requests`].filter(Boolean).join("; ") + "."];
-}
-function recordsStay({ count, ended }) {
-  const oldest = count("oldest_record_age_seconds");
-  return oldest > UNCOLLECTED && [LOOK, "records are not collected",
-    `${some(ended, "record")} held, the oldest for ${span(oldest)}. Does examples/forward.py run, or what else collects them, `
-    + "for success and for failure? Does its URL take them?"];
-}
-// What the rules find, the worst first.
-function verdict(state) {
-  return [callersAreRefused, nobodyPolls, nothingEnds, tableFills, eventsExpire, attemptsFail, commitsAreSlow, recordsStay]
-    .map((rule) => rule(state)).filter(Boolean).sort((one, other) => (other[0] === BAD) - (one[0] === BAD));
+// What the broker says is wrong, a line each: its level, its reason, and what to do. The worst comes first.
+const BAD = "bad";
+function findings(text) {
+  return text.split("\n").map((line) => /^(bad|look) (\w+): (.*)$/.exec(line)).filter(Boolean)
+    .map(([, level, reason, words]) => [level, reason.replaceAll("_", " "), words])
+    .sort((one, other) => (other[0] === BAD) - (one[0] === BAD));
 }
 // The first line. It has no numbers, so that a screen reader tells it once.
 function word(level) { return level === BAD ? "Bad" : "Look"; }
@@ -215,8 +158,8 @@ const stamp = (moment) => new Date(moment).toLocaleString("sv").replaceAll("-", 
 function clock(families, at) { return at; }
 const PLOTS = [
   ["accepted a second", "running", clock, "events_accepted_total"],
-  ["successes a second", "success", clock, "events_ended_total", "Success"],
-  ["failures a second", "retries_exhausted", clock, "events_ended_total", "RetriesExhausted", "EventAgeExceeded"],
+  ["successes a second", "success", clock, "events_ended_total", "success"],
+  ["failures a second", "retries_exhausted", clock, "events_ended_total", "retries_exhausted", "event_age_exceeded"],
   ["collected a second", "running", clock, "records_collected_total"],
   ["waiting or due again", "waiting", null, "events", "waiting", "due_again"],
   ["refused a second", "retries_exhausted", clock, "refused_total"],
@@ -267,8 +210,8 @@ function grow(piece, n) {
   piece.style.flexGrow = n;
   piece.style.display = n > 0 ? "" : "none";
 }
-function showStandings({ count, limits }) {
-  const held = count("events"), most = Number(limits.events);
+function showStandings({ count }) {
+  const held = count("events"), most = count("table_limit");
   for (const mark of marks) {
     grow(mark.piece, count("events", mark.standing));
     put(mark.count, whole(count("events", mark.standing)));
@@ -289,29 +232,29 @@ function tell(list, texts) {
     put(facts[name], text);
   }
 }
-// The counts of a family by a label, or by how much they have grown.
-function each(families, family, label, past) {
-  const counts = (families[family] || []).map(({ labels, value }) => [labels[label], value - (past ? sum(past, family, labels[label]) : 0)]);
+// The counts of a family by a label.
+function each(families, family, label) {
+  const counts = (families[family] || []).map(({ labels, value }) => [labels[label], value]);
   return counts.filter(([, n]) => n > 0).map(([name, n]) => `${name.replaceAll("_", " ")}: ${whole(n)}`).join(", ") || "none";
 }
-function showFacts({ families, past = families, seconds, waits, count, limits, due, waiting, ended }) {
-  const number = (...of) => whole(count(...of)), { retries, age_seconds: age } = limits;
+function showFacts({ families, waits, now, count, waiting, ended }) {
+  const number = (...of) => whole(count(...of)), age = count("age_limit_seconds"), due = waits.filter((event) => event.moment <= now).length;
   tell("now", {
     "environments": each(families, "environments", "phase"),
-    "running": `${number("events", "running")} of at most ${limits.concurrency}`,
+    "running": `${number("events", "running")} of at most ${number("attempts_limit")}`,
     "waiting or due again": `${whole(waiting)}, due now: ${whole(due)}`,
     "oldest wait": waiting ? `${span(count("oldest_wait_age_seconds"))} of at most ${span(waits[0]?.age ?? age)}` : "none",
-    "refused lately": `${each(families, "refused_total", "reason", past)} in ${span(seconds)}`,
     "refused since served": each(families, "refused_total", "reason"),
   });
   tell("more", {
     "oldest record": ended ? span(count("oldest_record_age_seconds")) : "none",
-    "in force for new events": `retries ${retries}, age ${span(age)}`,
-    "timeout of an attempt": span(limits.timeout_seconds),
+    "in force for new events": `retries ${number("retries_limit")}, age ${span(age)}`,
+    "timeout of an attempt": span(count("timeout_seconds")),
     "parked polls, of open requests": `${number("parked_polls")} of ${number("open_slots")}`,
     "commands not durable yet": number("pending_commands"),
     "throttled, interrupted": `${number("attempts_throttled_total")}, ${number("attempts_interrupted_total")}`,
     "switches, generation": `${number("switches_total")}, ${number("generation")}`,
+    "version, served for": `${families.build_info?.[0].labels.version}, ${span(now / 1000 - count("process_start_time_seconds"))}`,
     "memory": `${whole(count("process_resident_memory_bytes") / 1048576)} MiB`,
   });
 }
@@ -319,7 +262,7 @@ function showFacts({ families, past = families, seconds, waits, count, limits, d
 // Rows and cells are made once: only their text changes. A list is an event's id, and the words that lead to it.
 function fill(cell, text) {
   const leads = Array.isArray(text), inner = cell.firstElementChild || add(cell, leads ? "a" : "bdi");
-  if (leads) inner.href = `events/${encodeURIComponent(text[0])}`;
+  if (leads) inner.href = `#${encodeURIComponent(text[0])}`;
   put(inner, leads ? text[1] : text);
 }
 function table(id, columns, none) {
@@ -341,11 +284,30 @@ const showWaits = table("waits", [["event", "id"], ["waits", "n"], ["due in", "n
 
 async function ask(path) {
   const reply = await fetch(path, { cache: "no-store", signal: AbortSignal.timeout(PATIENCE) });
-  if (!reply.ok && path !== "healthz") throw new Error(`${path} was answered ${reply.status} ${(await reply.text()).trim()}`);
+  if (!reply.ok && path !== "healthz?deep") throw new Error(`${path} was answered ${reply.status} ${(await reply.text()).trim()}`);
   return reply;
 }
 const json = async (path) => (await ask(path)).json();
 const until = (moment, now) => moment > now ? span((moment - now) / 1000) : "now";
+// One event, which the part of the address behind its # names.
+async function readOne(now) {
+  const id = decodeURIComponent(location.hash.slice(1));
+  $("one").hidden = !id;
+  if (!id) return;
+  const e = await json(`events/${encodeURIComponent(id)}`), ended = e.standing.startsWith("ended");
+  $("whole").href = `events/${encodeURIComponent(id)}`;
+  put($("h-one"), `Event ${e.id}`);
+  tell("event", {
+    "stands": e.standing,
+    "accepted": `${stamp(e.accepted)}, ${span((now - e.accepted) / 1000)} ago`,
+    "due, deadline or end": stamp(e.moment),
+    "starts, failures, put back since": `${e.starts}, ${e.failures}, ${e.pushbacks}`,
+    "given up at": span(e.age),
+    "last error": e.lastError === null ? "none was reported" : error(e.lastError),
+    "payload": e.payload.length < e.payloadBytes ? `${e.payload.slice(0, 200)}… (${whole(e.payloadBytes)} bytes)` : e.payload.slice(0, 200),
+    "to collect its record": ended ? `DELETE /broker/destinations/${e.id}` : "it has none yet",
+  });
+}
 async function readRuns(now) {
   const { events } = await json(`events?standing=running&limit=${RUNNING}`);
   showRuns(events.map((e) => [[e.id, e.id], e.environment, span((now - e.accepted) / 1000), until(e.moment, now)]));
@@ -355,39 +317,40 @@ async function readWaits(now) {
   showWaits(events.slice(0, SHOWN).map((e) => [[e.id, e.id], span((now - e.accepted) / 1000), until(e.moment, now), e.starts, e.failures]));
   return events;
 }
-// What the function answered last.
-function error(record) {
-  const answer = record?.responsePayload;
-  if (answer === undefined) return "no answer";
-  const parts = [answer?.errorType, answer?.errorMessage].filter(Boolean);
-  const text = parts.length ? parts.join(": ") : typeof answer === "string" ? answer : JSON.stringify(answer);
+// What the function reported last: a text, JSON as a rule.
+function error(told) {
+  if (told === null) return "no answer";
+  let said;
+  try { said = JSON.parse(told); } catch { said = told; }
+  const parts = [said?.errorType, said?.errorMessage].filter((part) => typeof part === "string" && part);
+  const text = parts.length ? parts.join(": ") : typeof said === "string" ? said : told;
   return text.length > 200 ? text.slice(0, 200) + "…" : text;
 }
 let known = {}, shown = "";
-async function errorOf({ id, payloadBytes }) {
-  return known[id] ?? (payloadBytes > LARGE ? "not read: the payload is large" : error((await json(`events/${id}`)).record));
+async function errorOf({ id, starts, payloadBytes }) {
+  return known[`${id} ${starts}`] ?? (payloadBytes > LARGE ? "not read: the payload is large" : error((await json(`events/${id}`)).lastError));
 }
 // The list is in the order of acceptance, so the last that ended are found by all of it.
 async function lastFailures() {
-  const all = [];
+  const all = waits.filter((event) => event.failures);
   let after = "";
   do {
     const page = await json(`events?standing=failure&limit=1000${after}`);
     all.push(...page.events);
     after = page.next && `&after=${page.next}`;
   } while (after);
-  return all.sort((a, b) => b.moment - a.moment).slice(0, FAILED);
+  return all.sort((a, b) => b.moment - a.moment);
 }
 // Equal errors are one line. They are read where a count has changed.
 async function readFails(families) {
-  const state = JSON.stringify([families.events, families.events_ended_total, families.records_collected_total]);
+  const state = JSON.stringify([families.events, families.attempts_failed_total, families.events_ended_total, families.records_collected_total]);
   if (state === shown) return;
-  const last = await lastFailures(), errors = await Promise.all(last.map(errorOf)), lines = {};
+  const last = (await lastFailures()).slice(0, FAILED), errors = await Promise.all(last.map(errorOf)), lines = {};
   known = {};
-  last.forEach(({ id, moment, standing }, place) => {
-    known[id] = errors[place];
-    const told = (standing.includes("Age") ? "EventAgeExceeded: " : "") + known[id];
-    (lines[told] ||= [told, 0, [id, stamp(moment)]])[1]++;
+  last.forEach(({ id, moment, standing, starts }, place) => {
+    const said = known[`${id} ${starts}`] = errors[place];
+    const told = (standing.includes("Age") ? "EventAgeExceeded: " : "") + said;
+    (lines[told] ||= [told, 0, [id, standing.startsWith("ended") ? stamp(moment) : "due again"]])[1]++;
   });
   showFails(Object.values(lines));
   shown = state;
@@ -408,45 +371,31 @@ function showFound(found) {
     put(item.children[1] || add(item, "span"), text);
   });
 }
-// What the page has seen, from the last time on that the broker was served, and no longer than the window.
-let readings = [], stillSince = 0, answered = 0, waits = [];
-function remember(families, at) {
-  const fell = (family) => sum(families, family) < sum(readings.at(-1).families, family);
-  if (readings.length && ["commit_seconds_count", "attempts_started_total", "refused_total"].some(fell)) readings = [];
-  while (readings[0]?.at < at - WINDOW) readings.shift();
-  readings.push({ at, families });
-  return { families, past: readings[0].families, seconds: (at - readings[0].at) / 1000 };
-}
-// For how long nothing has ended while something was due. What is throttled was due, and is put off.
-function stillness({ families, now }, at) {
-  const before = (readings.at(-2) || readings[0]).families, rose = (family) => sum(families, family) > sum(before, family);
-  const wasDue = rose("attempts_throttled_total") || waits.some((event) => event.moment <= now);
-  if (!stillSince || !wasDue || rose("events_ended_total")) stillSince = at;
-  return (at - stillSince) / 1000;
-}
+let answered = 0, waits = [];
 async function readNumbers(at) {
-  const reply = await ask("metrics"), families = read(await reply.text()), health = await ask("healthz");
+  const reply = await ask("metrics"), families = read(await reply.text()), health = await ask("healthz?deep");
   answered = at;
-  return { ...remember(families, at), said: health.ok ? "" : await health.text(), now: Date.parse(reply.headers.get("date")) || at };
+  return { families, said: health.ok ? "" : await health.text(), now: Date.parse(reply.headers.get("date")) || at };
 }
 async function readLists({ now, families }) {
   try {
     waits = await readWaits(now);
     await readRuns(now);
     await readFails(families);
+    await readOne(now);
     return "";
   } catch (why) {
     return `, but not all of the tables: ${why.message}`;
   }
 }
 function showState(seen, at) {
-  const state = stateOf({ ...seen, waits, still: stillness(seen, at) }), found = verdict(state);
-  put($("name"), state.limits.function || "Lambda broker");
+  const state = stateOf({ ...seen, waits }), found = findings(seen.said);
+  put($("name"), seen.families.settings_info?.[0].labels.function || "Lambda broker");
   for (const plot of PLOTS) step(plot, seen.families, at);
   showFacts(state);
   showStandings(state);
   showFound(found);
-  if (seen.said) health(`Bad: the broker says ${seen.said.trim()}.`, BAD);
+  if (seen.said && !found.length) health(`Bad: the broker says ${seen.said.trim()}.`, BAD);
   else health(headline(found), found[0]?.[0] ?? "good");
 }
 function showSilence(why, at) {
@@ -475,8 +424,9 @@ async function look() {
   put($("seen"), `the last ${span(Math.min(at - opened, WINDOW) / 1000)}`);
   setTimeout(look, PLOTS[0].points.length < 3 ? FIRST : EVERY);
 }
+addEventListener("hashchange", () => readOne(Date.now()).catch((why) => put($("h-one"), why.message)));
 look();
 </script>
 </body>
 </html>
-"#;
+"##;

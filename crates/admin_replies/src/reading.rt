@@ -12,6 +12,8 @@ use async_core::Side;
 
 const OF_EVENTS: [Name; 3] = [Name::Standing, Name::After, Name::Limit];
 
+const OF_HEALTH: [Name; 1] = [Name::Deep];
+
 const OF_RECORDS: [Name; 2] = [Name::After, Name::Limit];
 
 fn path_of(target: &str) -> &str
@@ -39,6 +41,7 @@ fn names_at(resource: Resource) -> &'static [Name]
     match resource {
         Resource::Events => &OF_EVENTS,
         Resource::Records(_) => &OF_RECORDS,
+        Resource::Health => &OF_HEALTH,
         _ => &[],
     }
 }
@@ -70,7 +73,9 @@ fn told_at(resource: Resource, query: &str) -> Result<AdminRequest, AdminRefusal
     match resource {
         Resource::Page => Ok(AdminRequest::Page),
         Resource::Metrics => Ok(AdminRequest::Metrics),
-        Resource::Health => Ok(AdminRequest::Health),
+        Resource::Health => Ok(AdminRequest::Health {
+            is_deep: given(Name::Deep, query).is_some(),
+        }),
         Resource::Events => events_asked(query),
         Resource::Event(id) => Ok(AdminRequest::Event(id)),
         Resource::Records(side) => records_asked(side, query),

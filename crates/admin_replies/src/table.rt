@@ -3,6 +3,7 @@ ghost use Rattle.std.specs.Prelude.{◌≡◌, map};
 ghost use Rattle.admin_replies.specs.Lines.{line_of};
 ghost use Rattle.admin_replies.specs.Table.{lines_of};
 
+use crate::judged_table::{LIMITS, PROBLEMS};
 use crate::metric::{
     CommitMetric, HeldMetric, LifeMetric, Metric, PhaseMetric, RefusalMetric, StateMetric,
     WaitMetric,
@@ -20,6 +21,8 @@ pub(crate) struct Row {
 /// A part of the table.
 #[derive(Clone, Copy)]
 pub(crate) enum Section {
+    /// What is wrong.
+    Problems,
     /// Where the events stand.
     Held,
     /// How old the oldest are, and what waits.
@@ -34,6 +37,8 @@ pub(crate) enum Section {
     Commits,
     /// The disk and the process.
     Disk,
+    /// What is allowed at most.
+    Limits,
 }
 
 const HELD: [Row; 6] = [
@@ -120,7 +125,7 @@ const ENVIRONMENTS: [Row; 4] = [
     },
 ];
 
-const LIVES: [Row; 10] = [
+const LIVES: [Row; 11] = [
     Row {
         head: "# HELP lambda_broker_commands_issued_total Commands that were issued.\n# TYPE lambda_broker_commands_issued_total counter\n",
         name: "lambda_broker_commands_issued_total",
@@ -138,17 +143,17 @@ const LIVES: [Row; 10] = [
     },
     Row {
         head: "# HELP lambda_broker_events_ended_total Events that ended, by outcome.\n# TYPE lambda_broker_events_ended_total counter\n",
-        name: "lambda_broker_events_ended_total{outcome=\"Success\"}",
+        name: "lambda_broker_events_ended_total{outcome=\"success\"}",
         metric: Metric::Life(LifeMetric::Success),
     },
     Row {
         head: "",
-        name: "lambda_broker_events_ended_total{outcome=\"RetriesExhausted\"}",
+        name: "lambda_broker_events_ended_total{outcome=\"retries_exhausted\"}",
         metric: Metric::Life(LifeMetric::RetriesExhausted),
     },
     Row {
         head: "",
-        name: "lambda_broker_events_ended_total{outcome=\"EventAgeExceeded\"}",
+        name: "lambda_broker_events_ended_total{outcome=\"event_age_exceeded\"}",
         metric: Metric::Life(LifeMetric::EventAgeExceeded),
     },
     Row {
@@ -162,6 +167,11 @@ const LIVES: [Row; 10] = [
         metric: Metric::Life(LifeMetric::Started),
     },
     Row {
+        head: "# HELP lambda_broker_attempts_failed_total Attempts that failed.\n# TYPE lambda_broker_attempts_failed_total counter\n",
+        name: "lambda_broker_attempts_failed_total",
+        metric: Metric::Life(LifeMetric::Failed),
+    },
+    Row {
         head: "# HELP lambda_broker_attempts_throttled_total Attempts that were throttled.\n# TYPE lambda_broker_attempts_throttled_total counter\n",
         name: "lambda_broker_attempts_throttled_total",
         metric: Metric::Life(LifeMetric::Throttled),
@@ -173,7 +183,7 @@ const LIVES: [Row; 10] = [
     },
 ];
 
-const REFUSALS: [Row; 8] = [
+const REFUSALS: [Row; 7] = [
     Row {
         head: "# HELP lambda_broker_refused_total Requests that were refused, by reason.\n# TYPE lambda_broker_refused_total counter\n",
         name: "lambda_broker_refused_total{reason=\"bad_request\"}",
@@ -193,11 +203,6 @@ const REFUSALS: [Row; 8] = [
         head: "",
         name: "lambda_broker_refused_total{reason=\"too_large\"}",
         metric: Metric::Refusal(RefusalMetric::TooLarge),
-    },
-    Row {
-        head: "",
-        name: "lambda_broker_refused_total{reason=\"head_too_large\"}",
-        metric: Metric::Refusal(RefusalMetric::HeadTooLarge),
     },
     Row {
         head: "",
@@ -274,7 +279,7 @@ const COMMITS: [Row; 11] = [
     },
 ];
 
-const DISK: [Row; 8] = [
+const DISK: [Row; 9] = [
     Row {
         head: "# HELP lambda_broker_switches_total Switches to the other segment of the disk.\n# TYPE lambda_broker_switches_total counter\n",
         name: "lambda_broker_switches_total",
@@ -291,19 +296,24 @@ const DISK: [Row; 8] = [
         metric: Metric::State(StateMetric::Generation),
     },
     Row {
-        head: "# HELP lambda_broker_disk_sectors Sectors of the disk.\n# TYPE lambda_broker_disk_sectors gauge\n",
-        name: "lambda_broker_disk_sectors",
-        metric: Metric::State(StateMetric::Sectors),
+        head: "# HELP lambda_broker_disk_bytes Size of the disk.\n# TYPE lambda_broker_disk_bytes gauge\n",
+        name: "lambda_broker_disk_bytes",
+        metric: Metric::State(StateMetric::Bytes),
     },
     Row {
-        head: "# HELP lambda_broker_segment_free_sectors Sectors that are left in the segment that is written.\n# TYPE lambda_broker_segment_free_sectors gauge\n",
-        name: "lambda_broker_segment_free_sectors",
-        metric: Metric::State(StateMetric::FreeSectors),
+        head: "# HELP lambda_broker_segment_free_bytes Room that is left in the segment that is written.\n# TYPE lambda_broker_segment_free_bytes gauge\n",
+        name: "lambda_broker_segment_free_bytes",
+        metric: Metric::State(StateMetric::FreeBytes),
     },
     Row {
         head: "# HELP lambda_broker_process_resident_memory_bytes Memory of the process that is resident.\n# TYPE lambda_broker_process_resident_memory_bytes gauge\n",
         name: "lambda_broker_process_resident_memory_bytes",
         metric: Metric::State(StateMetric::ResidentBytes),
+    },
+    Row {
+        head: "# HELP lambda_broker_process_start_time_seconds When the broker was started, since 1970.\n# TYPE lambda_broker_process_start_time_seconds gauge\n",
+        name: "lambda_broker_process_start_time_seconds",
+        metric: Metric::State(StateMetric::StartedAt),
     },
     Row {
         head: "# HELP lambda_broker_stopping 1 while the broker stops, else 0.\n# TYPE lambda_broker_stopping gauge\n",
@@ -323,6 +333,7 @@ impl Section {
         ensures { map line_of result.now ≡ lines_of self }
     {
         match self {
+            Section::Problems => &PROBLEMS,
             Section::Held => &HELD,
             Section::Waits => &WAITS,
             Section::Environments => &ENVIRONMENTS,
@@ -330,6 +341,7 @@ impl Section {
             Section::Refusals => &REFUSALS,
             Section::Commits => &COMMITS,
             Section::Disk => &DISK,
+            Section::Limits => &LIMITS,
         }
     }
 }

@@ -1,6 +1,7 @@
 // What is told of what was seen.
-ghost use Rattle.std.specs.Prelude.{◌≡◌, IfOk};
-ghost use Rattle.admin_replies.specs.Telling.{TellsOf, TellsNumbers, CountsEnded, health_status, under};
+ghost use Rattle.std.specs.Prelude.{◌≡◌, IfOk, true, is_some};
+ghost use Rattle.std.specs.List.{list_any};
+ghost use Rattle.admin_replies.specs.Telling.{TellsOf, TellsHealth, TellsNumbers, CountsEnded, health_status};
 
 use crate::admin_reply::{AdminReply, Media};
 use crate::admin_request::AdminRequest;
@@ -8,10 +9,11 @@ use crate::lists::{event_reply, events_reply, records_reply};
 use crate::measuring::{Measures, ended_in, metrics_of};
 use crate::metrics_text::metrics_text;
 use crate::page::PAGE;
+use crate::words::problems_text;
 use async_core::Table;
-use operator_view::census;
+use operator_view::{Problem, census};
 use receipts::View;
-use retry_rules::{RetryPolicy, Settings};
+use retry_rules::Settings;
 use std::alloc::{AllocError, Global};
 
 /// What is known of a broker from its opening on.
@@ -55,17 +57,31 @@ fn health_reply(
     }
 }
 
-// The settings, with what is in force in place of the retries and the age that the disk was formatted with.
-fn settings_under(settings: &Settings, policy: &RetryPolicy) -> Result<Settings, AllocError>
-    ensures { IfOk result (λ shown. shown ≡ under policy.now settings.now) }
+fn is_any(problems: &[Option<Problem>]) -> bool
+    ensures { result ≡ list_any is_some problems.now }
 {
-    let mut shown = settings.copy()?;
-    shown.retries = policy.retries;
-    shown.age = policy.age;
-    Ok(shown)
+    problems.iter().any(|problem| problem.is_some())
 }
 
-// All numbers and the settings, as text.
+// Whether the broker serves, and whether nothing is wrong with it.
+fn deep_reply(
+    alloc: Global,
+    baseline: &Baseline,
+    view: &View,
+    measures: &Measures,
+    now: u64,
+) -> Result<AdminReply, AllocError>
+    ensures { IfOk result (TellsHealth baseline.now view.now measures.now now true) }
+{
+    let metrics = metrics_of(baseline, view, measures, now);
+    if is_any(&metrics.problems) {
+        let body = problems_text(alloc, &metrics.problems)?;
+        return Ok(AdminReply::of(503, body));
+    }
+    health_reply(alloc, measures, view.hall.is_stopping)
+}
+
+// All numbers, as text.
 fn metrics_reply(
     alloc: Global,
     baseline: &Baseline,
@@ -75,9 +91,8 @@ fn metrics_reply(
 ) -> Result<AdminReply, AllocError>
     ensures { IfOk result (TellsNumbers baseline.now view.now measures.now now) }
 {
-    let metrics = metrics_of(baseline.ended_before, view, measures, now);
-    let settings = settings_under(&baseline.settings, &view.hall.table.policy)?;
-    let text = metrics_text(alloc, &metrics, &settings)?;
+    let metrics = metrics_of(baseline, view, measures, now);
+    let text = metrics_text(alloc, &metrics, &baseline.settings)?;
     Ok(AdminReply::shown(Media::Metrics, text))
 }
 
@@ -107,7 +122,12 @@ pub fn tell(
     match request {
         AdminRequest::Page => page_reply(alloc),
         AdminRequest::Metrics => metrics_reply(alloc, baseline, view, measures, now),
-        AdminRequest::Health => health_reply(alloc, measures, view.hall.is_stopping),
+        AdminRequest::Health { is_deep: false } => {
+            health_reply(alloc, measures, view.hall.is_stopping)
+        }
+        AdminRequest::Health { is_deep: true } => {
+            deep_reply(alloc, baseline, view, measures, now)
+        }
         AdminRequest::Events {
             which,
             after,

@@ -1,13 +1,13 @@
 // The number that a metric names.
 ghost use Rattle.std.specs.Prelude.{◌≡◌, slice_index};
-ghost use Rattle.admin_replies.specs.Values.{or_zero, indicator, held_value, wait_value, phase_value, life_value, refusal_value, commit_value, state_value, value_of};
+ghost use Rattle.admin_replies.specs.Values.{or_zero, indicator, held_value, wait_value, phase_value, life_value, refusal_value, commit_value, state_value, limit_value, problem_value, value_of};
 
 use crate::metric::{
-    CommitMetric, HeldMetric, LifeMetric, Metric, PhaseMetric, RefusalMetric, StateMetric,
-    WaitMetric,
+    CommitMetric, HeldMetric, LifeMetric, LimitMetric, Metric, PhaseMetric, RefusalMetric,
+    StateMetric, WaitMetric,
 };
-use crate::metrics::{Metrics, Phases, Process};
-use operator_view::Census;
+use crate::metrics::{Limits, Metrics, Phases, Process};
+use operator_view::{Census, Problem};
 use port_meters::Refusals;
 
 /// A number, and how it is told.
@@ -85,6 +85,7 @@ fn life_value(metrics: &Metrics, life: LifeMetric) -> u64
         LifeMetric::EventAgeExceeded => metrics.events.event_age_exceeded,
         LifeMetric::Collected => metrics.events.collected,
         LifeMetric::Started => metrics.events.started,
+        LifeMetric::Failed => metrics.events.failed,
         LifeMetric::Throttled => metrics.events.throttled,
         LifeMetric::Interrupted => metrics.events.interrupted,
     }
@@ -98,7 +99,6 @@ fn refusal_value(refused: &Refusals, refusal: RefusalMetric) -> u64
         RefusalMetric::NotFound => refused.not_found,
         RefusalMetric::Conflict => refused.conflict,
         RefusalMetric::TooLarge => refused.too_large,
-        RefusalMetric::HeadTooLarge => refused.head_too_large,
         RefusalMetric::TooMany => refused.too_many,
         RefusalMetric::Unavailable => refused.unavailable,
         RefusalMetric::Other => refused.other,
@@ -124,18 +124,43 @@ fn commit_value(process: &Process, commit: CommitMetric) -> Value
     }
 }
 
-fn state_value(process: &Process, state: StateMetric) -> u64
+fn state_value(process: &Process, state: StateMetric) -> Value
     ensures { result ≡ state_value process.now state }
 {
     match state {
-        StateMetric::Switches => process.switches,
-        StateMetric::WrittenBytes => process.written_bytes,
-        StateMetric::Generation => process.generation,
-        StateMetric::Sectors => process.sectors,
-        StateMetric::FreeSectors => process.free_sectors,
-        StateMetric::ResidentBytes => process.resident_bytes,
-        StateMetric::Stopping => indicator(process.is_stopping),
-        StateMetric::Fault => indicator(process.has_fault),
+        StateMetric::Switches => Value::Whole(process.switches),
+        StateMetric::WrittenBytes => Value::Whole(process.written_bytes),
+        StateMetric::Generation => Value::Whole(process.generation),
+        StateMetric::Bytes => Value::Whole(process.bytes),
+        StateMetric::FreeBytes => Value::Whole(process.free_bytes),
+        StateMetric::ResidentBytes => Value::Whole(process.resident_bytes),
+        StateMetric::StartedAt => Value::Milliseconds(process.started_at),
+        StateMetric::Stopping => Value::Whole(indicator(process.is_stopping)),
+        StateMetric::Fault => Value::Whole(indicator(process.has_fault)),
+    }
+}
+
+fn limit_value(limits: &Limits, limit: LimitMetric) -> u64
+    ensures { result ≡ limit_value limits.now limit }
+{
+    match limit {
+        LimitMetric::Events => limits.events,
+        LimitMetric::Concurrency => limits.concurrency,
+        LimitMetric::Timeout => limits.timeout,
+        LimitMetric::Retries => limits.retries,
+        LimitMetric::Age => limits.age,
+        LimitMetric::Payload => limits.payload,
+        LimitMetric::Response => limits.response,
+    }
+}
+
+// 1 where there is a problem at this place, else 0.
+fn problem_value(problems: &[Option<Problem>; 9], place: u8) -> u64
+    ensures { result ≡ problem_value problems.now place }
+{
+    match problems.get(place as usize) {
+        Some(problem) => indicator(problem.is_some()),
+        None => 0,
     }
 }
 
@@ -150,6 +175,8 @@ pub(crate) fn value_of(metrics: &Metrics, metric: Metric) -> Value
         Metric::Life(life) => Value::Whole(life_value(metrics, life)),
         Metric::Refusal(refusal) => Value::Whole(refusal_value(&metrics.process.refused, refusal)),
         Metric::Commit(commit) => commit_value(&metrics.process, commit),
-        Metric::State(state) => Value::Whole(state_value(&metrics.process, state)),
+        Metric::State(state) => state_value(&metrics.process, state),
+        Metric::Limit(limit) => Value::Whole(limit_value(&metrics.limits, limit)),
+        Metric::Problem(place) => Value::Whole(problem_value(&metrics.problems, place)),
     }
 }

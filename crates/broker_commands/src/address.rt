@@ -18,6 +18,8 @@ pub struct Address<'a> {
     pub admin: Option<u16>,
     pub dialect: Dialect,
     pub extensions: u8,
+    /// Whether it waits for a disk that another program has open.
+    pub is_standby: bool,
     /// Whether the records of events that succeeded are collected at once, and those of the others.
     pub discards_success: bool,
     pub discards_failure: bool,

@@ -9,7 +9,7 @@ ghost use Rattle.sector_disk.specs.declared.file.FileError.TheVariants as file_e
 use crate::telltale::{Telltale, telltale_for};
 use group_commit::{Broker, OpenError, without_disk};
 use resized_disk::{Resized, ResizedError, resized};
-use sector_disk::{Disk, FileDisk, FileError, LoggedFile};
+use sector_disk::{Disk, FileDisk, FileError, LoggedFile, lock_file, lock_file_read_only};
 use std::alloc::{AllocError, Global};
 use std::fs::File;
 use std::io::Eprint;
@@ -67,13 +67,14 @@ pub fn check_size<D: Disk>(alloc: Global, disk: &mut D) -> Result<(), DiskError>
     }
 }
 
-// A file as a disk whose faults are told, of the size that it was formatted with.
+// A file as a disk whose faults are told and whose reads ask the device, of the size that it was formatted with.
 fn device<R>(rt: &R, path: &str, file: File) -> Result<Device<R>, DiskError>
 where
     R: Eprint + AllocGlobal + Copy + Drop,
 {
-    let log = telltale_for(rt, path)?;
-    let mut disk = FileDisk::over(LoggedFile::new(file, log))?;
+    let file = LoggedFile::new(file, telltale_for(rt, path)?);
+    file.drop_cached()?;
+    let mut disk = FileDisk::over(file)?;
     check_size(rt.alloc(), &mut disk)?;
     Ok(disk)
 }
@@ -83,7 +84,7 @@ pub fn open_device<R>(rt: &R, path: &str) -> Result<Device<R>, DiskError>
 where
     R: Files<File = File> + Eprint + AllocGlobal + Copy + Drop,
 {
-    device(rt, path, FileDisk::open(rt, path)?.into_file())
+    device(rt, path, lock_file(rt, path)?)
 }
 
 /// Opens the disk in a file for reading alone, where it has the size that it was formatted with.
@@ -91,5 +92,5 @@ pub(crate) fn open_device_read_only<R>(rt: &R, path: &str) -> Result<Device<R>, 
 where
     R: Files<File = File> + Eprint + AllocGlobal + Copy + Drop,
 {
-    device(rt, path, FileDisk::open_read_only(rt, path)?.into_file())
+    device(rt, path, lock_file_read_only(rt, path)?)
 }

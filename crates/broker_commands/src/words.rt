@@ -34,44 +34,135 @@ pub enum Job<'a> {
     Copy(NewCopy<'a>),
 }
 
-// An option with a value.
-fn option<'a>(alloc: Global, name: &'a str, help: &'a str) -> Arg<'a> {
-    Arg::new(alloc, name)
-        .long(name)
-        .action(ArgAction::Set)
-        .help(help)
-}
-
-// An option that is a number and may be left out.
-fn number<'a>(
-    alloc: Global,
+// What a command is told, as `clap` has to know it. It is plain data, of which one function makes what `clap` keeps.
+#[derive(Clone, Copy)]
+struct Argument<'a> {
     name: &'a str,
     help: &'a str,
-    default: &'a str,
+    // None where its place tells it, and not its name.
+    action: Option<ArgAction>,
+    is_required: bool,
+    // What its value has to be.
     parser: ValueParser<'a>,
-) -> Arg<'a> {
-    option(alloc, name, help)
-        .default_value(default)
-        .value_parser(parser)
+    // What help calls its value.
+    value_name: &'a str,
+    default: Option<&'a str>,
+    // The options that it does not go with.
+    conflicts: &'a [&'a str],
+}
+
+impl<'a> Argument<'a> {
+    // An option with a value.
+    fn option(name: &'a str, help: &'a str) -> Argument<'a> {
+        Argument {
+            name,
+            help,
+            action: Some(ArgAction::Set),
+            is_required: false,
+            parser: ValueParser::String,
+            value_name: name,
+            default: None,
+            conflicts: &[],
+        }
+    }
+
+    // An option that has to be there.
+    fn needed(name: &'a str, help: &'a str) -> Argument<'a> {
+        Argument {
+            is_required: true,
+            ..Argument::option(name, help)
+        }
+    }
+
+    // An option with the value that it has where it is left out.
+    fn usual(
+        name: &'a str,
+        help: &'a str,
+        default: &'a str,
+        parser: ValueParser<'a>,
+    ) -> Argument<'a> {
+        Argument {
+            default: Some(default),
+            parser,
+            ..Argument::option(name, help)
+        }
+    }
+
+    // An option without a value.
+    fn flag(name: &'a str, help: &'a str) -> Argument<'a> {
+        Argument {
+            action: Some(ArgAction::SetTrue),
+            ..Argument::option(name, help)
+        }
+    }
+
+    // What a command is about, told by its place.
+    fn place(name: &'a str, value_name: &'a str, help: &'a str) -> Argument<'a> {
+        Argument {
+            action: None,
+            is_required: true,
+            value_name,
+            ..Argument::option(name, help)
+        }
+    }
+
+    // The same with a value that has to be this.
+    fn of(self, parser: ValueParser<'a>) -> Argument<'a> {
+        Argument { parser, ..self }
+    }
+
+    fn called(self, value_name: &'a str) -> Argument<'a> {
+        Argument { value_name, ..self }
+    }
+
+    fn without(self, conflicts: &'a [&'a str]) -> Argument<'a> {
+        Argument { conflicts, ..self }
+    }
+
+    // Tells `clap` of its name and its value.
+    fn arg(&self, alloc: Global) -> Arg<'a> {
+        let arg = Arg::new(alloc, self.name)
+            .help(self.help)
+            .required(self.is_required);
+        match self.action {
+            None => arg.value_name(self.value_name),
+            Some(ArgAction::Set) => arg
+                .long(self.name)
+                .action(ArgAction::Set)
+                .value_name(self.value_name)
+                .value_parser(self.parser),
+            Some(action) => arg.long(self.name).action(action),
+        }
+    }
+
+    // The same, with what it is where it is left out, and what it does not go with.
+    fn whole_arg(&self, alloc: Global) -> Result<Arg<'a>, AllocError> {
+        let arg = self.arg(alloc);
+        let arg = match self.default {
+            Some(default) => arg.default_value(default),
+            None => arg,
+        };
+        arg.conflicts_with_all(self.conflicts)
+    }
+}
+
+// A command that is told these.
+fn command_of<'a>(
+    alloc: Global,
+    name: &'a str,
+    about: &'a str,
+    told: &[Argument<'a>],
+) -> Result<Command<'a>, AllocError> {
+    let mut command = Command::new(alloc, name).about(about);
+    for argument in told {
+        command = command.arg(argument.whole_arg(alloc)?)?;
+    }
+    Ok(command)
 }
 
 // The file or the device that a command is about.
-fn disk<'a>(alloc: Global) -> Arg<'a> {
-    Arg::new(alloc, "disk")
-        .value_name("DISK")
-        .help("A file or a block device")
-        .required(true)
-}
-
-// The function that a disk is formatted for.
-fn with_function<'a>(alloc: Global, command: Command<'a>) -> Result<Command<'a>, AllocError> {
-    let name = option(alloc, "name", "Name of the function");
-    let handler = option(alloc, "handler", "Handler of the function");
-    let arn = option(alloc, "arn", "ARN of the function");
-    command
-        .arg(name.required(true))?
-        .arg(handler.required(true))?
-        .arg(arn.required(true))
+fn disk<'a>() -> Argument<'a> {
+    Argument::place("disk", "DISK", "A file or a block device")
 }
 
 // How often and for how long an event is tried.
@@ -79,209 +170,201 @@ const RETRIES: &str = "Retries after a function error, 0 to 2";
 
 const AGE: &str = "Greatest age of an event in seconds, 60 to 21600";
 
-// How its events are tried.
-fn with_rules<'a>(alloc: Global, command: Command<'a>) -> Result<Command<'a>, AllocError> {
+fn format_command<'a>(alloc: Global) -> Result<Command<'a>, AllocError> {
+    let sectors = "Size of the disk in sectors of 512 bytes";
     let timeout = "Timeout of an attempt in seconds, 1 to 900";
     let concurrency = "Attempts that may run at once, 1 to 64";
-    command
-        .arg(number(alloc, "retries", RETRIES, "2", value_parser!(u8)))?
-        .arg(number(alloc, "age", AGE, "21600", value_parser!(u32)))?
-        .arg(number(alloc, "timeout", timeout, "3", value_parser!(u16)))?
-        .arg(number(alloc, "concurrency", concurrency, "10", value_parser!(u8)))
-}
-
-// How much the broker holds.
-fn with_limits<'a>(alloc: Global, command: Command<'a>) -> Result<Command<'a>, AllocError> {
     let environments = "Environments, 1 to 16";
     let events = "Events that may be held at once, 1 to 1024";
     let payload = "Greatest payload in bytes, 2 to 1048576";
     let response = "Greatest response in bytes, 2 to 262144";
-    command
-        .arg(number(alloc, "environments", environments, "1", value_parser!(u8)))?
-        .arg(number(alloc, "events", events, "64", value_parser!(u16)))?
-        .arg(number(alloc, "payload", payload, "262144", value_parser!(u32)))?
-        .arg(number(alloc, "response", response, "262144", value_parser!(u32)))
-}
-
-fn format_command<'a>(alloc: Global) -> Result<Command<'a>, AllocError> {
-    let sectors = option(alloc, "sectors", "Size of the disk in sectors of 512 bytes");
-    let command = Command::new(alloc, "format")
-        .about("Make a disk of zeros and format it for a function")
-        .arg(disk(alloc))?
-        .arg(flag(alloc, "force", "Format it whatever is there, which is lost"))?
-        .arg(sectors.value_parser(value_parser!(u64)).required(true))?;
-    let command = with_function(alloc, command)?;
-    let command = with_rules(alloc, command)?;
-    with_limits(alloc, command)
-}
-
-// An option without a value.
-fn flag<'a>(alloc: Global, name: &'a str, help: &'a str) -> Arg<'a> {
-    Arg::new(alloc, name)
-        .long(name)
-        .action(ArgAction::SetTrue)
-        .help(help)
-}
-
-// An option that tells something else than a report.
-fn apart<'a>(option: Arg<'a>) -> Result<Arg<'a>, AllocError> {
-    option.conflicts_with("in-force")?.conflicts_with("event")
+    let about = "Make a disk of zeros and format it for a function";
+    let told = [
+        disk(),
+        Argument::flag("force", "Format it whatever is there, which is lost"),
+        Argument::needed("sectors", sectors).of(value_parser!(u64)),
+        Argument::needed("name", "Name of the function"),
+        Argument::needed("handler", "Handler of the function"),
+        Argument::needed("arn", "ARN of the function"),
+        Argument::usual("retries", RETRIES, "2", value_parser!(u8)),
+        Argument::usual("age", AGE, "21600", value_parser!(u32)),
+        Argument::usual("timeout", timeout, "3", value_parser!(u16)),
+        Argument::usual("concurrency", concurrency, "10", value_parser!(u8)),
+        Argument::usual("environments", environments, "1", value_parser!(u8)),
+        Argument::usual("events", events, "64", value_parser!(u16)),
+        Argument::usual("payload", payload, "262144", value_parser!(u32)),
+        Argument::usual("response", response, "262144", value_parser!(u32)),
+    ];
+    command_of(alloc, "format", about, &told)
 }
 
 fn audit_command<'a>(alloc: Global) -> Result<Command<'a>, AllocError> {
-    let event = option(alloc, "event", "Tell of the event with this id, too");
     let in_force = "Tell the retries and the age that are in force, too";
-    let in_force = flag(alloc, "in-force", in_force);
-    let json = flag(
-        alloc,
-        "json",
-        "Tell the numbers as one line of JSON instead",
-    );
+    let json = "Tell the numbers as one line of JSON instead";
     let records = "Tell the destination records instead, one a line";
-    let records = flag(alloc, "records", records);
-    Command::new(alloc, "audit")
-        .about("Tell what a disk holds, and whether its two segments tell one story")
-        .arg(disk(alloc))?
-        .arg(in_force)?
-        .arg(event.value_name("ID"))?
-        .arg(apart(json)?.conflicts_with("records")?)?
-        .arg(apart(records)?)
+    let about = "Tell what a disk holds, and whether its two segments tell one story";
+    let told = [
+        disk(),
+        Argument::flag("in-force", in_force),
+        Argument::option("event", "Tell of the event with this id, too").called("ID"),
+        Argument::flag("json", json).without(&["in-force", "event", "records"]),
+        Argument::flag("records", records).without(&["in-force", "event"]),
+    ];
+    command_of(alloc, "audit", about, &told)
 }
 
 fn configure_command<'a>(alloc: Global) -> Result<Command<'a>, AllocError> {
-    let retries = option(alloc, "retries", RETRIES);
-    let age = option(alloc, "age", AGE);
-    Command::new(alloc, "configure")
-        .about(
-            "Set how the events that are accepted from now on are tried; what is left out stays as it is",
-        )
-        .arg(disk(alloc))?
-        .arg(retries.value_parser(value_parser!(u8)))?
-        .arg(age.value_parser(value_parser!(u32)))
+    let about =
+        "Set how the events that are accepted from now on are tried; what is left out stays as it is";
+    let told = [
+        disk(),
+        Argument::option("retries", RETRIES).of(value_parser!(u8)),
+        Argument::option("age", AGE).of(value_parser!(u32)),
+    ];
+    command_of(alloc, "configure", about, &told)
 }
 
 fn migrate_command<'a>(alloc: Global) -> Result<Command<'a>, AllocError> {
-    Command::new(alloc, "migrate")
-        .about("Make a disk that an older version wrote one of this version; its events stay")
-        .arg(disk(alloc))
+    let about = "Make a disk that an older version wrote one of this version; its events stay";
+    command_of(alloc, "migrate", about, &[disk()])
 }
 
-// What a copy may have other than its disk.
-fn with_change<'a>(alloc: Global, command: Command<'a>) -> Result<Command<'a>, AllocError> {
+fn copy_command<'a>(alloc: Global) -> Result<Command<'a>, AllocError> {
+    let old = "The disk that is copied, which stays as it is";
+    let new = "The new disk: a file or a block device";
+    let sectors = "Size of the new disk in sectors of 512 bytes, else that of the old one";
     let environments = "Environments, as many as before at least";
     let events = "Events that may be held at once, as many as before at least";
     let payload = "Greatest payload in bytes, as great as before at least";
     let response = "Greatest response in bytes, as great as before at least";
-    command
-        .arg(option(alloc, "environments", environments).value_parser(value_parser!(u8)))?
-        .arg(option(alloc, "events", events).value_parser(value_parser!(u16)))?
-        .arg(option(alloc, "payload", payload).value_parser(value_parser!(u32)))?
-        .arg(option(alloc, "response", response).value_parser(value_parser!(u32)))?
-        .arg(option(alloc, "name", "Another name of the function"))?
-        .arg(option(alloc, "handler", "Another handler"))?
-        .arg(option(alloc, "arn", "Another ARN"))
-}
-
-fn copy_command<'a>(alloc: Global) -> Result<Command<'a>, AllocError> {
-    let new = Arg::new(alloc, "new")
-        .value_name("NEW")
-        .help("The new disk: a file or a block device");
-    let old = Arg::new(alloc, "disk")
-        .value_name("OLD")
-        .help("The disk that is copied, which stays as it is");
-    let sectors = "Size of the new disk in sectors of 512 bytes, else that of the old one";
-    let command = Command::new(alloc, "copy")
-        .about("Make a new disk with every event of an old one; its limits may be larger")
-        .arg(old.required(true))?
-        .arg(new.required(true))?
-        .arg(option(alloc, "sectors", sectors).value_parser(value_parser!(u64)))?
-        .arg(flag(alloc, "force", "Make it whatever is there, which is lost"))?;
-    with_change(alloc, command)
+    let about = "Make a new disk with every event of an old one; its limits may be larger";
+    let told = [
+        Argument::place("disk", "OLD", old),
+        Argument::place("new", "NEW", new),
+        Argument::option("sectors", sectors).of(value_parser!(u64)),
+        Argument::flag("force", "Make it whatever is there, which is lost"),
+        Argument::option("environments", environments).of(value_parser!(u8)),
+        Argument::option("events", events).of(value_parser!(u16)),
+        Argument::option("payload", payload).of(value_parser!(u32)),
+        Argument::option("response", response).of(value_parser!(u32)),
+        Argument::option("name", "Another name of the function"),
+        Argument::option("handler", "Another handler"),
+        Argument::option("arn", "Another ARN"),
+    ];
+    command_of(alloc, "copy", about, &told)
 }
 
 // The option of an IP address.
-fn reach<'a>(alloc: Global, help: &'a str) -> Arg<'a> {
-    option(alloc, "address", help)
-        .value_name("IP")
-        .default_value("127.0.0.1")
+fn reach<'a>(help: &'a str) -> Argument<'a> {
+    Argument::usual("address", help, "127.0.0.1", ValueParser::String).called("IP")
 }
 
-/// Whose records may be discarded.
-const SIDES: [&str; 3] = ["success", "failure", "both"];
-
 fn serve_command<'a>(alloc: Global) -> Result<Command<'a>, AllocError> {
-    let help = "Port of the callers, 1024 to 65519; environment n has the port n behind it";
-    let port = option(alloc, "port", help);
-    let dialect = option(alloc, "dialect", "Whose words errors and names are in");
+    let port = "Port of the callers, 1024 to 65519; environment n has the port n behind it";
+    let dialect = "Whose words errors and names are in";
     let extensions = "Extensions for which an environment waits before its first event, 0 to 10";
-    let address = "IP address of the callers' and the environments' ports";
     let host = "A host name under which the ports are asked, beside localhost and addresses";
+    let standby = "Wait for a disk that another program has open";
     let discard =
         "Whose records are collected as soon as they are durable, so that nobody reads them";
     let admin = "Port of the operator, who only looks, 1024 to 65535, on the loopback address";
-    Command::new(alloc, "serve")
-        .about("Serve a disk until POST /broker/stop")
-        .arg(disk(alloc))?
-        .arg(
-            port.value_parser(value_parser!(u16).range(1024..65520))
-                .required(true),
-        )?
-        .arg(
-            dialect
-                .default_value("profile")
-                .value_parser(["profile", "aws"].as_slice()),
-        )?
-        .arg(number(
-            alloc,
+    let dialects = ValueParser::Names(&["profile", "aws"]);
+    let sides = ValueParser::Names(&["success", "failure", "both"]);
+    let told = [
+        disk(),
+        Argument::needed("port", port).of(value_parser!(u16).range(1024..65520)),
+        Argument::usual("dialect", dialect, "profile", dialects),
+        Argument::usual(
             "extensions",
             extensions,
             "0",
             value_parser!(u8).range(0..11),
-        ))?
-        .arg(option(alloc, "discard", discard).value_parser(SIDES.as_slice()))?
-        .arg(reach(alloc, address))?
-        .arg(option(alloc, "host", host).value_name("NAME"))?
-        .arg(option(alloc, "admin", admin).value_parser(value_parser!(u16).range(1024..65536)))
+        ),
+        reach("IP address of the callers' and the environments' ports"),
+        Argument::option("host", host).called("NAME"),
+        Argument::flag("standby", standby),
+        Argument::option("discard", discard).of(sides),
+        Argument::option("admin", admin).of(value_parser!(u16).range(1024..65536)),
+    ];
+    command_of(
+        alloc,
+        "serve",
+        "Serve a disk until POST /broker/stop",
+        &told,
+    )
 }
 
 fn stop_command<'a>(alloc: Global) -> Result<Command<'a>, AllocError> {
-    let port = option(alloc, "port", "Port of the broker's callers");
-    Command::new(alloc, "stop")
-        .about("Stop a broker that serves, as POST /broker/stop does, and wait until it has ended")
-        .arg(
-            port.value_parser(value_parser!(u16).range(1..65536))
-                .required(true),
-        )?
-        .arg(reach(alloc, "IP address of the callers' port"))
+    let port = "Port of the broker's callers";
+    let about = "Stop a broker that serves, as POST /broker/stop does, and wait until it has ended";
+    let told = [
+        Argument::needed("port", port).of(value_parser!(u16).range(1..65536)),
+        reach("IP address of the callers' port"),
+    ];
+    command_of(alloc, "stop", about, &told)
 }
 
-// A command with one more below it.
-fn with_command<'a>(
-    command: Command<'a>,
-    below: Result<Command<'a>, AllocError>,
-) -> Result<Command<'a>, AllocError> {
-    command.subcommand(below?)
+fn trial_command<'a>(alloc: Global) -> Result<Command<'a>, AllocError> {
+    let about = "Accept, commit and recover one event on a disk in memory";
+    command_of(alloc, "trial", about, &[])
 }
 
 /// The version of the program.
 const VERSION: &str = "0.1.0";
 
+// A command's name.
+#[derive(Clone, Copy)]
+enum Name {
+    Trial,
+    Format,
+    Audit,
+    Configure,
+    Migrate,
+    Copy,
+    Serve,
+    Stop,
+}
+
+/// All commands, as help lists them.
+const NAMES: [Name; 8] = [
+    Name::Trial,
+    Name::Format,
+    Name::Audit,
+    Name::Configure,
+    Name::Migrate,
+    Name::Copy,
+    Name::Serve,
+    Name::Stop,
+];
+
+fn named<'a>(alloc: Global, name: Name) -> Result<Command<'a>, AllocError> {
+    match name {
+        Name::Trial => trial_command(alloc),
+        Name::Format => format_command(alloc),
+        Name::Audit => audit_command(alloc),
+        Name::Configure => configure_command(alloc),
+        Name::Migrate => migrate_command(alloc),
+        Name::Copy => copy_command(alloc),
+        Name::Serve => serve_command(alloc),
+        Name::Stop => stop_command(alloc),
+    }
+}
+
+fn all_named<'a>(alloc: Global) -> Result<Vec<Command<'a>>, AllocError> {
+    let mut all = Vec::new(alloc);
+    for name in NAMES {
+        all.push(named(alloc, name)?)?;
+    }
+    Ok(all)
+}
+
 fn commands<'a>(alloc: Global) -> Result<Command<'a>, AllocError> {
-    let trial = Command::new(alloc, "trial").about(
-        "Accept, commit and recover one event on a disk in memory",
-    );
-    let all = Command::new(alloc, "lambda_broker")
+    let all = all_named(alloc)?;
+    Command::new(alloc, "lambda_broker")
         .about("A broker for asynchronous invocations of one function")
         .version(VERSION)
         .subcommand_required(true)
-        .subcommand(trial)?;
-    let all = with_command(all, format_command(alloc))?;
-    let all = with_command(all, audit_command(alloc))?;
-    let all = with_command(all, configure_command(alloc))?;
-    let all = with_command(all, migrate_command(alloc))?;
-    let all = with_command(all, copy_command(alloc))?;
-    let all = with_command(all, serve_command(alloc))?;
-    with_command(all, stop_command(alloc))
+        .subcommands(all)
 }
 
 fn function<'a>(matches: &ArgMatches<'a>) -> Option<Function<'a>> {
@@ -429,6 +512,7 @@ fn address_at<'a>(matches: &ArgMatches<'a>, reach: IpAddr) -> Option<Address<'a>
         admin: matches.get_one("admin"),
         dialect: dialect(matches.get_str("dialect")?),
         extensions: matches.get_one("extensions")?,
+        is_standby: matches.get_flag("standby"),
         discards_success: discards(matches, "success"),
         discards_failure: discards(matches, "failure"),
     })
@@ -454,9 +538,8 @@ fn stopped<'a>(alloc: Global, matches: &ArgMatches<'_>) -> Result<Option<Task<'a
     }
 }
 
-/// The command that the words are, the first of which is the program's name.
-pub fn read_task<'a>(alloc: Global, words: &'a [String]) -> Result<Option<Task<'a>>, Error> {
-    let matches = commands(alloc)?.try_get_matches_from(words)?;
+// What the words that were matched ask for.
+fn task_of<'a>(alloc: Global, matches: &ArgMatches<'a>) -> Result<Option<Task<'a>>, Error> {
     let Some((name, told)) = matches.subcommand() else {
         return Ok(None);
     };
@@ -471,4 +554,10 @@ pub fn read_task<'a>(alloc: Global, words: &'a [String]) -> Result<Option<Task<'
         "copy" => Ok(new_copy(told).map(Job::Copy).map(Task::Job)),
         _ => Ok(None),
     }
+}
+
+/// The command that the words are, the first of which is the program's name.
+pub fn read_task<'a>(alloc: Global, words: &'a [String]) -> Result<Option<Task<'a>>, Error> {
+    let matches = commands(alloc)?.try_get_matches_from(words)?;
+    task_of(alloc, &matches)
 }

@@ -16,12 +16,14 @@ pub struct Seated {
 }
 
 impl Seated {
-    ghost use Rattle.front_board.specs.Seated.{seen_by};
+    ghost use Rattle.front_board.specs.Seated.{seen_by, AreAtOneBoard};
 
     /// So many seats of a new board, which shows this number.
     pub fn open(alloc: Global, durable: Durable, count: usize) -> Result<Vec<Seated>, AllocError>
         ensures count { IfOk result (λ all. vec_len all ≡ count) }
         ensures seen { IfOk result (λ all. All (λ seated. seen_by seated ≡ durable) all.items) }
+        // claim: All seats that are opened at once are of one board.
+        ensures one_board { IfOk result (λ all. AreAtOneBoard all.items) }
     {
         let (board, seats) = Board::new(alloc, durable, count)?;
         let shared = Arc::new(alloc, board)?;

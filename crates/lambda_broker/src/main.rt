@@ -5,6 +5,7 @@ mod command_line;
 mod notes;
 mod output;
 mod serving;
+mod standby;
 mod stopping;
 
 use crate::output::{Output, keep_numbers};

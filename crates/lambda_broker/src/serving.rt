@@ -7,8 +7,9 @@ ghost use Rattle.hall_core.specs.Fresh.{IsFresh};
 ghost use Rattle.receipts.specs.Desks.{desk_count};
 
 use crate::notes::{Opening, note_opening, note_port, note_stop, warn};
+use crate::standby::{OpenDisk, open_in_turn};
 use admin_port::{Admin, AdminPort};
-use broker_commands::{Address, Device, DiskError, now, open, open_device};
+use broker_commands::{Address, Device, DiskError, now, open};
 use group_commit::{Broker, CommitError, IssueError, OpenError};
 use hall_core::{Hall, HallFailure};
 use http_front::{Discard, Ending, ServeError, WhenPending, serve};
@@ -330,14 +331,14 @@ where
 }
 
 /// Serves a disk: callers on a port of this machine and environment n on the port n behind it, from the line that is
-/// printed on until the broker is stopped. The file is looked at first, then what is on it, then the ports.
+/// printed on until the broker is stopped. The file is looked at first, as soon as it is this broker's turn, then what is on
+/// it, then the ports.
 pub fn serve_disk<R, W>(rt: R, at: &Address<'_>, out: &mut W) -> Result<(), ServingError>
 where
     R: Files<File = File> + Machine,
     W: Write,
 {
-    let start = Instant::now(&rt);
-    let disk = open_device(&rt, at.path)?;
+    let OpenDisk { disk, start } = open_in_turn(&rt, at, out)?;
     warn(&rt, at);
     let written = Written::new(rt.alloc())?;
     let counting = CountingDisk::over(disk, written.another()?);

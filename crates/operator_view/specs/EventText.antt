@@ -87,6 +87,15 @@ whole_characters bytes = take (utf8_valid_len bytes) bytes
 unfoldable pub beginning : List ℕ → List ℕ
 beginning payload = whole_characters (take 1024 payload)
 
+-- the beginning of the error that a runtime reported last, or `null` where it reported none, or has answered since
+abbrev pub error_json : Answer → List ℕ
+error_json (answer.Error bytes) = quoted (beginning bytes)
+error_json other = codes "null"
+
+-- its member, and the name of the one behind it
+abbrev pub error_member : Answer → List ℕ
+error_member answer = codes ",\"lastError\":" ++ (error_json answer ++ codes ",\"record\":")
+
 -- what is told of an event that ended, up to the end of the year 9999: no moment behind that has a text
 abbrev pub ending_by : EventRow → Standing → Option Ending
 ending_by r (Ended outcome at) =
@@ -102,8 +111,9 @@ ending_of r = ending_by r r.standing
 abbrev pub record_json : Settings → EventRow → List ℕ
 record_json s r = option_map_or (record_text s) (ending_of r) (codes "null")
 
--- the event as it is shown alone: two members more
+-- the event as it is shown alone: three members more
 unfoldable pub detail_text : Settings → EventRow → List ℕ
 detail_text s r =
     codes "{"
-    ++ (members_text r ++ (codes ",\"payload\":" ++ (quoted (beginning r.payload) ++ (codes ",\"record\":" ++ (record_json s r ++ codes "}")))))
+    ++ (members_text r ++ (codes ",\"payload\":" ++ (quoted (beginning r.payload)
+    ++ (error_member r.answer ++ (record_json s r ++ codes "}")))))

@@ -87,7 +87,7 @@ grown_old_text =
     codes "{\"id\":\"00000000-0000-4000-8000-000000000001\",\"standing\":\"ended EventAgeExceeded\","
     ++ (codes "\"accepted\":1573755365568,\"moment\":1573755425568,\"environment\":null,\"starts\":0,\"failures\":0,"
     ++ (codes "\"pushbacks\":6,\"retries\":0,\"age\":60,\"payloadBytes\":7,\"answerBytes\":0,"
-    ++ (codes "\"payload\":\"{\\\"a\\\":1}\",\"record\":"
+    ++ (codes "\"payload\":\"{\\\"a\\\":1}\",\"lastError\":null,\"record\":"
     ++ (codes "{\"version\":\"1.0\",\"timestamp\":\"2019-11-14T18:17:05.568Z\","
     ++ (codes "\"requestContext\":{\"requestId\":\"00000000-0000-4000-8000-000000000001\","
     ++ (codes "\"functionArn\":\"arn:aws:lambda:us-east-2:123456789012:function:my-function:$LATEST\","

@@ -3,5 +3,9 @@ pub mod EventText
 pub mod Examples
 pub mod Lines
 pub mod ListText
+pub mod Memory
 pub mod Page
+pub mod Sights
 pub mod Standings
+pub mod Verdict
+pub mod Waiting

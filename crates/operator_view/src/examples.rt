@@ -1,5 +1,5 @@
 // Worked examples of what is meant, computed by the check: a definition that changes one is refused.
-ghost use Rattle.std.specs.Prelude.{◌≡◌, ◌∷◌, [], ◌++◌, Some, None, IsTrue, codes};
+ghost use Rattle.std.specs.Prelude.{◌≡◌, ◌∷◌, [], ◌++◌, Some, None, IsTrue, codes, true, false};
 ghost use Rattle.async_core.specs.declared.choice.Side.TheVariants as side;
 ghost use Rattle.invoke_records.specs.declared.row.Standing.TheVariants.{Ended, Running, Waiting};
 ghost use Rattle.invoke_records.specs.declared.row.Outcome.TheVariants.{Success};
@@ -10,11 +10,17 @@ ghost use Rattle.operator_view.specs.Census.{IsCensus, oldest_waiting, ends};
 ghost use Rattle.operator_view.specs.EventText.{event_text, detail_text, whole_characters, record_json};
 ghost use Rattle.operator_view.specs.ListText.{list_text};
 ghost use Rattle.operator_view.specs.Page.{start_behind, event_places, number_behind, record_places, last_id};
+ghost use Rattle.operator_view.specs.declared.verdict.Problem.TheVariants as problem;
+ghost use Rattle.operator_view.specs.Memory.{none_at, looked, lately, quiet_after};
+ghost use Rattle.operator_view.specs.Sights.{usual_growth, well, holding, quiet, but_lately, tried, committed, nothing, short_lived, looks};
+ghost use Rattle.operator_view.specs.Verdict.{callers_are_refused, nobody_polls, nothing_ends, table_full, table_nearly_full, events_expire, most_attempts_fail, commits_are_slow, records_not_collected, problems};
+ghost use Rattle.operator_view.specs.Waiting.{expires_soon};
 ghost use Rattle.operator_view.specs.Examples.{event_row, rows, numbers, running_text, page_text, grown_old, grown_old_text};
 
 /// Known numbers.
 pub fn numbers()
-    // claim: The prover computes worked numbers, places and texts. [: census; events: behind; records: behind]
+    // claim: The prover computes worked numbers, places and texts, and verdicts at both sides of each bound. [: census; events:
+    // behind; records: behind; verdicts: quiet; memories: kept]
     ensures census { IsCensus rows numbers }
     ensures waiting { oldest_waiting rows ≡ Some 3000 }
     ensures ends { ends rows ≡ 6500 ∷ 5500 ∷ 7000 ∷ [] }
@@ -55,4 +61,43 @@ pub fn texts()
     ensures no_stamp { record_json usual (event_row 3 3 (Ended Success 253402300800000)) ≡ codes "null" }
     ensures cut { whole_characters (97 ∷ 195 ∷ []) ≡ codes "a" }
     ensures whole { whole_characters (97 ∷ 195 ∷ 169 ∷ []) ≡ 97 ∷ 195 ∷ 169 ∷ [] }
+{}
+
+/// Known verdicts: none of a broker that is well, and one at the other side of each bound.
+pub fn verdicts()
+    ensures well { problems well ≡ nothing }
+    ensures refused { callers_are_refused (but_lately (record usual_growth { refused_full = 1 })) ≡ Some (problem.CallersAreRefused 1 0 200) }
+    ensures busy { callers_are_refused (but_lately (record usual_growth { refused_busy = 1 })) ≡ Some (problem.CallersAreRefused 0 1 200) }
+    ensures unpolled { nobody_polls (record well { without_poll = 1 }) ≡ Some (problem.NobodyPolls 1 2 1) }
+    ensures quiet { nothing_ends (quiet 990999) ≡ Some (problem.NothingEnds 9 1 3 30) }
+    ensures just_due { nothing_ends (record (quiet 0) { first_due = Some 991000 }) ≡ None }
+    ensures none_due { nothing_ends (record (quiet 0) { first_due = None }) ≡ None }
+    ensures four_fifths { table_nearly_full (holding 52) ≡ Some (problem.TableNearlyFull 52 64 7) }
+    ensures nearly { table_nearly_full (holding 63) ≡ Some (problem.TableNearlyFull 63 64 7) }
+    ensures not_full { table_full (holding 63) ≡ None }
+    ensures full { table_full (holding 64) ≡ Some (problem.TableFull 64 64 7) }
+    ensures not_nearly { table_nearly_full (holding 64) ≡ None }
+    ensures expiring { events_expire (record well { expiring = 1 }) ≡ Some (problem.EventsExpire 1 0 200) }
+    ensures expired { events_expire (but_lately (record usual_growth { expired = 1 })) ≡ Some (problem.EventsExpire 0 1 200) }
+    ensures failing { most_attempts_fail (tried 15 16) ≡ Some (problem.MostAttemptsFail 16 15 200) }
+    ensures few_fail { most_attempts_fail (tried 0 4) ≡ None }
+    ensures five_fail { most_attempts_fail (tried 0 5) ≡ Some (problem.MostAttemptsFail 5 0 200) }
+    ensures slow { commits_are_slow (committed 100 10000000 100) ≡ Some (problem.CommitsAreSlow 100 10000000 0 200) }
+    ensures late { commits_are_slow (committed 100 0 95) ≡ Some (problem.CommitsAreSlow 100 0 5 200) }
+    ensures few_slow { commits_are_slow (committed 4 9000000 0) ≡ None }
+    ensures five_slow { commits_are_slow (committed 5 9000000 0) ≡ Some (problem.CommitsAreSlow 5 9000000 5 200) }
+    ensures uncollected { records_not_collected (record well { oldest_record_age = Some 900001 }) ≡ Some (problem.RecordsNotCollected 7 900) }
+    ensures none_held { records_not_collected (record well { oldest_record_age = None }) ≡ None }
+{}
+
+/// Known looks, at both sides of each bound.
+pub fn memories()
+    ensures young { expires_soon 50999 short_lived ≡ false }
+    ensures old { expires_soon 51000 short_lived ≡ true }
+    ensures kept { looked (looks 0 1000) (none_at 150999) ≡ looks 0 1000 }
+    ensures replaced { (looked (looks 0 1000) (none_at 151000)).newer ≡ none_at 151000 }
+    ensures recent { (lately (looks 0 1000) (none_at 600000)).seconds ≡ 600 }
+    ensures stale { (lately (looks 0 1000) (none_at 600001)).seconds ≡ 599 }
+    ensures quiet { quiet_after (looks 0 1000) (none_at 5000) ≡ 0 }
+    ensures ended { quiet_after (looks 0 1000) (record (none_at 5000) { ended = 1 }) ≡ 5000 }
 {}

@@ -31,4 +31,5 @@ pub use making::Place;
 pub use memory::MemDisk;
 pub use memory_file::MemFile;
 pub use random_access::RandomAccessFile;
+pub use std_file::{lock_file, lock_file_read_only};
 pub use written::Written;

@@ -1,11 +1,13 @@
 // A file of the system, of which each call that failed is told.
-ghost use Rattle.std.specs.Prelude.{IsErr};
+ghost use Rattle.std.specs.Prelude.{◌≡◌, Ok, IfOk, IfErr, IsErr};
 
 use crate::std_file::{read_again, write_again};
 use crate::{Fault, FileError, RandomAccessFile};
+use libc::{POSIX_FADV_DONTNEED, posix_fadvise};
 use std::fs::File;
 use std::io;
 use std::io::{ErrorKind, Seek, SeekFrom};
+use std::os::fd::AsRawFd;
 
 /// A call of a file.
 #[derive(Clone, Copy)]
@@ -41,14 +43,28 @@ pub struct LoggedFile<L: Drop> {
 
 impl<L: FaultLog + Drop> LoggedFile<L> {
     /// This file, whose faults are told to this log.
-    pub fn new(file: File, log: L) -> LoggedFile<L> {
+    pub fn new(file: File, log: L) -> LoggedFile<L>
+        ensures { result ≡ record { file = file; log = log } }
+    {
         LoggedFile { file, log }
     }
 
     /// The file.
-    pub fn into_file(self) -> File {
+    pub fn into_file(self) -> File
+        ensures { result ≡ self.file }
+    {
         let LoggedFile { file, .. } = self;
         file
+    }
+
+    /// Has the reads that follow ask the device, and not what this machine kept of it while another may have written: what was
+    /// not written yet is flushed, and what was kept is dropped. Refused where the device fails, which is told.
+    pub fn drop_cached(&self) -> Result<(), FileError> {
+        self.note(FileCall::Sync, 0, self.file.sync_data())?;
+        match posix_fadvise(self.file.as_raw_fd(), 0, 0, POSIX_FADV_DONTNEED) {
+            0 => Ok(()),
+            _ => self.note(FileCall::Sync, 0, Err(io::Error::from(ErrorKind::Other))),
+        }
     }
 
     // Tells of a call that failed, where the device did.
@@ -57,7 +73,10 @@ impl<L: FaultLog + Drop> LoggedFile<L> {
         call: FileCall,
         at: u64,
         answered: io::Result<T>,
-    ) -> Result<T, FileError> {
+    ) -> Result<T, FileError>
+        ensures ok { IfOk answered (λ done. result ≡ Ok done) }
+        ensures err { IfErr answered (λ why. IsErr result) }
+    {
         match answered {
             Ok(done) => Ok(done),
             Err(why) => {

@@ -1,5 +1,5 @@
 // Making a disk of what a path names.
-ghost use Rattle.std.specs.Prelude.{◌*◌, ◌<◌, ◌≤◌, ◌^◌, OnOk};
+ghost use Rattle.std.specs.Prelude.{◌≡◌, ◌*◌, ◌<◌, ◌≤◌, ◌^◌, OnOk};
 
 use crate::std_file::{check_kind, sync_folder};
 use crate::{Fault, FaultLog, FileCall, FileError, LoggedFile, RandomAccessFile, SECTOR_SIZE};
@@ -70,7 +70,9 @@ impl Place {
     }
 
     /// How many bytes were there.
-    pub fn size(&self) -> u64 {
+    pub fn size(&self) -> u64
+        ensures { result ≡ self.now.size }
+    {
         self.size
     }
 

@@ -1,5 +1,6 @@
 // A file of the system, or a block device, as what a disk lies in.
 ghost use Rattle.std.specs.Prelude.{◌≡◌, ◌≤◌, length, IfOk};
+ghost use Rattle.sector_disk.specs.File.{faults_of};
 
 use crate::logged_file::Untold;
 use crate::{Fault, FileDisk, FileError, LoggedFile, Place, RandomAccessFile};
@@ -92,21 +93,45 @@ pub(crate) fn sync_folder<R: Files<File = File>>(rt: &R, path: &str) -> Result<(
     Ok(())
 }
 
+/// A file or block device that holds a disk, for reading and writing, with its exclusive lock. Nothing of it is read or written.
+///
+/// Refused: `NotFound`, `NotDisk`, `PermissionDenied`, `InUse` where any other disk is open over it, and `Fault`.
+pub fn lock_file<R: Files<File = File>>(rt: &R, path: &str) -> Result<File, FileError> {
+    check_kind(rt, path)?;
+    let file = OpenOptions::new().read(true).write(true).open(rt, path)?;
+    file.try_lock()?;
+    Ok(file)
+}
+
+/// The same for reading alone, with a shared lock. Refused `InUse` where a disk is open over it that can be written.
+pub fn lock_file_read_only<R: Files<File = File>>(rt: &R, path: &str) -> Result<File, FileError> {
+    check_kind(rt, path)?;
+    let file = OpenOptions::new().read(true).open(rt, path)?;
+    file.try_lock_shared()?;
+    Ok(file)
+}
+
+// A disk over a file, whose reads ask the device.
+fn disk_over(file: File) -> Result<FileDisk<File>, FileError>
+    ensures { IfOk result (λ disk. faults_of disk ≡ 0) }
+{
+    let file = LoggedFile::new(file, Untold);
+    file.drop_cached()?;
+    FileDisk::over(file.into_file())
+}
+
 impl FileDisk<File> {
-    ghost use Rattle.sector_disk.specs.File.{faults_of, sectors_of};
+    ghost use Rattle.sector_disk.specs.File.{sectors_of};
 
     /// Opens a disk for reading and writing, with the file's exclusive lock. It has as many sectors as the file or the
-    /// device. Nothing is written.
+    /// device. Nothing is written, but what this machine has of it is flushed and dropped, so that reads ask the device.
     ///
     /// Refused: `NotFound`, `NotDisk`, `PermissionDenied`, `InUse` where any other disk is open over it, `NotWhole`, and
     /// `Fault`.
     pub fn open<R: Files<File = File>>(rt: &R, path: &str) -> Result<FileDisk<File>, FileError>
         ensures { IfOk result (λ disk. faults_of disk ≡ 0) }
     {
-        check_kind(rt, path)?;
-        let file = OpenOptions::new().read(true).write(true).open(rt, path)?;
-        file.try_lock()?;
-        FileDisk::over(file)
+        disk_over(lock_file(rt, path)?)
     }
 
     /// Opens a disk for reading alone, with a shared lock of the file: each write is a fault. Several may be open at once.
@@ -118,10 +143,7 @@ impl FileDisk<File> {
     ) -> Result<FileDisk<File>, FileError>
         ensures { IfOk result (λ disk. faults_of disk ≡ 0) }
     {
-        check_kind(rt, path)?;
-        let file = OpenOptions::new().read(true).open(rt, path)?;
-        file.try_lock_shared()?;
-        FileDisk::over(file)
+        disk_over(lock_file_read_only(rt, path)?)
     }
 
     /// Makes a disk of zeros of so many sectors and opens it, with the file's exclusive lock, as a `Place` does it: what was there

@@ -12,6 +12,7 @@ returns c = record {
   page = refl;
   metrics = refl;
   health = refl;
+  deep = refl;
   events = refl;
   some_events = refl;
   behind = refl;

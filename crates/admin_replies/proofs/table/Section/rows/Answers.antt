@@ -30,3 +30,11 @@ returns-in-Commits c = rw c.in-Commits.is refl
 pub returns-in-Disk : goal.returns-in-Disk
 unfolding lines_of
 returns-in-Disk c = rw c.in-Disk.is refl
+
+pub returns-in-Problems : goal.returns-in-Problems
+unfolding lines_of
+returns-in-Problems c = rw c.in-Problems.is refl
+
+pub returns-in-Limits : goal.returns-in-Limits
+unfolding lines_of
+returns-in-Limits c = rw c.in-Limits.is refl

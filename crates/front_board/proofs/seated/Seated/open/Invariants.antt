@@ -7,4 +7,5 @@ abbrev pub invariant-loop-seat : goal.invariant-loop-seat
 invariant-loop-seat l =
     All (IsNewSeat l.shared.value l.fn.durable) l.seat-iterator.rest.items
     × All (λ seated. seen_by seated ≡ l.fn.durable) l.all.items
+    × All (λ seated. seated.seat.place.table_id ≡ l.shared.value.word.shared.table_id) l.all.items
     × (length l.all.items + length l.seat-iterator.rest.items ≡ l.fn.count)

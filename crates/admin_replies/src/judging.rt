@@ -1,0 +1,87 @@
+// What an operator's port sees by which a verdict is found.
+ghost use Rattle.std.specs.Prelude.{◌≡◌, ◌^◌, min};
+ghost use Rattle.admin_replies.specs.Numbers.{ended_in, event_counters, counts_told, IsSight, AreProblems};
+
+use crate::measuring::{count_in_phase, ended_in, event_counters, oldest_record_age};
+use crate::metrics::EventCounters;
+use crate::telling::Baseline;
+use env_phase::Phase;
+use operator_view::{
+    Census, Counts, Memory, Problem, Sight, census, count_due, count_expiring, first_due, problems,
+};
+use port_meters::Counters;
+use receipts::View;
+use retry_rules::Settings;
+
+/// What was counted up to now.
+pub(crate) fn counts_told(now: u64, events: &EventCounters, counters: &Counters) -> Counts
+    ensures { result ≡ counts_told now events.now counters.now }
+{
+    Counts {
+        at: now,
+        started: events.started,
+        succeeded: events.success,
+        failed: events.failed,
+        ended: events
+            .success
+            .saturating_add(events.retries_exhausted)
+            .saturating_add(events.event_age_exceeded),
+        expired: events.event_age_exceeded,
+        commits: counters.commits,
+        commit_microseconds: counters.commit_microseconds,
+        quick_commits: counters.buckets[6],
+        refused_full: counters.refused.too_many,
+        refused_busy: counters.refused.unavailable,
+    }
+}
+
+fn sight_of(
+    settings: &Settings,
+    view: &View,
+    census: &Census,
+    memory: &Memory,
+    counts: &Counts,
+) -> Sight
+    ensures { IsSight settings.now view.now census.now memory.now counts.now result }
+{
+    let rows = view.hall.table.rows.as_slice();
+    let environments = view.hall.environments.as_slice();
+    let now = counts.at;
+    Sight {
+        at: now,
+        environments: environments.len() as u64,
+        without_poll: count_in_phase(environments, Phase::Init),
+        held: census.held as u64,
+        most_events: settings.events as u64,
+        ended: ended_in(census),
+        timeout: settings.timeout,
+        due: count_due(rows, now) as u64,
+        first_due: first_due(rows),
+        quiet_since: memory.quiet_since,
+        expiring: count_expiring(rows, now) as u64,
+        oldest_record_age: oldest_record_age(now, rows),
+        lately: memory.lately(counts),
+    }
+}
+
+/// What is wrong with a broker that was seen so, with this census, after so much was counted.
+pub(crate) fn problems_of(
+    settings: &Settings,
+    view: &View,
+    census: &Census,
+    memory: &Memory,
+    counts: &Counts,
+) -> [Option<Problem>; 9]
+    // claim: The verdict is of what was seen and counted, then and at an earlier look.
+    ensures { AreProblems settings.now view.now census.now memory.now counts.now result }
+{
+    let sight = sight_of(settings, view, census, memory, counts);
+    problems(&sight)
+}
+
+/// What was counted of a broker that is seen so, up to now, in milliseconds since 1970.
+pub fn counts_of(baseline: &Baseline, view: &View, counters: &Counters, now: u64) -> Counts {
+    let census = census(view.hall.table.rows.as_slice());
+    let events = event_counters(baseline.ended_before, ended_in(&census), &view.counters);
+    counts_told(now, &events, counters)
+}

@@ -1,0 +1,4 @@
+pub mod Promises
+pub mod Giving
+pub mod Halves
+pub mod laws
