@@ -1,8 +1,5 @@
 -- Which records are collected without being told to anybody.
-use Rattle.std.specs.Prelude.{ℕ, Bool, false, List, [], ◌∷◌, map, filter, Some}
-use Rattle.api_core.specs.declared.call.Call.TheVariants.{Delete}
-use Rattle.hall_core.specs.Hall.{request}
-use Rattle.hall_core.specs.Past.{HallCall}
+use Rattle.std.specs.Prelude.{ℕ, Bool, false, List, map, filter}
 use Rattle.invoke_records.specs.declared.row.EventRow.{EventRow}
 use Rattle.invoke_records.specs.declared.row.Outcome.TheVariants.{Success}
 use Rattle.invoke_records.specs.declared.row.Standing.{Standing}
@@ -18,7 +15,3 @@ is_unwanted discard other = false
 -- those of these events
 abbrev pub unwanted_ids : Discard → List EventRow → List (List ℕ)
 unwanted_ids discard rows = map (λ (r : EventRow). r.id) (filter (λ (r : EventRow). is_unwanted discard r.standing) rows)
-
--- a DELETE of this record, as a call of the hall
-abbrev pub delete : ℕ → List ℕ → ℕ → HallCall
-delete slot id at = request slot (Delete (Some id)) at (0 ∷ 0 ∷ [])

@@ -1,3 +1,4 @@
+pub mod Calls
 pub mod Discarding
 pub mod Learning
 pub mod Marking

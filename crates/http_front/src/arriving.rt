@@ -1,7 +1,8 @@
 // A request comes to the hall.
 ghost use Rattle.std.specs.Prelude.{◌≤◌, IfOk, IfErr};
 ghost use Rattle.invoke_records.specs.Spelling.{greatest_moment};
-ghost use Rattle.long_poll.specs.Port.{IsSlot, IsRequestRefusal};
+ghost use Rattle.long_poll.specs.Port.{IsSlot, IsDoneFor, IsRequestRefusal};
+ghost use Rattle.receipts.specs.Locked.{hall_in};
 ghost use Rattle.http_front.specs.Refusals.{IsArrivalError};
 
 use crate::drawing::words;
@@ -41,8 +42,8 @@ fn words_for<R: RandomSource>(rt: &R, call: &Call) -> io::Result<[u64; 2]> {
 
 /// A call that came to a port.
 #[derive(Drop)]
-pub(crate) struct Handed {
-    pub(crate) arrived: Arrived,
+pub(crate) struct Handed<L: Ledger, T: Trace> {
+    pub(crate) arrived: Arrived<L, T>,
     /// Whether there is something to commit.
     pub(crate) has_command: bool,
 }
@@ -62,18 +63,26 @@ fn make_moves<R: Wait + Eprint, L: Ledger, T: Trace>(rt: &R, port: &Port<L, T>, 
     moved
 }
 
-// A call comes to the port's office, as `Port::arrive` says.
-fn hand_over<R: Wait, L: Ledger, T: Trace>(
+/// A call comes to the port's office, as `Port::arrive` says.
+pub(crate) fn hand_over<R: Wait, L: Ledger, T: Trace>(
     rt: &R,
     port: &Port<L, T>,
     call: Call,
     now: u64,
     words: [u64; 2],
-) -> Result<Arrived, HallError>
+) -> Result<Arrived<L, T>, HallError>
     ensures slot { IfOk result (λ arrived. IsSlot arrived.slot) }
+    ensures done { IfOk result (λ arrived.
+        IsDoneFor call (hall_in arrived.seen.before.value.hall) (hall_in arrived.seen.after.value.hall) arrived.slot) }
     ensures refused { IfErr result IsRequestRefusal }
 {
-    port.arrive(rt, call, now, words).answer
+    match port.arrive(rt, call, now, words) {
+        Ok(arrived) => Ok(arrived),
+        Err(refused) => {
+            let (why, _) = refused.split();
+            Err(why)
+        }
+    }
 }
 
 /// A call comes to a port now, with two random words, and then the moves that are due are made.
@@ -83,8 +92,10 @@ pub(crate) fn arrive<R: Wait + Clock + RandomSource + Eprint, L: Ledger, T: Trac
     rt: &R,
     port: &Port<L, T>,
     call: Call,
-) -> Result<Handed, ArrivalError>
+) -> Result<Handed<L, T>, ArrivalError>
     ensures slot { IfOk result (λ handed. IsSlot handed.arrived.slot) }
+    ensures done { IfOk result (λ handed. IsDoneFor call (hall_in handed.arrived.seen.before.value.hall)
+        (hall_in handed.arrived.seen.after.value.hall) handed.arrived.slot) }
     ensures refused { IfErr result IsArrivalError }
 {
     let moves = may_move(&call);
@@ -93,10 +104,10 @@ pub(crate) fn arrive<R: Wait + Clock + RandomSource + Eprint, L: Ledger, T: Trac
     let reports = ResetReport::of(&call).is_some();
     let arrived = hand_over(rt, port, call, now, words)?;
     if !reports {
-        note_timeout(rt, arrived.issued);
+        note_timeout(rt, arrived.issued());
     }
     let moved = moves && make_moves(rt, port, now);
-    let has_command = moved || arrived.issued.is_some();
+    let has_command = moved || arrived.issued().is_some();
     Ok(Handed {
         arrived,
         has_command,

@@ -1,9 +1,11 @@
 // Records that nobody wants: they are collected here.
-ghost use Rattle.std.specs.Prelude.{◌≡◌, map, take, IfOk};
-ghost use Rattle.hall_core.specs.Hall.{IsDone};
+ghost use Rattle.std.specs.Prelude.{◌≡◌, map, take, IfOk, Some};
+ghost use Rattle.api_core.specs.declared.call.Call.TheVariants.{Delete};
+ghost use Rattle.long_poll.specs.Port.{IsDoneFor};
 ghost use Rattle.receipts.specs.Locked.{hall_in};
-ghost use Rattle.http_front.specs.Discarding.{is_unwanted, unwanted_ids, delete};
+ghost use Rattle.http_front.specs.Discarding.{is_unwanted, unwanted_ids};
 
+use crate::arriving::hand_over;
 use crate::error::ArrivalError;
 use crate::front_state::FrontState;
 use crate::starting::PortThread;
@@ -15,7 +17,7 @@ use hall_core::HallError;
 use invoke_records::{EventRow, Outcome, Standing};
 use long_poll::{Port, Waiting};
 use port_meters::{Machine, Moment};
-use receipts::{SharedOpening, SharedTrace, Trace, Unreleased, View, Witnessed};
+use receipts::{SharedOpening, SharedTrace, Trace, Unreleased, View};
 use std::alloc::{AllocError, Global};
 use std::sync::ledger::Ledger;
 use std::sync::{Arc, Wait};
@@ -110,32 +112,41 @@ fn next_unwanted(
     Ok(ids)
 }
 
-/// That a DELETE of this record came to the hall with this slot, at this moment, and what that did there.
+/// A record that was asked for by a DELETE, with the slot of that. Where it is dropped, the slot is forgotten.
 #[derive(Drop)]
-struct Collected<L: Ledger, T: Trace> {
+struct Collected<R: Wait, L: Ledger, T: Trace> {
     id: [u8; 16],
-    slot: u64,
-    at: u64,
-    seen: Witnessed<(), L, T>,
+    waiting: Waiting<R, L, T>,
     // claim: A record is collected by one DELETE, as a caller sends it: just that was done to the hall before.
-    ghost done: { ∥ IsDone (hall_in seen.before.value.hall) (hall_in seen.after.value.hall) (delete slot id at) ∥₁ },
+    ghost done: { ∥ IsDoneFor (Delete (Some id)) (hall_in waiting.seen.before.value.hall) (hall_in waiting.seen.after.value.hall)
+        waiting.slot ∥₁ },
 }
 
-// A DELETE of a record comes to a port now, as from a caller who does not wait for the reply.
+// A DELETE of a record comes to a port now, as from a caller.
+fn ask<R: Wait + Clock + Drop + Copy, L: Ledger, T: Trace>(
+    rt: R,
+    port: &Arc<Port<L, T>>,
+    id: [u8; 16],
+) -> Result<Waiting<R, L, T>, ArrivalError>
+    ensures { IfOk result (λ waiting. IsDoneFor (Delete (Some id)) (hall_in waiting.seen.before.value.hall)
+        (hall_in waiting.seen.after.value.hall) waiting.slot) }
+{
+    let theirs = Arc::try_clone(port)?;
+    let now = Moment::now(&rt)?.millis();
+    let arrived = hand_over(&rt, port, Call::Delete(Some(id)), now, [0, 0])?;
+    Ok(Waiting::new(rt, theirs, arrived))
+}
+
+// A record is collected, at a port.
 fn collect<R: Wait + Clock + Drop + Copy, L: Ledger, T: Trace>(
     rt: R,
     port: &Arc<Port<L, T>>,
     id: [u8; 16],
-) -> Result<Collected<L, T>, ArrivalError>
+) -> Result<Collected<R, L, T>, ArrivalError>
     ensures { IfOk result (λ collected. collected.id ≡ id) }
 {
-    let theirs = Arc::try_clone(port)?;
-    let at = Moment::now(&rt)?.millis();
-    let (answer, seen) = port.arrive(&rt, Call::Delete(Some(id)), at, [0, 0]).split();
-    let arrived = answer?;
-    let slot = arrived.slot;
-    drop(Waiting::new(rt, theirs, arrived));
-    Ok(Collected { id, slot, at, seen })
+    let waiting = ask(rt, port, id)?;
+    Ok(Collected { id, waiting })
 }
 
 // These records are collected, one after the other, up to the first that is refused.
@@ -144,7 +155,7 @@ fn collect_all<R: Wait + Clock + Drop + Copy, L: Ledger, T: Trace>(
     alloc: Global,
     port: &Arc<Port<L, T>>,
     ids: &[[u8; 16]],
-) -> Result<Vec<Collected<L, T>>, ArrivalError>
+) -> Result<Vec<Collected<R, L, T>>, ArrivalError>
     ensures { IfOk result (λ all. map (λ collected. collected.id) all.items ≡ ids.now) }
 {
     let mut all = Vec::with_capacity(alloc, ids.len())?;
@@ -199,7 +210,7 @@ impl<R: Wait + Clock + Drop + Copy, L: Ledger, T: Trace> Collector<R, L, T> {
     }
 
     // Collects what a view shows that is discarded.
-    fn collect(&self, view: &View) -> Result<Vec<Collected<L, T>>, ArrivalError>
+    fn collect(&self, view: &View) -> Result<Vec<Collected<R, L, T>>, ArrivalError>
         // claim: At a turn, where none is refused, just the first 64 records that a view shows of sides that are discarded
         // are collected, each once.
         ensures { IfOk result (λ all. map (λ collected. collected.id) all.items

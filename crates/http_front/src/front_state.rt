@@ -1,6 +1,7 @@
 // What the threads of a front share.
 ghost use Rattle.std.specs.Prelude.{◌≡◌, ◌+◌, IfOk, IfErr, max};
-ghost use Rattle.long_poll.specs.Port.{IsSlot};
+ghost use Rattle.long_poll.specs.Port.{IsSlot, IsDoneFor};
+ghost use Rattle.receipts.specs.Locked.{hall_in};
 ghost use Rattle.http_front.specs.Refusals.{IsArrivalError};
 
 use crate::arriving::{Handed, arrive};
@@ -118,11 +119,16 @@ impl<L: Ledger, T: Trace> FrontState<L, T> {
         rt: &R,
         port: &Port<L, T>,
         call: Call,
-    ) -> Result<Arrived, ArrivalError>
+    ) -> Result<Arrived<L, T>, ArrivalError>
         // claim: A request gets a slot of some desk, and is refused as an office refuses one, or since clock or random
         // source failed.
         ensures slot { IfOk result (λ arrived. IsSlot arrived.slot) }
         ensures refused { IfErr result IsArrivalError }
+
+        // claim: What arrived has the slot with which just this call was done. [: done;
+        // PortApplication::arrive]
+        ensures done { IfOk result (λ arrived.
+            IsDoneFor call (hall_in arrived.seen.before.value.hall) (hall_in arrived.seen.after.value.hall) arrived.slot) }
     {
         let stops = matches!(call, Call::StopBroker);
         let Handed {

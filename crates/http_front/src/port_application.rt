@@ -1,6 +1,9 @@
 // A port of the front, whose requests become calls.
-ghost use Rattle.std.specs.Prelude.{◌≡◌};
+ghost use Rattle.std.specs.Prelude.{◌≡◌, IfOk};
 ghost use Rattle.hall_core.specs.Hall.{slot_told};
+ghost use Rattle.receipts.specs.Locked.{hall_in};
+ghost use Rattle.long_poll.specs.Port.{IsDoneFor};
+ghost use Rattle.http_front.specs.Calls.{IsCallOf, target_in};
 
 use crate::drawing::new_id;
 use crate::front_state::FrontState;
@@ -56,7 +59,9 @@ impl<R: Wait + Eprint + Drop, L: Ledger, T: Trace> Future for Replying<R, L, T> 
 }
 
 // The target of a request.
-fn target_of(head: &Parts) -> &str {
+fn target_of(head: &Parts) -> &str
+    ensures { result.now ≡ target_in head.now }
+{
     match head.uri.path_and_query() {
         Some(target) => target.as_str(),
         None => "/",
@@ -112,7 +117,10 @@ impl<R: Wait + Clock + RandomSource + Eprint + Copy, L: Ledger, T: Trace> PortAp
     }
 
     // The call of a request.
-    fn read(&self, head: &Parts, body: Vec<u8>) -> Result<Call, Refusal> {
+    fn read(&self, head: &Parts, body: Vec<u8>) -> Result<Call, Refusal>
+        ensures { IfOk result
+            (IsCallOf self.now.front.value.dialect self.now.front.value.settings self.now.number head.now body.items) }
+    {
         let front = &self.front;
         match read_request(
             front.alloc,
@@ -131,7 +139,10 @@ impl<R: Wait + Clock + RandomSource + Eprint + Copy, L: Ledger, T: Trace> PortAp
     }
 
     // A call comes. What is refused is answered at once.
-    fn hand_over(&self, call: Call) -> Result<Arrived, Refusal> {
+    fn hand_over(&self, call: Call) -> Result<Arrived<L, T>, Refusal>
+        ensures { IfOk result (λ arrived.
+            IsDoneFor call (hall_in arrived.seen.before.value.hall) (hall_in arrived.seen.after.value.hall) arrived.slot) }
+    {
         match self.front.arrive(&self.rt, &self.port, call) {
             Ok(arrived) => Ok(arrived),
             Err(_) => Err(Refusal::Unavailable),
@@ -139,7 +150,10 @@ impl<R: Wait + Clock + RandomSource + Eprint + Copy, L: Ledger, T: Trace> PortAp
     }
 
     // A call comes; its reply then waits.
-    fn arrive(&self, call: Call) -> Result<Waiting<R, L, T>, Refusal> {
+    fn arrive(&self, call: Call) -> Result<Waiting<R, L, T>, Refusal>
+        ensures { IfOk result (λ waiting.
+            IsDoneFor call (hall_in waiting.seen.before.value.hall) (hall_in waiting.seen.after.value.hall) waiting.slot) }
+    {
         let Ok(port) = Arc::try_clone(&self.port) else {
             return Err(Refusal::Unavailable);
         };
@@ -153,7 +167,13 @@ impl<R: Wait + Clock + RandomSource + Eprint + Copy, L: Ledger, T: Trace> PortAp
         head: &Parts,
         body: Vec<u8>,
         id: Option<[u8; 16]>,
-    ) -> Result<Replying<R, L, T>, Refusal> {
+    ) -> Result<Replying<R, L, T>, Refusal>
+        // claim: The future of a request waits for the slot of the call that its head and body are. [: call; PortApplication::read]
+        ensures call { IfOk result (λ replying. (call : _)
+            × IsCallOf self.now.front.value.dialect self.now.front.value.settings self.now.number head.now body.items call
+            × IsDoneFor call (hall_in replying.waiting.seen.before.value.hall) (hall_in replying.waiting.seen.after.value.hall)
+            replying.waiting.slot) }
+    {
         let Ok(front) = Arc::try_clone(&self.front) else {
             return Err(Refusal::Unavailable);
         };

@@ -2,7 +2,7 @@
 use Rattle.std.specs.Prelude.{ℕ, ◌<◌, List}
 use Rattle.api_core.specs.declared.call.Call.{Call}
 use Rattle.hall_core.specs.declared.error.HallError.{HallError}
-use Rattle.hall_core.specs.Hall.{HallView}
+use Rattle.hall_core.specs.Hall.{HallView, IsDone, request}
 use Rattle.receipts.specs.Answers.{IsSlotOf, IsArrivalRefusal, IsTickRefusal}
 use Rattle.receipts.specs.UnderLock.{IsNotMade, IsNotMoved}
 
@@ -27,3 +27,7 @@ IsRequestReason hall slots call now words why =
 -- the same of a tick
 abbrev pub IsMoveReason : HallView → ℕ → HallError → Type 0
 IsMoveReason hall now why = (told : ℕ) × IsNotMoved hall told now why
+
+-- just this call was done with this slot, at some moment and with some random words
+abbrev pub IsDoneFor : Call → HallView → HallView → ℕ → Type 0
+IsDoneFor call before after slot = (now : ℕ) × (words : List ℕ) × IsDone before after (request slot call now words)

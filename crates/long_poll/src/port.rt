@@ -17,15 +17,56 @@ use receipts::{Desk, Mark, Office, Trace, Witnessed};
 use std::sync::ledger::Ledger;
 use std::sync::{Arc, Mutex, Wait};
 
-/// A request that came to the hall.
+/// A request that came to the hall. Only `Port::arrive` makes one. Proofs see in it what stood under the office's lock before
+/// its call and after it.
 #[derive(Drop)]
-pub struct Arrived {
-    /// Of all that its reply shows.
-    pub ticket: Ticket,
-    /// From which its reply is taken.
-    pub slot: u64,
+pub struct Arrived<L: Ledger, T: Trace = Mark> {
+    // Of all that its reply shows.
+    ticket: Ticket,
+    // From which its reply is taken.
+    slot: u64,
+    // What it issued.
+    issued: Option<Issued>,
+    seen: Witnessed<(), L, T>,
+}
+
+impl<L: Ledger, T: Trace> Arrived<L, T> {
+    /// The slot from which its reply is taken.
+    pub fn slot(&self) -> u64
+        ensures { result ≡ self.now.slot }
+    {
+        self.slot
+    }
+
     /// What it issued, which has to be committed.
-    pub issued: Option<Issued>,
+    pub fn issued(&self) -> Option<Issued>
+        ensures { result ≡ self.now.issued }
+    {
+        self.issued
+    }
+
+    /// Its ticket, of all that its reply shows. The reply is not wanted.
+    pub fn into_ticket(self) -> Ticket
+        ensures { result ≡ self.ticket }
+    {
+        let Arrived { ticket, .. } = self;
+        ticket
+    }
+
+    /// Its ticket, and its slot, of which it was seen that the request has it.
+    pub(crate) fn into_parts(self) -> (Ticket, u64, Witnessed<(), L, T>)
+        ensures ticket { result.0 ≡ self.ticket }
+        ensures slot { result.1 ≡ self.slot }
+        ensures seen { result.2 ≡ self.seen }
+    {
+        let Arrived {
+            ticket,
+            slot,
+            seen,
+            ..
+        } = self;
+        (ticket, slot, seen)
+    }
 }
 
 /// One port of the front: a desk of the office and a seat of the board, each behind a lock, for all futures of the port.
@@ -77,36 +118,38 @@ impl<L: Ledger, T: Trace> Port<L, T> {
         call: Call,
         now: u64,
         words: [u64; 2],
-    ) -> Witnessed<Result<Arrived, HallError>, L, T>
+    ) -> Result<Arrived<L, T>, Witnessed<HallError, L, T>>
         // claim: A request at a port gets a slot of some desk, and is refused as an office refuses it. So is a tick. [:
         // slot, refused; Port::tick: refused]
-        ensures slot { IfOk result.answer (λ arrived. IsSlot arrived.slot) }
-        ensures refused { IfErr result.answer IsRequestRefusal }
+        ensures slot { IfOk result (λ arrived. IsSlot arrived.slot) }
+        ensures refused { IfErr result (λ refused. IsRequestRefusal refused.answer) }
 
-        // claim: Just that call was done to the hall before, or has its reason there; so of a take, a point, a forgetting. [:
-        // done, reason; Port::tick: done, answer, reason; Port::take; Port::point; Port::forget]
-        ensures done { IfOk result.answer (λ arrived.
-            IsDone (hall_in result.before.value.hall) (hall_in result.after.value.hall) (request arrived.slot call now words)) }
-        ensures issued { IfOk result.answer (λ arrived.
-            IssuedAt (hall_in result.before.value.hall) (request arrived.slot call now words) arrived.issued) }
-        ensures reason { IfErr result.answer
-            (IsRequestReason (hall_in result.before.value.hall) result.before.value.slots call now words) }
+        // claim: Just that call was done to the hall before, with the slot of what arrived, or has its reason there; so of a
+        // take, a point, a forgetting. [: done, reason; Port::tick: done, answer, reason; Port::take; Port::point;
+        // Port::forget]
+        ensures done { IfOk result (λ arrived.
+            IsDone (hall_in arrived.seen.before.value.hall) (hall_in arrived.seen.after.value.hall) (request arrived.slot call now words)) }
+        ensures issued { IfOk result (λ arrived.
+            IssuedAt (hall_in arrived.seen.before.value.hall) (request arrived.slot call now words) arrived.issued) }
+        ensures reason { IfErr result (λ refused.
+            IsRequestReason (hall_in refused.before.value.hall) refused.before.value.slots call now words refused.answer) }
     {
         let mut desk = self.desk.lock(rt);
         let (answer, seen) = self.office.arrive(rt, &mut desk, call, now, words).split();
         let (ticket, slot) = match answer {
             Ok(arrived) => arrived,
-            Err(why) => return seen.with(Err(why)),
+            Err(why) => return Err(seen.with(why)),
         };
         let issued = desk.issued();
         let answered = desk.take_answered();
         drop(desk);
         self.bell.answer(rt, &answered, ticket.number());
-        seen.with(Ok(Arrived {
+        Ok(Arrived {
             ticket,
             slot,
             issued,
-        }))
+            seen,
+        })
     }
 
     /// Makes one move that is due, as `Office::tick` says, from the port's desk. The bell is told which parked polls it

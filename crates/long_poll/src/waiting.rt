@@ -9,7 +9,7 @@ use futures::Future;
 use futures::task::{Context, Poll};
 use group_commit::{Receipt, Ticket};
 use hall_core::Released;
-use receipts::{Mark, Trace};
+use receipts::{Mark, Trace, Witnessed};
 use std::mem;
 use std::sync::ledger::Ledger;
 use std::sync::{Arc, Wait};
@@ -40,6 +40,8 @@ pub struct Waiting<R: Wait, L: Ledger, T: Trace = Mark> {
     port: Arc<Port<L, T>>,
     slot: u64,
     progress: Progress,
+    // What stood under the office's lock around the call that got the slot.
+    seen: Witnessed<(), L, T>,
 }
 
 impl<R: Wait, L: Ledger, T: Trace> Waiting<R, L, T> {
@@ -47,16 +49,20 @@ impl<R: Wait, L: Ledger, T: Trace> Waiting<R, L, T> {
     ghost use Rattle.long_poll.specs.Waiting.{number_at, number_for};
 
     /// Waits for the reply of a request that came to this port.
-    pub fn new(rt: R, port: Arc<Port<L, T>>, arrived: Arrived) -> Waiting<R, L, T>
+    pub fn new(rt: R, port: Arc<Port<L, T>>, arrived: Arrived<L, T>) -> Waiting<R, L, T>
+        // claim: A future waits for the slot that its own call got. [: slot, seen; Port::arrive: done]
         ensures slot { result.slot ≡ arrived.slot }
+        ensures seen { result.seen ≡ arrived.seen }
         ensures number { number_at result.progress ≡ Some arrived.ticket }
         ensures port { result.port ≡ port }
     {
+        let (ticket, slot, seen) = arrived.into_parts();
         Waiting {
             rt,
             port,
-            slot: arrived.slot,
-            progress: Progress::Issued(arrived.ticket),
+            slot,
+            progress: Progress::Issued(ticket),
+            seen,
         }
     }
 
@@ -271,6 +277,7 @@ impl<R: Wait + Drop, L: Ledger, T: Trace> Drop for Waiting<R, L, T> {
             port,
             slot,
             progress,
+            seen: _,
         } = self;
         if !matches!(progress, Progress::Told) {
             port.bell().leave(&rt, slot);

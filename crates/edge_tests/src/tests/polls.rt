@@ -45,7 +45,7 @@ where
     D: Disk + Drop,
 {
     let ticket = match rig.arrive_invoke(1) {
-        Some(arrived) => rig.check(arrived.ticket).err(),
+        Some(arrived) => rig.check(arrived.into_ticket()).err(),
         None => None,
     };
     expect(rt, ticket.is_some(), "a ticket waits");

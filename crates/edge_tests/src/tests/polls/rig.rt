@@ -23,9 +23,9 @@ const POLLS: usize = 1000;
 const NO_SLOT: u64 = u64::MAX;
 
 /// The slot of what has arrived.
-pub fn slot_of(arrived: &Option<Arrived>) -> u64 {
+pub fn slot_of<L: Ledger>(arrived: &Option<Arrived<L>>) -> u64 {
     match arrived {
-        Some(arrived) => arrived.slot,
+        Some(arrived) => arrived.slot(),
         None => NO_SLOT,
     }
 }
@@ -201,15 +201,12 @@ where
     D: Disk + Drop,
 {
     // A request comes, with this number for a new id.
-    fn arrive(&self, call: Call, number: u64) -> Option<Arrived> {
-        self.port
-            .arrive(&self.rt, call, NOW, [0, number])
-            .answer
-            .ok()
+    fn arrive(&self, call: Call, number: u64) -> Option<Arrived<L>> {
+        self.port.arrive(&self.rt, call, NOW, [0, number]).ok()
     }
 
     /// An invoke comes, whose event gets the n-th id.
-    pub fn arrive_invoke(&self, n: u64) -> Option<Arrived> {
+    pub fn arrive_invoke(&self, n: u64) -> Option<Arrived<L>> {
         match invoke(self.rt.alloc()) {
             Ok(call) => self.arrive(call, n),
             Err(_) => None,
@@ -217,7 +214,7 @@ where
     }
 
     /// The future of the reply of what has arrived.
-    pub fn waiting(&self, arrived: Option<Arrived>) -> Option<Waiting<R, L>> {
+    pub fn waiting(&self, arrived: Option<Arrived<L>>) -> Option<Waiting<R, L>> {
         let arrived = arrived?;
         let port = Arc::try_clone(&self.port).ok()?;
         Some(Waiting::new(self.rt, port, arrived))
@@ -233,7 +230,7 @@ where
     }
 
     // Lets the pool poll for the reply of what has arrived: its slot, or none that there is.
-    fn follow(&self, pool: &Pool<R, L>, arrived: Option<Arrived>) -> u64 {
+    fn follow(&self, pool: &Pool<R, L>, arrived: Option<Arrived<L>>) -> u64 {
         let slot = slot_of(&arrived);
         match self.waiting(arrived) {
             Some(waiting) => {
