@@ -85,12 +85,6 @@ fn is_unwanted(discard: Discard, standing: Standing) -> bool
     }
 }
 
-fn id_of(row: &EventRow) -> [u8; 16]
-    ensures { result ≡ row.now.id }
-{
-    row.id
-}
-
 // The events among these rows whose records are discarded.
 fn all_unwanted(
     alloc: Global,
@@ -101,7 +95,7 @@ fn all_unwanted(
 {
     rows.iter()
         .filter(|row| is_unwanted(discard, row.standing))
-        .map(|row| id_of(row))
+        .map(|row| ensures { result ≡ row.now.id } { row.id })
         .collect(alloc)
 }
 
