@@ -70,8 +70,8 @@ fn make_moves<R: Wait + Eprint, L: Ledger, T: Trace>(rt: &R, port: &Port<L, T>, 
     moved
 }
 
-// A call comes to the port's office, as `Port::arrive` says.
-fn hand_over<R: Wait, L: Ledger, T: Trace>(
+/// A call comes to the port's office, as `Port::arrive` says.
+pub(crate) fn hand_over<R: Wait, L: Ledger, T: Trace>(
     rt: &R,
     port: &Port<L, T>,
     call: Call,
