@@ -221,7 +221,7 @@ where
     let Some(waiting) = rig.waiting(arrived) else {
         return false;
     };
-    let (released, told) = thread::join(rt, || block_on(rt, waiting), || rig.commit_and_tell());
+    let (told, released) = thread::join(rt, || rig.commit_and_tell(), || block_on(rt, waiting));
     expect(rt, told == Ok(1), "a command is durable");
     match released {
         Ok(released) => {
