@@ -3,6 +3,7 @@ import http.server
 import json
 import os
 import subprocess
+import sys
 
 from harness import DEADLINE, EXAMPLES, Beside, Skipped, case, needs, same, until
 
@@ -15,8 +16,8 @@ def run(name, *words, **more):
     return subprocess.Popen([os.path.join(EXAMPLES, name), *map(str, words)], stdout=subprocess.PIPE, text=True, env=env, **more)
 
 
-def told_by_boto3(caller):
-    told = caller.communicate(timeout=2 * DEADLINE)[0]
+def told_by_boto3(caller, seconds=2 * DEADLINE):
+    told = caller.communicate(timeout=seconds)[0]
     if told.startswith("skipped: "):
         raise Skipped("there is no boto3")
     return told.split()
@@ -132,6 +133,40 @@ def the_caller_by_boto3(broker):
     broker.serve()
     status, id = told_by_boto3(run("caller.py", broker.port, "my-function", '{"a":1}'))
     same((status, broker.next().id), ("202", id))
+
+
+# A function of whose records nobody has heard: boto3 as it is by default, and more events than the table holds.
+BURST = """
+import sys
+try:
+    import boto3
+except ImportError:
+    sys.exit(print("skipped: boto3 is not installed"))
+port, count = sys.argv[1:]
+keys = {"aws_access_key_id": "any", "aws_secret_access_key": "any", "region_name": "us-east-2"}
+client = boto3.client("lambda", endpoint_url="http://127.0.0.1:" + port, **keys)
+for _ in range(int(count)):
+    told = client.invoke(FunctionName="my-function", InvocationType="Event", Payload="{}")["StatusCode"]
+    assert told == 202, told
+print(count)
+"""
+
+
+@case({"events": 64})
+def a_burst_by_boto3_over_a_small_table_whose_records_are_discarded(broker):
+    broker.serve("--dialect", "aws", "--discard", "success")
+    runtime = run("runtime.py", broker.port + 1, 1000)
+    burst = os.path.join(broker.folder, "burst.py")
+    with open(burst, "w") as file:
+        file.write(BURST)
+    try:
+        same(told_by_boto3(run(sys.executable, burst, broker.port, 1000), 10 * DEADLINE), ["1000"])
+        runtime.wait(2 * DEADLINE)
+    finally:
+        runtime.kill()
+    broker.until_number("records_collected_total", 1000)
+    same(broker.stop(), (202, 0, ""))
+    same(broker.held(), 0)
 
 
 @case({"events": 1})

@@ -62,12 +62,18 @@ def each_refusal_has_the_type_that_an_sdk_knows(broker):
 @case({"events": 1})
 def boto3_raises_a_typed_exception_for_each_refusal(broker):
     client = by_boto3(in_dialect(broker))
-    same(called(client, name="other"), ("ResourceNotFoundException", 404, "no such path or function"))
-    same(called(client, kind="RequestResponse"), ("InvalidParameterValueException", 400, "only Event is supported"))
-    same(called(client, payload=b"{"), ("InvalidRequestContentException", 400, "payload is not JSON"))
-    same(called(client, payload=b'"' + 1024 * b"a" + b'"'), ("RequestTooLargeException", 413, "body is too large"))
+    other = f"no such path or function: only {ARN} is here"
+    same(called(client, name="other"), ("ResourceNotFoundException", 404, other))
+    kinds = "InvocationType must be Event or DryRun"
+    same(called(client, kind="RequestResponse"), ("InvalidParameterValueException", 400, kinds))
+    no_json = "Could not parse request body into json: the payload for my-function is not JSON"
+    same(called(client, payload=b"{"), ("InvalidRequestContentException", 400, no_json))
+    large = "body is too large: a payload for my-function has at most 1024 bytes, any other body 4096"
+    same(called(client, payload=b'"' + 1024 * b"a" + b'"'), ("RequestTooLargeException", 413, large))
+    same(called(client, kind="DryRun"), 204)
     same(called(client), 202)
-    same(called(client), ("TooManyRequestsException", 429, "table is full"))
+    full = "table is full: my-function holds at most 1 events, with those whose records wait to be collected"
+    same(called(client), ("TooManyRequestsException", 429, full))
 
 
 @case()
@@ -92,7 +98,7 @@ def boto3_in_standard_mode_tries_a_full_broker_again(broker):
 @case()
 def boto3_invokes_by_name_arn_and_partial_arn(broker):
     client = by_boto3(in_dialect(broker))
-    partial = ["123456789012:function:my-function", "123456789012:function:my-function:$LATEST"]
+    partial = ["123456789012:function:my-function", "123456789012:function:my-function:$LATEST", "123456789012:my-function"]
     for n, name in enumerate(["my-function", "my-function:$LATEST", ARN, ARN + ":$LATEST", *partial]):
         same(called(client, name=name, payload=json.dumps(n).encode()), 202)
         event = broker.next()
@@ -111,6 +117,56 @@ def each_reply_to_a_caller_has_an_id(broker):
     same([reply.json["Type"] for reply in told if reply.body], 3 * ["User"])
     same(broker.next().headers["X-Amzn-RequestId"], None)
     same(broker.ask("GET", "/", environment=1).type, "NotFound")
+
+
+@case()
+def a_reply_that_names_an_event_has_its_id(broker):
+    in_dialect(broker)
+    held = broker.invoke("{}").id
+    same(broker.delete(held).headers["X-Amzn-RequestId"], held)
+    same(broker.next().id, held)
+    same(broker.respond(held, "1").status, 202)
+    record = broker.record()
+    same((record.json["requestContext"]["requestId"], record.headers["X-Amzn-RequestId"]), (held, held))
+    deleted = broker.delete(held)
+    same((deleted.status, deleted.headers["X-Amzn-RequestId"]), (204, held))
+
+
+@case({"retries": 0, "response": 512})
+def an_answer_that_is_too_large_ends_its_attempt_as_an_error(broker):
+    in_dialect(broker)
+    for size in 513, 100000:
+        held = broker.invoke("{}").id
+        same(broker.next().id, held)
+        same(broker.respond(held, size * "1").status, 202)
+        told = broker.record("failure").json
+        same(told["responseContext"]["functionError"], "Unhandled")
+        same(told["responsePayload"], {
+            "errorType": "Function.ResponseSizeTooLarge",
+            "errorMessage": "Response payload size exceeded maximum allowed payload size (512 bytes).",
+        })
+        same(broker.delete(held).status, 204)
+
+
+@case({"concurrency": 10})
+def boto3_asks_what_the_function_is(broker):
+    client = by_boto3(in_dialect(broker))
+    client.get_waiter("function_exists").wait(FunctionName="my-function")
+    client.get_waiter("function_active_v2").wait(FunctionName=ARN)
+    told = client.get_function(FunctionName="my-function")
+    same(told["Concurrency"], {"ReservedConcurrentExecutions": 10})
+    configuration = client.get_function_configuration(FunctionName="my-function", Qualifier="$LATEST")
+    same({name: configuration[name] for name in told["Configuration"]}, told["Configuration"])
+    same((configuration["FunctionArn"], configuration["Timeout"], configuration["State"]), (ARN, 900, "Active"))
+    try:
+        client.get_function(FunctionName="other")
+        raise AssertionError("another function is told")
+    except client.exceptions.ResourceNotFoundException:
+        pass
+    accepted = client.invoke_async(FunctionName="my-function", InvokeArgs=b'{"a": 1}')
+    same((accepted["Status"], accepted["ResponseMetadata"]["HTTPStatusCode"]), (202, 202))
+    event = broker.next()
+    same((event.id, event.json), (accepted["ResponseMetadata"]["RequestId"], {"a": 1}))
 
 
 @case()

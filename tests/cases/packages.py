@@ -81,7 +81,7 @@ RUNTIMES = "runtime@my-function:1", "runtime@my-function:2"
 def a_function_is_added_once(broker):
     url = "http://127.0.0.1:1/x?a=$b"
     more = "--environments", 2, "--runtime", "/usr/bin/my-runtime --fast", "--task-root", "/srv/x", "--forward-failure", url, "--dialect", "aws"
-    more += "--handler", "a.b'$c"
+    more += "--discard", "success", "--handler", "a.b'$c"
     with a_root() as root:
         told = done(root, "add", "my-function", *ADD, *more)
         port = int(matches("my-function: callers ([0-9]+), .*", told[-1])[0])
@@ -95,7 +95,7 @@ def a_function_is_added_once(broker):
         same({name for name, what in there.items() if what}, {*envs, drop_in, *users, disk, *shared})
         same([text_of(root, name).splitlines()[1:] for name in users], 2 * [["[Service]", f"User=lambda_{port}"]])
         same({there[name][2] for name in (*envs, disk)}, {0o600})
-        wanted = {"PORT": str(port), "ADDRESS": "127.0.0.1", "ADMIN": str(port + 19), "WORDS": "--dialect aws"}
+        wanted = {"PORT": str(port), "ADDRESS": "127.0.0.1", "ADMIN": str(port + 19), "WORDS": "--dialect aws --discard success"}
         same(values_of(root, envs[0]), wanted)
         same(values_of(root, envs[1]), {"PORT": str(port), "SIDE": "failure", "URL": url, "WORDS": f"--admin {port + 19}"})
         wanted = {"RUNTIME": "/usr/bin/my-runtime --fast", "EXTENSIONS": "", "AWS_LAMBDA_RUNTIME_API": f"127.0.0.1:{port + 2}"}
@@ -160,6 +160,7 @@ def a_step_that_fails_is_undone(broker):
             same((status, why in error, error.splitlines()[-1]), (1, True, "all that was done before is undone"))
             same(without_times(root), there)
         wrong = ("--environments", 17), ("--host", "a b"), ("--address", "x"), ("--runtime", "x"), ("--forward-success", "/x")
+        wrong += (("--forward-failure", "http://127.0.0.1:1/x", "--discard", "both"),)
         for words in (), ("add", "a/b", *ADD), ("add", "x"), *(("add", "x", *ADD, *more) for more in wrong), ("remove",), ("x",):
             same(ctl(root, *words)[0], 2)
         same(done(root, "list")[0].split(":")[0], "my-function")

@@ -26,15 +26,16 @@ both name = name ∷ with_version name ∷ []
 abbrev pub short_arn : Settings → List ℕ
 short_arn s = codes "function:" ++ s.name
 
--- the partial ARN of an account, where the ARN has one
+-- this name behind an account, where the ARN has one
 abbrev pub of_account : List ℕ → List ℕ → List (List ℕ)
 of_account [] short = []
 of_account (b ∷ account) short = both ((b ∷ account) ++ 58 ∷ short)
 
--- the partial ARNs that name the function
+-- the partial ARNs, and the name behind its account, that name the function
 abbrev pub partial_names : Dialect → Settings → List (List ℕ)
 partial_names Profile s = []
-partial_names Aws s = both (short_arn s) ++ of_account (account_of s.arn) (short_arn s)
+partial_names Aws s =
+    both (short_arn s) ++ (of_account (account_of s.arn) (short_arn s) ++ of_account (account_of s.arn) s.name)
 
 -- the function's name or ARN, each with or without its only version
 abbrev pub function_names : Dialect → Settings → List (List ℕ)

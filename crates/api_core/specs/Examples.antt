@@ -4,8 +4,10 @@ use Prim.Native.String.{String}
 use Rattle.http_header.specs.FieldValue.{plain_value}
 use Rattle.retry_rules.specs.declared.settings.Settings.{Settings}
 use Rattle.destination_json.specs.Examples.{usual}
+use Rattle.api_core.specs.declared.dialect.Dialect.{Dialect}
 use Rattle.api_core.specs.declared.dialect.Dialect.TheVariants.{Profile, Aws}
 use Rattle.api_core.specs.declared.dialect.Audience.TheVariants.{Caller, Environment}
+use Rattle.api_core.specs.declared.body.Body.TheVariants.{Whole, TooLarge}
 use Rattle.api_core.specs.declared.call.Call.{Call}
 use Rattle.api_core.specs.declared.refusal.Refusal.{Refusal}
 use Rattle.api_core.specs.declared.reply.Reply.{Reply}
@@ -42,7 +44,7 @@ small = record usual { payload = 8; response = 8 }
 
 -- a request on a port
 abbrev pub on : ℕ → String → String → RequestHeaders → List ℕ → Result Call Refusal
-on port method target headers body = call_of Profile usual port (codes method) (codes target) headers body
+on port method target headers body = call_of Profile usual port (codes method) (codes target) headers (Whole body)
 
 -- the same without headers and body
 abbrev pub asks : ℕ → String → String → Result Call Refusal
@@ -53,18 +55,35 @@ abbrev pub invocations : String → String → List ℕ
 invocations name query = codes "/2015-03-31/functions/" ++ (codes name ++ (codes "/invocations" ++ codes query))
 
 abbrev pub invoke_as : String → String → Result Call Refusal
-invoke_as name query = call_of Profile usual 0 (codes "POST") (invocations name query) event []
+invoke_as name query = call_of Profile usual 0 (codes "POST") (invocations name query) event (Whole [])
 
 -- of the function that is there, with these headers and this body
 abbrev pub invoke_with : Settings → RequestHeaders → List ℕ → Result Call Refusal
-invoke_with s headers body = call_of Profile s 0 (codes "POST") (invocations "my-function" "") headers body
+invoke_with s headers body = call_of Profile s 0 (codes "POST") (invocations "my-function" "") headers (Whole body)
 
 -- in the dialect of AWS
 abbrev pub invoke_aws : String → Result Call Refusal
-invoke_aws name = call_of Aws usual 0 (codes "POST") (invocations name "") event []
+invoke_aws name = call_of Aws usual 0 (codes "POST") (invocations name "") event (Whole [])
 
 abbrev pub asks_aws : String → String → RequestHeaders → Result Call Refusal
-asks_aws method target headers = call_of Aws usual 1 (codes method) (codes target) headers []
+asks_aws method target headers = call_of Aws usual 1 (codes method) (codes target) headers (Whole [])
+
+-- a caller asks so
+abbrev pub caller_asks_aws : String → String → RequestHeaders → Result Call Refusal
+caller_asks_aws method target headers = call_of Aws usual 0 (codes method) (codes target) headers (Whole [])
+
+-- the runtime of environment 1 tells of an attempt by this id
+abbrev pub told_of : String → String → List ℕ
+told_of id what = codes "/2018-06-01/runtime/invocation/" ++ (codes id ++ codes what)
+
+-- a runtime tells a response that is too large
+abbrev pub tells_too_much : Dialect → Settings → Result Call Refusal
+tells_too_much d s = call_of d s 1 (codes "POST") (told_of "00000000-0000-4000-8000-000000000003" "/response") [] TooLarge
+
+abbrev pub too_large_text : List ℕ
+too_large_text =
+    codes "{\"errorType\":\"Function.ResponseSizeTooLarge\","
+    ++ codes "\"errorMessage\":\"Response payload size exceeded maximum allowed payload size (1024 bytes).\"}"
 
 -- an extension that accepts these features registers
 abbrev pub accepting : String → RequestHeaders
@@ -73,12 +92,8 @@ accepting features = with_header "lambda-extension-accept-feature" features (nam
 abbrev pub invoke : List ℕ → Result Call Refusal
 invoke body = invoke_with usual event body
 
--- the runtime of environment 1 tells of an attempt by this id
-abbrev pub told_of : String → String → List ℕ
-told_of id what = codes "/2018-06-01/runtime/invocation/" ++ (codes id ++ codes what)
-
 abbrev pub tells_in : Settings → String → List ℕ → Result Call Refusal
-tells_in s what body = call_of Profile s 1 (codes "POST") (told_of "00000000-0000-4000-8000-000000000003" what) [] body
+tells_in s what body = call_of Profile s 1 (codes "POST") (told_of "00000000-0000-4000-8000-000000000003" what) [] (Whole body)
 
 abbrev pub tells : String → List ℕ → Result Call Refusal
 tells what body = tells_in usual what body
@@ -149,6 +164,26 @@ abbrev pub error_reply : ℕ → String → String → Reply
 error_reply status error_type message =
     json_reply status []
     (codes "{\"errorMessage\":\"" ++ (codes message ++ (codes "\",\"errorType\":\"" ++ (codes error_type ++ codes "\"}"))))
+
+-- what is told of the function
+abbrev pub configuration_shown : List ℕ
+configuration_shown =
+    codes "{\"FunctionName\":\"my-function\","
+    ++ (codes "\"FunctionArn\":\"arn:aws:lambda:us-east-2:123456789012:function:my-function\",\"Handler\":\"app.main\","
+    ++ codes "\"Timeout\":3,\"Version\":\"$LATEST\",\"State\":\"Active\",\"LastUpdateStatus\":\"Successful\"}")
+
+abbrev pub function_shown : List ℕ
+function_shown =
+    codes "{\"Configuration\":"
+    ++ (configuration_shown ++ codes ",\"Concurrency\":{\"ReservedConcurrentExecutions\":10}}")
+
+-- a refusal for an event, with its id
+abbrev pub not_ended_headers : List (List ℕ × List ℕ)
+not_ended_headers =
+    header "X-Amzn-ErrorType" "ResourceConflictException"
+    ∷ header "Content-Type" "application/json"
+    ∷ header "X-Amzn-RequestId" "00000000-0000-4000-8000-000000000001"
+    ∷ []
 
 -- the same to a caller, in the dialect of AWS
 abbrev pub refusal_aws : Refusal → Reply

@@ -9,7 +9,7 @@ use Rattle.retry_rules.specs.declared.settings.Settings.{Settings}
 use Rattle.api_core.specs.declared.dialect.Dialect.{Dialect}
 use Rattle.api_core.specs.declared.dialect.Dialect.TheVariants.{Profile, Aws}
 use Rattle.api_core.specs.declared.route.Route.{Route}
-use Rattle.api_core.specs.declared.route.Route.TheVariants.{Invoke, OldestSuccess, OldestFailure, Delete, StopBroker, RuntimeNext, Response, RuntimeError, RuntimeInitError, Register, ExtensionNext, ExtensionInitError, ExtensionExitError, Telemetry, Logs}
+use Rattle.api_core.specs.declared.route.Route.TheVariants.{Invoke, InvokeAsync, InvokeAsyncSlash, GetFunction, GetConfiguration, OldestSuccess, OldestFailure, Delete, StopBroker, RuntimeNext, Response, RuntimeError, RuntimeInitError, Register, ExtensionNext, ExtensionInitError, ExtensionExitError, Telemetry, Logs}
 use Rattle.api_core.specs.declared.refusal.Refusal.{Refusal}
 use Rattle.api_core.specs.declared.refusal.Refusal.TheVariants.{NotFound, MethodNotAllowed}
 
@@ -50,6 +50,10 @@ line method path = (codes method, codes path)
 -- the line of each route
 abbrev pub line_of : Route → List ℕ × List ℕ
 line_of Invoke = line "POST" "/2015-03-31/functions/{FunctionName}/invocations"
+line_of InvokeAsync = line "POST" "/2014-11-13/functions/{FunctionName}/invoke-async"
+line_of InvokeAsyncSlash = line "POST" "/2014-11-13/functions/{FunctionName}/invoke-async/"
+line_of GetFunction = line "GET" "/2015-03-31/functions/{FunctionName}"
+line_of GetConfiguration = line "GET" "/2015-03-31/functions/{FunctionName}/configuration"
 line_of OldestSuccess = line "GET" "/broker/destinations/success"
 line_of OldestFailure = line "GET" "/broker/destinations/failure"
 line_of Delete = line "DELETE" "/broker/destinations/{id}"
@@ -65,9 +69,14 @@ line_of ExtensionExitError = line "POST" "/2020-01-01/extension/exit/error"
 line_of Telemetry = line "PUT" "/2022-07-01/telemetry"
 line_of Logs = line "PUT" "/2020-08-15/logs"
 
--- what callers may ask
-abbrev pub callers_routes : List Route
-callers_routes = Invoke ∷ OldestSuccess ∷ OldestFailure ∷ Delete ∷ StopBroker ∷ []
+-- what callers may ask in each dialect
+abbrev pub common_callers_routes : List Route
+common_callers_routes = Invoke ∷ OldestSuccess ∷ OldestFailure ∷ Delete ∷ StopBroker ∷ []
+
+-- and in this one
+abbrev pub callers_routes : Dialect → List Route
+callers_routes Profile = common_callers_routes
+callers_routes Aws = InvokeAsync ∷ InvokeAsyncSlash ∷ GetFunction ∷ GetConfiguration ∷ common_callers_routes
 
 -- what the runtime and the extensions of an environment may ask in each dialect
 abbrev pub common_routes : List Route
@@ -84,7 +93,7 @@ environment_routes Aws = Telemetry ∷ Logs ∷ common_routes
 -- port 0 is the callers', port n that of environment n. No other port has a route
 abbrev pub routes_at : Dialect → Settings → ℕ → List Route
 routes_at d s port =
-    if port == 0 then callers_routes
+    if port == 0 then callers_routes d
     else if nat_le port s.environments then environment_routes d
     else []
 

@@ -14,9 +14,12 @@ use Rattle.api_core.specs.declared.dialect.Audience.TheVariants.{Caller}
 use Rattle.api_core.specs.declared.dialect.Stream.{Stream}
 use Rattle.api_core.specs.declared.dialect.Stream.TheVariants.{Telemetry, Logs}
 use Rattle.api_core.specs.declared.refusal.Refusal.{Refusal}
+use Rattle.api_core.specs.declared.refusal.Refusal.TheVariants.{NotEnded}
 use Rattle.api_core.specs.declared.reply.Reply.{Reply}
 use Rattle.api_core.specs.declared.answer.Answer.{Answer}
 use Rattle.api_core.specs.declared.answer.Answer.TheVariants as answer
+use Rattle.api_core.specs.declared.dialect.Description.{Description}
+use Rattle.api_core.specs.declared.dialect.Description.TheVariants.{DryRun, Function, Configuration}
 use Rattle.api_core.specs.declared.answer.ShutdownReason.{ShutdownReason}
 use Rattle.api_core.specs.declared.answer.ShutdownReason.TheVariants.{Spindown, Timeout, Failure}
 use Rattle.api_core.specs.Dialect.{account_of}
@@ -26,9 +29,12 @@ use Rattle.api_core.specs.Refusals.{fault_of, error_object, error_text, error_na
 
 pub data Told : Type 0 where
   accepted : List ℕ → Told
+  accepted_async : List ℕ → Told
   record_of : Ending → Told
   no_record : Told
-  deleted : Told
+  deleted : List ℕ → Told
+  not_ended : List ℕ → Told
+  described : Description → Told
   taken : Told
   registered : (identifier : List ℕ) (with_account : Bool) → Told
   runtime_event : List ℕ → ℕ → List ℕ → Told
@@ -39,9 +45,12 @@ pub data Told : Type 0 where
 
 abbrev pub told_by : Answer → Told
 told_by (answer.Accepted id) = accepted id
+told_by (answer.AcceptedAsync id) = accepted_async id
 told_by (answer.Record e) = record_of (told e)
 told_by answer.NoRecord = no_record
-told_by answer.Deleted = deleted
+told_by (answer.Deleted id) = deleted id
+told_by (answer.NotEnded id) = not_ended id
+told_by (answer.Described what) = described what
 told_by answer.Taken = taken
 told_by (answer.Registered identifier account) = registered identifier account
 told_by (answer.RuntimeEvent id deadline payload) = runtime_event id deadline payload.now
@@ -76,11 +85,21 @@ abbrev pub with_json : ℕ → List (List ℕ × List ℕ) → List ℕ → Repl
 with_json status headers body =
     record { status = status; headers = headers ++ header "Content-Type" (codes "application/json") ∷ []; body = body }
 
+-- a reply that tells of an event, whose id it tells in a dialect that has that
+abbrev pub of_event : Dialect → List ℕ → Reply → Reply
+of_event Profile id reply = reply
+of_event Aws id reply =
+    record { status = reply.status; headers = reply.headers ++ request_id id ∷ []; body = reply.body }
+
 -- a refusal, as it is told to callers and to environments
-abbrev pub refusing : Dialect → Audience → Refusal → Reply
-refusing Aws Caller why =
-    with_json (fault_of why).status (header "X-Amzn-ErrorType" (error_name why) ∷ []) (service_text (fault_of why))
-refusing d who why = with_json (fault_of why).status [] (error_text (fault_of why))
+abbrev pub refusing : Dialect → Settings → Audience → Refusal → Reply
+refusing Aws s Caller why =
+    with_json (fault_of why).status (header "X-Amzn-ErrorType" (error_name why) ∷ []) (service_text s why)
+refusing d s who why = with_json (fault_of why).status [] (error_text (fault_of why))
+
+-- what InvokeAsync tells of an event that is accepted
+abbrev pub async_body : List ℕ
+async_body = object (member "Status" (codes "202") ∷ [])
 
 abbrev pub ok_body : List ℕ
 ok_body = object (member "status" (in_quotes (codes "OK")) ∷ [])
@@ -150,6 +169,33 @@ function_members s =
 abbrev pub function_text : Dialect → Settings → Bool → List ℕ
 function_text d s with_account = object (function_members s ++ account_members d s with_account)
 
+-- ## The function, as the public models of the Lambda API have it
+
+abbrev pub configuration_text : Settings → List ℕ
+configuration_text s = object (
+    member "FunctionName" (in_quotes s.name)
+    ∷ member "FunctionArn" (in_quotes s.arn)
+    ∷ member "Handler" (in_quotes s.handler)
+    ∷ member "Timeout" (decimal s.timeout)
+    ∷ member "Version" (in_quotes latest)
+    ∷ member "State" (in_quotes (codes "Active"))
+    ∷ member "LastUpdateStatus" (in_quotes (codes "Successful"))
+    ∷ []
+    )
+
+abbrev pub concurrency_text : Settings → List ℕ
+concurrency_text s = object (member "ReservedConcurrentExecutions" (decimal s.concurrency) ∷ [])
+
+abbrev pub described_text : Settings → List ℕ
+described_text s = object (
+    member "Configuration" (configuration_text s) ∷ member "Concurrency" (concurrency_text s) ∷ []
+    )
+
+abbrev pub describing : Settings → Description → Reply
+describing s DryRun = bare 204 []
+describing s Function = with_json 200 [] (described_text s)
+describing s Configuration = with_json 200 [] (configuration_text s)
+
 -- what is told of a stream that is not sent, as AWS's emulator has it
 abbrev pub not_supported_text : Stream → List ℕ
 not_supported_text Telemetry = error_object (codes "Telemetry API is not supported") (codes "Telemetry.NotSupported")
@@ -159,9 +205,12 @@ not_supported_text Logs = error_object (codes "Logs API is not supported") (code
 
 abbrev pub reply_of_told : Dialect → Settings → Told → Reply
 reply_of_told d s (accepted id) = bare 202 (request_id id ∷ [])
-reply_of_told d s (record_of e) = with_json 200 [] (record_text s e)
+reply_of_told d s (accepted_async id) = with_json 202 (request_id id ∷ []) async_body
+reply_of_told d s (record_of e) = of_event d e.id (with_json 200 [] (record_text s e))
 reply_of_told d s no_record = bare 204 []
-reply_of_told d s deleted = bare 204 []
+reply_of_told d s (deleted id) = of_event d id (bare 204 [])
+reply_of_told d s (not_ended id) = of_event d id (refusing d s Caller NotEnded)
+reply_of_told d s (described what) = describing s what
 reply_of_told d s taken = with_json 202 [] ok_body
 reply_of_told d s (registered identifier with_account) =
     with_json 200 (header "Lambda-Extension-Identifier" (id_text identifier) ∷ []) (function_text d s with_account)
@@ -169,7 +218,7 @@ reply_of_told d s (runtime_event id deadline payload) = with_json 200 (runtime_h
 reply_of_told d s (invoke_event id deadline) = with_json 200 [] (invoke_text s id deadline)
 reply_of_told d s (shutdown_event reason deadline) = with_json 200 [] (shutdown_text d reason deadline)
 reply_of_told d s (not_supported stream) = with_json 202 [] (not_supported_text stream)
-reply_of_told d s (refused who why) = refusing d who why
+reply_of_told d s (refused who why) = refusing d s who why
 
 -- in which words, and of which function, replies tell
 pub record Words : Type 0 where

@@ -3,18 +3,22 @@ ghost use Rattle.std.specs.Prelude.{◌≡◌, [], IfOk};
 ghost use Rattle.percent_encoding.specs.Percent.{percent_decode};
 ghost use Rattle.api_core.specs.Ids.{id_of};
 ghost use Rattle.api_core.specs.Bodies.{or_empty_object};
-ghost use Rattle.api_core.specs.Requests.{call_by, name_or_none, events_or_none, identifier_or_zeros};
+ghost use Rattle.api_core.specs.Requests.{call_by, call_with, invoked_by, bytes_of, name_or_none, events_or_none, identifier_or_zeros};
+ghost use Rattle.api_core.specs.Refusals.{response_too_large};
 
 use crate::bodies::subscription_of;
+use crate::checks::is_too_large;
 use crate::features::accepts_account;
-use crate::headers::{extension_identifier, extension_name, features};
+use crate::headers::{extension_identifier, extension_name, features, is_dry_run};
 use crate::ids::read_id;
 use crate::route::Route;
-use crate::{Call, Dialect, Stream};
+use crate::texts::response_too_large;
+use crate::{Body, Call, Description, Dialect, Stream};
 use async_core::Side;
 use http::header::HeaderMap;
 use invoke_records::Bytes;
 use percent_encoding::percent_decode;
+use retry_rules::Settings;
 use std::alloc::{AllocError, Global};
 
 // The id that a part of a path is, decoded.
@@ -26,15 +30,36 @@ fn id_in(alloc: Global, part: &str) -> Result<Option<[u8; 16]>, AllocError>
 }
 
 // A payload is an empty object where the body is empty.
-fn invoke(alloc: Global, body: Vec<u8>) -> Result<Call, AllocError>
-    ensures { IfOk result (λ call. call ≡ Call.Invoke (or_empty_object body.items)) }
+fn payload(alloc: Global, bytes: Bytes) -> Result<Bytes, AllocError>
+    ensures { IfOk result (λ payload. payload ≡ or_empty_object bytes) }
 {
-    let payload = if body.is_empty() {
-        Bytes::from_slice(alloc, b"{}")?
+    if bytes.as_slice().is_empty() {
+        Bytes::from_slice(alloc, b"{}")
     } else {
-        Bytes::from_vec(body)?
-    };
+        Ok(bytes)
+    }
+}
+
+fn invoked_by(
+    alloc: Global,
+    dialect: Dialect,
+    headers: &HeaderMap,
+    bytes: Bytes,
+) -> Result<Call, AllocError>
+    ensures { IfOk result (λ call. call ≡ invoked_by dialect headers.now bytes) }
+{
+    if is_dry_run(dialect, headers) {
+        return Ok(Call::Describe(Description::DryRun));
+    }
+    let payload = payload(alloc, bytes)?;
     Ok(Call::Invoke { payload })
+}
+
+fn invoked_async(alloc: Global, bytes: Bytes) -> Result<Call, AllocError>
+    ensures { IfOk result (λ call. call ≡ Call.InvokeAsync (or_empty_object bytes)) }
+{
+    let payload = payload(alloc, bytes)?;
+    Ok(Call::InvokeAsync { payload })
 }
 
 fn name_in(alloc: Global, headers: &HeaderMap) -> Result<Bytes, AllocError>
@@ -64,11 +89,10 @@ fn events_in(alloc: Global, body: &[u8]) -> Result<(bool, bool), AllocError>
     }
 }
 
-fn response(alloc: Global, environment: u16, part: &str, body: Vec<u8>) -> Result<Call, AllocError>
-    ensures { IfOk result (λ call. call ≡ Call.Response environment (id_of (percent_decode part.now)) body.items) }
+fn response(alloc: Global, environment: u16, part: &str, body: Bytes) -> Result<Call, AllocError>
+    ensures { IfOk result (λ call. call ≡ Call.Response environment (id_of (percent_decode part.now)) body) }
 {
     let id = id_in(alloc, part)?;
-    let body = Bytes::from_vec(body)?;
     Ok(Call::Response {
         environment,
         id,
@@ -80,12 +104,11 @@ fn runtime_error(
     alloc: Global,
     environment: u16,
     part: &str,
-    body: Vec<u8>,
+    body: Bytes,
 ) -> Result<Call, AllocError>
-    ensures { IfOk result (λ call. call ≡ Call.RuntimeError environment (id_of (percent_decode part.now)) body.items) }
+    ensures { IfOk result (λ call. call ≡ Call.RuntimeError environment (id_of (percent_decode part.now)) body) }
 {
     let id = id_in(alloc, part)?;
-    let body = Bytes::from_vec(body)?;
     Ok(Call::RuntimeError {
         environment,
         id,
@@ -100,7 +123,7 @@ fn register(
     headers: &HeaderMap,
     body: &[u8],
 ) -> Result<Call, AllocError>
-    ensures { IfOk result (λ call. call ≡ call_by dialect environment headers.now body.now [] Route.Register) }
+    ensures { IfOk result (λ call. call ≡ call_with dialect environment headers.now body.now [] Route.Register) }
 {
     let (invoke, shutdown) = events_in(alloc, body)?;
     let account = accepts_account(alloc, dialect, features(headers))?;
@@ -114,30 +137,33 @@ fn register(
     })
 }
 
-/// What a request calls that passes the checks. A payload or a body is moved.
-pub(crate) fn call_by(
+// What a request with these bytes calls.
+fn call_with(
     alloc: Global,
     dialect: Dialect,
     environment: u16,
     headers: &HeaderMap,
-    body: Vec<u8>,
+    bytes: Bytes,
     part: &str,
     route: Route,
 ) -> Result<Call, AllocError>
-    ensures { IfOk result (λ call. call ≡ call_by dialect environment headers.now body.items (percent_decode part.now) route) }
+    ensures { IfOk result (λ call. call ≡ call_with dialect environment headers.now bytes (percent_decode part.now) route) }
 {
     let identifier = identifier_in(headers);
     match route {
-        Route::Invoke => invoke(alloc, body),
+        Route::Invoke => invoked_by(alloc, dialect, headers, bytes),
+        Route::InvokeAsync | Route::InvokeAsyncSlash => invoked_async(alloc, bytes),
+        Route::GetFunction => Ok(Call::Describe(Description::Function)),
+        Route::GetConfiguration => Ok(Call::Describe(Description::Configuration)),
         Route::OldestSuccess => Ok(Call::Oldest(Side::Success)),
         Route::OldestFailure => Ok(Call::Oldest(Side::Failure)),
         Route::Delete => Ok(Call::Delete(id_in(alloc, part)?)),
         Route::StopBroker => Ok(Call::StopBroker),
         Route::RuntimeNext => Ok(Call::RuntimeNext { environment }),
-        Route::Response => response(alloc, environment, part, body),
-        Route::RuntimeError => runtime_error(alloc, environment, part, body),
+        Route::Response => response(alloc, environment, part, bytes),
+        Route::RuntimeError => runtime_error(alloc, environment, part, bytes),
         Route::RuntimeInitError => Ok(Call::RuntimeInitError { environment }),
-        Route::Register => register(alloc, dialect, environment, headers, &body),
+        Route::Register => register(alloc, dialect, environment, headers, bytes.as_slice()),
         Route::ExtensionNext => Ok(Call::ExtensionNext {
             environment,
             identifier,
@@ -159,4 +185,40 @@ pub(crate) fn call_by(
             stream: Stream::Logs,
         }),
     }
+}
+
+// What a response that is too large calls.
+fn too_large(
+    alloc: Global,
+    settings: &Settings,
+    environment: u16,
+    part: &str,
+) -> Result<Call, AllocError>
+    ensures { IfOk result (λ call. call ≡ Call.RuntimeError environment (id_of (percent_decode part.now)) (response_too_large settings.now)) }
+{
+    let text = Bytes::from_vec(response_too_large(alloc, settings)?)?;
+    runtime_error(alloc, environment, part, text)
+}
+
+/// What a request calls that passes the checks. A payload or a body is moved.
+pub(crate) fn call_by(
+    alloc: Global,
+    dialect: Dialect,
+    settings: &Settings,
+    environment: u16,
+    headers: &HeaderMap,
+    body: Body,
+    part: &str,
+    route: Route,
+) -> Result<Call, AllocError>
+    ensures { IfOk result (λ call. call ≡ call_by dialect settings.now environment headers.now body (percent_decode part.now) route) }
+{
+    if is_too_large(settings, &body, route) {
+        return too_large(alloc, settings, environment, part);
+    }
+    let bytes = match body {
+        Body::Whole(bytes) => bytes,
+        Body::TooLarge => Bytes::empty(),
+    };
+    call_with(alloc, dialect, environment, headers, bytes, part, route)
 }

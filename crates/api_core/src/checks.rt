@@ -1,14 +1,15 @@
 // The checks behind that of the line, in their order.
 ghost use Rattle.std.specs.Prelude.{◌≡◌, not, IfOk};
 ghost use Rattle.percent_encoding.specs.Percent.{percent_decode};
-ghost use Rattle.api_core.specs.Requests.{failed, refusal_of, most_bytes};
+ghost use Rattle.api_core.specs.Requests.{failed, refusal_of, most_bytes, bytes_of, is_too_large, is_told_as_error};
 ghost use Rattle.api_core.specs.Requests.{function_check, header_check, size_check, content_check};
 
 use crate::bodies::{or_empty_object, subscription_of};
 use crate::functions::{has_good_qualifier, is_function};
-use crate::headers::{extension_identifier, has_extension_name, is_event};
+use crate::headers::{extension_identifier, has_extension_name, is_dry_run, is_event};
 use crate::route::Route;
-use crate::{Dialect, Refusal};
+use crate::texts::response_too_large;
+use crate::{Body, Dialect, Refusal};
 use destination_json::is_json;
 use http::header::HeaderMap;
 use retry_rules::Settings;
@@ -33,7 +34,11 @@ fn bad_function(
     ensures { IfOk result (λ bad. bad ≡ failed (function_check dialect settings.now target.now (percent_decode part.now) route)) }
 {
     match route {
-        Route::Invoke => {
+        Route::Invoke
+        | Route::InvokeAsync
+        | Route::InvokeAsyncSlash
+        | Route::GetFunction
+        | Route::GetConfiguration => {
             let is_named = is_function(alloc, dialect, settings, part)?;
             let is_qualified = has_good_qualifier(alloc, target)?;
             Ok(unless(is_named && is_qualified, Refusal::NotFound))
@@ -43,11 +48,14 @@ fn bad_function(
 }
 
 // What is wrong with the headers.
-fn bad_headers(headers: &HeaderMap, route: Route) -> Option<Refusal>
-    ensures { result ≡ failed (header_check headers.now route) }
+fn bad_headers(dialect: Dialect, headers: &HeaderMap, route: Route) -> Option<Refusal>
+    ensures { result ≡ failed (header_check dialect headers.now route) }
 {
     match route {
-        Route::Invoke => unless(is_event(headers), Refusal::UnsupportedInvocationType),
+        Route::Invoke => unless(
+            is_event(headers) || is_dry_run(dialect, headers),
+            Refusal::UnsupportedInvocationType,
+        ),
         Route::Register => unless(has_extension_name(headers), Refusal::InvalidExtensionHeader),
         Route::ExtensionNext | Route::ExtensionInitError | Route::ExtensionExitError => unless(
             extension_identifier(headers).is_some(),
@@ -62,18 +70,65 @@ fn most_bytes(settings: &Settings, route: Route) -> u32
     ensures { result ≡ most_bytes settings.now route }
 {
     match route {
-        Route::Invoke => settings.payload,
+        Route::Invoke | Route::InvokeAsync | Route::InvokeAsyncSlash => settings.payload,
         Route::Response | Route::RuntimeError => settings.response,
         _ => 4096,
     }
 }
 
-// What is wrong with the size of a body.
-fn bad_size(settings: &Settings, body: &[u8], route: Route) -> Option<Refusal>
-    ensures { result ≡ failed (size_check settings.now body.now route) }
+/// What was read of a body.
+pub(crate) fn bytes_of(body: &Body) -> &[u8]
+    ensures { result.now ≡ bytes_of body.now }
 {
-    let fits = body.len() <= most_bytes(settings, route) as usize;
-    unless(fits, Refusal::TooLarge)
+    match body {
+        Body::Whole(bytes) => bytes.as_slice(),
+        Body::TooLarge => &[],
+    }
+}
+
+/// Whether a body has more bytes than its request may have.
+pub(crate) fn is_too_large(settings: &Settings, body: &Body, route: Route) -> bool
+    ensures { result ≡ is_too_large settings.now body.now route }
+{
+    match body {
+        Body::Whole(bytes) => bytes.len() > most_bytes(settings, route) as usize,
+        Body::TooLarge => true,
+    }
+}
+
+// Whether a body that is too large is told as the function's error.
+fn is_told_as_error(
+    alloc: Global,
+    dialect: Dialect,
+    settings: &Settings,
+    route: Route,
+) -> Result<bool, AllocError>
+    ensures { IfOk result (λ answer. answer ≡ is_told_as_error dialect settings.now route) }
+{
+    match (dialect, route) {
+        (Dialect::Aws, Route::Response) => {
+            let text = response_too_large(alloc, settings)?;
+            Ok(text.len() <= settings.response as usize)
+        }
+        _ => Ok(false),
+    }
+}
+
+// What is wrong with the size of a body.
+fn bad_size(
+    alloc: Global,
+    dialect: Dialect,
+    settings: &Settings,
+    body: &Body,
+    route: Route,
+) -> Result<Option<Refusal>, AllocError>
+    ensures { IfOk result (λ bad. bad ≡ failed (size_check dialect settings.now body.now route)) }
+{
+    if !is_too_large(settings, body, route) {
+        return Ok(None);
+    }
+    let is_told = is_told_as_error(alloc, dialect, settings, route)?;
+    Ok(unless(is_told, Refusal::TooLarge))
 }
 
 // What is wrong with what a body says.
@@ -81,7 +136,7 @@ fn bad_content(alloc: Global, body: &[u8], route: Route) -> Result<Option<Refusa
     ensures { IfOk result (λ bad. bad ≡ failed (content_check body.now route)) }
 {
     match route {
-        Route::Invoke => {
+        Route::Invoke | Route::InvokeAsync | Route::InvokeAsyncSlash => {
             let is_good = is_json(alloc, or_empty_object(body))?;
             Ok(unless(is_good, Refusal::InvalidRequestContent))
         }
@@ -100,7 +155,7 @@ pub(crate) fn first_failed(
     settings: &Settings,
     target: &str,
     headers: &HeaderMap,
-    body: &[u8],
+    body: &Body,
     part: &str,
     route: Route,
 ) -> Result<Option<Refusal>, AllocError>
@@ -109,13 +164,13 @@ pub(crate) fn first_failed(
     if let Some(why) = bad_function(alloc, dialect, settings, target, part, route)? {
         return Ok(Some(why));
     }
-    if let Some(why) = bad_headers(headers, route) {
+    if let Some(why) = bad_headers(dialect, headers, route) {
         return Ok(Some(why));
     }
-    if let Some(why) = bad_size(settings, body, route) {
+    if let Some(why) = bad_size(alloc, dialect, settings, body, route)? {
         return Ok(Some(why));
     }
-    match bad_content(alloc, body, route)? {
+    match bad_content(alloc, bytes_of(body), route)? {
         Some(why) => Ok(Some(why)),
         None => Ok(None),
     }

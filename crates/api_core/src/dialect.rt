@@ -6,7 +6,8 @@ pub enum Dialect {
     /// This broker's own: each error has one type and one message, on every port.
     Profile,
     /// Those that AWS's kits know: errors of callers as the public models of the Lambda API name them, partial ARNs, reasons
-    /// of a shutdown in lower case, and requests for telemetry and logs, which are answered as AWS's emulator does.
+    /// of a shutdown in lower case, InvokeAsync, dry runs and what the function is, a response that is too large as the
+    /// function's error, and requests for telemetry and logs, which are answered as AWS's emulator does.
     Aws,
 }
 
@@ -17,6 +18,17 @@ pub enum Audience {
     Caller,
     /// A runtime or an extension.
     Environment,
+}
+
+/// What a caller may ask of the function, which is answered from the settings.
+#[derive(Clone, Copy)]
+pub enum Description {
+    /// Lambda API, Invoke with the type `DryRun`: whether an invocation could be made.
+    DryRun,
+    /// Lambda API, GetFunction.
+    Function,
+    /// Lambda API, GetFunctionConfiguration.
+    Configuration,
 }
 
 /// What an extension may ask to be sent, which this broker does not send.

@@ -6,6 +6,7 @@ ghost use Rattle.api_core.specs.Replies.{bare, with_json};
 
 use crate::reply::Header;
 use crate::{Headers, Reply};
+use bytes::Bytes as SharedBytes;
 use invoke_records::Bytes;
 use std::alloc::{AllocError, Global};
 
@@ -65,7 +66,7 @@ impl HeaderDraft {
         Ok(Reply {
             status,
             headers,
-            body: Bytes::empty(),
+            body: SharedBytes::new(),
         })
     }
 
@@ -75,7 +76,7 @@ impl HeaderDraft {
     {
         self.add("Content-Type", b"application/json");
         let headers = self.end()?;
-        let body = Bytes::from_vec(text)?;
+        let body = Bytes::from_vec(text)?.into_shared();
         Ok(Reply {
             status,
             headers,

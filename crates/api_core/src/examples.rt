@@ -1,16 +1,16 @@
 // Worked examples of what is meant, computed by the check: a definition that changes one is refused.
 ghost use Rattle.std.specs.Prelude.{◌≡◌, ◌∷◌, [], codes, Ok, Err, Some, None, true, false};
 ghost use Rattle.destination_json.specs.Examples.{usual, id, grown_old, grown_old_text};
-ghost use Rattle.api_core.specs.Examples.{with_header, of_type, event, identified, third, named, small};
+ghost use Rattle.api_core.specs.Examples.{with_header, of_type, event, identified, third, named, small, caller_asks_aws, tells_too_much, too_large_text};
 ghost use Rattle.api_core.specs.Examples.{on, asks, invoke_as, invoke_with, invoke, tells_in, tells, register, nested};
 ghost use Rattle.api_core.specs.Examples.{empty_reply, json_reply, accepted_headers, registered_headers, next_headers};
-ghost use Rattle.api_core.specs.Examples.{refusal, error_reply, invoke_aws, asks_aws, accepting, refusal_aws, service_reply, account_text};
+ghost use Rattle.api_core.specs.Examples.{refusal, error_reply, invoke_aws, asks_aws, accepting, refusal_aws, service_reply, account_text, configuration_shown, function_shown, not_ended_headers};
 ghost use Rattle.api_core.specs.declared.dialect.Dialect.TheVariants.{Profile, Aws};
 ghost use Rattle.api_core.specs.Examples.{registered_text, invoked_text, spindown_text, timeout_text, failure_text, not_found_text};
-ghost use Rattle.api_core.specs.Replies.{reply_of_told, accepted, record_of, no_record, deleted, taken, registered};
+ghost use Rattle.api_core.specs.Replies.{reply_of_told, accepted, accepted_async, record_of, no_record, deleted, not_ended, described, taken, registered};
 ghost use Rattle.api_core.specs.Replies.{runtime_event, invoke_event, shutdown_event, not_supported, refused, with_request_id};
 
-use crate::{Audience, Call, Dialect, Refusal, ShutdownReason, Stream};
+use crate::{Audience, Call, Description, Dialect, Refusal, ShutdownReason, Stream};
 use async_core::Side;
 
 /// One of each line of the table of requests.
@@ -133,7 +133,7 @@ pub fn replies()
     ensures accepted { reply_of_told Profile usual (accepted (id 1)) ≡ empty_reply 202 accepted_headers }
     ensures oldest { reply_of_told Profile usual (record_of grown_old) ≡ json_reply 200 [] grown_old_text }
     ensures no_record { reply_of_told Profile usual no_record ≡ empty_reply 204 [] }
-    ensures deleted { reply_of_told Profile usual deleted ≡ empty_reply 204 [] }
+    ensures deleted { reply_of_told Profile usual (deleted (id 1)) ≡ empty_reply 204 [] }
     ensures taken { reply_of_told Profile usual taken ≡ json_reply 202 [] (codes "{\"status\":\"OK\"}") }
     ensures registered { reply_of_told Profile usual (registered (id 3) false) ≡ json_reply 200 registered_headers registered_text }
     ensures next { reply_of_told Profile usual (runtime_event (id 1) 1573755368568 (codes "{}")) ≡ json_reply 200 next_headers (codes "{}") }
@@ -178,6 +178,21 @@ pub fn requests_aws()
     ensures other_version { invoke_aws "123456789012:function:my-function:1" ≡ Err Refusal.NotFound }
     ensures no_account { invoke_aws ":function:my-function" ≡ Err Refusal.NotFound }
     ensures in_profile { invoke_as "function:my-function" "" ≡ Err Refusal.NotFound }
+    ensures name_of_account { invoke_aws "123456789012:my-function" ≡ Ok (Call.Invoke (codes "{}")) }
+    ensures name_of_other_account { invoke_aws "123456789013:my-function" ≡ Err Refusal.NotFound }
+    ensures invoke_async { caller_asks_aws "POST" "/2014-11-13/functions/my-function/invoke-async/" [] ≡ Ok (Call.InvokeAsync (codes "{}")) }
+    ensures invoke_async_of_models { caller_asks_aws "POST" "/2014-11-13/functions/my-function/invoke-async" [] ≡ Ok (Call.InvokeAsync (codes "{}")) }
+    ensures invoke_async_of_other { caller_asks_aws "POST" "/2014-11-13/functions/other/invoke-async/" [] ≡ Err Refusal.NotFound }
+    ensures invoke_async_in_profile { asks 0 "POST" "/2014-11-13/functions/my-function/invoke-async/" ≡ Err Refusal.NotFound }
+    ensures dry_run { caller_asks_aws "POST" "/2015-03-31/functions/my-function/invocations" (of_type "DryRun") ≡ Ok (Call.Describe Description.DryRun) }
+    ensures dry_run_in_profile { invoke_with usual (of_type "DryRun") [] ≡ Err Refusal.UnsupportedInvocationType }
+    ensures function { caller_asks_aws "GET" "/2015-03-31/functions/my-function" [] ≡ Ok (Call.Describe Description.Function) }
+    ensures configuration { caller_asks_aws "GET" "/2015-03-31/functions/my-function/configuration" [] ≡ Ok (Call.Describe Description.Configuration) }
+    ensures other_function { caller_asks_aws "GET" "/2015-03-31/functions/other" [] ≡ Err Refusal.NotFound }
+    ensures function_in_profile { asks 0 "GET" "/2015-03-31/functions/my-function" ≡ Err Refusal.NotFound }
+    ensures too_large { tells_too_much Aws usual ≡ Ok (Call.RuntimeError 1 (Some (id 3)) too_large_text) }
+    ensures too_large_in_profile { tells_too_much Profile usual ≡ Err Refusal.TooLarge }
+    ensures too_small_for_that { tells_too_much Aws small ≡ Err Refusal.TooLarge }
     ensures telemetry { asks_aws "PUT" "/2022-07-01/telemetry" [] ≡ Ok (Call.Subscribe 1 Stream.Telemetry) }
     ensures logs { asks_aws "PUT" "/2020-08-15/logs" [] ≡ Ok (Call.Subscribe 1 Stream.Logs) }
     ensures telemetry_get { asks_aws "GET" "/2022-07-01/telemetry" [] ≡ Err Refusal.MethodNotAllowed }
@@ -196,6 +211,14 @@ pub fn replies_aws()
     ensures spindown { reply_of_told Aws usual (shutdown_event ShutdownReason.Spindown 2000) ≡ json_reply 200 [] (codes "{\"eventType\":\"SHUTDOWN\",\"shutdownReason\":\"spindown\",\"deadlineMs\":2000}") }
     ensures timeout { reply_of_told Aws usual (shutdown_event ShutdownReason.Timeout 2000) ≡ json_reply 200 [] (codes "{\"eventType\":\"SHUTDOWN\",\"shutdownReason\":\"timeout\",\"deadlineMs\":2000}") }
     ensures failure { reply_of_told Aws usual (shutdown_event ShutdownReason.Failure 2000) ≡ json_reply 200 [] (codes "{\"eventType\":\"SHUTDOWN\",\"shutdownReason\":\"failure\",\"deadlineMs\":2000}") }
+    ensures accepted_async { reply_of_told Aws usual (accepted_async (id 1)) ≡ json_reply 202 accepted_headers (codes "{\"Status\":202}") }
+    ensures oldest { reply_of_told Aws usual (record_of grown_old) ≡ with_request_id grown_old.id (json_reply 200 [] grown_old_text) }
+    ensures deleted { reply_of_told Aws usual (deleted (id 1)) ≡ empty_reply 204 accepted_headers }
+    ensures not_ended { (reply_of_told Aws usual (not_ended (id 1))).headers ≡ not_ended_headers }
+    ensures not_ended_in_profile { reply_of_told Profile usual (not_ended (id 1)) ≡ error_reply 409 "NotEnded" "event has not ended" }
+    ensures dry_run { reply_of_told Aws usual (described Description.DryRun) ≡ empty_reply 204 [] }
+    ensures function { reply_of_told Aws usual (described Description.Function) ≡ json_reply 200 [] function_shown }
+    ensures configuration { reply_of_told Aws usual (described Description.Configuration) ≡ json_reply 200 [] configuration_shown }
     ensures telemetry { reply_of_told Aws usual (not_supported Stream.Telemetry) ≡ error_reply 202 "Telemetry.NotSupported" "Telemetry API is not supported" }
     ensures logs { reply_of_told Aws usual (not_supported Stream.Logs) ≡ error_reply 202 "Logs.NotSupported" "Logs API is not supported" }
     ensures to_environment { reply_of_told Aws usual (refused Audience.Environment Refusal.NotFound) ≡ error_reply 404 "NotFound" "no such path or function" }
@@ -205,14 +228,14 @@ pub fn replies_aws()
 
 /// The replies that refuse a caller in the dialect of AWS.
 pub fn refusals_aws()
-    ensures mode { refusal_aws Refusal.UnsupportedInvocationType ≡ service_reply 400 "User" "InvalidParameterValueException" "only Event is supported" }
-    ensures no_json { refusal_aws Refusal.InvalidRequestContent ≡ service_reply 400 "User" "InvalidRequestContentException" "payload is not JSON" }
-    ensures not_found { refusal_aws Refusal.NotFound ≡ service_reply 404 "User" "ResourceNotFoundException" "no such path or function" }
+    ensures mode { refusal_aws Refusal.UnsupportedInvocationType ≡ service_reply 400 "User" "InvalidParameterValueException" "InvocationType must be Event or DryRun" }
+    ensures no_json { refusal_aws Refusal.InvalidRequestContent ≡ service_reply 400 "User" "InvalidRequestContentException" "Could not parse request body into json: the payload for my-function is not JSON" }
+    ensures not_found { refusal_aws Refusal.NotFound ≡ service_reply 404 "User" "ResourceNotFoundException" "no such path or function: only arn:aws:lambda:us-east-2:123456789012:function:my-function is here" }
     ensures unknown_event { refusal_aws Refusal.UnknownEvent ≡ service_reply 404 "User" "ResourceNotFoundException" "no such event is held" }
     ensures method_not_allowed { refusal_aws Refusal.MethodNotAllowed ≡ service_reply 405 "User" "InvalidParameterValueException" "method not allowed" }
     ensures not_ended { refusal_aws Refusal.NotEnded ≡ service_reply 409 "User" "ResourceConflictException" "event has not ended" }
-    ensures too_large { refusal_aws Refusal.TooLarge ≡ service_reply 413 "User" "RequestTooLargeException" "body is too large" }
-    ensures too_many_events { refusal_aws Refusal.TooManyEvents ≡ service_reply 429 "User" "TooManyRequestsException" "table is full" }
+    ensures too_large { refusal_aws Refusal.TooLarge ≡ service_reply 413 "User" "RequestTooLargeException" "body is too large: a payload for my-function has at most 1024 bytes, any other body 4096" }
+    ensures too_many_events { refusal_aws Refusal.TooManyEvents ≡ service_reply 429 "User" "TooManyRequestsException" "table is full: my-function holds at most 4 events, with those whose records wait to be collected" }
     ensures id_in_use { refusal_aws Refusal.IdInUse ≡ service_reply 500 "Service" "ServiceException" "drawn id is in use" }
     ensures unavailable { refusal_aws Refusal.Unavailable ≡ service_reply 503 "Service" "ServiceException" "broker is not available" }
 {}

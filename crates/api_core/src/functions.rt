@@ -83,7 +83,7 @@ fn short_arn(alloc: Global, settings: &Settings) -> Result<Vec<u8>, AllocError>
     Ok(text)
 }
 
-// Whether a name is the partial ARN of an account, where there is one.
+// Whether a name is this one behind an account, where there is one.
 fn is_of_account(
     alloc: Global,
     account: &[u8],
@@ -117,7 +117,11 @@ fn is_partial(
             if is_either(alloc, name, &short)? {
                 return Ok(true);
             }
-            is_of_account(alloc, account_of(settings.arn.as_bytes()), &short, name)
+            let account = account_of(settings.arn.as_bytes());
+            if is_of_account(alloc, account, &short, name)? {
+                return Ok(true);
+            }
+            is_of_account(alloc, account, settings.name.as_bytes(), name)
         }
     }
 }
@@ -140,7 +144,7 @@ fn is_named(
 }
 
 /// Whether a part of a path is the function's name or ARN, with or without its version, or in a dialect that has such, a
-/// partial ARN.
+/// partial ARN or that name behind its account.
 pub(crate) fn is_function(
     alloc: Global,
     dialect: Dialect,

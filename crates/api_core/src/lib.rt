@@ -8,6 +8,7 @@
 
 mod answer;
 mod bodies;
+mod body;
 mod call;
 mod calls;
 mod checks;
@@ -29,9 +30,10 @@ mod routing;
 mod texts;
 
 pub use answer::{Answer, ShutdownReason};
+pub use body::Body;
 pub use call::Call;
-pub use dialect::{Audience, Dialect, Stream};
+pub use dialect::{Audience, Description, Dialect, Stream};
 pub use reading::read_request;
 pub use refusal::{Refusal, RequestError};
 pub use reply::{Headers, Reply};
-pub use replying::{reply_text, with_request_id};
+pub use replying::{reply_text, unavailable, with_request_id};

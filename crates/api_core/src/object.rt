@@ -62,6 +62,16 @@ impl Object {
         object
     }
 
+    /// An object whose first member is a JSON text.
+    pub(crate) fn of_member(alloc: Global, name: &str, value: &[u8]) -> Object
+        ensures { Begun (named name.now value.now ∷ []) result }
+    {
+        let mut object = Object::new(alloc);
+        object.put(b"{");
+        object.put_member(name, value);
+        object
+    }
+
     /// A further member that is a text. The text needs no escape.
     pub(crate) fn add_text(&mut self, name: &str, text: &[u8])
         ensures { Adds (44 ∷ named name.now (in_quotes text.now)) self.old self.new }

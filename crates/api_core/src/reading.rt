@@ -8,7 +8,7 @@ use crate::calls::call_by;
 use crate::checks::first_failed;
 use crate::paths::parts_of;
 use crate::routing::{in_hole, read_route};
-use crate::{Call, Dialect, RequestError};
+use crate::{Body, Call, Dialect, RequestError};
 use http::Method;
 use http::header::HeaderMap;
 use retry_rules::Settings;
@@ -22,9 +22,9 @@ fn read_call(
     method: &Method,
     target: &str,
     headers: &HeaderMap,
-    body: Vec<u8>,
+    body: Body,
 ) -> Result<Call, RequestError>
-    ensures { Says (call_of dialect settings.now port method.now target.now headers.now body.items) result }
+    ensures { Says (call_of dialect settings.now port method.now target.now headers.now body) result }
 {
     let parts = parts_of(alloc, target)?;
     let route = match read_route(alloc, dialect, settings, port, method.as_str(), &parts) {
@@ -37,7 +37,7 @@ fn read_call(
     )? {
         return Err(RequestError::Refused(why));
     }
-    let call = call_by(alloc, dialect, port, headers, body, part, route)?;
+    let call = call_by(alloc, dialect, settings, port, headers, body, part, route)?;
     Ok(call)
 }
 
@@ -50,8 +50,9 @@ fn read_call(
 ///
 /// The requests are those of the public references: Invoke of the Lambda API for asynchronous invocation, the Lambda
 /// runtime API (2018-06-01), and the Lambda extensions API (2020-01-01); those under `/broker` are this broker's own. In the
-/// dialect `Aws` a partial ARN names the function too, an extension may accept the account's id, and the paths of the
-/// telemetry API (2022-07-01) and the logs API (2020-08-15) are there.
+/// dialect `Aws` a partial ARN names the function too, an extension may accept the account's id, a response that is too large
+/// is the function's error that says so, and there are dry runs, InvokeAsync (2014-11-13), GetFunction, its configuration, and
+/// the paths of the telemetry API (2022-07-01) and the logs API (2020-08-15).
 pub fn read_request(
     alloc: Global,
     dialect: Dialect,
@@ -60,11 +61,11 @@ pub fn read_request(
     method: &Method,
     target: &str,
     headers: &HeaderMap,
-    body: Vec<u8>,
+    body: Body,
 ) -> Result<Call, RequestError>
     // claim: In each dialect a request is the call of the definitions, or is refused by the first failing check, or for
     // want of memory.
-    ensures call { Says (call_of dialect settings.now port method.now target.now headers.now body.items) result }
+    ensures call { Says (call_of dialect settings.now port method.now target.now headers.now body) result }
     // claim: A call keeps to the settings, where these allow a payload of two bytes.
     ensures within { IfOk result (λ call. 2 ≤ settings.now.payload → IsWithin settings.now call) }
 {

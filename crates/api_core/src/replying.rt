@@ -1,22 +1,45 @@
 // The reply of an answer.
 ghost use Rattle.std.specs.Prelude.{◌≡◌, ◌⊎◌, [], ◌∷◌, ◌++◌, IfOk};
-ghost use Rattle.api_core.specs.Replies.{bare, with_json, request_id, refusing, IsTellable, reply_text};
+ghost use Rattle.retry_rules.specs.declared.settings.Settings.{Settings as SettingsValue};
+ghost use Rattle.api_core.specs.Replies.{bare, with_json, request_id, of_event, refusing, describing, IsTellable, reply_text, async_body, refused};
+ghost use Rattle.api_core.specs.declared.refusal.Refusal.TheVariants.{Unavailable, NotEnded};
 ghost use Rattle.api_core.specs.declared.dialect.Dialect.TheVariants.{Aws};
 ghost use Rattle.api_core.specs.declared.dialect.Audience.TheVariants.{Caller};
 ghost use Rattle.api_core.specs.Replies.{reply_of_told, registered, runtime_headers, with_request_id};
 
 use crate::drafts::HeaderDraft;
+use crate::reply::FixedHeader;
 use crate::texts::{
-    OK_BODY, TRACE_ID, digits, error_text, function_text, invoke_text, not_supported_text,
-    service_text, shutdown_text,
+    ASYNC_BODY, OK_BODY, TRACE_ID, configuration_text, described_text, digits, error_text,
+    function_text, invoke_text, not_supported_text, service_text, shutdown_text,
 };
-use crate::{Answer, Audience, Dialect, Headers, Refusal, Reply};
+use crate::{Answer, Audience, Description, Dialect, Headers, Refusal, Reply};
 use destination_json::{id_text, record};
 use retry_rules::Settings;
 use std::alloc::{AllocError, Global};
 
 /// The header that tells the id of a request.
 const REQUEST_ID: &str = "X-Amzn-RequestId";
+
+const JSON: FixedHeader = FixedHeader {
+    name: "Content-Type",
+    value: b"application/json",
+};
+
+const SERVICE_EXCEPTION: FixedHeader = FixedHeader {
+    name: "X-Amzn-ErrorType",
+    value: b"ServiceException",
+};
+
+const UNAVAILABLE_HEADERS: [FixedHeader; 1] = [JSON];
+
+const AWS_UNAVAILABLE_HEADERS: [FixedHeader; 2] = [SERVICE_EXCEPTION, JSON];
+
+const UNAVAILABLE: &[u8] =
+    b"{\"errorMessage\":\"broker is not available\",\"errorType\":\"Unavailable\"}";
+
+const AWS_UNAVAILABLE: &[u8] =
+    b"{\"Type\":\"Service\",\"message\":\"broker is not available\",\"Message\":\"broker is not available\"}";
 
 // A reply without headers and body.
 fn empty(alloc: Global, status: u16) -> Result<Reply, AllocError>
@@ -39,6 +62,53 @@ fn accepted(alloc: Global, id: &[u8; 16]) -> Result<Reply, AllocError>
     let mut headers = HeaderDraft::new(alloc);
     headers.add(REQUEST_ID, id.as_bytes());
     headers.bare(202)
+}
+
+fn accepted_async(alloc: Global, id: &[u8; 16]) -> Result<Reply, AllocError>
+    ensures { IfOk result (λ reply. reply ≡ with_json 202 (request_id id.now ∷ []) async_body) }
+{
+    let id = id_text(alloc, id)?;
+    let mut headers = HeaderDraft::new(alloc);
+    headers.add(REQUEST_ID, id.as_bytes());
+    headers.with_json(202, Vec::from_slice(alloc, ASYNC_BODY)?)
+}
+
+// A reply that tells of an event, with its id in a dialect that tells it.
+fn of_event(
+    alloc: Global,
+    dialect: Dialect,
+    id: &[u8; 16],
+    reply: Reply,
+) -> Result<Reply, AllocError>
+    ensures { IfOk result (λ told. told ≡ of_event dialect id.now reply) }
+{
+    match dialect {
+        Dialect::Profile => Ok(reply),
+        Dialect::Aws => {
+            let id = id_text(alloc, id)?;
+            let Reply {
+                status,
+                mut headers,
+                body,
+            } = reply;
+            headers.try_add(alloc, REQUEST_ID, id.as_bytes())?;
+            Ok(Reply {
+                status,
+                headers,
+                body,
+            })
+        }
+    }
+}
+
+fn describing(alloc: Global, settings: &Settings, what: Description) -> Result<Reply, AllocError>
+    ensures { IfOk result (λ reply. reply ≡ describing settings.now what) }
+{
+    match what {
+        Description::DryRun => empty(alloc, 204),
+        Description::Function => json(alloc, 200, described_text(alloc, settings)?),
+        Description::Configuration => json(alloc, 200, configuration_text(alloc, settings)?),
+    }
 }
 
 fn registered(
@@ -82,10 +152,10 @@ fn runtime_event(
 }
 
 // A refusal in the words of AWS's services, whose kits look for its name in a header.
-fn refusing_callers(alloc: Global, why: Refusal) -> Result<Reply, AllocError>
-    ensures { IfOk result (λ reply. reply ≡ refusing Aws Caller why) }
+fn refusing_callers(alloc: Global, settings: &Settings, why: Refusal) -> Result<Reply, AllocError>
+    ensures { IfOk result (λ reply. reply ≡ refusing Aws settings.now Caller why) }
 {
-    let text = service_text(alloc, why)?;
+    let text = service_text(alloc, settings, why)?;
     let mut headers = HeaderDraft::new(alloc);
     headers.add("X-Amzn-ErrorType", why.error_name().as_bytes());
     headers.with_json(why.status(), text)
@@ -94,14 +164,45 @@ fn refusing_callers(alloc: Global, why: Refusal) -> Result<Reply, AllocError>
 fn refusing(
     alloc: Global,
     dialect: Dialect,
+    settings: &Settings,
     audience: Audience,
     why: Refusal,
 ) -> Result<Reply, AllocError>
-    ensures { IfOk result (λ reply. reply ≡ refusing dialect audience why) }
+    ensures { IfOk result (λ reply. reply ≡ refusing dialect settings.now audience why) }
 {
     match (dialect, audience) {
-        (Dialect::Aws, Audience::Caller) => refusing_callers(alloc, why),
+        (Dialect::Aws, Audience::Caller) => refusing_callers(alloc, settings, why),
         _ => json(alloc, why.status(), error_text(alloc, why)?),
+    }
+}
+
+// The refusal of a caller since an event has not ended.
+fn not_ended(
+    alloc: Global,
+    dialect: Dialect,
+    settings: &Settings,
+    id: &[u8; 16],
+) -> Result<Reply, AllocError>
+    ensures { IfOk result (λ reply. reply ≡ of_event dialect id.now (refusing dialect settings.now Caller NotEnded)) }
+{
+    let reply = refusing(
+        alloc,
+        dialect,
+        settings,
+        Audience::Caller,
+        Refusal::NotEnded,
+    )?;
+    of_event(alloc, dialect, id, reply)
+}
+
+/// The reply that tells a caller that the broker is not available. It stands in the program, so that it takes no memory.
+pub fn unavailable(alloc: Global, dialect: Dialect) -> Reply
+    // claim: That the broker is not available is told as in the definitions, whatever the settings.
+    ensures { (settings : SettingsValue) → result ≡ reply_of_told dialect settings (refused Caller Unavailable) }
+{
+    match dialect {
+        Dialect::Profile => Reply::fixed(alloc, 503, &UNAVAILABLE_HEADERS, UNAVAILABLE),
+        Dialect::Aws => Reply::fixed(alloc, 503, &AWS_UNAVAILABLE_HEADERS, AWS_UNAVAILABLE),
     }
 }
 
@@ -122,9 +223,15 @@ pub fn reply_text(
 {
     match answer {
         Answer::Accepted(id) => accepted(alloc, id),
-        Answer::Record(ended) => json(alloc, 200, record(alloc, ended, settings)?),
+        Answer::AcceptedAsync(id) => accepted_async(alloc, id),
+        Answer::Record(ended) => {
+            let reply = json(alloc, 200, record(alloc, ended, settings)?)?;
+            of_event(alloc, dialect, ended.id, reply)
+        }
         Answer::NoRecord => empty(alloc, 204),
-        Answer::Deleted => empty(alloc, 204),
+        Answer::Deleted(id) => of_event(alloc, dialect, id, empty(alloc, 204)?),
+        Answer::NotEnded(id) => not_ended(alloc, dialect, settings, id),
+        Answer::Described(what) => describing(alloc, settings, *what),
         Answer::Taken => json(alloc, 202, Vec::from_slice(alloc, OK_BODY)?),
         Answer::Registered {
             identifier,
@@ -146,7 +253,7 @@ pub fn reply_text(
             )
         }
         Answer::NotSupported(stream) => json(alloc, 202, not_supported_text(alloc, *stream)?),
-        Answer::Refusal(audience, why) => refusing(alloc, dialect, *audience, *why),
+        Answer::Refusal(audience, why) => refusing(alloc, dialect, settings, *audience, *why),
     }
 }
 

@@ -6,6 +6,11 @@ ghost use Rattle.api_core.specs.Paths.{line_of};
 #[derive(Clone, Copy)]
 pub(crate) enum Route {
     Invoke,
+    InvokeAsync,
+    /// As the public reference has it; newer models leave the slash out.
+    InvokeAsyncSlash,
+    GetFunction,
+    GetConfiguration,
     OldestSuccess,
     OldestFailure,
     Delete,
@@ -30,6 +35,15 @@ impl Route {
     {
         match self {
             Route::Invoke => ("POST", "/2015-03-31/functions/{FunctionName}/invocations"),
+            Route::InvokeAsync => ("POST", "/2014-11-13/functions/{FunctionName}/invoke-async"),
+            Route::InvokeAsyncSlash => {
+                ("POST", "/2014-11-13/functions/{FunctionName}/invoke-async/")
+            }
+            Route::GetFunction => ("GET", "/2015-03-31/functions/{FunctionName}"),
+            Route::GetConfiguration => (
+                "GET",
+                "/2015-03-31/functions/{FunctionName}/configuration",
+            ),
             Route::OldestSuccess => ("GET", "/broker/destinations/success"),
             Route::OldestFailure => ("GET", "/broker/destinations/failure"),
             Route::Delete => ("DELETE", "/broker/destinations/{id}"),

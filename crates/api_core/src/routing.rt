@@ -2,7 +2,7 @@
 ghost use Rattle.std.specs.Prelude.{◌≡◌, filter, IfOk};
 ghost use Rattle.std.specs.Cmp.Lexicographic.{pointwise};
 ghost use Rattle.percent_encoding.specs.Percent.{percent_decode};
-ghost use Rattle.api_core.specs.Paths.{is_hole, takes, fits, at_hole, in_hole, has_method, environment_routes, routes_at, route_after, route_among};
+ghost use Rattle.api_core.specs.Paths.{is_hole, takes, fits, at_hole, in_hole, has_method, callers_routes, environment_routes, routes_at, route_after, route_among};
 ghost use Rattle.api_core.specs.Steps.{texts, decoded};
 ghost use Rattle.api_core.specs.Says.{Says};
 
@@ -57,6 +57,18 @@ const CALLERS: [Route; 5] = [
     Route::StopBroker,
 ];
 
+const AWS_CALLERS: [Route; 9] = [
+    Route::InvokeAsync,
+    Route::InvokeAsyncSlash,
+    Route::GetFunction,
+    Route::GetConfiguration,
+    Route::Invoke,
+    Route::OldestSuccess,
+    Route::OldestFailure,
+    Route::Delete,
+    Route::StopBroker,
+];
+
 const ENVIRONMENTS: [Route; 8] = [
     Route::RuntimeNext,
     Route::Response,
@@ -81,6 +93,16 @@ const AWS_ENVIRONMENTS: [Route; 10] = [
     Route::ExtensionExitError,
 ];
 
+// The routes of the callers' port.
+fn callers_routes(dialect: Dialect) -> &'static [Route]
+    ensures { result.now ≡ callers_routes dialect }
+{
+    match dialect {
+        Dialect::Profile => &CALLERS,
+        Dialect::Aws => &AWS_CALLERS,
+    }
+}
+
 // The routes of an environment's port.
 fn environment_routes(dialect: Dialect) -> &'static [Route]
     ensures { result.now ≡ environment_routes dialect }
@@ -96,7 +118,7 @@ fn routes_at(dialect: Dialect, settings: &Settings, port: u16) -> &'static [Rout
     ensures { result.now ≡ routes_at dialect settings.now port }
 {
     if port == 0 {
-        &CALLERS
+        callers_routes(dialect)
     } else if port <= settings.environments as u16 {
         environment_routes(dialect)
     } else {

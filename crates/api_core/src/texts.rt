@@ -1,7 +1,8 @@
 // The bodies of replies.
 ghost use Rattle.std.specs.Prelude.{◌≡◌, ℕ, List, ◌∷◌, ◌++◌, IfOk, decimal, string_bytes};
-ghost use Rattle.api_core.specs.Refusals.{error_object, error_text, service_text, fault_of};
-ghost use Rattle.api_core.specs.Replies.{ok_body, trace_id, tracing, invoke_text, reason_text, shutdown_text, function_members, account_member, account_members, function_text, not_supported_text};
+ghost use Rattle.api_core.specs.Refusals.{error_object, error_text, service_message, service_text, response_too_large, fault_of};
+ghost use Rattle.api_core.specs.Replies.{ok_body, trace_id, tracing, invoke_text, reason_text, shutdown_text, function_members, account_member, account_members, function_text, not_supported_text, async_body};
+ghost use Rattle.api_core.specs.Replies.{configuration_text, concurrency_text, described_text};
 ghost use Rattle.api_core.specs.Steps.{Begun};
 
 use crate::functions::account_of;
@@ -13,6 +14,9 @@ use std::alloc::{AllocError, Global};
 
 /// What is told where something that was reported is taken.
 pub(crate) const OK_BODY: &[u8] = b"{\"status\":\"OK\"}";
+
+/// What InvokeAsync tells of an event that is accepted.
+pub(crate) const ASYNC_BODY: &[u8] = b"{\"Status\":202}";
 
 /// No request is traced.
 pub(crate) const TRACE_ID: &[u8] = b"Root=1-00000000-000000000000000000000000;Sampled=0";
@@ -44,14 +48,138 @@ pub(crate) fn error_text(alloc: Global, why: Refusal) -> Result<Vec<u8>, AllocEr
     error_object(alloc, message, error_type)
 }
 
-/// What is told of a refusal, in the words of AWS's services.
-pub(crate) fn service_text(alloc: Global, why: Refusal) -> Result<Vec<u8>, AllocError>
-    ensures { IfOk result (λ text. text.items ≡ service_text (fault_of why)) }
+// A name between two texts.
+fn naming(alloc: Global, before: &str, name: &[u8], after: &str) -> Result<Vec<u8>, AllocError>
+    ensures { IfOk result (λ text. text.items ≡ before.now ++ (name.now ++ after.now)) }
 {
-    let (_, message) = why.words();
+    let mut text = Vec::from_slice(alloc, before.as_bytes())?;
+    text.extend_from_slice(name)?;
+    text.extend_from_slice(after.as_bytes())?;
+    Ok(text)
+}
+
+// The function's name and a limit of it, each between two texts.
+fn limiting(
+    alloc: Global,
+    before: &str,
+    settings: &Settings,
+    between: &str,
+    most: u64,
+    after: &str,
+) -> Result<Vec<u8>, AllocError>
+    ensures { IfOk result (λ text. text.items ≡ before.now ++ (settings.now.name ++ (between.now ++ (decimal most ++ after.now)))) }
+{
+    let most = digits(alloc, most)?;
+    let mut text = naming(alloc, before, settings.name.as_bytes(), between)?;
+    text.extend_from_slice(most.as_bytes())?;
+    text.extend_from_slice(after.as_bytes())?;
+    Ok(text)
+}
+
+// What a caller is told of a refusal.
+fn service_message(alloc: Global, settings: &Settings, why: Refusal) -> Result<Vec<u8>, AllocError>
+    ensures { IfOk result (λ text. text.items ≡ service_message settings.now why) }
+{
+    match why {
+        Refusal::UnsupportedInvocationType => {
+            Vec::from_slice(alloc, b"InvocationType must be Event or DryRun")
+        }
+        Refusal::InvalidRequestContent => naming(
+            alloc,
+            "Could not parse request body into json: the payload for ",
+            settings.name.as_bytes(),
+            " is not JSON",
+        ),
+        Refusal::NotFound => naming(
+            alloc,
+            "no such path or function: only ",
+            settings.arn.as_bytes(),
+            " is here",
+        ),
+        Refusal::TooLarge => limiting(
+            alloc,
+            "body is too large: a payload for ",
+            settings,
+            " has at most ",
+            settings.payload as u64,
+            " bytes, any other body 4096",
+        ),
+        Refusal::TooManyEvents => limiting(
+            alloc,
+            "table is full: ",
+            settings,
+            " holds at most ",
+            settings.events as u64,
+            " events, with those whose records wait to be collected",
+        ),
+        _ => {
+            let (_, message) = why.words();
+            Vec::from_slice(alloc, message.as_bytes())
+        }
+    }
+}
+
+/// What is told of a refusal, in the words of AWS's services.
+pub(crate) fn service_text(
+    alloc: Global,
+    settings: &Settings,
+    why: Refusal,
+) -> Result<Vec<u8>, AllocError>
+    ensures { IfOk result (λ text. text.items ≡ service_text settings.now why) }
+{
+    let message = service_message(alloc, settings, why)?;
     let mut object = Object::of_text(alloc, "Type", why.blamed().as_bytes());
-    object.add_text("message", message.as_bytes());
-    object.add_text("Message", message.as_bytes());
+    object.add_text("message", &message);
+    object.add_text("Message", &message);
+    object.end()
+}
+
+/// The function's error in place of a response that is too large.
+pub(crate) fn response_too_large(alloc: Global, settings: &Settings) -> Result<Vec<u8>, AllocError>
+    ensures { IfOk result (λ text. text.items ≡ response_too_large settings.now) }
+{
+    let most = digits(alloc, settings.response as u64)?;
+    let message = naming(
+        alloc,
+        "Response payload size exceeded maximum allowed payload size (",
+        most.as_bytes(),
+        " bytes).",
+    )?;
+    let mut object = Object::of_text(alloc, "errorType", b"Function.ResponseSizeTooLarge");
+    object.add_text("errorMessage", &message);
+    object.end()
+}
+
+/// The function's configuration, as GetFunctionConfiguration tells it.
+pub(crate) fn configuration_text(alloc: Global, settings: &Settings) -> Result<Vec<u8>, AllocError>
+    ensures { IfOk result (λ text. text.items ≡ configuration_text settings.now) }
+{
+    let timeout = digits(alloc, settings.timeout as u64)?;
+    let mut object = Object::of_text(alloc, "FunctionName", settings.name.as_bytes());
+    object.add_text("FunctionArn", settings.arn.as_bytes());
+    object.add_text("Handler", settings.handler.as_bytes());
+    object.add_member("Timeout", timeout.as_bytes());
+    object.add_text("Version", b"$LATEST");
+    object.add_text("State", b"Active");
+    object.add_text("LastUpdateStatus", b"Successful");
+    object.end()
+}
+
+fn concurrency_text(alloc: Global, settings: &Settings) -> Result<Vec<u8>, AllocError>
+    ensures { IfOk result (λ text. text.items ≡ concurrency_text settings.now) }
+{
+    let most = digits(alloc, settings.concurrency as u64)?;
+    Object::of_member(alloc, "ReservedConcurrentExecutions", most.as_bytes()).end()
+}
+
+/// What the function is, as GetFunction tells it.
+pub(crate) fn described_text(alloc: Global, settings: &Settings) -> Result<Vec<u8>, AllocError>
+    ensures { IfOk result (λ text. text.items ≡ described_text settings.now) }
+{
+    let configuration = configuration_text(alloc, settings)?;
+    let concurrency = concurrency_text(alloc, settings)?;
+    let mut object = Object::of_member(alloc, "Configuration", &configuration);
+    object.add_member("Concurrency", &concurrency);
     object.end()
 }
 

@@ -20,4 +20,7 @@ pub struct Address<'a> {
     pub extensions: u8,
     /// Whether it waits for a disk that another program has open.
     pub is_standby: bool,
+    /// Whether the records of events that succeeded are collected at once, and those of the others.
+    pub discards_success: bool,
+    pub discards_failure: bool,
 }

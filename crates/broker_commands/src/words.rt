@@ -265,8 +265,11 @@ fn serve_command<'a>(alloc: Global) -> Result<Command<'a>, AllocError> {
     let extensions = "Extensions for which an environment waits before its first event, 0 to 10";
     let host = "A host name under which the ports are asked, beside localhost and addresses";
     let standby = "Wait for a disk that another program has open";
+    let discard =
+        "Whose records are collected as soon as they are durable, so that nobody reads them";
     let admin = "Port of the operator, who only looks, 1024 to 65535, on the loopback address";
     let dialects = ValueParser::Names(&["profile", "aws"]);
+    let sides = ValueParser::Names(&["success", "failure", "both"]);
     let told = [
         disk(),
         Argument::needed("port", port).of(value_parser!(u16).range(1024..65520)),
@@ -280,6 +283,7 @@ fn serve_command<'a>(alloc: Global) -> Result<Command<'a>, AllocError> {
         reach("IP address of the callers' and the environments' ports"),
         Argument::option("host", host).called("NAME"),
         Argument::flag("standby", standby),
+        Argument::option("discard", discard).of(sides),
         Argument::option("admin", admin).of(value_parser!(u16).range(1024..65536)),
     ];
     command_of(
@@ -494,6 +498,11 @@ fn bad_address(
     command.error(ErrorKind::ValueValidation, message.as_str())
 }
 
+// Whether the records of one side are discarded, where it is said of which sides they are.
+fn discards(matches: &ArgMatches<'_>, side: &str) -> bool {
+    matches!(matches.get_str("discard"), Some(sides) if sides == side || sides == "both")
+}
+
 fn address_at<'a>(matches: &ArgMatches<'a>, reach: IpAddr) -> Option<Address<'a>> {
     Some(Address {
         path: matches.get_str("disk")?,
@@ -504,6 +513,8 @@ fn address_at<'a>(matches: &ArgMatches<'a>, reach: IpAddr) -> Option<Address<'a>
         dialect: dialect(matches.get_str("dialect")?),
         extensions: matches.get_one("extensions")?,
         is_standby: matches.get_flag("standby"),
+        discards_success: discards(matches, "success"),
+        discards_failure: discards(matches, "failure"),
     })
 }
 

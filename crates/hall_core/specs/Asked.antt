@@ -29,6 +29,7 @@ FailsByExit kind = (kind ≡ Fail Exited) ⊎ (kind ≡ Fail Timeout)
 -- the request, for which this id was drawn, may have a command of this kind for this event
 abbrev pub AsksFor : List ℕ → Call → Kind → List ℕ → Type 0
 AsksFor drawn (calls.Invoke payload) kind id = Accepts drawn kind id
+AsksFor drawn (calls.InvokeAsync payload) kind id = Accepts drawn kind id
 AsksFor drawn (calls.Delete named) kind id = Collects named kind id
 AsksFor drawn (calls.Response environment named body) kind id = EndsBy Succeed named kind id
 AsksFor drawn (calls.RuntimeError environment named body) kind id = EndsBy (Fail Reported) named kind id

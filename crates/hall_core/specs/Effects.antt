@@ -67,18 +67,18 @@ id_of words =
 
 -- ## Callers
 
-abbrev pub accept_by : Option Illegal → Command → Effect
-accept_by None c = record { command = Some c; made = []; reply = Some (reply.accepted c.id) }
-accept_by (Some illegal.Full) c = refuses_caller refusal.TooManyEvents
-accept_by (Some why) c = refuses_caller refusal.IdInUse
+abbrev pub accept_by : Told → Option Illegal → Command → Effect
+accept_by told None c = record { command = Some c; made = []; reply = Some told }
+accept_by told (Some illegal.Full) c = refuses_caller refusal.TooManyEvents
+accept_by told (Some why) c = refuses_caller refusal.IdInUse
 
--- an invocation is accepted where that is legal
-abbrev pub accepts : Scene → Command → Effect
-accepts x c = accept_by (refusal_of x.settings x.past.history c) c
+-- an invocation is accepted where that is legal, and told so
+abbrev pub accepts : Told → Scene → Command → Effect
+accepts told x c = accept_by told (refusal_of x.settings x.past.history c) c
 
 abbrev pub collect_by : Option Illegal → Command → Effect
-collect_by None c = record { command = Some c; made = []; reply = Some reply.deleted }
-collect_by (Some illegal.NotEnded) c = refuses_caller refusal.NotEnded
+collect_by None c = record { command = Some c; made = []; reply = Some (reply.deleted c.id) }
+collect_by (Some illegal.NotEnded) c = says (reply.not_ended c.id)
 collect_by (Some why) c = refuses_caller refusal.UnknownEvent
 
 -- an event is collected where that is legal
@@ -165,7 +165,9 @@ exits x environment identifier =
 
 -- what a request does, with its slot and the id that was drawn for it
 abbrev pub effect_of_request : Scene → ℕ → List ℕ → Call → Effect
-effect_of_request x slot drawn (calls.Invoke payload) = accepts x (command_for Accept drawn x.now payload)
+effect_of_request x slot drawn (calls.Invoke payload) = accepts (reply.accepted drawn) x (command_for Accept drawn x.now payload)
+effect_of_request x slot drawn (calls.InvokeAsync payload) = accepts (reply.accepted_async drawn) x (command_for Accept drawn x.now payload)
+effect_of_request x slot drawn (calls.Describe what) = says (reply.described what)
 effect_of_request x slot drawn (calls.Oldest side) = tells_oldest x side
 effect_of_request x slot drawn (calls.Delete id) = collects x id
 effect_of_request x slot drawn calls.StopBroker = stops x

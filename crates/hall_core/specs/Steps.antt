@@ -6,12 +6,13 @@ use Rattle.async_core.specs.declared.illegal.Illegal.{Illegal}
 use Rattle.async_core.specs.declared.illegal.Illegal.TheVariants as illegal
 use Rattle.env_phase.specs.declared.call.EnvCall.{EnvCall}
 use Rattle.env_phase.specs.declared.call.EnvCall.TheVariants.{Register, Timeout}
-use Rattle.api_core.specs.declared.dialect.Audience.TheVariants.{Environment}
+use Rattle.api_core.specs.declared.dialect.Audience.TheVariants.{Caller, Environment}
 use Rattle.api_core.specs.declared.refusal.Refusal.{Refusal}
 use Rattle.api_core.specs.declared.refusal.Refusal.TheVariants as refusal
 use Rattle.hall_core.specs.Past.{ready_in, calls_of}
 use Rattle.hall_core.specs.Firsts.{first_unheld, first_moving}
 use Rattle.api_core.specs.Replies as reply
+use Rattle.api_core.specs.Replies.{Told}
 use Rattle.hall_core.specs.Effects.{Effect, Scene, command_for, requests, moves, interrupts_or_moves}
 use Rattle.hall_core.specs.Agreement.{IsOne}
 use Rattle.invoke_records.specs.declared.row.Standing.{Standing}
@@ -56,10 +57,10 @@ abbrev pub why_not_accepted : Illegal → Refusal
 why_not_accepted illegal.Full = refusal.TooManyEvents
 why_not_accepted why = refusal.IdInUse
 
--- why an event is not collected where that is not legal
-abbrev pub why_not_collected : Illegal → Refusal
-why_not_collected illegal.NotEnded = refusal.NotEnded
-why_not_collected why = refusal.UnknownEvent
+-- what is told of an event that is not collected where that is not legal
+abbrev pub why_not_collected : List ℕ → Illegal → Told
+why_not_collected id illegal.NotEnded = reply.not_ended id
+why_not_collected id why = reply.refused Caller refusal.UnknownEvent
 
 -- ## Events that run
 

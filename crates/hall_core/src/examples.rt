@@ -127,9 +127,9 @@ pub fn outbox()
     ensures told { released false 3 (once_failed (failure_asked 4 ∷ [])) 4 ≡ Some (first_failure, 3) }
     ensures told_again { released false 3 (once_failed (failure_asked 4 ∷ take_slot 4 ∷ failure_asked 5 ∷ [])) 5 ≡ Some (first_failure, 3) }
     ensures other_side { reply_of (once_failed (success_asked 4 ∷ [])) 4 ≡ Some (reply.no_record, 3) }
-    ensures deleted { reply_of (once_failed (deletes 6 t 1 ∷ [])) 6 ≡ Some (reply.deleted, 4) }
+    ensures deleted { reply_of (once_failed (deletes 6 t 1 ∷ [])) 6 ≡ Some (reply.deleted (id 1), 4) }
     ensures deleted_later { released false 3 (once_failed (deletes 6 t 1 ∷ [])) 6 ≡ None }
-    ensures deleted_durably { released false 4 (once_failed (deletes 6 t 1 ∷ [])) 6 ≡ Some (reply.deleted, 4) }
+    ensures deleted_durably { released false 4 (once_failed (deletes 6 t 1 ∷ [])) 6 ≡ Some (reply.deleted (id 1), 4) }
     ensures deleted_again { reply_of (once_failed (deletes 6 t 1 ∷ deletes 7 t 1 ∷ [])) 7 ≡ caller_refused_at Refusal.UnknownEvent 4 }
     ensures empty { reply_of (once_failed (deletes 6 t 1 ∷ deletes 7 t 1 ∷ failure_asked 8 ∷ [])) 8 ≡ Some (reply.no_record, 4) }
 {}
@@ -148,7 +148,7 @@ pub fn polls()
     ensures unreadable { reply_in (one_runs t ++ responds_unreadably 3 ∷ []) 3 ≡ refused_at Refusal.InvalidRequestId 2 }
     ensures answered_twice { reply_in (one_answered ++ responds 4 t 1 braces ∷ []) 4 ≡ refused_at Refusal.InvalidRequestId 3 }
     ensures delete_unreadable { reply_in (one_runs t ++ asks 3 t 0 (calls.Delete None) ∷ []) 3 ≡ caller_refused_at Refusal.UnknownEvent 2 }
-    ensures delete_running { reply_in (one_runs t ++ deletes 3 t 1 ∷ []) 3 ≡ caller_refused_at Refusal.NotEnded 2 }
+    ensures delete_running { reply_in (one_runs t ++ deletes 3 t 1 ∷ []) 3 ≡ Some (reply.not_ended (id 1), 2) }
 {}
 
 /// Extensions, one of which exits while an event runs.

@@ -10,10 +10,10 @@ use crate::planning_ticks::plan_tick;
 use crate::preparing::{Prepared, prepare};
 use crate::released::Released;
 use crate::slots::Slots;
-use api_core::{Answer, Audience, Call, Dialect, Refusal, Reply, reply_text};
+use api_core::{Call, Dialect, Reply, unavailable};
 use async_core::Table;
 use group_commit::{Durable, Issuer, MOST_COMMANDS, MOST_PENDING, Receipt, Ticket};
-use std::alloc::{AllocError, Global};
+use std::alloc::Global;
 
 /// How many slots may be open.
 const MOST_OPEN: usize = 1024;
@@ -148,15 +148,6 @@ impl<I: Issuer> Hall<I> {
         }
     }
 
-    // What a slot is told whose reply is not available.
-    fn unavailable(&self) -> Result<Reply, AllocError>
-        ensures { IfOk result (λ reply. reply ≡ unavailable_in (words_in (view_of I.view self.now))) }
-    {
-        let settings = self.issuer.table().settings();
-        let answer = Answer::Refusal(Audience::Caller, Refusal::Unavailable);
-        reply_text(self.alloc, self.dialect, &answer, settings)
-    }
-
     /// A request comes with a slot that is not open, now, with two random words: its command is issued, if it has one,
     /// its environment is called, and replies are computed. A reply is told by `take` once all that it shows is durable.
     /// `take_answered` then hands out the slots of the polls that it answered.
@@ -208,9 +199,6 @@ impl<I: Issuer> Hall<I> {
         if let Some(why) = self.refusal_of_arrival(plan.command.is_some()) {
             return Err(why);
         }
-        let Ok(unavailable) = self.unavailable() else {
-            return Err(HallError::OutOfMemory);
-        };
         let prepared = match prepare(
             self.alloc,
             self.dialect,
@@ -221,7 +209,8 @@ impl<I: Issuer> Hall<I> {
             Ok(prepared) => prepared,
             Err(why) => return Err(why),
         };
-        match self.do_for(slot, stops, unavailable, prepared) {
+        let told = unavailable(self.alloc, self.dialect);
+        match self.do_for(slot, stops, told, prepared) {
             Ok(issued) => Ok(issued),
             Err(why) => Err(why),
         }

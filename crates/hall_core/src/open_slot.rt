@@ -11,7 +11,7 @@ pub(crate) struct OpenSlot {
     pub(crate) is_forgotten: bool,
     /// The reply, and the ticket of all that has to be durable before it is told.
     pub(crate) reply: Option<(Reply, Ticket)>,
-    /// What a broken hall tells in its place. It was made when the slot was opened, so that no memory is needed then.
+    /// What a broken hall tells in its place. It stands in the program, so that no memory is needed.
     pub(crate) unavailable: Reply,
 }
 

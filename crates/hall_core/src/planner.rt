@@ -80,7 +80,9 @@ impl<'a> Planner<'a> {
         ensures asked { MayAsk drawn call result.effect.command }
     {
         match call {
-            Call::Invoke { payload } => self.accept(drawn, payload),
+            Call::Invoke { payload } => self.accept(drawn, payload, Answer::Accepted(drawn)),
+            Call::InvokeAsync { payload } => self.accept_async(drawn, payload),
+            Call::Describe(what) => Plan::says(Answer::Described(what)),
             Call::Oldest(side) => self.oldest(side),
             Call::Delete(id) => self.collect(id),
             Call::StopBroker => self.stop(),

@@ -2,16 +2,17 @@
 ghost use Rattle.std.specs.Prelude.{◌≡◌, Some, None, IfSome, option_map};
 ghost use Rattle.invoke_records.specs.declared.command.Kind.TheVariants.{Accept};
 ghost use Rattle.async_core.specs.Readers.{told, ending_after};
+ghost use Rattle.api_core.specs.Replies.{told_by, accepted_async};
 ghost use Rattle.env_phase.specs.Calls.{IsMoment};
 ghost use Rattle.hall_core.specs.Effects.{command_for, accepts, collects, tells_oldest, stops};
 ghost use Rattle.hall_core.specs.Planner.{ForEachScene};
 ghost use Rattle.hall_core.specs.Asked.{Accepts, Collects};
-ghost use Rattle.hall_core.specs.Plans.{AreCallable};
+ghost use Rattle.hall_core.specs.Plans.{AreCallable, moment_told};
 ghost use Rattle.hall_core.specs.Steps.{why_not_accepted, why_not_collected};
 
 use crate::plan::{Made, Plan};
 use crate::planner::Planner;
-use api_core::{Answer, Refusal};
+use api_core::{Answer, Audience, Refusal};
 use async_core::{Ended, Illegal, Side};
 use invoke_records::{Bytes, GREATEST_MOMENT, Kind};
 
@@ -24,27 +25,38 @@ fn why_not_accepted(why: Illegal) -> Refusal
     }
 }
 
-fn why_not_collected(why: Illegal) -> Refusal
-    ensures { result ≡ why_not_collected why }
+fn why_not_collected(why: Illegal, id: [u8; 16]) -> Answer<'static>
+    ensures told { told_by result ≡ why_not_collected id why }
+    ensures moment { moment_told result ≡ 0 }
 {
     match why {
-        Illegal::NotEnded => Refusal::NotEnded,
-        _ => Refusal::UnknownEvent,
+        Illegal::NotEnded => Answer::NotEnded(id),
+        _ => Answer::Refusal(Audience::Caller, Refusal::UnknownEvent),
     }
 }
 
 impl<'a> Planner<'a> {
-    /// An invocation: an event is accepted under the id that was drawn. The payload is moved into the command.
-    pub(crate) fn accept(&self, drawn: [u8; 16], payload: Bytes) -> Plan<'a>
-        ensures effect { ForEachScene self.now (λ x. result.effect ≡ accepts x (command_for Accept drawn x.now payload)) }
+    /// An invocation: an event is accepted under the id that was drawn, and told so. The payload is moved into the command.
+    pub(crate) fn accept(&self, drawn: [u8; 16], payload: Bytes, answer: Answer<'a>) -> Plan<'a>
+        requires { IsMoment (moment_told answer) }
+        ensures effect { ForEachScene self.now (λ x. result.effect ≡ accepts (told_by answer.entry) x (command_for Accept drawn x.now payload)) }
         ensures within { AreCallable self.now.environments.now result.called }
         ensures asked { IfSome result.effect.command (λ c. Accepts drawn c.kind c.id) }
     {
         let command = self.command(Kind::Accept, drawn, payload);
         match self.table.judge(&command) {
-            Ok(()) => Plan::issues(command, Answer::Accepted(drawn)),
+            Ok(()) => Plan::issues(command, answer),
             Err(why) => Plan::refuses_caller(why_not_accepted(why)),
         }
+    }
+
+    /// The same, told as InvokeAsync tells it.
+    pub(crate) fn accept_async(&self, drawn: [u8; 16], payload: Bytes) -> Plan<'a>
+        ensures effect { ForEachScene self.now (λ x. result.effect ≡ accepts (accepted_async drawn) x (command_for Accept drawn x.now payload)) }
+        ensures within { AreCallable self.now.environments.now result.called }
+        ensures asked { IfSome result.effect.command (λ c. Accepts drawn c.kind c.id) }
+    {
+        self.accept(drawn, payload, Answer::AcceptedAsync(drawn))
     }
 
     fn collect_event(&self, id: [u8; 16]) -> Plan<'a>
@@ -54,8 +66,8 @@ impl<'a> Planner<'a> {
     {
         let command = self.bare(Kind::Collect, id);
         match self.table.judge(&command) {
-            Ok(()) => Plan::issues(command, Answer::Deleted),
-            Err(why) => Plan::refuses_caller(why_not_collected(why)),
+            Ok(()) => Plan::issues(command, Answer::Deleted(id)),
+            Err(why) => Plan::says(why_not_collected(why, id)),
         }
     }
 

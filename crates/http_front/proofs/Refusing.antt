@@ -1,5 +1,6 @@
 -- Each refusal has a status of 400 or above, which is the same in each dialect.
 use Rattle.std.proofs.Common.{◌≡◌, ◌≤◌, lit≤, refl}
+use Rattle.retry_rules.specs.declared.settings.Settings.{Settings}
 use Rattle.api_core.specs.declared.dialect.Dialect.{Dialect}
 use Rattle.api_core.specs.declared.dialect.Dialect.TheVariants.{Profile, Aws}
 use Rattle.api_core.specs.declared.dialect.Audience.{Audience}
@@ -30,8 +31,8 @@ refuses EnvironmentReset = lit≤ tt
 refuses IdInUse = lit≤ tt
 refuses Unavailable = lit≤ tt
 
-pub status_of : (d : Dialect) (who : Audience) (why : Refusal) → (refusing d who why).status ≡ (fault_of why).status
-status_of Profile Caller why = refl
-status_of Profile Environment why = refl
-status_of Aws Caller why = refl
-status_of Aws Environment why = refl
+pub status_of : (d : Dialect) (s : Settings) (who : Audience) (why : Refusal) → (refusing d s who why).status ≡ (fault_of why).status
+status_of Profile s Caller why = refl
+status_of Profile s Environment why = refl
+status_of Aws s Caller why = refl
+status_of Aws s Environment why = refl

@@ -1,4 +1,5 @@
 pub mod Calls
+pub mod Discarding
 pub mod Learning
 pub mod Marking
 pub mod Refusals

@@ -22,16 +22,23 @@ use std::time::Clock;
 
 // Whether a new id is drawn for this call.
 fn draws(call: &Call) -> bool {
-    matches!(call, Call::Invoke { .. } | Call::Register { .. })
+    matches!(
+        call,
+        Call::Invoke { .. } | Call::InvokeAsync { .. } | Call::Register { .. }
+    )
 }
 
 // Whether a move may be possible after this call that was not before it. Nothing is started, throttled or expired sooner for
-// a record that is read or collected, for an extension that registers, or for an attempt that succeeded: its environment can
-// be given nothing before it asks again.
+// the function that is described, a record that is read or collected, an extension that registers, or an attempt that
+// succeeded: its environment can be given nothing before it asks again.
 fn may_move(call: &Call) -> bool {
     !matches!(
         call,
-        Call::Oldest(_) | Call::Delete(_) | Call::Register { .. } | Call::Response { .. }
+        Call::Describe(_)
+            | Call::Oldest(_)
+            | Call::Delete(_)
+            | Call::Register { .. }
+            | Call::Response { .. }
     )
 }
 
@@ -63,8 +70,8 @@ fn make_moves<R: Wait + Eprint, L: Ledger, T: Trace>(rt: &R, port: &Port<L, T>, 
     moved
 }
 
-// A call comes to the port's office, as `Port::arrive` says.
-fn hand_over<R: Wait, L: Ledger, T: Trace>(
+/// A call comes to the port's office, as `Port::arrive` says.
+pub(crate) fn hand_over<R: Wait, L: Ledger, T: Trace>(
     rt: &R,
     port: &Port<L, T>,
     call: Call,

@@ -112,6 +112,7 @@ impl<R: Wait + Clock, L: Ledger, T: Trace, D: Disk> Committing for AtFront<'_, R
     }
 
     fn ring(&mut self, durable: &Durable) -> Rung {
+        self.front.discarding.call(self.rt);
         self.front.bell.ring(self.rt, *durable)
     }
 

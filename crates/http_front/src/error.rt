@@ -1,5 +1,6 @@
 // Why a front was not served, or a request did not come to its hall.
 ghost use Rattle.std.specs.Prelude.{◌≡◌};
+ghost use Rattle.hall_core.specs.declared.error.HallError.TheVariants.{OutOfMemory};
 ghost use Rattle.http_front.specs.declared.error.ArrivalError.TheVariants.{Hall, System};
 ghost use Rattle.http_front.specs.declared.error.ServeError.TheVariants as serve_error;
 
@@ -51,6 +52,14 @@ pub(crate) enum ArrivalError {
     /// The clock or the source of random words failed.
     #[error("{0}")]
     System(io::Error),
+}
+
+impl From<AllocError> for ArrivalError {
+    ghost from_gives = { λ _ error. error ≡ Hall OutOfMemory };
+
+    fn from(_why: AllocError) -> ArrivalError {
+        ArrivalError::Hall(HallError::OutOfMemory)
+    }
 }
 
 impl From<HallError> for ArrivalError {

@@ -5,6 +5,7 @@ ghost use Rattle.receipts.specs.Locked.{hall_in};
 ghost use Rattle.http_front.specs.Refusals.{IsArrivalError};
 
 use crate::arriving::{Handed, arrive};
+use crate::discarding::{Discard, Discarding};
 use crate::error::ArrivalError;
 use crate::wake::Wake;
 use api_core::{Call, Dialect};
@@ -69,17 +70,20 @@ pub struct FrontState<L: Ledger, T: Trace> {
     pub(crate) dialect: Dialect,
     /// How many bytes of a body are read.
     pub(crate) most: usize,
+    /// Which records are collected without being told to anybody.
+    pub(crate) discarding: Discarding,
 }
 
 impl<L: Ledger, T: Trace> FrontState<L, T> {
     /// A front over an office of a broker with these settings, of which so much is durable, which no thread serves yet. It reads
-    /// requests in this dialect.
+    /// requests in this dialect, and collects the records that are discarded.
     pub fn new(
         alloc: Global,
         office: Arc<Office<L, T>>,
         dialect: Dialect,
         durable: Durable,
         settings: Settings,
+        discard: Discard,
     ) -> Result<FrontState<L, T>, AllocError>
         // claim: A front has the office, settings and dialect that it was given: those of its hall. [: office, settings,
         // dialect; open: dialect, settings]
@@ -103,6 +107,7 @@ impl<L: Ledger, T: Trace> FrontState<L, T> {
             settings,
             dialect,
             most,
+            discarding: Discarding::new(discard),
         })
     }
 

@@ -9,6 +9,7 @@
 mod arriving;
 mod asking;
 mod committing;
+mod discarding;
 mod drawing;
 mod ending;
 mod error;
@@ -25,6 +26,7 @@ mod wake;
 
 pub use commit_loop::{Gate, Turn, WhenPending};
 pub use committing::Committer;
+pub use discarding::Discard;
 pub use error::ServeError;
 pub use front_state::FrontState;
 pub use serving::{Ending, Served, serve};

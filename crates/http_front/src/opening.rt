@@ -6,6 +6,7 @@ ghost use Rattle.hall_core.specs.Fresh.{IsFresh};
 ghost use Rattle.receipts.specs.Desks.{desk_count};
 
 use crate::committing::Committer;
+use crate::discarding::Discard;
 use crate::error::ServeError;
 use crate::front_state::FrontState;
 use api_core::Dialect;
@@ -24,11 +25,13 @@ use std::sync::ledger::{Blank, Ledger};
 #[derive(Drop)]
 pub(crate) struct OpenedFront<L: Ledger, T: Trace, D: Disk> {
     pub(crate) front: Arc<FrontState<L, T>>,
-    pub(crate) ports: Vec<Port<L, T>>,
+    pub(crate) ports: Vec<Arc<Port<L, T>>>,
     pub(crate) committer: Committer<L, T, D>,
     pub(crate) ticker: Desk<L, T>,
     /// Where what is served beside it looks.
     pub(crate) reader: AdminReader<L, T>,
+    /// From which the board is seen by whoever collects the records that are discarded.
+    pub(crate) collector_seat: Seated,
 }
 
 // One more share of the office, and of the bell.
@@ -65,14 +68,14 @@ fn ports<L: Ledger, T: Trace>(
     front: &FrontState<L, T>,
     desks: Vec<Desk<L, T>>,
     seats: Vec<Seated>,
-) -> Result<Vec<Port<L, T>>, AllocError> {
+) -> Result<Vec<Arc<Port<L, T>>>, AllocError> {
     let mut ports = Vec::with_capacity(alloc, desks.len())?;
     let mut seats = seats.into_iter();
     for desk in desks {
         let Some(seated) = seats.next() else {
             break;
         };
-        ports.push(port(front, desk, seated)?)?;
+        ports.push(Arc::new(alloc, port(front, desk, seated)?)?)?;
     }
     Ok(ports)
 }
@@ -84,12 +87,13 @@ fn shared<L: Ledger, T: Trace>(
     dialect: Dialect,
     durable: Durable,
     settings: Settings,
+    discard: Discard,
 ) -> Result<Arc<FrontState<L, T>>, AllocError>
     ensures dialect { IfOk result (λ front. front.value.dialect ≡ dialect) }
     ensures settings { IfOk result (λ front. front.value.settings ≡ settings) }
 {
     let office = Arc::new(alloc, office)?;
-    let front = FrontState::new(alloc, office, dialect, durable, settings)?;
+    let front = FrontState::new(alloc, office, dialect, durable, settings, discard)?;
     Ok(Arc::new(alloc, front)?)
 }
 
@@ -109,7 +113,7 @@ fn places<L: Ledger, T: Trace>(
     seat: Seated,
     desks: Vec<Desk<L, T>>,
     seats: Vec<Seated>,
-) -> Result<(AdminReader<L, T>, Vec<Port<L, T>>), AllocError> {
+) -> Result<(AdminReader<L, T>, Vec<Arc<Port<L, T>>>), AllocError> {
     let reader = reader(front, seat)?;
     let ports = ports(alloc, front, desks, seats)?;
     Ok((reader, ports))
@@ -124,7 +128,7 @@ fn furnish<L: Ledger, T: Trace, D: Disk + Drop>(
     half: DiskHalf<D>,
 ) -> Result<OpenedFront<L, T, D>, ServeError>
     requires desks { 2 ≤ vec_len desks }
-    requires seats { 2 ≤ vec_len seats }
+    requires seats { 3 ≤ vec_len seats }
     ensures ports { IsErrOf result ServeError.TooManyPorts → ⊥ }
     ensures half { IfOk result (λ opened. opened.committer.half ≡ half) }
     ensures front { IfOk result (λ opened. opened.front ≡ front) }
@@ -132,6 +136,9 @@ fn furnish<L: Ledger, T: Trace, D: Disk + Drop>(
     let mut desks = desks;
     let mut seats = seats;
     let Some((desk, ticker)) = pop_two(&mut desks) else {
+        unreachable!();
+    };
+    let Some(collector_seat) = seats.pop() else {
         unreachable!();
     };
     let Some((seated, seat)) = pop_two(&mut seats) else {
@@ -144,10 +151,11 @@ fn furnish<L: Ledger, T: Trace, D: Disk + Drop>(
         committer: Committer::new(desk, half, seated),
         ticker,
         reader,
+        collector_seat,
     })
 }
 
-// A front over an office, with its desks and as many seats, and one more for a reader.
+// A front over an office, with its desks and as many seats, one more for a reader and one for the collector.
 fn seat_all<L: Ledger, T: Trace, D: Disk + Drop>(
     alloc: Global,
     office: Office<L, T>,
@@ -155,6 +163,7 @@ fn seat_all<L: Ledger, T: Trace, D: Disk + Drop>(
     half: DiskHalf<D>,
     dialect: Dialect,
     settings: Settings,
+    discard: Discard,
 ) -> Result<OpenedFront<L, T, D>, ServeError>
     requires desks { 2 ≤ vec_len desks }
     ensures ports { IsErrOf result ServeError.TooManyPorts → ⊥ }
@@ -163,8 +172,8 @@ fn seat_all<L: Ledger, T: Trace, D: Disk + Drop>(
     ensures settings { IfOk result (λ opened. opened.front.value.settings ≡ settings) }
 {
     let durable = half.durable();
-    let seats = Seated::open(alloc, durable, desks.len() + 1)?;
-    let front = shared(alloc, office, dialect, durable, settings)?;
+    let seats = Seated::open(alloc, durable, desks.len() + 2)?;
+    let front = shared(alloc, office, dialect, durable, settings, discard)?;
     furnish(alloc, front, desks, seats, half)
 }
 
@@ -174,6 +183,7 @@ pub(crate) fn open<L: Ledger, T: Trace, D: Disk + Drop>(
     alloc: Global,
     hall: Hall<Broker<D>>,
     blank: Blank,
+    discard: Discard,
 ) -> Result<OpenedFront<L, T, D>, ServeError>
     requires nothing { pending_of hall.issuer ≡ [] }
     requires fresh { IsFresh (settings_of hall.issuer) hall }
@@ -188,7 +198,9 @@ pub(crate) fn open<L: Ledger, T: Trace, D: Disk + Drop>(
     let dialect = hall.dialect();
     let settings = hall.table().settings().copy()?;
     match Office::<L, T>::new(alloc, hall, blank) {
-        Ok((office, desks, half)) => seat_all(alloc, office, desks, half, dialect, settings),
+        Ok((office, desks, half)) => seat_all(
+            alloc, office, desks, half, dialect, settings, discard,
+        ),
         Err(failure) => Err(ServeError::Office(failure.cause)),
     }
 }

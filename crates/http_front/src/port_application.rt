@@ -9,12 +9,13 @@ use crate::drawing::new_id;
 use crate::front_state::FrontState;
 use crate::replying::{Manner, Telling, refuse};
 use crate::resets::{ResetReport, note_report};
-use api_core::{Audience, Call, Dialect, Refusal, RequestError, read_request};
+use api_core::{Audience, Body, Call, Dialect, Refusal, RequestError, read_request};
 use futures::Future;
 use futures::task::{Context, Poll};
 use http::request::Parts;
 use http_port::{Application, BodyError, Refused};
 use hyper::StatusCode;
+use invoke_records::Bytes;
 use long_poll::{Arrived, Port, Waiting};
 use receipts::Trace;
 use std::alloc::Global;
@@ -68,6 +69,19 @@ fn target_of(head: &Parts) -> &str
     }
 }
 
+// A body as requests have it, or why it is refused. An empty one takes no memory.
+fn body_of(body: Result<Vec<u8>, BodyError>) -> Result<Body, BodyError> {
+    match body {
+        Ok(bytes) if bytes.is_empty() => Ok(Body::Whole(Bytes::empty())),
+        Ok(bytes) => match Bytes::from_vec(bytes) {
+            Ok(bytes) => Ok(Body::Whole(bytes)),
+            Err(_) => Err(BodyError::OutOfMemory),
+        },
+        Err(BodyError::TooLarge) => Ok(Body::TooLarge),
+        Err(why) => Err(why),
+    }
+}
+
 // That a body was cut off: there is mostly nobody to read it.
 fn cut_off(alloc: Global) -> Refused {
     Refused::bare(alloc, StatusCode::BAD_REQUEST)
@@ -117,9 +131,9 @@ impl<R: Wait + Clock + RandomSource + Eprint + Copy, L: Ledger, T: Trace> PortAp
     }
 
     // The call of a request.
-    fn read(&self, head: &Parts, body: Vec<u8>) -> Result<Call, Refusal>
+    fn read(&self, head: &Parts, body: Body) -> Result<Call, Refusal>
         ensures { IfOk result
-            (IsCallOf self.now.front.value.dialect self.now.front.value.settings self.now.number head.now body.items) }
+            (IsCallOf self.now.front.value.dialect self.now.front.value.settings self.now.number head.now body) }
     {
         let front = &self.front;
         match read_request(
@@ -165,12 +179,12 @@ impl<R: Wait + Clock + RandomSource + Eprint + Copy, L: Ledger, T: Trace> PortAp
     fn reply_to(
         &self,
         head: &Parts,
-        body: Vec<u8>,
+        body: Body,
         id: Option<[u8; 16]>,
     ) -> Result<Replying<R, L, T>, Refusal>
         // claim: The future of a request waits for the slot of the call that its head and body are. [: call; PortApplication::read]
         ensures call { IfOk result (λ replying. (call : _)
-            × IsCallOf self.now.front.value.dialect self.now.front.value.settings self.now.number head.now body.items call
+            × IsCallOf self.now.front.value.dialect self.now.front.value.settings self.now.number head.now body call
             × IsDoneFor call (hall_in replying.waiting.seen.before.value.hall) (hall_in replying.waiting.seen.after.value.hall)
             replying.waiting.slot) }
     {
@@ -211,13 +225,13 @@ impl<R: Wait + Clock + RandomSource + Eprint + Drop + Copy, L: Ledger, T: Trace>
         body: Result<Vec<u8>, BodyError>,
     ) -> Result<Replying<R, L, T>, Refused> {
         let id = self.request_id();
-        match body {
+        match body_of(body) {
             Ok(body) => match self.reply_to(head, body, id) {
                 Ok(replying) => Ok(replying),
                 Err(why) => Err(self.refuse(why, id)),
             },
-            Err(BodyError::OutOfMemory) => Err(self.refuse(Refusal::Unavailable, id)),
             Err(BodyError::CutOff) => Err(cut_off(self.front.alloc)),
+            Err(_) => Err(self.refuse(Refusal::Unavailable, id)),
         }
     }
 }

@@ -30,10 +30,7 @@ fn response_of(alloc: Global, reply: Reply) -> Option<HttpResponse>
 {
     let builder = with_headers(Response::builder(alloc), &reply);
     let Reply { status, body, .. } = reply;
-    builder
-        .status(status)
-        .body(Full::new(body.into_shared()))
-        .ok()
+    builder.status(status).body(Full::new(body)).ok()
 }
 
 // A reply with the id of its request, where it is to tell one.

@@ -7,6 +7,7 @@ ghost use Rattle.receipts.specs.Desks.{desk_count};
 ghost use Rattle.receipts.specs.Serving.{HasServed};
 
 use crate::committing::{Committer, state_of};
+use crate::discarding::{Discard, start_collector};
 use crate::error::ServeError;
 use crate::front_state::FrontState;
 use crate::gates::{UntilEnding, UntilOver};
@@ -14,6 +15,7 @@ use crate::opening::{OpenedFront, open};
 use crate::starting::{PortThread, join_all, join_beside, start, start_beside};
 use crate::ticking::tick_all;
 use commit_loop::Gate;
+use front_board::Seated;
 use group_commit::{Broker, DiskHalf};
 use hall_core::Hall;
 use http_port::Listening;
@@ -93,13 +95,14 @@ where
     Ok(half)
 }
 
-// Starts the threads of all ports, and then of what is served beside them, where there is something.
+// Starts the threads of all ports, of who collects records, and then of what is served beside them, where there is something.
 fn start_all<R, L, T, B>(
     rt: R,
     front: &Arc<FrontState<L, T>>,
-    ports: Vec<Port<L, T>>,
+    ports: Vec<Arc<Port<L, T>>>,
     listeners: Vec<Listening>,
     reader: AdminReader<L, T>,
+    seat: Seated,
     beside: Option<B>,
     threads: &mut Vec<PortThread>,
 ) -> io::Result<Option<JoinHandle<io::Result<B::Served>>>>
@@ -112,6 +115,7 @@ where
     B::Served: Send + 'static,
     ensures { IfOk result (λ thread. is_some thread ≡ is_some beside) }
 {
+    start_collector(rt, front, ports.first(), seat, threads)?;
     start(rt, front, ports, listeners, threads)?;
     start_beside(rt, front, reader, beside)
 }
@@ -126,7 +130,7 @@ fn end<R, L, T, D, S>(
     outcome: io::Result<DiskHalf<D>>,
 ) -> io::Result<Served<D, S>>
 where
-    R: Threads,
+    R: Threads + Wait,
     L: Ledger,
     T: Trace,
     D: Disk + Drop,
@@ -135,6 +139,7 @@ where
     ensures beside { IfOk result (λ served. is_some served.beside ≡ is_some beside) }
 {
     front.ending.cancel();
+    front.discarding.call(rt);
     let joined = join_all(rt, threads);
     let beside = join_beside(rt, beside);
     let half = outcome?;
@@ -174,10 +179,20 @@ where
         committer,
         ticker,
         reader,
+        collector_seat,
     } = opened;
     front.meters.note_opening(&rt, state_of(committer.half()));
     let mut threads = Vec::new(rt.alloc());
-    match start_all(rt, &front, ports, listeners, reader, beside, &mut threads) {
+    match start_all(
+        rt,
+        &front,
+        ports,
+        listeners,
+        reader,
+        collector_seat,
+        beside,
+        &mut threads,
+    ) {
         Ok(beside) => {
             let outcome = commit_and_tick(rt, &front, committer, ticker, gate);
             end(&rt, &front, threads, beside, outcome)
@@ -197,7 +212,7 @@ fn port_count(settings: &Settings) -> u64
 /// the callers' port at the first listener, that of environment n at the listener n behind it. It returns once the broker
 /// was stopped or its device failed and every open request was answered or its client has gone. The committer, on the
 /// calling thread, is asked by the gate beside that. What is beside the ports, where there is something, is served on a thread
-/// of its own, with a reader of the office, until the front ends.
+/// of its own, with a reader of the office, until the front ends. On another one, records that are discarded are collected.
 ///
 /// The half over the disk is handed back: it is the hall's broker with what was committed since. On an honest disk a stop at any
 /// moment of the serving leaves a legal stop of its list: a beginning of that with all that was durable before.
@@ -210,6 +225,7 @@ pub fn serve<R, L, T, D, G, B>(
     blank: Blank,
     listeners: Vec<Listening>,
     beside: Option<B>,
+    discard: Discard,
     gate: &G,
 ) -> Result<Served<D, B::Served>, ServeError>
 where
@@ -238,6 +254,6 @@ where
     if listeners.len() as u64 > port_count(hall.table().settings()) {
         return Err(ServeError::TooManyPorts);
     }
-    let opened = open::<L, T, D>(rt.alloc(), hall, blank)?;
+    let opened = open::<L, T, D>(rt.alloc(), hall, blank, discard)?;
     Ok(run(rt, opened, listeners, beside, gate)?)
 }

@@ -33,7 +33,7 @@ fn start_port<R, L, T>(
     rt: R,
     front: &Arc<FrontState<L, T>>,
     number: u16,
-    port: Port<L, T>,
+    port: Arc<Port<L, T>>,
     listening: Listening,
 ) -> io::Result<PortThread>
 where
@@ -42,7 +42,6 @@ where
     T: SharedTrace + 'static,
     T::Opening: SharedOpening + 'static,
 {
-    let port = Arc::new(rt.alloc(), port)?;
     let front = Arc::try_clone(front)?;
     let place = PortApplication {
         rt,
@@ -58,7 +57,7 @@ where
 pub(crate) fn start<R, L, T>(
     rt: R,
     front: &Arc<FrontState<L, T>>,
-    ports: Vec<Port<L, T>>,
+    ports: Vec<Arc<Port<L, T>>>,
     listeners: Vec<Listening>,
     threads: &mut Vec<PortThread>,
 ) -> io::Result<()>

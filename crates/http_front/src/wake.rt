@@ -47,6 +47,18 @@ impl Wake {
         *called = false;
         Slept { slept: () }
     }
+
+    /// The same, for so many milliseconds at most.
+    pub(crate) fn wait_at_most<R: Wait + Clock>(&self, rt: &R, millis: u64) -> Slept {
+        let (mut called, _) = self.calls.wait_timeout_while(
+            rt,
+            self.called.lock(rt),
+            Duration::from_millis(millis),
+            |called| !*called,
+        );
+        *called = false;
+        Slept { slept: () }
+    }
 }
 
 /// Sleeps for so many milliseconds.

@@ -15,8 +15,7 @@ pub trait Application: Drop {
     /// The reply of a request, which may be waited for.
     type Future: Future<Output = Self::Response>;
 
-    /// How many bytes of a body are read. One that is larger is given as so many bytes, and where its head says so, nothing of
-    /// it is asked for.
+    /// How many bytes of a body are read. Of one that is larger by its head nothing is asked for.
     fn most(&self) -> usize;
 
     /// The header, in small letters, whose value is not read, where there is one. Each other head has 64 KiB at most, and with

@@ -1,5 +1,5 @@
 // The body of a request, as it comes.
-ghost use Rattle.std.specs.Prelude.{◌≡◌, vec_len, IfOk, IsTrue};
+ghost use Rattle.std.specs.Prelude.{◌≡◌, Err, IsTrue};
 ghost use Rattle.futures.specs.Task.{IsArmed, Keeps};
 ghost use Rattle.futures.specs.Poll.{OnPending};
 
@@ -21,6 +21,8 @@ pub enum BodyError {
     CutOff,
     /// There was no memory for it.
     OutOfMemory,
+    /// It has more bytes than are read, or more frames.
+    TooLarge,
 }
 
 /// What has become of a body.
@@ -41,7 +43,6 @@ pub(crate) struct Reading<I: Drop> {
     body: Limited<Incoming<I>>,
     bytes: Vec<u8>,
     frames: u32,
-    most: usize,
     // Whether the head says that more comes than is read.
     is_too_long: bool,
     state: State,
@@ -65,7 +66,6 @@ impl<I: Drop> Reading<I> {
             body: Limited::new(body, most),
             bytes: Vec::new(alloc),
             frames: 0,
-            most,
             is_too_long,
             state: State::Left,
         }
@@ -80,9 +80,7 @@ impl<I: Drop> Reading<I> {
 
     // What was read so far.
     fn take_bytes(&mut self) -> Vec<u8>
-        ensures bytes { result ≡ self.old.bytes }
-        ensures most { self.new.most ≡ self.old.most }
-        ensures body { self.new.body ≡ self.old.body }
+        ensures { result ≡ self.old.bytes }
     {
         let none = Vec::new(self.alloc);
         mem::replace(&mut self.bytes, none)
@@ -115,31 +113,18 @@ impl<I: Drop> Reading<I> {
         }
     }
 
-    // What stands for a body that is too large, so that the checks before that of its size come first.
-    fn too_large(&mut self) -> Result<Vec<u8>, BodyError>
-        // claim: Of a body too long by its head nothing is asked for. What stands for one too large has as many bytes as
-        // are read at most. [: bytes; Reading::poll: unasked]
-        ensures bytes { IfOk result (λ bytes. vec_len bytes ≡ self.old.most) }
-        ensures body { self.new.body ≡ self.old.body }
-    {
-        drop(self.take_bytes());
-        let mut bytes = Vec::new(self.alloc);
-        match bytes.resize(self.most, 0) {
-            Ok(()) => Ok(bytes),
-            Err(_) => Err(BodyError::OutOfMemory),
-        }
-    }
-
-    /// Reads on. A body that is larger than what is read, or that has not ended after 65536 frames, is given as so many
-    /// bytes as are read at most. Where the head says that it is larger, nothing of it is asked for, so that a client who waits
-    /// to be asked is refused before it sends it.
+    /// Reads on. A body that is larger than what is read, or that has not ended after 65536 frames, is told to be too large,
+    /// and what was read of it is let go. Where the head says that it is larger, nothing of it is asked for, so that a client
+    /// who waits to be asked is refused before it sends it.
     pub(crate) fn poll(&mut self, cx: &mut Context<'_>) -> Poll<Result<Vec<u8>, BodyError>>
+        // claim: A body that is too long by its head is told to be so, and nothing of it is asked for. [: unasked, too_long]
         ensures unasked { IsTrue self.old.is_too_long → self.new.body ≡ self.old.body }
+        ensures too_long { IsTrue self.old.is_too_long → result ≡ Poll.Ready (Err BodyError.TooLarge) }
         ensures armed { OnPending result (IsArmed cx.new) }
         ensures kept { Keeps cx.old cx.new }
     {
         if self.is_too_long {
-            return Poll::Ready(self.too_large());
+            return Poll::Ready(Err(BodyError::TooLarge));
         }
         for frame in self.frames..MOST_FRAMES {
             match self.step(cx) {
@@ -156,6 +141,7 @@ impl<I: Drop> Reading<I> {
                 Poll::Ready(Step::Failed(why)) => return Poll::Ready(Err(why)),
             }
         }
-        Poll::Ready(self.too_large())
+        drop(self.take_bytes());
+        Poll::Ready(Err(BodyError::TooLarge))
     }
 }

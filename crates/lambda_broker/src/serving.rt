@@ -12,7 +12,7 @@ use admin_port::{Admin, AdminPort};
 use broker_commands::{Address, Device, DiskError, now, open};
 use group_commit::{Broker, CommitError, IssueError, OpenError};
 use hall_core::{Hall, HallFailure};
-use http_front::{Ending, ServeError, WhenPending, serve};
+use http_front::{Discard, Ending, ServeError, WhenPending, serve};
 use http_port::Listening;
 use port_meters::Machine;
 use receipts::{Gone, SharedOpening, SharedTrace, desks};
@@ -252,6 +252,7 @@ fn serve_by<R, L, T, D>(
     hall: Hall<Broker<D>>,
     blank: Blank,
     ports: Ports,
+    discard: Discard,
 ) -> Result<(), ServingError>
 where
     R: Machine,
@@ -273,6 +274,7 @@ where
         blank,
         listeners,
         admin,
+        discard,
         &WhenPending,
     )?;
     match served.ending {
@@ -282,7 +284,12 @@ where
 }
 
 // Serves a hall until the broker is stopped.
-fn serve_hall<R, T, D>(rt: R, hall: Hall<Broker<D>>, ports: Ports) -> Result<(), ServingError>
+fn serve_hall<R, T, D>(
+    rt: R,
+    hall: Hall<Broker<D>>,
+    ports: Ports,
+    discard: Discard,
+) -> Result<(), ServingError>
 where
     R: Machine,
     T: SharedTrace + 'static,
@@ -292,7 +299,7 @@ where
     requires fresh { IsFresh (settings_of hall.issuer) hall }
 {
     let blank = Blank::new(desks(hall.table().settings()));
-    serve_by::<R, Brand, T, D>(rt, hall, blank, ports)
+    serve_by::<R, Brand, T, D>(rt, hall, blank, ports, discard)
 }
 
 // Serves what is on a disk: the ports first, then the attempts that the last stop cut off.
@@ -316,7 +323,11 @@ where
     let ports = listen_on_all(&rt, at, environments, written)?;
     let hall = hall_at_rest(&rt, broker, at, start)?;
     announce(at, out)?;
-    serve_hall::<R, T, D>(rt, hall, ports)
+    let discard = Discard {
+        success: at.discards_success,
+        failure: at.discards_failure,
+    };
+    serve_hall::<R, T, D>(rt, hall, ports, discard)
 }
 
 /// Serves a disk: callers on a port of this machine and environment n on the port n behind it, from the line that is

@@ -33,6 +33,14 @@ pub enum StoppingError {
     System(#[from] io::Error),
 }
 
+// Whether nobody listens there, or whoever did closes at this moment.
+fn is_closed(why: &io::Error) -> bool {
+    matches!(
+        why.kind(),
+        ErrorKind::ConnectionRefused | ErrorKind::ConnectionReset
+    )
+}
+
 // A connection to a port. None where nobody listens there.
 fn connect<N>(rt: &N, at: SocketAddr) -> io::Result<Option<TcpStream>>
 where
@@ -40,7 +48,7 @@ where
 {
     match TcpStream::connect(rt, at) {
         Ok(socket) => Ok(Some(socket)),
-        Err(why) if why.kind() == ErrorKind::ConnectionRefused => Ok(None),
+        Err(why) if is_closed(&why) => Ok(None),
         Err(why) => Err(why),
     }
 }
@@ -56,6 +64,8 @@ fn ask<N: AllocGlobal>(rt: &N, socket: &mut TcpStream, at: SocketAddr) -> io::Re
     match socket.read_exact(&mut front) {
         Ok(()) => Ok(front == *TAKEN),
         Err(why) if why.kind() == ErrorKind::UnexpectedEof => Ok(false),
+        // It may end so fast that its reply is lost: whether it ends is seen by its port.
+        Err(why) if why.kind() == ErrorKind::ConnectionReset => Ok(true),
         Err(why) => Err(why),
     }
 }

@@ -21,8 +21,8 @@ use Rattle.async_core.specs.Rules.{row_at, standing_at}
 use Rattle.async_core.specs.Readers.{Ending, payload_at, counts_at, counts_after, accepted_at, accepted_after, judge_at, judge_after, ending_at, ending_after}
 use Rattle.async_core.specs.Choice.{IsNextAt, IsNextMove}
 use Rattle.api_core.specs.declared.call.Call.{Call}
-use Rattle.api_core.specs.declared.call.Call.TheVariants.{Invoke, Oldest}
-use Rattle.api_core.specs.Replies.{Told, accepted, record_of}
+use Rattle.api_core.specs.declared.call.Call.TheVariants.{Invoke, InvokeAsync, Oldest}
+use Rattle.api_core.specs.Replies.{Told, accepted, accepted_async, record_of}
 use Rattle.hall_core.specs.Past.{HallCall, arrive, Past}
 use Rattle.hall_core.specs.Effects.{command_for, ending_of_event}
 use Rattle.hall_core.specs.Firsts.{oldest_ended}
@@ -67,10 +67,16 @@ pub record IsLastRequest (s : Settings) (t : Telling s) (request : Call) : Type 
   pub calls : t.life.calls ≡ before ++ arrive t.slot request now words ∷ later
   pub last : list_any (comes_with t.slot) later ≡ false
 
+-- the request invokes with this payload, and this tells it that the event was accepted, with this id
+abbrev pub Accepts : Call → List ℕ → Told → List ℕ → Type 0
+Accepts request payload told id =
+    ((request ≡ Invoke payload) × (told ≡ accepted id)) ⊎ ((request ≡ InvokeAsync payload) × (told ≡ accepted_async id))
+
 -- the request to invoke with this payload was answered 202, with this id: the first so many commands end with its acceptance
 pub record WasAnswered202 (s : Settings) (t : Telling s) (id payload : List ℕ) : Type 0 where
-  pub told : t.told ≡ accepted id
-  pub request : IsLastRequest s t (Invoke payload)
+  pub invoked : Call
+  pub told : Accepts invoked payload t.told id
+  pub request : IsLastRequest s t invoked
   pub durable : t.point ≤ t.durable
   pub before : List Command
   pub time : ℕ

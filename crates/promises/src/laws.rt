@@ -7,7 +7,7 @@ ghost use Rattle.async_core.specs.declared.choice.Side.{Side};
 ghost use Rattle.async_core.specs.Readers.{Ending};
 ghost use Rattle.api_core.specs.declared.dialect.Audience.TheVariants.{Caller};
 ghost use Rattle.api_core.specs.declared.refusal.Refusal.TheVariants.{Unavailable};
-ghost use Rattle.api_core.specs.Replies.{Told, Words, accepted, record_of, refused, reply_in};
+ghost use Rattle.api_core.specs.Replies.{Told, Words, accepted, accepted_async, async_body, record_of, refused, reply_in};
 ghost use Rattle.group_commit.specs.History.{IsLegalStop};
 ghost use Rattle.group_commit.specs.Broker.{disk_of, settings_of, durable_of, Stands};
 ghost use Rattle.group_commit.specs.IssuerHalf.{half_view};
@@ -29,8 +29,8 @@ use sector_disk::Disk;
 pub fn what_was_answered_202_is_kept()
     // claim: A 202 says that the slot's request was accepted, durably. Each later history's table has the event with its
     // payload, until its Collect. [: answered, kept, stopped; calls_and_stops_go_on: at_first, issued, stopped;
-    // a_202_without_a_body_accepts; what_is_given_was_told]
-    ensures answered { (s : Settings) (t : Telling s) (id : List ℕ) → t.told ≡ accepted id
+    // a_202_without_a_body_accepts; a_202_that_says_so_accepts; what_is_given_was_told]
+    ensures answered { (s : Settings) (t : Telling s) (id : List ℕ) → (t.told ≡ accepted id) ⊎ (t.told ≡ accepted_async id)
         → (payload : List ℕ) × WasAnswered202 s t id payload }
     ensures kept { (s now : Settings) (t : Telling s) (id payload : List ℕ) (later : List Command) → WasAnswered202 s t id payload
         → GoesOn now t.point (issued s t) later → IsKept now t.point later id payload }
@@ -42,6 +42,12 @@ pub fn what_was_answered_202_is_kept()
 pub fn a_202_without_a_body_accepts()
     ensures { (words : Words) (told : Told) → (reply_in words told).status ≡ 202 → (reply_in words told).body ≡ []
         → (id : List ℕ) × (told ≡ accepted id) }
+{}
+
+/// And so is whoever is told 202 with the body that says this status, which is how InvokeAsync tells it.
+pub fn a_202_that_says_so_accepts()
+    ensures { (words : Words) (told : Told) → (reply_in words told).status ≡ 202 → (reply_in words told).body ≡ async_body
+        → (id : List ℕ) × (told ≡ accepted_async id) }
 {}
 
 /// Which histories are later: those to which commands were added, and those that a stop leaves that takes nothing durable.

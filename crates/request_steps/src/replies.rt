@@ -1,6 +1,8 @@
 // Steps on replies alone: the status, the headers and the body that tell an answer.
 use crate::requests::{dialect, type_of};
-use api_core::{Answer, Audience, Dialect, Refusal, ShutdownReason, Stream, reply_text};
+use api_core::{
+    Answer, Audience, Description, Dialect, Refusal, ShutdownReason, Stream, reply_text,
+};
 use case_runner::{StepReply, TextBuffer, Words, body, id_of};
 use retry_rules::Settings;
 use std::alloc::{AllocError, Global};
@@ -119,7 +121,12 @@ fn plain_answer(words: &mut Words) -> Answer<'static> {
     match words.word() {
         "accepted" => Answer::Accepted(id_of(words.number())),
         "no-record" => Answer::NoRecord,
-        "deleted" => Answer::Deleted,
+        "accepted-async" => Answer::AcceptedAsync(id_of(words.number())),
+        "deleted" => Answer::Deleted(id_of(1)),
+        "not-ended" => Answer::NotEnded(id_of(1)),
+        "dry-run" => Answer::Described(Description::DryRun),
+        "function" => Answer::Described(Description::Function),
+        "configuration" => Answer::Described(Description::Configuration),
         "taken" => Answer::Taken,
         "registered" => Answer::Registered {
             identifier: id_of(words.number()),
@@ -157,7 +164,7 @@ fn tell_plain(
     }
 }
 
-/// `[aws]`, then `accepted ID`, `no-record`, `deleted`, `taken`, `registered N [account]`, `event ID until MOMENT BYTES`, `invoke ID until MOMENT`,
+/// `[aws]`, then, of event 1 where none is named, `accepted ID`, `accepted-async ID`, `no-record`, `deleted`, `not-ended`, `dry-run`, `function`, `configuration`, `taken`, `registered N [account]`, `event ID until MOMENT BYTES`, `invoke ID until MOMENT`,
 /// `shutdown REASON until MOMENT`, `telemetry`, `logs` or `refusal [environment] TYPE`: the reply.
 pub fn reply_step(
     alloc: Global,

@@ -1,9 +1,10 @@
 // Steps on requests alone: which call one is, or which check refuses it.
-use api_core::{Call, Dialect, Refusal, RequestError, Stream, read_request};
+use api_core::{Body, Call, Description, Dialect, Refusal, RequestError, Stream, read_request};
 use async_core::Side;
 use case_runner::{StepReply, TextBuffer, Words, body, number_of_id};
 use http::Method;
 use http::header::{HeaderMap, HeaderName, HeaderNameError, HeaderValue, HeaderValueError};
+use invoke_records::Bytes;
 use retry_rules::Settings;
 use std::alloc::Global;
 
@@ -134,19 +135,23 @@ fn tell_environment_call(call: &Call, answer: &mut TextBuffer) {
 }
 
 // A payload of more than 64 bytes is told by its length.
-fn tell_payload(payload: &[u8], answer: &mut TextBuffer) {
+fn tell_payload(word: &str, payload: &[u8], answer: &mut TextBuffer) {
     if payload.len() > 64 {
-        answer.add_with("invoke ", payload.len() as u64);
+        answer.add_with(word, payload.len() as u64);
         answer.add(" bytes");
     } else {
-        answer.add("invoke ");
+        answer.add(word);
         answer.add_body(payload);
     }
 }
 
 fn tell_call(call: &Call, answer: &mut TextBuffer) -> StepReply {
     match call {
-        Call::Invoke { payload } => tell_payload(payload.as_slice(), answer),
+        Call::Invoke { payload } => tell_payload("invoke ", payload.as_slice(), answer),
+        Call::InvokeAsync { payload } => tell_payload("invoke async ", payload.as_slice(), answer),
+        Call::Describe(Description::DryRun) => answer.add("dry run"),
+        Call::Describe(Description::Function) => answer.add("function"),
+        Call::Describe(Description::Configuration) => answer.add("configuration"),
         Call::Oldest(Side::Success) => answer.add("oldest success"),
         Call::Oldest(Side::Failure) => answer.add("oldest failure"),
         Call::Delete(id) => {
@@ -190,6 +195,17 @@ pub fn dialect(words: &mut Words) -> Dialect {
     }
 }
 
+// `too-large`, or the bytes of a body.
+fn body_of(alloc: Global, text: &str) -> Result<Body, StepReply> {
+    if text == "too-large" {
+        return Ok(Body::TooLarge);
+    }
+    match Bytes::from_vec(body(alloc, text)?) {
+        Ok(bytes) => Ok(Body::Whole(bytes)),
+        Err(_) => Err(StepReply::NoMemory),
+    }
+}
+
 /// The call of the request `[aws] PORT METHOD TARGET [NAME=VALUE ..] [body BYTES]`, or what is answered at once.
 pub fn read_call(alloc: Global, settings: &Settings, words: &mut Words) -> Result<Call, StepReply> {
     let dialect = dialect(words);
@@ -206,7 +222,7 @@ pub fn read_call(alloc: Global, settings: &Settings, words: &mut Words) -> Resul
             reply => return Err(reply),
         }
     }
-    let body = body(alloc, text)?;
+    let body = body_of(alloc, text)?;
     if words.are_bad() {
         return Err(StepReply::Unreadable);
     }

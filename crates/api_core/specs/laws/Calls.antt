@@ -1,18 +1,23 @@
 -- Law: what a request calls keeps to the settings, where a payload may have two bytes.
-use Rattle.std.proofs.Common.{◌≡◌, ℕ, ◌≤◌, nat_le, nat_lt, ◌==◌, Bool, true, false, List, [], ◌∷◌, length, Option, Some, None, Result, Ok, Err, refl, subst, arith, if◌then◌else◌}
+use Rattle.std.proofs.Common.{◌≡◌, ℕ, ◌≤◌, nat_le, ◌==◌, ◌&&◌, not, Bool, true, false, List, [], ◌∷◌, length, Option, Some, None, Result, Ok, Err, refl, subst, arith, if◌then◌else◌}
 use Rattle.std.specs.Prelude.{filter, find}
 use Rattle.std.proofs.lemmas.Bool.{eqb-false, leb-true, ltb-false}
 use Rattle.retry_rules.specs.declared.settings.Settings.{Settings}
 use Rattle.api_core.specs.declared.dialect.Dialect.{Dialect}
 use Rattle.api_core.specs.declared.dialect.Dialect.TheVariants.{Profile, Aws}
+use Rattle.api_core.specs.declared.body.Body.{Body}
+use Rattle.api_core.specs.declared.body.Body.TheVariants.{Whole, TooLarge}
 use Rattle.api_core.specs.declared.call.Call.{Call}
+use Rattle.api_core.specs.declared.call.Call.TheVariants as call
+use Rattle.api_core.specs.Ids.{id_of}
 use Rattle.api_core.specs.declared.route.Route.{Route}
-use Rattle.api_core.specs.declared.route.Route.TheVariants.{Invoke, OldestSuccess, OldestFailure, Delete, StopBroker, RuntimeNext, Response, RuntimeError, RuntimeInitError, Register, ExtensionNext, ExtensionInitError, ExtensionExitError, Telemetry, Logs}
+use Rattle.api_core.specs.declared.route.Route.TheVariants.{Invoke, InvokeAsync, InvokeAsyncSlash, GetFunction, GetConfiguration, OldestSuccess, OldestFailure, Delete, StopBroker, RuntimeNext, Response, RuntimeError, RuntimeInitError, Register, ExtensionNext, ExtensionInitError, ExtensionExitError, Telemetry, Logs}
 use Rattle.api_core.specs.declared.refusal.Refusal.{Refusal}
 use Rattle.api_core.specs.Paths.{callers_routes, common_routes, environment_routes, routes_at, fits, has_method, or_not_allowed, route_among, segments_of, in_hole, route_of}
-use Rattle.api_core.specs.Headers.{RequestHeaders}
+use Rattle.api_core.specs.Headers.{RequestHeaders, is_dry_run}
+use Rattle.api_core.specs.Refusals.{response_too_large}
 use Rattle.api_core.specs.Bodies.{or_empty_object}
-use Rattle.api_core.specs.Requests.{failed, or_later, first_failed, function_check, header_check, size_check, content_check, most_bytes, refusal_of, unless_refused, call_by, call_on, call_of}
+use Rattle.api_core.specs.Requests.{failed, or_later, first_failed, function_check, header_check, size_check, content_check, most_bytes, bytes_of, is_too_large, is_told_as_error, refusal_of, unless_refused, invoked_by, call_with, call_by, call_on, call_of}
 use Rattle.api_core.specs.Within.{IsEnvironment, IsWithin}
 
 -- ## The routes of a port
@@ -20,6 +25,10 @@ use Rattle.api_core.specs.Within.{IsEnvironment, IsWithin}
 -- where the route is one of an environment, the port is that of an environment
 abbrev IsAt : Settings → ℕ → Route → Type 0
 IsAt s port Invoke = Unit {0}
+IsAt s port InvokeAsync = Unit {0}
+IsAt s port InvokeAsyncSlash = Unit {0}
+IsAt s port GetFunction = Unit {0}
+IsAt s port GetConfiguration = Unit {0}
 IsAt s port OldestSuccess = Unit {0}
 IsAt s port OldestFailure = Unit {0}
 IsAt s port Delete = Unit {0}
@@ -46,9 +55,13 @@ of_environment : (d : Dialect) (s : Settings) (port : ℕ) → IsEnvironment s p
 of_environment Profile s port h = common s port h
 of_environment Aws s port h = (h, (h, common s port h))
 
+of_callers : (d : Dialect) (s : Settings) (port : ℕ) → Each s port (callers_routes d)
+of_callers Profile s port = (tt, (tt, (tt, (tt, (tt, tt)))))
+of_callers Aws s port = (tt, (tt, (tt, (tt, (tt, (tt, (tt, (tt, (tt, tt)))))))))
+
 each_at : (d : Dialect) (s : Settings) (port : ℕ) (b c : Bool) → (port == 0) ≡ b → nat_le port s.environments ≡ c
-    → Each s port (if b then callers_routes else if c then environment_routes d else [])
-each_at d s port true c e f = (tt, (tt, (tt, (tt, (tt, tt)))))
+    → Each s port (if b then callers_routes d else if c then environment_routes d else [])
+each_at d s port true c e f = of_callers d s port
 each_at d s port false true e f =
     let low : 1 ≤ port = omega (arith, eqb-false port 0 e) in
     of_environment d s port (low, leb-true port s.environments f)
@@ -104,50 +117,82 @@ unrefused : (o : Option Refusal) (d c : Call) → unless_refused o d ≡ Ok c �
 unrefused None d c e = (refl, cc)
 unrefused (Some why) d c e = cc
 
-fits_size : (d : Dialect) (s : Settings) (target : List ℕ) (headers : RequestHeaders) (body hole : List ℕ) (route : Route)
-    → refusal_of d s target headers body hole route ≡ None → length body ≤ most_bytes s route
-fits_size d s target headers body hole route e =
-    let later = first_failed (size_check s body route ∷ content_check body route ∷ []) in
-    let one = none_of (failed (function_check d s target hole route)) (or_later (failed (header_check headers route)) later) e in
-    let two = none_of (failed (header_check headers route)) later one.1 in
-    let three = none_of (failed (size_check s body route)) (first_failed (content_check body route ∷ [])) two.1 in
-    ltb-false (most_bytes s route) (length body)
-    (passes (nat_lt (most_bytes s route) (length body)) (size_check s body route).1 three.0)
+passes_size : (d : Dialect) (s : Settings) (target : List ℕ) (headers : RequestHeaders) (body : Body) (hole : List ℕ) (route : Route)
+    → refusal_of d s target headers body hole route ≡ None → (size_check d s body route).0 ≡ false
+passes_size d s target headers body hole route e =
+    let content = content_check (bytes_of body) route in
+    let later = first_failed (size_check d s body route ∷ content ∷ []) in
+    let one = none_of (failed (function_check d s target hole route)) (or_later (failed (header_check d headers route)) later) e in
+    let two = none_of (failed (header_check d headers route)) later one.1 in
+    let three = none_of (failed (size_check d s body route)) (first_failed (content ∷ [])) two.1 in
+    passes (size_check d s body route).0 (size_check d s body route).1 three.0
+
+fits_size : (s : Settings) (body : Body) (route : Route) → is_too_large s body route ≡ false → length (bytes_of body) ≤ most_bytes s route
+fits_size s (Whole bytes) route e = ltb-false (most_bytes s route) (length bytes) e
+fits_size s TooLarge route e = cc
 
 not_empty : (s : Settings) (body : List ℕ) → 2 ≤ s.payload → length body ≤ s.payload
     → (1 ≤ length (or_empty_object body)) × (length (or_empty_object body) ≤ s.payload)
 not_empty s [] two small = (omega arith, two)
 not_empty s (b ∷ bytes) two small = (omega arith, small)
 
-keeps : (d : Dialect) (s : Settings) (port : ℕ) (headers : RequestHeaders) (body hole : List ℕ) (route : Route) → 2 ≤ s.payload
-    → IsAt s port route → length body ≤ most_bytes s route → IsWithin s (call_by d port headers body hole route)
-keeps d s port headers body hole Invoke two at small = not_empty s body two small
-keeps d s port headers body hole OldestSuccess two at small = tt
-keeps d s port headers body hole OldestFailure two at small = tt
-keeps d s port headers body hole Delete two at small = tt
-keeps d s port headers body hole StopBroker two at small = tt
-keeps d s port headers body hole RuntimeNext two at small = at
-keeps d s port headers body hole Response two at small = (at, small)
-keeps d s port headers body hole RuntimeError two at small = (at, small)
-keeps d s port headers body hole RuntimeInitError two at small = at
-keeps d s port headers body hole Register two at small = at
-keeps d s port headers body hole ExtensionNext two at small = at
-keeps d s port headers body hole ExtensionInitError two at small = at
-keeps d s port headers body hole ExtensionExitError two at small = at
-keeps d s port headers body hole Telemetry two at small = at
-keeps d s port headers body hole Logs two at small = at
+invokes : (d : Dialect) (s : Settings) (headers : RequestHeaders) (bytes : List ℕ) (dry : Bool) → is_dry_run d headers ≡ dry
+    → 2 ≤ s.payload → length bytes ≤ s.payload → IsWithin s (invoked_by d headers bytes)
+invokes d s headers bytes true is two small = rw is tt
+invokes d s headers bytes false is two small = rw is (not_empty s bytes two small)
+
+keeps : (d : Dialect) (s : Settings) (port : ℕ) (headers : RequestHeaders) (bytes hole : List ℕ) (route : Route) → 2 ≤ s.payload
+    → IsAt s port route → length bytes ≤ most_bytes s route → IsWithin s (call_with d port headers bytes hole route)
+keeps d s port headers bytes hole Invoke two at small = invokes d s headers bytes (is_dry_run d headers) refl two small
+keeps d s port headers bytes hole InvokeAsync two at small = not_empty s bytes two small
+keeps d s port headers bytes hole InvokeAsyncSlash two at small = not_empty s bytes two small
+keeps d s port headers bytes hole GetFunction two at small = tt
+keeps d s port headers bytes hole GetConfiguration two at small = tt
+keeps d s port headers bytes hole OldestSuccess two at small = tt
+keeps d s port headers bytes hole OldestFailure two at small = tt
+keeps d s port headers bytes hole Delete two at small = tt
+keeps d s port headers bytes hole StopBroker two at small = tt
+keeps d s port headers bytes hole RuntimeNext two at small = at
+keeps d s port headers bytes hole Response two at small = (at, small)
+keeps d s port headers bytes hole RuntimeError two at small = (at, small)
+keeps d s port headers bytes hole RuntimeInitError two at small = at
+keeps d s port headers bytes hole Register two at small = at
+keeps d s port headers bytes hole ExtensionNext two at small = at
+keeps d s port headers bytes hole ExtensionInitError two at small = at
+keeps d s port headers bytes hole ExtensionExitError two at small = at
+keeps d s port headers bytes hole Telemetry two at small = at
+keeps d s port headers bytes hole Logs two at small = at
+
+-- a response that is told as an error
+told_as_error : (d : Dialect) (s : Settings) (port : ℕ) (hole : List ℕ) (route : Route) → IsAt s port route
+    → is_told_as_error d s route ≡ true → IsWithin s (call.RuntimeError port (id_of hole) (response_too_large s))
+told_as_error Aws s port hole Response at e = (at, leb-true (length (response_too_large s)) s.response e)
+told_as_error Aws s port hole route at e = cc
+told_as_error Profile s port hole route at e = cc
+
+must_be_told : (told : Bool) → (true && not told) ≡ false → told ≡ true
+must_be_told true e = refl
+must_be_told false e = cc
+
+keeps_by : (d : Dialect) (s : Settings) (port : ℕ) (headers : RequestHeaders) (body : Body) (hole : List ℕ) (route : Route) → 2 ≤ s.payload
+    → IsAt s port route → (size_check d s body route).0 ≡ false → (large : Bool) → is_too_large s body route ≡ large
+    → IsWithin s (if large then call.RuntimeError port (id_of hole) (response_too_large s) else call_with d port headers (bytes_of body) hole route)
+keeps_by d s port headers body hole route two at passes true is =
+    told_as_error d s port hole route at (must_be_told (is_told_as_error d s route) (subst (λ large. (large && not (is_told_as_error d s route)) ≡ false) is passes))
+keeps_by d s port headers body hole route two at passes false is =
+    keeps d s port headers (bytes_of body) hole route two at (fits_size s body route is)
 
 -- ## The law
 
 pub calls_keep_to_settings : (d : Dialect) (s : Settings) (port : ℕ) (method target : List ℕ) (headers : RequestHeaders)
-    (body : List ℕ) (c : Call) → call_of d s port method target headers body ≡ Ok c → 2 ≤ s.payload → IsWithin s c
+    (body : Body) (c : Call) → call_of d s port method target headers body ≡ Ok c → 2 ≤ s.payload → IsWithin s c
 calls_keep_to_settings d s port method target headers body c e two = by (route_of d s port method target) refl e where
   by : (found : Result Route Refusal) → route_of d s port method target ≡ found
       → call_on d s port target headers body found ≡ Ok c → IsWithin s c
   by (Err why) is e = cc
   by (Ok route) is e =
       let hole = in_hole route (segments_of target) in
-      let h = unrefused (refusal_of d s target headers body hole route) (call_by d port headers body hole route) c e in
+      let h = unrefused (refusal_of d s target headers body hole route) (call_by d s port headers body hole route) c e in
       subst (IsWithin s) h.1
-      (keeps d s port headers body hole route two (routed d s port method target route is)
-      (fits_size d s target headers body hole route h.0))
+      (keeps_by d s port headers body hole route two (routed d s port method target route is)
+      (passes_size d s target headers body hole route h.0) (is_too_large s body route) refl)

@@ -97,15 +97,15 @@ module _ (x : Scene) (all : AllAgree x.settings x.past.wanted x.past.history (ca
 
   -- ## Requests of callers
 
-  refused_accept : (c : Command) (why : Illegal) → Fine x.settings x.past (accept_by (Some why) c)
-  refused_accept c illegal.Full = quiet (accept_by (Some illegal.Full) c) refl refl
-  refused_accept c why = quiet (accept_by (Some why) c) refl refl
+  refused_accept : (told : Told) (c : Command) (why : Illegal) → Fine x.settings x.past (accept_by told (Some why) c)
+  refused_accept told c illegal.Full = quiet (accept_by told (Some illegal.Full) c) refl refl
+  refused_accept told c why = quiet (accept_by told (Some why) c) refl refl
 
-  accepting : (id bytes : List ℕ) (o : Option Illegal) → refusal_of x.settings x.past.history (command_for Accept id x.now bytes) ≡ o
-      → Fine x.settings x.past (accept_by o (command_for Accept id x.now bytes))
-  accepting id bytes None passes =
+  accepting : (told : Told) (id bytes : List ℕ) (o : Option Illegal) → refusal_of x.settings x.past.history (command_for Accept id x.now bytes) ≡ o
+      → Fine x.settings x.past (accept_by told o (command_for Accept id x.now bytes))
+  accepting told id bytes None passes =
       commanding (command_for Accept id x.now bytes) _ refl refl passes (idle_never x.settings x.past all id (accepted_rests x.settings x.past.history id x.now bytes passes))
-  accepting id bytes (Some why) passes = refused_accept (command_for Accept id x.now bytes) why
+  accepting told id bytes (Some why) passes = refused_accept told (command_for Accept id x.now bytes) why
 
   refused_collect : (c : Command) (why : Illegal) → Fine x.settings x.past (collect_by (Some why) c)
   refused_collect c illegal.NotEnded = quiet (collect_by (Some illegal.NotEnded) c) refl refl
@@ -237,7 +237,9 @@ module _ (x : Scene) (all : AllAgree x.settings x.past.wanted x.past.history (ca
 
       -- all but the stop
       pub request_is_fine : (slot : ℕ) (drawn : List ℕ) (call : Call) → length (text_of call) ≤ x.settings.response → call_stops call ≡ false → Fine x.settings x.past (effect_of_request x slot drawn call)
-      request_is_fine slot drawn (calls.Invoke payload) fits runs_on = accepting drawn payload (refusal_of x.settings x.past.history (command_for Accept drawn x.now payload)) refl
+      request_is_fine slot drawn (calls.Invoke payload) fits runs_on = accepting (reply.accepted drawn) drawn payload (refusal_of x.settings x.past.history (command_for Accept drawn x.now payload)) refl
+      request_is_fine slot drawn (calls.InvokeAsync payload) fits runs_on = accepting (reply.accepted_async drawn) drawn payload (refusal_of x.settings x.past.history (command_for Accept drawn x.now payload)) refl
+      request_is_fine slot drawn (calls.Describe what) fits runs_on = quiet (says (reply.described what)) refl refl
       request_is_fine slot drawn (calls.Oldest side) fits runs_on = telling _
       request_is_fine slot drawn (calls.Delete id) fits runs_on = deleting id
       request_is_fine slot drawn calls.StopBroker fits runs_on = absurd (true≢false runs_on)

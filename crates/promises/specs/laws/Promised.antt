@@ -10,7 +10,7 @@ use Rattle.async_core.specs.laws.Tables.{standing_at-table_of, accepted-by_histo
 use Rattle.async_core.proofs.Nexts.{next_move-by_history}
 use Rattle.api_core.specs.declared.dialect.Audience.TheVariants.{Caller}
 use Rattle.api_core.specs.declared.refusal.Refusal.TheVariants.{Unavailable}
-use Rattle.api_core.specs.Replies.{Told, accepted, record_of, refused}
+use Rattle.api_core.specs.Replies.{Told, record_of, refused}
 use Rattle.hall_core.specs.Firsts.{oldest_ended}
 use Rattle.hall_core.specs.Past.{Past, opening}
 use Rattle.hall_core.specs.Run.{past_after, after}
@@ -20,7 +20,7 @@ use Rattle.promises.specs.Promises.{done, Telling, issued, WasAnswered202, IsTol
 use Rattle.promises.specs.laws.Histories.{goes_on_itself, kept_or_collected}
 use Rattle.promises.specs.laws.Endings.{told_again}
 use Rattle.promises.specs.laws.Telling.{IsOwn, IsPolled, Origin, origin, released_is, run_parts, history_then, point_within}
-use Rattle.promises.specs.laws.Saying.{accepts_it, shows_it, of_event}
+use Rattle.promises.specs.laws.Saying.{SaysAccepted, accepts_it, shows_it, of_event}
 
 module _ (s : Settings) (t : Telling s) where
   abbrev began : Past
@@ -44,12 +44,13 @@ module _ (s : Settings) (t : Telling s) where
     then_was : take t.point (issued s t) ≡ (past_after s met o.call).history
     then_was = history_then s began t.life.calls t.slot (t.told, t.point) o
 
-    accepted_so : (id : List ℕ) → t.told ≡ accepted id → t.point ≤ t.durable → (payload : List ℕ) × WasAnswered202 s t id payload
+    accepted_so : (id : List ℕ) → SaysAccepted t.told id → t.point ≤ t.durable → (payload : List ℕ) × WasAnswered202 s t id payload
     accepted_so id told within =
-        let a = accepts_it s met o.call t.slot id (in_words (accepted id) told) in (
+        let a = accepts_it s met o.call t.slot t.told id told (in_words t.told refl) in (
           a.payload,
           record {
-            told = told;
+            invoked = a.request;
+            told = a.invokes;
             request = record {
               before = o.front;
               now = a.now;
@@ -101,13 +102,14 @@ module _ (s : Settings) (t : Telling s) where
 
   -- ## What was told
 
-  unavailable_accepts_none : {A : Type 0} (id : List ℕ) → t.told ≡ accepted id → t.told ≡ refused Caller Unavailable → A
-  unavailable_accepts_none id told not = absurd (cc)
+  unavailable_accepts_none : {A : Type 0} (id : List ℕ) → SaysAccepted t.told id → t.told ≡ refused Caller Unavailable → A
+  unavailable_accepts_none id (inl told) not = absurd (cc)
+  unavailable_accepts_none id (inr told) not = absurd (cc)
 
   unavailable_shows_none : {A : Type 0} (e : Ending) → t.told ≡ record_of e → t.told ≡ refused Caller Unavailable → A
   unavailable_shows_none e told not = absurd (cc)
 
-  pub answered : (id : List ℕ) → t.told ≡ accepted id → (payload : List ℕ) × WasAnswered202 s t id payload
+  pub answered : (id : List ℕ) → SaysAccepted t.told id → (payload : List ℕ) × WasAnswered202 s t id payload
   answered id told =
       elim where_from [ inl (o, within) ↦ accepted_so o id told within | inr not ↦ unavailable_accepts_none id told not ]
 

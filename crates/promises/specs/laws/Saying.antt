@@ -30,12 +30,14 @@ use Rattle.hall_core.specs.Firsts.{Event, oldest_ended}
 use Rattle.hall_core.specs.Effects.{Effect, Scene, scene, command_for, command_of, effect_of, effect_of_request, accept_by, collect_by, collects, says_record, ending_of_event, where_accepted, requests, is_late, answers_event, responds}
 use Rattle.hall_core.specs.Run.{option_list, reply_to_poll, past_after}
 use Rattle.hall_core.specs.laws.Adding.{history_grows}
+use Rattle.promises.specs.Promises.{Accepts}
 use Rattle.promises.specs.laws.Telling.{IsOwn, IsPolled}
 
 -- ## Replies that speak of no event that was accepted or has ended
 
 abbrev is_other : Option Told → Bool
 is_other (Some (reply.accepted id)) = false
+is_other (Some (reply.accepted_async id)) = false
 is_other (Some (reply.record_of e)) = false
 is_other told = true
 
@@ -73,42 +75,68 @@ deleting x (Some id) = collected_by (refusal_of x.settings x.past.history (comma
 
 -- ## An acceptance
 
-pub record IsInvocation (x : Scene) (call : Call) (effect : Effect) (id : List ℕ) : Type 0 where
+-- it is told that the event was accepted, with this id
+abbrev pub SaysAccepted : Told → List ℕ → Type 0
+SaysAccepted told id = (told ≡ reply.accepted id) ⊎ (told ≡ reply.accepted_async id)
+
+not_other : (told : Told) (id : List ℕ) → SaysAccepted told id → is_other (Some told) ≡ false
+not_other told id (inl is) = ap (λ t. is_other (Some t)) is
+not_other told id (inr is) = ap (λ t. is_other (Some t)) is
+
+pub record IsInvocation (x : Scene) (call : Call) (effect : Effect) (told : Told) (id : List ℕ) : Type 0 where
   pub payload : List ℕ
-  pub is : call ≡ calls.Invoke payload
+  pub is : Accepts call payload told id
   pub command : effect.command ≡ Some (command_for Accept id x.now payload)
 
-accepting : (o : Option Illegal) (c : Command) (id : List ℕ) → (accept_by o c).reply ≡ Some (reply.accepted id) → ((accept_by o c).command ≡ Some c) × (c.id ≡ id)
-accepting None c id h = (refl, told_id c.id id h)
+-- what is told of an acceptance is what the call says
+accepting : (says : Told) (o : Option Illegal) (c : Command) (told : Told) → is_other (Some told) ≡ false → (accept_by says o c).reply ≡ Some told
+    → ((accept_by says o c).command ≡ Some c) × (says ≡ told)
+accepting says None c told not h = (refl, same says told h)
   where
-    told_id : (a b : List ℕ) → Some (reply.accepted a) ≡ Some (reply.accepted b) → a ≡ b
-    told_id a b h = cc
-accepting (Some illegal.Full) c id h = other_is_not _ (reply.accepted id) refl refl h
-accepting (Some why) c id h = other_is_not _ (reply.accepted id) refl refl h
+    same : (a b : Told) → Some a ≡ Some b → a ≡ b
+    same a b h = cc
+accepting says (Some illegal.Full) c told not h = other_is_not _ told refl not h
+accepting says (Some why) c told not h = other_is_not _ told refl not h
 
-telling : (o : Option Ending) (id : List ℕ) {A : Type 0} → (says_record o).reply ≡ Some (reply.accepted id) → A
-telling None id h = other_is_not _ (reply.accepted id) refl refl h
-telling (Some e) id h = absurd (cc)
+by_invoke : (drawn id : List ℕ) (told : Told) → reply.accepted drawn ≡ told → SaysAccepted told id → (told ≡ reply.accepted id) × (drawn ≡ id)
+by_invoke drawn id told says (inl is) = (is, cc)
+by_invoke drawn id told says (inr is) = absurd (cc)
 
-request_accepts : (x : Scene) (slot : ℕ) (drawn : List ℕ) (call : Call) (id : List ℕ) → (effect_of_request x slot drawn call).reply ≡ Some (reply.accepted id)
-    → IsInvocation x call (effect_of_request x slot drawn call) id
-request_accepts x slot drawn (calls.Invoke payload) id h =
+by_invoke_async : (drawn id : List ℕ) (told : Told) → reply.accepted_async drawn ≡ told → SaysAccepted told id → (told ≡ reply.accepted_async id) × (drawn ≡ id)
+by_invoke_async drawn id told says (inl is) = absurd (cc)
+by_invoke_async drawn id told says (inr is) = (is, cc)
+
+telling : (o : Option Ending) (told : Told) (id : List ℕ) {A : Type 0} → SaysAccepted told id → (says_record o).reply ≡ Some told → A
+telling None told id says h = other_is_not _ told refl (not_other told id says) h
+telling (Some e) told id (inl is) h = absurd (cc)
+telling (Some e) told id (inr is) h = absurd (cc)
+
+request_accepts : (x : Scene) (slot : ℕ) (drawn : List ℕ) (call : Call) (told : Told) (id : List ℕ) → SaysAccepted told id → (effect_of_request x slot drawn call).reply ≡ Some told
+    → IsInvocation x call (effect_of_request x slot drawn call) told id
+request_accepts x slot drawn (calls.Invoke payload) told id says h =
     let c = command_for Accept drawn x.now payload in
-    let parts = accepting (refusal_of x.settings x.past.history c) c id h in
-    record { payload = payload; is = refl; command = parts.0 ∙ ap (λ n. Some (command_for Accept n x.now payload)) parts.1 }
-request_accepts x slot drawn (calls.Oldest side) id h =
-    telling (ending_of_event x.settings x.past.history (oldest_ended x.settings x.past.history side)) id h
-request_accepts x slot drawn (calls.Delete event) id h = other_is_not _ (reply.accepted id) (deleting x event) refl h
-request_accepts x slot drawn calls.StopBroker id h = other_is_not _ (reply.accepted id) refl refl h
-request_accepts x slot drawn (calls.RuntimeNext environment) id h = other_is_not _ (reply.accepted id) (requested x environment _ _ _ refl) refl h
-request_accepts x slot drawn (calls.Response environment event body) id h = other_is_not _ (reply.accepted id) (responding x environment Succeed event body) refl h
-request_accepts x slot drawn (calls.RuntimeError environment event body) id h = other_is_not _ (reply.accepted id) (responding x environment (Fail Reported) event body) refl h
-request_accepts x slot drawn (calls.RuntimeInitError environment) id h = other_is_not _ (reply.accepted id) (requested x environment _ _ _ refl) refl h
-request_accepts x slot drawn (calls.Register environment name events end account) id h = other_is_not _ (reply.accepted id) (requested x environment _ _ _ refl) refl h
-request_accepts x slot drawn (calls.ExtensionNext environment identifier) id h = other_is_not _ (reply.accepted id) (requested x environment _ _ _ refl) refl h
-request_accepts x slot drawn (calls.ExtensionInitError environment identifier) id h = other_is_not _ (reply.accepted id) (requested x environment _ _ _ refl) refl h
-request_accepts x slot drawn (calls.ExtensionExitError environment identifier) id h = other_is_not _ (reply.accepted id) (requested x environment _ _ _ refl) refl h
-request_accepts x slot drawn (calls.Subscribe environment stream) id h = other_is_not _ (reply.accepted id) refl refl h
+    let parts = accepting (reply.accepted drawn) (refusal_of x.settings x.past.history c) c told (not_other told id says) h in
+    let is = by_invoke drawn id told parts.1 says in
+    record { payload = payload; is = inl (refl, is.0); command = parts.0 ∙ ap (λ n. Some (command_for Accept n x.now payload)) is.1 }
+request_accepts x slot drawn (calls.InvokeAsync payload) told id says h =
+    let c = command_for Accept drawn x.now payload in
+    let parts = accepting (reply.accepted_async drawn) (refusal_of x.settings x.past.history c) c told (not_other told id says) h in
+    let is = by_invoke_async drawn id told parts.1 says in
+    record { payload = payload; is = inr (refl, is.0); command = parts.0 ∙ ap (λ n. Some (command_for Accept n x.now payload)) is.1 }
+request_accepts x slot drawn (calls.Describe what) told id says h = other_is_not _ told refl (not_other told id says) h
+request_accepts x slot drawn (calls.Oldest side) told id says h =
+    telling (ending_of_event x.settings x.past.history (oldest_ended x.settings x.past.history side)) told id says h
+request_accepts x slot drawn (calls.Delete event) told id says h = other_is_not _ told (deleting x event) (not_other told id says) h
+request_accepts x slot drawn calls.StopBroker told id says h = other_is_not _ told refl (not_other told id says) h
+request_accepts x slot drawn (calls.RuntimeNext environment) told id says h = other_is_not _ told (requested x environment _ _ _ refl) (not_other told id says) h
+request_accepts x slot drawn (calls.Response environment event body) told id says h = other_is_not _ told (responding x environment Succeed event body) (not_other told id says) h
+request_accepts x slot drawn (calls.RuntimeError environment event body) told id says h = other_is_not _ told (responding x environment (Fail Reported) event body) (not_other told id says) h
+request_accepts x slot drawn (calls.RuntimeInitError environment) told id says h = other_is_not _ told (requested x environment _ _ _ refl) (not_other told id says) h
+request_accepts x slot drawn (calls.Register environment name events end account) told id says h = other_is_not _ told (requested x environment _ _ _ refl) (not_other told id says) h
+request_accepts x slot drawn (calls.ExtensionNext environment identifier) told id says h = other_is_not _ told (requested x environment _ _ _ refl) (not_other told id says) h
+request_accepts x slot drawn (calls.ExtensionInitError environment identifier) told id says h = other_is_not _ told (requested x environment _ _ _ refl) (not_other told id says) h
+request_accepts x slot drawn (calls.ExtensionExitError environment identifier) told id says h = other_is_not _ told (requested x environment _ _ _ refl) (not_other told id says) h
+request_accepts x slot drawn (calls.Subscribe environment stream) told id says h = other_is_not _ told refl (not_other told id says) h
 
 -- ## A record
 
@@ -129,10 +157,11 @@ of_event s h (Some event) e is =
     let same : event.1 ≡ e.id = ended_id event.1 _ _ _ (standing_in s h event.1) e is in
     subst (λ id. ending_after s id h ≡ Some e) same is
 
-accepted_no_record : {A : Type 0} (o : Option Illegal) (c : Command) (e : Ending) → (accept_by o c).reply ≡ Some (reply.record_of e) → A
-accepted_no_record None c e h = absurd (cc)
-accepted_no_record (Some illegal.Full) c e h = other_is_not _ (reply.record_of e) refl refl h
-accepted_no_record (Some why) c e h = other_is_not _ (reply.record_of e) refl refl h
+accepted_no_record : {A : Type 0} (id : List ℕ) (e : Ending) → reply.accepted id ≡ reply.record_of e → A
+accepted_no_record id e h = absurd (cc)
+
+accepted_async_no_record : {A : Type 0} (id : List ℕ) (e : Ending) → reply.accepted_async id ≡ reply.record_of e → A
+accepted_async_no_record id e h = absurd (cc)
 
 -- the request is for the oldest record of this side, and this is it; there is no command
 pub record IsShowing (x : Scene) (call : Call) (effect : Effect) (e : Ending) : Type 0 where
@@ -149,7 +178,11 @@ request_shows : (x : Scene) (slot : ℕ) (drawn : List ℕ) (call : Call) (e : E
     → IsShowing x call (effect_of_request x slot drawn call) e
 request_shows x slot drawn (calls.Invoke payload) e h =
     let c = command_for Accept drawn x.now payload in
-    accepted_no_record (refusal_of x.settings x.past.history c) c e h
+    accepted_no_record drawn e (accepting (reply.accepted drawn) (refusal_of x.settings x.past.history c) c (reply.record_of e) refl h).1
+request_shows x slot drawn (calls.InvokeAsync payload) e h =
+    let c = command_for Accept drawn x.now payload in
+    accepted_async_no_record drawn e (accepting (reply.accepted_async drawn) (refusal_of x.settings x.past.history c) c (reply.record_of e) refl h).1
+request_shows x slot drawn (calls.Describe what) e h = other_is_not _ (reply.record_of e) refl refl h
 request_shows x slot drawn (calls.Oldest side) e h =
     let ending = ending_of_event x.settings x.past.history (oldest_ended x.settings x.past.history side) in
     record { side = side; is = refl; command = no_command ending; first = said ending e h }
@@ -179,27 +212,32 @@ no_poll past told not poll = absurd (true≢false (sym (poll_is_other past.histo
 
 -- ## A call
 
--- the call invokes with this payload, and its history ends with the acceptance
-pub record IsAcceptance (s : Settings) (past : Past) (call : HallCall) (slot : ℕ) (id : List ℕ) : Type 0 where
+-- the call invokes with this payload, and is told so, and its history ends with the acceptance
+pub record IsAcceptance (s : Settings) (past : Past) (call : HallCall) (slot : ℕ) (told : Told) (id : List ℕ) : Type 0 where
+  pub request : Call
   pub payload : List ℕ
   pub now : ℕ
   pub words : ℕ × ℕ
   pub time : ℕ
-  pub is : call ≡ arrive slot (calls.Invoke payload) now words
+  pub invokes : Accepts request payload told id
+  pub is : call ≡ arrive slot request now words
   pub history : (past_after s past call).history ≡ past.history ++ command_for Accept id time payload ∷ []
 
-pub accepts_it : (s : Settings) (past : Past) (call : HallCall) (slot : ℕ) (id : List ℕ) → IsPolled past (reply.accepted id) ⊎ IsOwn s past call slot (reply.accepted id) → IsAcceptance s past call slot id
+pub accepts_it : (s : Settings) (past : Past) (call : HallCall) (slot : ℕ) (told : Told) (id : List ℕ) → SaysAccepted told id → IsPolled past told ⊎ IsOwn s past call slot told
+    → IsAcceptance s past call slot told id
 unfolding effect_of
-accepts_it s past call slot id (inl poll) = no_poll past (reply.accepted id) refl poll
-accepts_it s past call slot id (inr own) =
+accepts_it s past call slot told id says (inl poll) = no_poll past told (not_other told id says) poll
+accepts_it s past call slot told id says (inr own) =
     let x = scene s past own.now in
-    let invoked = request_accepts x slot _ own.request id own.reply in
+    let invoked = request_accepts x slot _ own.request told id says own.reply in
     record {
+      request = own.request;
       payload = invoked.payload;
       now = own.now;
       words = own.words;
       time = x.now;
-      is = own.is ∙ ap (λ c. arrive slot c own.now own.words) invoked.is;
+      invokes = invoked.is;
+      is = own.is;
       history = history_grows s past call ∙ ap (λ c. past.history ++ option_list (command_of s past c)) own.is ∙ ap (λ o. past.history ++ option_list o) invoked.command;
     }
 

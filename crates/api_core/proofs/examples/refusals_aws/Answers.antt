@@ -1,8 +1,10 @@
 -- Each one computes.
 use Rattle.std.proofs.Common.{refl}
+use Rattle.std.specs.Fmt.{digits}
 use Rattle.api_core.proofs.examples.refusals_aws.Goals as goal
 
 pub returns : goal.returns
+unfolding digits
 returns c = record {
   mode = refl;
   no_json = refl;

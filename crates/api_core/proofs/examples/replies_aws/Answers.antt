@@ -4,10 +4,12 @@ use Rattle.destination_json.specs.Record.{id_text}
 use Rattle.api_core.specs.Dialect.{account_of}
 use Rattle.std.specs.Fmt.{digits}
 use Rattle.uuid.proofs.OnLiterals.{uuid_on_literals}
+use Rattle.destination_json.specs.Stamp.{stamp_text, year_of, month_of, day_of_month}
+use Rattle.destination_json.specs.Record.{record_text}
 use Rattle.api_core.proofs.examples.replies_aws.Goals as goal
 
 pub returns : goal.returns
-unfolding account_of id_text digits uuid_on_literals
+unfolding stamp_text year_of month_of day_of_month record_text account_of id_text digits uuid_on_literals
 returns c = record {
   account = refl;
   no_account = refl;
@@ -15,6 +17,14 @@ returns c = record {
   spindown = refl;
   timeout = refl;
   failure = refl;
+  accepted_async = refl;
+  oldest = refl;
+  deleted = refl;
+  not_ended = refl;
+  not_ended_in_profile = refl;
+  dry_run = refl;
+  function = refl;
+  configuration = refl;
   telemetry = refl;
   logs = refl;
   to_environment = refl;

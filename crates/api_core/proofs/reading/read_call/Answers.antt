@@ -1,19 +1,21 @@
-use Rattle.std.proofs.Common.{◌≡◌, ℕ, List, map, filter, Result, Err, Bor, ap, sym, ◌∙◌}
+use Rattle.std.proofs.Common.{rules, ◌≡◌, ℕ, List, map, filter, None, Result, Ok, Err, Bor, ap, sym, ◌∙◌}
 use Rattle.percent_encoding.specs.Percent.{percent_decode}
 use Rattle.retry_rules.specs.declared.settings.Settings.{Settings}
 use Rattle.api_core.specs.declared.dialect.Dialect.{Dialect}
+use Rattle.api_core.specs.declared.body.Body.{Body}
+use Rattle.api_core.specs.declared.call.Call.{Call}
 use Rattle.api_core.specs.declared.route.Route.{Route}
 use Rattle.api_core.specs.declared.refusal.Refusal.{Refusal}
 use Rattle.api_core.specs.declared.refusal.RequestError.{RequestError}
 use Rattle.api_core.specs.declared.refusal.RequestError.TheVariants.{Refused, OutOfMemory}
-use Rattle.api_core.specs.Paths.{fits, routes_at, route_among, route_of}
+use Rattle.api_core.specs.Paths.{fits, routes_at, route_among, route_of, segments_of, in_hole}
 use Rattle.api_core.specs.Headers.{RequestHeaders}
-use Rattle.api_core.specs.Requests.{call_on}
+use Rattle.api_core.specs.Requests.{refusal_of, unless_refused, call_by, call_on}
 use Rattle.api_core.specs.Says.{Says}
 use Rattle.api_core.proofs.reading.read_call.Goals as goal
 
 -- a request without a route is refused as its route is
-unrouted : (d : Dialect) (s : Settings) (port : ℕ) (target : List ℕ) (headers : RequestHeaders) (body : List ℕ) (found route : Result Route Refusal) (e : RequestError)
+unrouted : (d : Dialect) (s : Settings) (port : ℕ) (target : List ℕ) (headers : RequestHeaders) (body : Body) (found route : Result Route Refusal) (e : RequestError)
     → found ≡ route → Says found (Err e) → Says (call_on d s port target headers body route) (Err e)
 unrouted d s port target headers body found route (Refused why) same h = ap (call_on d s port target headers body) (sym same ∙ h)
 unrouted d s port target headers body found route OutOfMemory same h = tt
@@ -23,8 +25,31 @@ returns-in-Err c =
     let s = c.args.settings.now in
     let port = c.args.port in
     let target = c.args.target.now in
-    unrouted c.args.dialect s port target c.args.headers.now c.args.body.items
+    unrouted c.args.dialect s port target c.args.headers.now c.args.body
     (route_among c.as_str.result.now (filter (fits (map percent_decode (map (λ (part : Bor (List ℕ)). part.now) c.deref.result.now))) (routes_at c.args.dialect s port)))
     (route_of c.args.dialect s port c.args.method.now target) c.in-Err.error
     (rw (c.deref.ensures.value, c.in_ok-parts.ensures, c.as_str.ensures.value))
     c.in-Err.ensures
+
+-- a request with a route that no check refuses
+called : (d : Dialect) (s : Settings) (port : ℕ) (target : List ℕ) (headers : RequestHeaders) (body : Body) (found : Result Route Refusal) (route : Route) (hole : List ℕ) (call : Call)
+    → found ≡ Ok route → hole ≡ in_hole route (segments_of target)
+    → refusal_of d s target headers body hole route ≡ None → call ≡ call_by d s port headers body hole route
+    → call_on d s port target headers body found ≡ Ok call
+called d s port target headers body found route hole call is at none by =
+    ap (call_on d s port target headers body) is
+    ∙ ap (λ h. unless_refused (refusal_of d s target headers body h route) (call_by d s port headers body h route)) (sym at)
+    ∙ ap (λ o. unless_refused o (call_by d s port headers body hole route)) none
+    ∙ ap (λ c. Ok c) (sym by)
+
+pub returns : goal.returns
+returns c =
+    let d = c.args.dialect in
+    let s = c.args.settings.now in
+    let target = c.args.target.now in
+    let hole = percent_decode c.in_ok-part.part.now in
+    let none : refusal_of d s target c.args.headers.now c.args.body hole c.in-Ok.route ≡ None = search rules in
+    called d s c.args.port target c.args.headers.now c.args.body (route_of d s c.args.port c.args.method.now target) c.in-Ok.route hole c.in_ok-call.call
+    (rw (c.deref.ensures.value, c.in_ok-parts.ensures, c.as_str.ensures.value) at c.in-Ok.ensures)
+    (rw (c.deref-2.ensures.value, c.in_ok-parts.ensures) at c.in_ok-part.ensures)
+    none c.in_ok-call.ensures

@@ -1,0 +1,308 @@
+// Records that nobody wants: they are collected here.
+ghost use Rattle.std.specs.Prelude.{◌≡◌, map, take, IfOk, Some};
+ghost use Rattle.api_core.specs.declared.call.Call.TheVariants.{Delete};
+ghost use Rattle.long_poll.specs.Port.{IsDoneFor};
+ghost use Rattle.receipts.specs.Locked.{hall_in};
+ghost use Rattle.http_front.specs.Discarding.{is_unwanted, unwanted_ids};
+
+use crate::arriving::hand_over;
+use crate::error::ArrivalError;
+use crate::front_state::FrontState;
+use crate::starting::PortThread;
+use crate::wake::{Slept, Wake};
+use api_core::Call;
+use front_board::Seated;
+use group_commit::Ticket;
+use hall_core::HallError;
+use invoke_records::{EventRow, Outcome, Standing};
+use long_poll::{Port, Waiting};
+use port_meters::{Machine, Moment};
+use receipts::{SharedOpening, SharedTrace, Trace, Unreleased, View};
+use std::alloc::{AllocError, Global};
+use std::sync::ledger::Ledger;
+use std::sync::{Arc, Wait};
+use std::time::Clock;
+use std::{io, thread};
+
+/// How many records are collected at a turn. As many commands may be pending four times over, so nobody else is turned away.
+const MOST_AT_ONCE: usize = 64;
+
+/// How long it takes at most until records are looked for again that were not collected, in milliseconds.
+const PAUSE: u64 = 100;
+
+/// Of which sides records are collected as soon as they are durable, so that nobody is told them.
+#[derive(Clone, Copy)]
+pub struct Discard {
+    /// Those of events that succeeded.
+    pub success: bool,
+    /// Those of all others that ended.
+    pub failure: bool,
+}
+
+impl Discard {
+    // Whether there are such sides.
+    fn is_any(self) -> bool {
+        self.success || self.failure
+    }
+}
+
+/// Of which sides records are collected, and what their collector sleeps on.
+#[derive(Drop)]
+pub(crate) struct Discarding {
+    discard: Discard,
+    wake: Wake,
+}
+
+impl Discarding {
+    pub(crate) fn new(discard: Discard) -> Discarding {
+        Discarding {
+            discard,
+            wake: Wake::new(),
+        }
+    }
+
+    /// Calls the collector, where there is one.
+    pub(crate) fn call<R: Wait>(&self, rt: &R) {
+        if self.discard.is_any() {
+            self.wake.call(rt);
+        }
+    }
+}
+
+// Whether the record of an event that stands there is collected.
+fn is_unwanted(discard: Discard, standing: Standing) -> bool
+    ensures { result ≡ is_unwanted discard standing }
+{
+    match standing {
+        Standing::Ended { outcome, .. } => {
+            if outcome == Outcome::Success {
+                discard.success
+            } else {
+                discard.failure
+            }
+        }
+        _ => false,
+    }
+}
+
+// The events among these rows whose records are discarded.
+fn all_unwanted(
+    alloc: Global,
+    discard: Discard,
+    rows: &[EventRow],
+) -> Result<Vec<[u8; 16]>, AllocError>
+    ensures { IfOk result (λ ids. ids.items ≡ unwanted_ids discard rows.now) }
+{
+    rows.iter()
+        .filter(|row| is_unwanted(discard, row.standing))
+        .map(
+            |row|
+                ensures { result ≡ row.now.id }
+            { row.id },
+        )
+        .collect(alloc)
+}
+
+// The first of them, as many as are collected at a turn.
+fn next_unwanted(
+    alloc: Global,
+    discard: Discard,
+    rows: &[EventRow],
+) -> Result<Vec<[u8; 16]>, AllocError>
+    ensures { IfOk result (λ ids. ids.items ≡ take 64 (unwanted_ids discard rows.now)) }
+{
+    let mut ids = all_unwanted(alloc, discard, rows)?;
+    ids.truncate(MOST_AT_ONCE);
+    Ok(ids)
+}
+
+/// A record that was asked for by a DELETE, with the slot of that. Where it is dropped, the slot is forgotten.
+#[derive(Drop)]
+struct Collected<R: Wait, L: Ledger, T: Trace> {
+    id: [u8; 16],
+    waiting: Waiting<R, L, T>,
+    // claim: A record is collected by one DELETE, as a caller sends it: just that was done to the hall before.
+    ghost done: { ∥ IsDoneFor (Delete (Some id)) (hall_in waiting.seen.before.value.hall) (hall_in waiting.seen.after.value.hall)
+        waiting.slot ∥₁ },
+}
+
+// A DELETE of a record comes to a port now, as from a caller.
+fn ask<R: Wait + Clock + Drop + Copy, L: Ledger, T: Trace>(
+    rt: R,
+    port: &Arc<Port<L, T>>,
+    id: [u8; 16],
+) -> Result<Waiting<R, L, T>, ArrivalError>
+    ensures { IfOk result (λ waiting. IsDoneFor (Delete (Some id)) (hall_in waiting.seen.before.value.hall)
+        (hall_in waiting.seen.after.value.hall) waiting.slot) }
+{
+    let theirs = Arc::try_clone(port)?;
+    let now = Moment::now(&rt)?.millis();
+    let arrived = hand_over(&rt, port, Call::Delete(Some(id)), now, [0, 0])?;
+    Ok(Waiting::new(rt, theirs, arrived))
+}
+
+// A record is collected, at a port.
+fn collect<R: Wait + Clock + Drop + Copy, L: Ledger, T: Trace>(
+    rt: R,
+    port: &Arc<Port<L, T>>,
+    id: [u8; 16],
+) -> Result<Collected<R, L, T>, ArrivalError>
+    ensures { IfOk result (λ collected. collected.id ≡ id) }
+{
+    let waiting = ask(rt, port, id)?;
+    Ok(Collected { id, waiting })
+}
+
+// These records are collected, one after the other, up to the first that is refused.
+fn collect_all<R: Wait + Clock + Drop + Copy, L: Ledger, T: Trace>(
+    rt: R,
+    alloc: Global,
+    port: &Arc<Port<L, T>>,
+    ids: &[[u8; 16]],
+) -> Result<Vec<Collected<R, L, T>>, ArrivalError>
+    ensures { IfOk result (λ all. map (λ collected. collected.id) all.items ≡ ids.now) }
+{
+    let mut all = Vec::with_capacity(alloc, ids.len())?;
+    for id in ids {
+        let collected = collect(rt, port, *id)?;
+        if all.push(collected).is_err() {
+            return Err(ArrivalError::Hall(HallError::OutOfMemory));
+        }
+    }
+    Ok(all)
+}
+
+/// Collects the records that are discarded: it looks at the office as an operator does, and asks at the callers' port as they do.
+#[derive(Drop)]
+struct Collector<R, L: Ledger, T: Trace> {
+    rt: R,
+    front: Arc<FrontState<L, T>>,
+    port: Arc<Port<L, T>>,
+    seated: Seated,
+    /// What it saw that is not durable yet, with a ticket of that.
+    seen: Option<(Unreleased, Ticket)>,
+}
+
+// What a turn found.
+#[derive(Clone, Copy)]
+enum Found {
+    /// Nothing to collect, as far as is known: a commit changes that.
+    Nothing,
+    /// Records, of which some may be left.
+    Records,
+}
+
+impl<R: Wait + Clock + Drop + Copy, L: Ledger, T: Trace> Collector<R, L, T> {
+    // What it saw, or sees now.
+    fn look(&mut self) -> Result<(Unreleased, Ticket), AllocError> {
+        match self.seen.take() {
+            Some(seen) => Ok(seen),
+            None => self.front.office.look(&self.rt).answer,
+        }
+    }
+
+    // What it saw, once all of that is durable.
+    fn view(&mut self) -> Result<Option<View>, AllocError> {
+        let (unreleased, ticket) = self.look()?;
+        match self.seated.check(ticket) {
+            Ok(receipt) => Ok(unreleased.release(receipt)),
+            Err(ticket) => {
+                self.seen = Some((unreleased, ticket));
+                Ok(None)
+            }
+        }
+    }
+
+    // Collects what a view shows that is discarded.
+    fn collect(&self, view: &View) -> Result<Vec<Collected<R, L, T>>, ArrivalError>
+        // claim: At a turn, where none is refused, just the first 64 records that a view shows of sides that are discarded
+        // are collected, each once.
+        ensures { IfOk result (λ all. map (λ collected. collected.id) all.items
+            ≡ take 64 (unwanted_ids self.now.front.value.discarding.discard view.now.hall.table.rows)) }
+    {
+        let alloc = self.front.alloc;
+        let rows = view.hall.table.rows.as_slice();
+        let ids = next_unwanted(alloc, self.front.discarding.discard, rows)?;
+        collect_all(self.rt, alloc, &self.port, &ids)
+    }
+
+    // Collects what a view shows, and has it committed.
+    fn work_on(&self, view: &View) -> Found {
+        if let Ok(none) = self.collect(view)
+            && none.is_empty()
+        {
+            return Found::Nothing;
+        }
+        self.front.wake.call(&self.rt);
+        Found::Records
+    }
+
+    // One turn.
+    fn turn(&mut self) -> Found {
+        match self.view() {
+            Ok(Some(view)) => self.work_on(&view),
+            Ok(None) => Found::Nothing,
+            Err(_) => Found::Records,
+        }
+    }
+
+    // Whether nothing is collected any more.
+    fn is_over(&self) -> bool {
+        self.front.look_at_ending().ends() || self.front.bell.has_broken()
+    }
+
+    // Sleeps until the next commit. Where records may be left, not for long.
+    fn sleep(&self, found: Found) -> Slept {
+        let wake = &self.front.discarding.wake;
+        match found {
+            Found::Nothing => wake.wait(&self.rt),
+            Found::Records => wake.wait_at_most(&self.rt, PAUSE),
+        }
+    }
+
+    // Collects until the front ends.
+    fn run(&mut self) {
+        let rt = self.rt;
+        for _ in rt.forever() {
+            if self.is_over() {
+                break;
+            }
+            let found = self.turn();
+            self.sleep(found);
+        }
+    }
+}
+
+/// Starts a thread that collects the records that are discarded, where some are, at the callers' port, with a seat of the board.
+pub(crate) fn start_collector<R, L, T>(
+    rt: R,
+    front: &Arc<FrontState<L, T>>,
+    port: Option<&Arc<Port<L, T>>>,
+    seated: Seated,
+    threads: &mut Vec<PortThread>,
+) -> io::Result<()>
+where
+    R: Machine,
+    L: Ledger + Send + Sync + 'static,
+    T: SharedTrace + 'static,
+    T::Opening: SharedOpening + 'static,
+{
+    let Some(port) = port else {
+        return Ok(());
+    };
+    if !front.discarding.discard.is_any() {
+        return Ok(());
+    }
+    let mut collector = Collector {
+        rt,
+        front: Arc::try_clone(front)?,
+        port: Arc::try_clone(port)?,
+        seated,
+        seen: None,
+    };
+    threads.push(thread::spawn(&rt, move || {
+        collector.run();
+        Ok(())
+    })?)?;
+    Ok(())
+}
