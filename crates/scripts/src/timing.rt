@@ -1,20 +1,49 @@
-// How long calls of the table take while so many events are held.
-use crate::commands::{command, id_of, settings_for};
+// How long calls of the table take while so many events are held: `times EVENTS ROUNDS`. `bench/table` says what the lines mean.
+// Without numbers 16 events are held for 100 rounds, and what is told is only how many of the calls did what they are timed for,
+// which no machine changes.
 use async_core::Table;
-use invoke_records::{Cause, Command, GREATEST_NUMBER, Kind, Standing};
+use case_runner::{T, id_of, usual_settings};
+use invoke_records::{Bytes, Cause, Command, GREATEST_NUMBER, Kind, Standing};
+use retry_rules::Settings;
 use std::alloc::{AllocError, Global};
-use std::io;
 use std::time::{Clock, Duration, Instant};
+use std::{env, io};
 
-const NOW: u64 = 1_573_755_365_568;
+// The usual settings for so many events, which are too old after a minute.
+fn settings_for(alloc: Global, events: u64) -> Result<Settings, AllocError> {
+    match usual_settings(alloc) {
+        Some(settings) => Ok(Settings {
+            age: 60,
+            events: u16::try_from(events).unwrap_or(1024),
+            ..settings
+        }),
+        None => Err(AllocError),
+    }
+}
 
-/// How long so many calls took, and how many of them did what they are timed for.
+// A command for an event at this moment: `{}` is its payload or answer.
+fn command(alloc: Global, kind: Kind, event: u64, time: u64) -> Result<Command, AllocError> {
+    let (environment, text): (u16, &[u8]) = match kind {
+        Kind::Start => (1, b""),
+        Kind::Accept | Kind::Succeed | Kind::Fail(Cause::Reported) => (0, b"{}"),
+        _ => (0, b""),
+    };
+    Ok(Command {
+        kind,
+        id: id_of(event),
+        environment,
+        time,
+        bytes: Bytes::from_slice(alloc, text)?,
+    })
+}
+
+// How long so many calls took, and how many of them did what they are timed for.
 #[derive(Clone, Copy)]
-pub struct Times {
-    pub name: &'static str,
-    pub calls: u64,
-    pub meant: u64,
-    pub took: Duration,
+struct Times {
+    name: &'static str,
+    calls: u64,
+    meant: u64,
+    took: Duration,
 }
 
 fn apply(table: &mut Table, command: &Command) -> bool {
@@ -31,7 +60,7 @@ fn apply_all(
 ) -> Result<u64, AllocError> {
     let mut legal: u64 = 0;
     for &kind in kinds {
-        let next = command(alloc, kind, id_of(event), now)?;
+        let next = command(alloc, kind, event, now)?;
         if apply(table, &next) {
             legal = legal.saturating_add(1);
         }
@@ -42,7 +71,7 @@ fn apply_all(
 // Accepts so many events.
 fn accept_all(alloc: Global, table: &mut Table, events: u64) -> Result<(), AllocError> {
     for event in 0..events {
-        let _ = apply_all(alloc, table, event, NOW, &[Kind::Accept])?;
+        let _ = apply_all(alloc, table, event, T, &[Kind::Accept])?;
     }
     Ok(())
 }
@@ -52,9 +81,9 @@ fn accept_all(alloc: Global, table: &mut Table, events: u64) -> Result<(), Alloc
 fn fail_all(alloc: Global, table: &mut Table, events: u64) -> Result<(), AllocError> {
     for event in 1..events {
         let failed = [Kind::Accept, Kind::Start, Kind::Fail(Cause::Reported)];
-        let _ = apply_all(alloc, table, event, NOW, &failed)?;
+        let _ = apply_all(alloc, table, event, T, &failed)?;
     }
-    let _ = apply_all(alloc, table, 0, NOW + 30_000, &[Kind::Accept])?;
+    let _ = apply_all(alloc, table, 0, T + 30_000, &[Kind::Accept])?;
     Ok(())
 }
 
@@ -64,7 +93,7 @@ fn live_all(alloc: Global, table: &mut Table, events: u64, rounds: u64) -> Resul
     let mut meant: u64 = 0;
     for n in 0..rounds {
         let event = if events == 0 { 0 } else { n % events };
-        meant = meant.saturating_add(apply_all(alloc, table, event, NOW, &life)?);
+        meant = meant.saturating_add(apply_all(alloc, table, event, T, &life)?);
     }
     Ok(meant)
 }
@@ -94,20 +123,28 @@ fn find_all(table: &Table, events: u64, rounds: u64) -> u64 {
     meant
 }
 
-/// What is timed.
+// What is timed.
 #[derive(Clone, Copy)]
-pub enum Timed {
-    /// Lives of events: four commands each.
+enum Timed {
+    // Lives of events: four commands each.
     Lives,
-    /// The next move, an environment being ready: a Start.
+    // The next move, an environment being ready: a Start.
     Moves,
-    /// The next move a minute later, without an environment that is ready: all events are too old.
+    // The next move a minute later, without an environment that is ready: all events are too old.
     Expiries,
-    /// The same where an event that waits for an environment is due before all that are too old.
+    // The same where an event that waits for an environment is due before all that are too old.
     LateExpiries,
-    /// Where an event stands.
+    // Where an event stands.
     Standings,
 }
+
+const ALL: [Timed; 5] = [
+    Timed::Lives,
+    Timed::Moves,
+    Timed::Expiries,
+    Timed::LateExpiries,
+    Timed::Standings,
+];
 
 impl Timed {
     fn name(self) -> &'static str {
@@ -146,9 +183,9 @@ fn call(
 ) -> Result<u64, AllocError> {
     match timed {
         Timed::Lives => live_all(alloc, table, events, rounds),
-        Timed::Moves => Ok(move_all(table, Some(1), NOW, Kind::Start, rounds)),
+        Timed::Moves => Ok(move_all(table, Some(1), T, Kind::Start, rounds)),
         Timed::Standings => Ok(find_all(table, events, rounds)),
-        _ => Ok(move_all(table, None, NOW + 60_000, Kind::Expire, rounds)),
+        _ => Ok(move_all(table, None, T + 60_000, Kind::Expire, rounds)),
     }
 }
 
@@ -172,8 +209,47 @@ fn time_over<C: Clock>(
     })
 }
 
-/// How long so many rounds of calls take of a table that holds so many events.
-pub fn time(rt: &HostRuntime, timed: Timed, events: u64, rounds: u64) -> io::Result<Times> {
+// How long so many rounds of calls take of a table that holds so many events.
+fn time(rt: &HostRuntime, timed: Timed, events: u64, rounds: u64) -> io::Result<Times> {
     let mut table = Table::new(rt.alloc(), settings_for(rt.alloc(), events)?);
     time_over(rt, rt.alloc(), &mut table, timed, events, rounds)
+}
+
+// Prints a line of what was timed.
+fn print_times(rt: &HostRuntime, times: Times, is_timed: bool) -> io::Result<()> {
+    let (name, calls, meant) = (times.name, times.calls, times.meant);
+    if is_timed {
+        let nanos = times.took.as_nanos();
+        println!(rt; "{name}: {calls} calls in {nanos} ns")
+    } else {
+        println!(rt; "{name}: {calls} calls, {meant} as meant")
+    }
+}
+
+fn number_of(words: &[String], place: usize, usual: u64) -> u64 {
+    match words.get(place) {
+        Some(word) => word.as_str().parse::<u64>().unwrap_or(usual),
+        None => usual,
+    }
+}
+
+/// The words behind `times`, if the command line begins with it.
+pub fn words_of_times(rt: &HostRuntime) -> io::Result<Option<Vec<String>>> {
+    let mut words = Vec::new(rt.alloc());
+    for word in env::args(rt)? {
+        words.push(word)?;
+    }
+    let is_asked = matches!(words.get(1), Some(word) if word.as_str() == "times");
+    Ok(if is_asked { Some(words) } else { None })
+}
+
+/// Prints how long each of the calls takes that are timed.
+pub fn print_all_times(rt: &HostRuntime, words: &[String]) -> io::Result<()> {
+    let events = number_of(words, 2, 16).clamp(1, 1024);
+    let rounds = number_of(words, 3, 100);
+    for timed in ALL {
+        let times = time(rt, timed, events, rounds)?;
+        print_times(rt, times, words.len() > 2)?;
+    }
+    Ok(())
 }

@@ -1,5 +1,6 @@
-// What a case of this program has of a disk: the disk, a broker that is open on it, or the two halves of one.
+// What a case of halves has of a disk: the disk, a broker that is open on it, or the two halves of one.
 use crate::halves::{Halves, halves_step};
+use crate::placing::set;
 use crate::split_drilling::{drill_split_step, split_orders_step};
 use case_runner::{StepReply, TextBuffer, Words};
 use disk_steps::{Base, CaseDisk, Stage, broker_step, disk_step, open_broker, refusals};
@@ -101,11 +102,6 @@ fn step_on<D: Disk>(
         OpenHalves::Open(broker) => broker_step(alloc, broker, tickets, word, words, answer),
         OpenHalves::Split(halves) => halves_step(alloc, halves, tickets, word, words, answer),
     }
-}
-
-// Takes this in place of what was there. No other function drops what was there, since that is dear to prove.
-fn set<D: Disk + Drop>(place: &mut OpenHalves<D>, now: OpenHalves<D>) {
-    *place = now;
 }
 
 // Gives up what was there, and closes it.

@@ -1,5 +1,6 @@
 // The disk of a case, and the broker, the hall or the split hall that is open on it.
 use crate::halls::whole_hall_step;
+use crate::placing::set;
 use crate::splits::{SplitHall, joined_hall, split_hall, split_step};
 use api_core::Dialect;
 use case_runner::{StepReply, TextBuffer, Words};
@@ -87,11 +88,6 @@ fn closed<D: Disk>(place: OpenHall<Broker<D>, D>, base: &mut Base) -> Option<D> 
             Some(disk.close())
         }
     }
-}
-
-/// Takes this in place of what was there. No other function drops what was there, since that is dear to prove.
-pub fn set<D: Disk + Drop>(place: &mut OpenHall<Broker<D>, D>, now: OpenHall<Broker<D>, D>) {
-    *place = now;
 }
 
 /// Gives up what was there, and closes it.

@@ -1,7 +1,8 @@
-// What a case of this program has of a disk: the disk, or a broker that is open on it.
+// What a case of brokers has of a disk: the disk, or a broker that is open on it.
 use crate::copying::copy_to;
 use crate::drilling::drill_step;
 use crate::events::whole_broker_step;
+use crate::placing::set;
 use case_runner::{StepReply, TextBuffer, Words};
 use disk_steps::{Base, CaseDisk, Stage, disk_step, open_broker};
 use env_phase::Env;
@@ -30,11 +31,6 @@ pub struct BrokerStage {
     record: Vec<u8>,
     // An environment, which needs no disk.
     environment: Option<Env>,
-}
-
-// Takes this in place of what was there. No other function drops what was there, since that is dear to prove.
-fn set(place: &mut OpenBroker, now: OpenBroker) {
-    *place = now;
 }
 
 impl BrokerStage {
