@@ -6,25 +6,22 @@ use Rattle.destination_json.specs.Stamp.{stamp_text}
 use Rattle.destination_json.specs.Record.{request_context, record_text, answer_members}
 use Rattle.destination_json.proofs.Members.{joined}
 use Rattle.destination_json.proofs.Pieces.{whole}
-use Rattle.destination_json.proofs.document.record.Goals as goal
+use Rattle.destination_json.proofs.document.add_record.Goals as goal
 
 pub returns : goal.returns
 unfolding record_text
 returns c =
     let e = c.args.ended.now in
     rw (
-      c.in_ok-extend_from_slice-6.ensures.items,
-      c.in_ok-add_answer.ensures,
       c.in_ok-extend_from_slice-5.ensures.items,
+      c.in_ok-add_answer.ensures,
       c.in_ok-extend_from_slice-4.ensures.items,
-      c.in_ok-add_context.ensures,
       c.in_ok-extend_from_slice-3.ensures.items,
+      c.in_ok-add_context.ensures,
       c.in_ok-extend_from_slice-2.ensures.items,
+      c.in_ok-add_stamp.ensures,
       c.in_ok-extend_from_slice.ensures.items,
-      c.in_ok-out.ensures.items,
-      c.as_bytes.ensures.value,
-      c.in_ok-at.ensures,
       joined (member "requestPayload" e.payload.now) (answer_members e.outcome e.answer.now),
     )
-    (whole (123 ∷ []) (125 ∷ []) (44 ∷ []) (58 ∷ []) (34 ∷ []) (codes "version") (codes "timestamp") (codes "requestContext") (codes "requestPayload") (codes "1.0")
+    (whole (123 ∷ []) (125 ∷ []) (44 ∷ []) (58 ∷ []) (34 ∷ []) c.args.out.now.items (codes "version") (codes "timestamp") (codes "requestContext") (codes "requestPayload") (codes "1.0")
     (stamp_text e.at) (request_context c.args.settings.now (told e)) e.payload.now (after_commas (answer_members e.outcome e.answer.now)))
