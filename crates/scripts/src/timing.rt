@@ -11,14 +11,12 @@ use std::{env, io};
 
 // The usual settings for so many events, which are too old after a minute.
 fn settings_for(alloc: Global, events: u64) -> Result<Settings, AllocError> {
-    match usual_settings(alloc) {
-        Some(settings) => Ok(Settings {
-            age: 60,
-            events: u16::try_from(events).unwrap_or(1024),
-            ..settings
-        }),
-        None => Err(AllocError),
-    }
+    let Some(mut settings) = usual_settings(alloc) else {
+        return Err(AllocError);
+    };
+    settings.age = 60;
+    settings.events = u16::try_from(events).unwrap_or(1024);
+    Ok(settings)
 }
 
 // A command for an event at this moment: `{}` is its payload or answer.
