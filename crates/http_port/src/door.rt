@@ -35,14 +35,6 @@ type Ending<R, A> = Graceful<
     WaitForCancellationFuture,
 >;
 
-// What a connection is served with. One function makes it, so that another one drops little.
-struct Opened<R, A> {
-    socket: Socket<R>,
-    requests: Requests<A>,
-    ending: WaitForCancellationFuture,
-    timer: Timer<R>,
-}
-
 /// Serves connections by HTTP/1.1.
 #[derive(Drop)]
 pub(crate) struct HttpDoor<R, A> {
@@ -75,43 +67,22 @@ impl<R: Clock + Copy + Drop, A: Application> HttpDoor<R, A> {
             phase_cell: Rc::clone(phase_cell).ok()?,
         })
     }
-
-    // What answers the requests of a connection.
-    fn requests_of(&self, phase_cell: &Rc<PhaseCell>) -> Option<Requests<A>> {
-        Some(Requests {
-            alloc: self.alloc,
-            application: Arc::try_clone(&self.application).ok()?,
-            hosts: Arc::try_clone(&self.hosts).ok()?,
-            phase_cell: Rc::clone(phase_cell).ok()?,
-        })
-    }
-
-    // What serves a connection.
-    fn open(&self, socket: TcpStream) -> Option<Opened<R, A>> {
-        let phase_cell = Rc::new(self.alloc, PhaseCell::new()).ok()?;
-        let requests = self.requests_of(&phase_cell)?;
-        let socket = self.socket_of(socket, &phase_cell)?;
-        let ending = self.ending.cancelled().ok()?;
-        let timer = Timer::new(self.rt, &self.timers, self.limits, phase_cell)?;
-        Some(Opened {
-            socket,
-            requests,
-            ending,
-            timer,
-        })
-    }
 }
 
 impl<R: Clock + Copy + Drop, A: Application> Door for HttpDoor<R, A> {
     type Served = ConnectionFuture<Ending<R, A>, R>;
 
     fn serve(&self, socket: TcpStream, permit: Permit) -> Option<Self::Served> {
-        let Opened {
-            socket,
-            requests,
-            ending,
-            timer,
-        } = self.open(socket)?;
+        let phase_cell = Rc::new(self.alloc, PhaseCell::new()).ok()?;
+        let requests = Requests {
+            alloc: self.alloc,
+            application: Arc::try_clone(&self.application).ok()?,
+            hosts: Arc::try_clone(&self.hosts).ok()?,
+            phase_cell: Rc::clone(&phase_cell).ok()?,
+        };
+        let socket = self.socket_of(socket, &phase_cell)?;
+        let ending = self.ending.cancelled().ok()?;
+        let timer = Timer::new(self.rt, &self.timers, self.limits, phase_cell)?;
         let conn = until(self.http.serve_connection(socket, requests), ending);
         Some(ConnectionFuture::new(conn, timer, permit))
     }

@@ -123,13 +123,17 @@ where
     connections_of(rt, door, timers, listener, ending)
 }
 
-// Serves the connections that come through a door until the port ends.
-fn run<R, D>(rt: &R, runtime: &mut LocalRuntime, connections: Connections<R, D>) -> io::Result<()>
+// Serves the connections that come through a door until the port ends. Nothing is known of the door here, whose type is large.
+fn run<R, D>(
+    rt: &R,
+    runtime: &mut LocalRuntime,
+    connections: io::Result<Connections<R, D>>,
+) -> io::Result<()>
 where
     R: Wait + Clock + RandomSource + AllocGlobal + Drop,
     D: Door,
 {
-    runtime.run_all(rt, connections)
+    runtime.run_all(rt, connections?)
 }
 
 /// Serves a port on this thread until `ending` is cancelled. A connection goes on from request to request. At the end the
@@ -164,6 +168,6 @@ where
 {
     let mut runtime = LocalRuntime::new(&rt)?;
     runtime.set_shutdown_timeout(Some(Duration::from_secs(LAST_REPLIES)));
-    let connections = opened(rt, application, listening, &runtime, limits, ending)?;
+    let connections = opened(rt, application, listening, &runtime, limits, ending);
     run(&rt, &mut runtime, connections)
 }
