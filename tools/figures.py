@@ -53,7 +53,7 @@ def outcomes(top, name, titles):
 
 
 def programs_of_cases(top):
-    """How many cases each program over scripts says that it ran, by the text that it has to print."""
+    """How many cases the program over scripts says that it ran, by the text that it has to print."""
     for path in sorted(glob.glob(os.path.join(top, "crates", "*", "stdout"))):
         told = re.search(r"^(\d+) cases, 0 differ$", read(path), re.M)
         if told:

@@ -1,10 +1,11 @@
-"""The worked cases where memory is refused: each request of a program over scripts in turn."""
+"""The worked cases where memory is refused: each request of the program over scripts in turn. What `scripts times` times."""
 import os
+import subprocess
 
 from cases.memory import refuse_memory
 from harness import HERE, Built, Skipped, case
 
-CRATES = os.path.join(HERE, "..", "crates")
+CRATE = os.path.join(HERE, "..", "crates", "scripts")
 
 
 class ScriptRuns(refuse_memory.Runs):
@@ -15,12 +16,17 @@ class ScriptRuns(refuse_memory.Runs):
         return status == 1 or told == whole
 
 
-def each_run_ends_and_most_go_on(broker, crate):
-    """Each run of the crate's cases for want of memory ends by itself, and most go on to the same answers."""
-    program = os.path.join(CRATES, crate, "out", crate)
+def scripts():
+    """The program over scripts."""
+    program = os.path.join(CRATE, "out", "scripts")
     if not os.path.isfile(program):
-        raise Skipped(f"{crate} is not built")
-    words = [program, os.path.join(CRATES, crate, "data", "memory.txt")]
+        raise Skipped("scripts is not built")
+    return program
+
+
+def each_run_ends_and_most_go_on(broker, file):
+    """Each run of a file's cases for want of memory ends by itself, and most go on to the same answers."""
+    words = [scripts(), os.path.join(CRATE, "data", file)]
     reached, counts, found = ScriptRuns(Built.refuse_memory, broker.folder, words).all()
     assert reached and not found, (reached, counts, found[:3])
     assert counts.get(0, 0) > reached // 2, counts
@@ -28,9 +34,16 @@ def each_run_ends_and_most_go_on(broker, crate):
 
 @case()
 def a_broker_that_is_refused_memory_goes_on_when_it_is_asked_again(broker):
-    each_run_ends_and_most_go_on(broker, "scripts")
+    each_run_ends_and_most_go_on(broker, "memory.txt")
 
 
 @case()
 def a_hall_that_is_refused_memory_goes_on_when_it_is_asked_again(broker):
-    each_run_ends_and_most_go_on(broker, "hall_scripts")
+    each_run_ends_and_most_go_on(broker, "memory_of_halls.txt")
+
+
+@case()
+def the_calls_of_the_table_that_are_timed_do_what_they_are_timed_for(broker):
+    moves = ("next_move", "next_move, all too old", "next_move, behind one that waits", "standing")
+    told = subprocess.run([scripts(), "times"], stdout=subprocess.PIPE, text=True, check=True).stdout.splitlines()
+    assert told == ["apply: 400 calls, 400 as meant", *(f"{name}: 100 calls, 100 as meant" for name in moves)], told

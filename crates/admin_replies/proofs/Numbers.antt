@@ -2,12 +2,6 @@
 use Rattle.std.proofs.Common.{◌≡◌, ℕ, zero, suc, ◌+◌, ◌*◌, ◌-◌, ◌/◌, ◌%◌, ◌<◌, ◌≤◌, List, [], ◌∷◌, ◌++◌, refl, arith}
 use Rattle.std.specs.Prelude.{decimal}
 use Rattle.admin_replies.specs.Lines.{last_digits}
-use Rattle.admin_replies.specs.Requests.{number_after}
-
--- more digits make no smaller number
-pub at_least : (n : ℕ) (digits : List ℕ) → n ≤ number_after n digits
-at_least n [] = omega arith
-at_least n (c ∷ cs) = let h = at_least (10 * n + (c - 48)) cs in omega arith
 
 -- the last digits of a number: none, and one more
 pub none_last : (k n : ℕ) → k ≡ 0 → [] ≡ last_digits k n

@@ -1,12 +1,13 @@
 -- What a request to the operator's port asks for, by its method and its target, or the first check that refuses it.
-use Rattle.std.specs.Prelude.{ℕ, ◌+◌, ◌*◌, ◌-◌, nat_le, ◌==◌, ◌&&◌, ◌||◌, List, [], ◌∷◌, length, drop, Bool, Option, Some, None, Result, Ok, Err, find, count_by, option_map, if◌then◌else◌, codes, bytes_eq, take, is_some}
+use Rattle.std.specs.Prelude.{ℕ, ◌+◌, nat_le, ◌==◌, ◌&&◌, ◌||◌, List, [], ◌∷◌, length, drop, Bool, Option, Some, None, Result, Ok, Err, find, count_by, option_map, if◌then◌else◌, codes, bytes_eq, take, is_some}
 use Rattle.std.specs.List.{before_first, after_first, slice_split, list_all, list_any}
-use Rattle.std.specs.Str.{byte, is_utf8, all_ascii_digits}
+use Rattle.std.specs.Str.{byte, is_utf8}
 use Rattle.uuid.specs.Text.{parsed}
 use Rattle.async_core.specs.declared.choice.Side.{Side}
 use Rattle.async_core.specs.declared.choice.Side.TheVariants as side
 use Rattle.operator_view.specs.declared.standings.Which.{Which}
 use Rattle.operator_view.specs.declared.standings.Which.TheVariants as which
+use Rattle.operator_view.specs.Limits.{number_of}
 use Rattle.admin_replies.specs.declared.admin_request.AdminRequest.{AdminRequest}
 use Rattle.admin_replies.specs.declared.admin_request.AdminRequest.TheVariants as request
 use Rattle.admin_replies.specs.declared.name.Name.{Name}
@@ -110,15 +111,6 @@ behind (Some id) = Ok (Some id)
 abbrev pub after_of : Option (List ℕ) → Result (Option (List ℕ)) AdminRefusal
 after_of None = Ok None
 after_of (Some text) = behind (id_of text)
-
--- the number behind these digits
-abbrev pub number_after : ℕ → List ℕ → ℕ
-number_after n [] = n
-number_after n (c ∷ cs) = number_after (10 * n + (c - 48)) cs
-
--- the number, if these are digits and it is at most a thousand
-abbrev pub number_of : ℕ → List ℕ → Option ℕ
-number_of n text = if all_ascii_digits text && nat_le (number_after n text) 1000 then Some (number_after n text) else None
 
 -- a number from 1 on
 abbrev pub positive : Option ℕ → Result ℕ AdminRefusal

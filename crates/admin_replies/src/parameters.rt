@@ -1,11 +1,11 @@
 // The values of a query.
-ghost use Rattle.std.specs.Prelude.{◌≡◌, ◌≤◌};
+ghost use Rattle.std.specs.Prelude.{◌≡◌};
 ghost use Rattle.std.specs.Option.{option_copied};
-ghost use Rattle.admin_replies.specs.Requests.{standing_of, after_of, limit_of, number_of};
+ghost use Rattle.admin_replies.specs.Requests.{standing_of, after_of, limit_of};
 
 use crate::admin_refusal::AdminRefusal;
 use crate::ids::read_id;
-use operator_view::Which;
+use operator_view::{Which, read_limit as read_number};
 
 /// Which events are asked for: all, where nothing is said.
 pub(crate) fn read_standing(text: Option<&str>) -> Result<Which, AdminRefusal>
@@ -33,31 +33,6 @@ pub(crate) fn read_after(text: Option<&str>) -> Result<Option<[u8; 16]>, AdminRe
     }
 }
 
-// The greatest limit.
-const MOST: usize = 1000;
-
-// The number that these digits are behind others, as far as they are digits and it is not too great.
-#[tactic(auto, using(crate::proofs::Numbers::at_least))]
-fn read_number(digits: &[u8], so_far: usize) -> Option<usize>
-    requires { so_far ≤ 1000 }
-    ensures { result ≡ number_of so_far digits.now }
-{
-    match digits {
-        [] => Some(so_far),
-        [digit, more @ ..] => {
-            if !digit.is_ascii_digit() {
-                return None;
-            }
-            let number = 10 * so_far + (*digit - b'0') as usize;
-            if MOST < number {
-                None
-            } else {
-                read_number(more, number)
-            }
-        }
-    }
-}
-
 /// How many are asked for at most: a hundred, where nothing is said.
 pub(crate) fn read_limit(text: Option<&str>) -> Result<usize, AdminRefusal>
     ensures { result ≡ limit_of (option_copied text.entry) }
@@ -66,7 +41,7 @@ pub(crate) fn read_limit(text: Option<&str>) -> Result<usize, AdminRefusal>
     if text.is_empty() {
         return Err(AdminRefusal::Limit);
     }
-    match read_number(text.as_bytes(), 0) {
+    match read_number(text.as_bytes()) {
         Some(limit) if limit >= 1 => Ok(limit),
         _ => Err(AdminRefusal::Limit),
     }

@@ -20,6 +20,7 @@ use invoke_records::Bytes;
 use percent_encoding::percent_decode;
 use retry_rules::Settings;
 use std::alloc::{AllocError, Global};
+use std::mem;
 
 // The id that a part of a path is, decoded.
 fn id_in(alloc: Global, part: &str) -> Result<Option<[u8; 16]>, AllocError>
@@ -137,22 +138,29 @@ fn register(
     })
 }
 
-// What a request with these bytes calls.
+// The bytes, which are none from now on.
+fn taken(bytes: &mut Bytes) -> Bytes
+    ensures { result ≡ bytes.old }
+{
+    mem::replace(bytes, Bytes::empty())
+}
+
+// What a request with these bytes calls, which it may take. They are not its own, since each of its arms would then drop them.
 fn call_with(
     alloc: Global,
     dialect: Dialect,
     environment: u16,
     headers: &HeaderMap,
-    bytes: Bytes,
+    bytes: &mut Bytes,
     part: &str,
     route: Route,
 ) -> Result<Call, AllocError>
-    ensures { IfOk result (λ call. call ≡ call_with dialect environment headers.now bytes (percent_decode part.now) route) }
+    ensures { IfOk result (λ call. call ≡ call_with dialect environment headers.now bytes.old (percent_decode part.now) route) }
 {
     let identifier = identifier_in(headers);
     match route {
-        Route::Invoke => invoked_by(alloc, dialect, headers, bytes),
-        Route::InvokeAsync | Route::InvokeAsyncSlash => invoked_async(alloc, bytes),
+        Route::Invoke => invoked_by(alloc, dialect, headers, taken(bytes)),
+        Route::InvokeAsync | Route::InvokeAsyncSlash => invoked_async(alloc, taken(bytes)),
         Route::GetFunction => Ok(Call::Describe(Description::Function)),
         Route::GetConfiguration => Ok(Call::Describe(Description::Configuration)),
         Route::OldestSuccess => Ok(Call::Oldest(Side::Success)),
@@ -160,8 +168,8 @@ fn call_with(
         Route::Delete => Ok(Call::Delete(id_in(alloc, part)?)),
         Route::StopBroker => Ok(Call::StopBroker),
         Route::RuntimeNext => Ok(Call::RuntimeNext { environment }),
-        Route::Response => response(alloc, environment, part, bytes),
-        Route::RuntimeError => runtime_error(alloc, environment, part, bytes),
+        Route::Response => response(alloc, environment, part, taken(bytes)),
+        Route::RuntimeError => runtime_error(alloc, environment, part, taken(bytes)),
         Route::RuntimeInitError => Ok(Call::RuntimeInitError { environment }),
         Route::Register => register(alloc, dialect, environment, headers, bytes.as_slice()),
         Route::ExtensionNext => Ok(Call::ExtensionNext {
@@ -216,9 +224,17 @@ pub(crate) fn call_by(
     if is_too_large(settings, &body, route) {
         return too_large(alloc, settings, environment, part);
     }
-    let bytes = match body {
+    let mut bytes = match body {
         Body::Whole(bytes) => bytes,
         Body::TooLarge => Bytes::empty(),
     };
-    call_with(alloc, dialect, environment, headers, bytes, part, route)
+    call_with(
+        alloc,
+        dialect,
+        environment,
+        headers,
+        &mut bytes,
+        part,
+        route,
+    )
 }

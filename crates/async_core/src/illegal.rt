@@ -7,35 +7,44 @@ use thiserror::Error;
 
 /// Why a command is not legal now.
 #[derive(Clone, Copy, Debug, Error)]
+#[error("{}", self.text())]
 pub enum Illegal {
-    #[error("a field of the command is out of range")]
     BadKind,
-    #[error("the command's bytes are too long")]
     TooLong,
-    #[error("the command is earlier than the last one")]
     ClockBack,
-    #[error("no event of this id is held")]
     Unknown,
-    #[error("an event of this id is held")]
     InUse,
-    #[error("as many events are held as may be")]
     Full,
-    #[error("the event is not due")]
     NotDue,
-    #[error("the event is too old")]
     TooOld,
-    #[error("the event is not running")]
     NotRunning,
-    #[error("the deadline has passed")]
     Late,
-    #[error("the event has not ended")]
     NotEnded,
-    #[error("as many attempts run as may run at once")]
     AtLimit,
-    #[error("fewer attempts run than may run at once")]
     BelowLimit,
-    #[error("the environment runs another event")]
     EnvBusy,
+}
+
+impl Illegal {
+    // Its words. A message at each variant would make `Display` dear to prove.
+    fn text(self) -> &'static str {
+        match self {
+            Illegal::BadKind => "a field of the command is out of range",
+            Illegal::TooLong => "the command's bytes are too long",
+            Illegal::ClockBack => "the command is earlier than the last one",
+            Illegal::Unknown => "no event of this id is held",
+            Illegal::InUse => "an event of this id is held",
+            Illegal::Full => "as many events are held as may be",
+            Illegal::NotDue => "the event is not due",
+            Illegal::TooOld => "the event is too old",
+            Illegal::NotRunning => "the event is not running",
+            Illegal::Late => "the deadline has passed",
+            Illegal::NotEnded => "the event has not ended",
+            Illegal::AtLimit => "as many attempts run as may run at once",
+            Illegal::BelowLimit => "fewer attempts run than may run at once",
+            Illegal::EnvBusy => "the environment runs another event",
+        }
+    }
 }
 
 /// Why a command was not applied.

@@ -5,8 +5,10 @@
 #![tactic(auto)]
 
 mod address;
+mod argument;
 mod auditing;
 mod clock;
+mod commands;
 mod configuring;
 mod contents;
 mod copying;

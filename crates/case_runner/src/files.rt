@@ -1,17 +1,34 @@
-// The files that a program's command line names, and what is told of them.
+// The files of a program, and what is told of them.
 use crate::TextBuffer;
 use crate::case::{Line, Purpose, read_lines};
 use crate::running::{Fixture, ScriptReport, run_case};
 use std::alloc::{AllocError, Global};
 use std::process::ExitCode;
-use std::rt::{Env, Files};
-use std::{env, fs, io};
+use std::rt::Files;
+use std::{fs, io};
 
-// How many cases were run, and how many of them differ from what they say.
+/// How many cases were run, and how many of them differ from what they say.
 #[derive(Drop)]
-struct Tally {
+pub struct Tally {
     cases: u64,
     differ: u64,
+}
+
+impl Tally {
+    /// No case was run.
+    pub fn new() -> Tally {
+        Tally {
+            cases: 0,
+            differ: 0,
+        }
+    }
+
+    /// Prints how many cases there are and how many differ. The status is 0 where none does.
+    pub fn print<R: Print>(&self, rt: &R) -> io::Result<ExitCode> {
+        let (cases, differ) = (self.cases, self.differ);
+        println!(rt; "{cases} cases, {differ} differ")?;
+        Ok(ExitCode::from(if differ == 0 { 0 } else { 1 }))
+    }
 }
 
 // Runs a script of these lines.
@@ -52,27 +69,14 @@ fn run_script<S: Fixture>(
     Ok(text)
 }
 
-// Runs the scripts that the command line names, and prints a line for each answer that is not what the script says.
-fn run_named<S: Fixture, R: Env + Files + Print + AllocGlobal>(rt: &R) -> io::Result<Tally> {
-    let alloc = rt.alloc();
-    let mut tally = Tally {
-        cases: 0,
-        differ: 0,
-    };
-    let mut names = env::args(rt)?;
-    let _ = names.next();
-    for name in names {
-        let text = fs::read_to_string(rt, name.as_str())?;
-        let lines = run_script::<S>(alloc, name.as_str(), text.as_str(), &mut tally)?;
-        print!(rt; "{}", lines.as_str())?;
-    }
-    Ok(tally)
-}
-
-/// Runs the scripts that the command line names, each case on a scene of its own. It prints a line for each answer that is
-/// not what the script says, and then how many cases there are and how many differ: the status is 0 where none does.
-pub fn run_files<S: Fixture, R: Env + Files + Print + AllocGlobal>(rt: &R) -> io::Result<ExitCode> {
-    let Tally { cases, differ } = run_named::<S, R>(rt)?;
-    println!(rt; "{cases} cases, {differ} differ")?;
-    Ok(ExitCode::from(if differ == 0 { 0 } else { 1 }))
+/// Runs the script of this name, each case on a scene of its own, and prints a line for each answer that is not what the script
+/// says.
+pub fn run_file<S: Fixture, R: Files + Print + AllocGlobal>(
+    rt: &R,
+    name: &str,
+    tally: &mut Tally,
+) -> io::Result<()> {
+    let text = fs::read_to_string(rt, name)?;
+    let lines = run_script::<S>(rt.alloc(), name, text.as_str(), tally)?;
+    print!(rt; "{}", lines.as_str())
 }

@@ -16,7 +16,7 @@ mod text_buffer;
 mod words;
 
 pub use bytes::{body, hex_bytes};
-pub use files::run_files;
+pub use files::{Tally, run_file};
 pub use orders::{CommandRange, is_kind, kind_word, read_command, read_environment, read_order};
 pub use running::Fixture;
 pub use settings::{set, usual_settings};

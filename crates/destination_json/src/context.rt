@@ -29,10 +29,18 @@ pub fn id_text(alloc: Global, id: &[u8; 16]) -> Result<String, AllocError>
     String::from_str(alloc, id.hyphenated().encode_lower(&mut buffer))
 }
 
-fn count(alloc: Global, starts: u32) -> Result<String, AllocError>
-    ensures { IfOk result (λ text. string_bytes text ≡ decimal starts) }
+fn add_id(alloc: Global, out: &mut Vec<u8>, id: &[u8; 16]) -> Result<(), AllocError>
+    ensures { OnOk result (out.new.items ≡ out.old.items ++ id_text id.now) }
 {
-    format!(in alloc; "{starts}")
+    let text = id_text(alloc, id)?;
+    out.extend_from_slice(text.as_bytes())
+}
+
+fn add_count(alloc: Global, out: &mut Vec<u8>, starts: u32) -> Result<(), AllocError>
+    ensures { OnOk result (out.new.items ≡ out.old.items ++ decimal starts) }
+{
+    let text = format!(in alloc; "{starts}")?;
+    out.extend_from_slice(text.as_bytes())
 }
 
 /// Puts the context behind a text.
@@ -44,16 +52,14 @@ pub(crate) fn add_context(
 ) -> Result<(), AllocError>
     ensures { OnOk result (out.new.items ≡ out.old.items ++ request_context settings.now (told ended.now)) }
 {
-    let id = id_text(alloc, ended.id)?;
-    let starts = count(alloc, ended.starts)?;
     out.extend_from_slice(b"{\"requestId\":\"")?;
-    out.extend_from_slice(id.as_bytes())?;
+    add_id(alloc, out, ended.id)?;
     out.extend_from_slice(b"\",\"functionArn\":\"")?;
     out.extend_from_slice(settings.arn.as_bytes())?;
     out.extend_from_slice(b":$LATEST\",\"condition\":\"")?;
     out.extend_from_slice(condition(ended.outcome).as_bytes())?;
     out.extend_from_slice(b"\",\"approximateInvokeCount\":")?;
-    out.extend_from_slice(starts.as_bytes())?;
+    add_count(alloc, out, ended.starts)?;
     out.extend_from_slice(b"}")?;
     Ok(())
 }

@@ -3,6 +3,7 @@ ghost use Rattle.std.specs.Prelude.{◌≡◌, ◌≤◌, ◌++◌, IfOk, OnOk};
 ghost use Rattle.invoke_records.specs.Spelling.{greatest_moment};
 ghost use Rattle.async_core.specs.Readers.{told};
 ghost use Rattle.destination_json.specs.Steps.{after_commas};
+ghost use Rattle.destination_json.specs.Stamp.{stamp_text};
 ghost use Rattle.destination_json.specs.Record.{record_text, function_error, response_members, answer_members};
 
 use crate::context::add_context;
@@ -69,6 +70,35 @@ fn room(ended: &Ended<'_>, settings: &Settings) -> usize {
     copied.saturating_add(named)
 }
 
+fn add_stamp(alloc: Global, out: &mut Vec<u8>, at: u64) -> Result<(), AllocError>
+    requires { at ≤ greatest_moment }
+    ensures { OnOk result (out.new.items ≡ out.old.items ++ stamp_text at) }
+{
+    let text = stamp(alloc, at)?;
+    out.extend_from_slice(text.as_bytes())
+}
+
+// Puts the record behind a text.
+fn add_record(
+    alloc: Global,
+    out: &mut Vec<u8>,
+    ended: &Ended<'_>,
+    settings: &Settings,
+) -> Result<(), AllocError>
+    requires { ended.now.at ≤ greatest_moment }
+    ensures { OnOk result (out.new.items ≡ out.old.items ++ record_text settings.now (told ended.now)) }
+{
+    out.extend_from_slice(b"{\"version\":\"1.0\",\"timestamp\":\"")?;
+    add_stamp(alloc, out, ended.at)?;
+    out.extend_from_slice(b"\",\"requestContext\":")?;
+    add_context(alloc, out, ended, settings)?;
+    out.extend_from_slice(b",\"requestPayload\":")?;
+    out.extend_from_slice(ended.payload)?;
+    add_answer(alloc, out, ended.outcome, ended.answer)?;
+    out.extend_from_slice(b"}")?;
+    Ok(())
+}
+
 /// The destination record of an event that has ended: one JSON object, without spaces outside copied bytes.
 ///
 /// Its members are those of the AWS Lambda Developer Guide, "Capturing records of Lambda asynchronous invocations", in its
@@ -78,15 +108,7 @@ pub fn record(alloc: Global, ended: &Ended<'_>, settings: &Settings) -> Result<V
     // claim: An ended event's record is, byte for byte, that of the definitions: JSON is copied, any other answer quoted.
     ensures { IfOk result (λ bytes. bytes.items ≡ record_text settings.now (told ended.now)) }
 {
-    let at = stamp(alloc, ended.at)?;
     let mut out = Vec::with_capacity(alloc, room(ended, settings))?;
-    out.extend_from_slice(b"{\"version\":\"1.0\",\"timestamp\":\"")?;
-    out.extend_from_slice(at.as_bytes())?;
-    out.extend_from_slice(b"\",\"requestContext\":")?;
-    add_context(alloc, &mut out, ended, settings)?;
-    out.extend_from_slice(b",\"requestPayload\":")?;
-    out.extend_from_slice(ended.payload)?;
-    add_answer(alloc, &mut out, ended.outcome, ended.answer)?;
-    out.extend_from_slice(b"}")?;
+    add_record(alloc, &mut out, ended, settings)?;
     Ok(out)
 }

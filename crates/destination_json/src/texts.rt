@@ -14,8 +14,12 @@ pub fn is_json(alloc: Global, bytes: &[u8]) -> Result<bool, AllocError>
 {
     match Value::from_slice(alloc, bytes) {
         Ok(_) => Ok(true),
-        Err(why) if why.is_memory() => Err(AllocError),
-        Err(_) => Ok(false),
+        Err(why) => {
+            if why.is_memory() {
+                return Err(AllocError);
+            }
+            Ok(false)
+        }
     }
 }
 

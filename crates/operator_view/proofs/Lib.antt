@@ -1,4 +1,5 @@
 pub mod Behind
+pub mod Digits
 pub mod Joining
 pub mod Least
 pub mod Passing

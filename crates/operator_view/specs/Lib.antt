@@ -1,6 +1,7 @@
 pub mod Census
 pub mod EventText
 pub mod Examples
+pub mod Limits
 pub mod Lines
 pub mod ListText
 pub mod Memory

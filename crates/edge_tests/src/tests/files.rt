@@ -1,11 +1,11 @@
 // Disks in files of the system's folder for files of the day, and in files in memory.
 use crate::tests::house::expect;
+use crate::tests::paths::path_of;
 use sector_disk::{Disk, FileDisk, FileError, MemFile, SECTOR_SIZE};
 use std::fs::File;
 use std::rt::Files;
 use std::test::Fail;
 use std::{env, fs};
-use test_parts::path_of;
 
 // What each of these bytes is, if all are the same.
 fn byte_of(bytes: &[u8]) -> Option<u8> {

@@ -4,6 +4,7 @@ ghost use Rattle.group_commit.specs.Broker.{pending_of, settings_of};
 ghost use Rattle.hall_core.specs.Fresh.{IsFresh};
 ghost use Rattle.receipts.specs.Desks.{desk_count};
 
+use crate::tests::disks::{DiskWatch, TestDisk, hall};
 use crate::tests::polls::{Poll, poll_in};
 use crate::tests::threads::{Plan, ask_in_threads};
 use api_core::Call;
@@ -20,7 +21,6 @@ use std::sync::ledger::{Blank, Ledger};
 use std::sync::{Arc, Wait};
 use std::test::Fail;
 use std::thread::Threads;
-use test_parts::{DiskWatch, TestDisk, hall};
 
 /// When all is asked, in milliseconds since 1970.
 pub const NOW: u64 = 1573755365568;

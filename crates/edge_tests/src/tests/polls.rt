@@ -1,6 +1,7 @@
 // Futures of replies, polled on one thread over an office, a board and a bell, and once from another thread.
 mod rig;
 
+use crate::tests::disks::{DiskWatch, NO_TROUBLE, Trouble};
 use crate::tests::house::{House, Story, expect, tell};
 use crate::tests::polls::rig::{PollRig, Pool, rig_in, slot_of};
 use api_core::Call;
@@ -15,7 +16,6 @@ use std::sync::{Arc, Wait};
 use std::test::Fail;
 use std::thread;
 use std::thread::Threads;
-use test_parts::{DiskWatch, NO_TROUBLE, Trouble};
 
 const RUNTIME_NEXT: Call = Call::RuntimeNext { environment: 1 };
 

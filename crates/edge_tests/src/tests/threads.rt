@@ -1,4 +1,5 @@
 // Threads that ask one office, with a committer on a thread of its own.
+use crate::tests::disks::{DiskWatch, MOST_TURNS, NO_TROUBLE, Trouble};
 use crate::tests::house::{House, NOW, Story, expect, invoke, tell};
 use group_commit::DiskHalf;
 use receipts::{Desk, FinishError, Office};
@@ -10,7 +11,6 @@ use std::sync::{Arc, Wait};
 use std::test::Fail;
 use std::thread;
 use std::thread::Threads;
-use test_parts::{DiskWatch, MOST_TURNS, NO_TROUBLE, Trouble};
 
 /// How threads ask.
 #[derive(Clone, Copy)]

@@ -8,22 +8,18 @@ pub returns : goal.returns
 returns c =
     let e = c.args.ended.now in
     rw (
-      c.in_ok-extend_from_slice-9.ensures.items,
-      c.in_ok-extend_from_slice-8.ensures.items,
       c.in_ok-extend_from_slice-7.ensures.items,
+      c.in_ok-add_count.ensures,
       c.in_ok-extend_from_slice-6.ensures.items,
       c.in_ok-extend_from_slice-5.ensures.items,
       c.in_ok-extend_from_slice-4.ensures.items,
       c.in_ok-extend_from_slice-3.ensures.items,
       c.in_ok-extend_from_slice-2.ensures.items,
+      c.in_ok-add_id.ensures,
       c.in_ok-extend_from_slice.ensures.items,
-      c.as_bytes-4.ensures.value,
-      c.in_ok-starts.ensures,
-      c.as_bytes-3.ensures.value,
+      c.as_bytes-2.ensures.value,
       c.condition.ensures,
-      c.as_bytes-2.ensures,
-      c.as_bytes.ensures.value,
-      c.in_ok-id.ensures,
+      c.as_bytes.ensures,
     )
     (context (123 ∷ []) (125 ∷ []) (44 ∷ []) (58 ∷ []) (34 ∷ []) c.args.out.now.items (codes "requestId") (codes "functionArn") (codes "condition") (codes "approximateInvokeCount")
     (id_text e.id.now) c.args.settings.now.arn (codes ":$LATEST") (condition_text e.outcome) (decimal e.starts))
