@@ -6,7 +6,8 @@ use Rattle.std.specs.List.{starts_with}
 use Rattle.std.specs.Int.{w64, from_be_bytes}
 use Rattle.invoke_records.specs.declared.error.RecordError.{RecordError}
 use Rattle.invoke_records.specs.declared.error.RecordError.TheVariants as record_error
-use Rattle.invoke_records.specs.Reading.{Fails, settings_at}
+use Rattle.invoke_records.specs.Reading.{Misses, settings_at}
+use Rattle.invoke_records.specs.laws.Fields.{first_fault}
 use Rattle.checkpoint.specs.Image.{letters, version_byte, is_version, header_with, header_at}
 
 -- what is left behind the settings of a header that fills a sector
@@ -20,8 +21,5 @@ module _ (sectors : ℕ) (bytes behind : List ℕ) (is : behind ≡ drop 28 byte
   unfolding header_at
   behind_front = cond-true _ _ _ (and_from _ _ (and_from _ _ (and_from _ _ starts known) (le-leb _ _ low)) (le-leb _ _ high)) ∙ ap (λ (l : List ℕ). header_with sectors bytes (settings_at l)) (sym is)
 
-  pub no_settings : (why : RecordError) → Fails why (settings_at behind) → (why ≡ record_error.OutOfMemory → ⊥) → header_at sectors bytes ≡ None
-  no_settings record_error.OutOfMemory fails memory = absurd (memory refl)
-  no_settings record_error.Truncated fails memory = behind_front ∙ ap (header_with sectors bytes) fails
-  no_settings record_error.BadKind fails memory = behind_front ∙ ap (header_with sectors bytes) fails
-  no_settings record_error.TooLong fails memory = behind_front ∙ ap (header_with sectors bytes) fails
+  pub no_settings : (why : RecordError) → Misses why (settings_at behind) → (why ≡ record_error.OutOfMemory → ⊥) → header_at sectors bytes ≡ None
+  no_settings why misses other = behind_front ∙ ap (header_with sectors bytes) (first_fault why (settings_at behind) other misses)

@@ -4,8 +4,7 @@ use Rattle.std.proofs.lemmas.Bool.{false≢true, eqb-true}
 use Rattle.std.proofs.lemmas.List.{append-nil}
 use Rattle.invoke_records.specs.declared.command.Command.{Command}
 use Rattle.invoke_records.specs.declared.error.RecordError.{RecordError}
-use Rattle.invoke_records.specs.declared.error.RecordError.TheVariants.{OutOfMemory, Truncated, BadKind, TooLong}
-use Rattle.invoke_records.specs.Reading.{◌>>=◌, Fails, command_at}
+use Rattle.invoke_records.specs.Reading.{◌>>=◌, command_at}
 use Rattle.gate_journal.specs.Frames.{commands_at, whole, behind_gate}
 use Rattle.gate_journal.specs.Steps.{AreDecoded}
 
@@ -49,13 +48,6 @@ at_fault commands k bytes e is =
 
 pub at_end : (commands : List Command) (bytes : List ℕ) → after_these commands (commands_at 0 bytes) ≡ Ok (commands, bytes)
 at_end commands bytes = ap (after_these commands) (commands-zero bytes) ∙ ap (λ (l : List Command). Ok (l, bytes)) (append-nil commands)
-
--- a fault that is not want of memory
-pub is_fault : (e : RecordError) (read : Result (Command × List ℕ) RecordError) → (e ≡ OutOfMemory → ⊥) → Fails e read → read ≡ Err e
-is_fault OutOfMemory read other fails = absurd (other refl)
-is_fault Truncated read other fails = fails
-is_fault BadKind read other fails = fails
-is_fault TooLong read other fails = fails
 
 -- what was found by the last command, if nothing is left behind it
 pub ended : (gate : ℕ) (read : Result (List Command × List ℕ) RecordError) (commands : List Command) (rest : List ℕ) (old new : List (ℕ × Command)) (good : Bool) → read ≡ Ok (commands, rest)

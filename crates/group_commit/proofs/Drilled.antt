@@ -1,5 +1,5 @@
 -- The steps of a script, one after another.
-use Rattle.std.specs.Prelude.{get_or, IfSome, Option}
+use Rattle.std.specs.Prelude.{get_or, IfSome, IfErr, Option, Result, Ok, Err}
 use Rattle.std.proofs.lemmas.Option.{slice_get_read}
 use Rattle.std.proofs.Common.{◌≡◌, ◌⊎◌, inl, inr, ℕ, ◌<◌, ◌≤◌, Bool, true, false, List, [], ◌∷◌, ◌++◌, length, take, refl, sym, ap, subst, ◌∙◌, arith, length-drop}
 use Rattle.sector_disk.specs.Disk.{DiskView}
@@ -19,9 +19,10 @@ use Rattle.group_commit.specs.declared.script.StepAnswer.TheVariants as answer
 use Rattle.group_commit.specs.Broker.{settings_of, table_in, durable_of, is_broken, Stands, IsSameBroker, Breaks, IsReason}
 use Rattle.sector_disk.specs.declared.memory.MemDisk.{MemDisk}
 use Rattle.sector_disk.specs.Memory.{memory_view}
-use Rattle.group_commit.specs.Drill.{Log, IsRefused, IsNotCommitted, IsStep, IsRun, MayBeCutOff, IsCutOffAt}
+use Rattle.group_commit.specs.Drill.{Log, IsRefused, IsNotResumed, IsNotCommitted, IsStep, IsRun, MayBeCutOff, IsCutOffAt}
 use Rattle.checkpoint.specs.declared.error.OpenError.{OpenError}
 use Rattle.group_commit.specs.DrillBroker.{log_of, LeadsOn, IsDrilled}
+use Rattle.group_commit.specs.Resume.{IsResumed, IsOwnReason}
 use Rattle.group_commit.proofs.Issued.{refusal_is}
 
 -- it is not broken, since it would answer so
@@ -50,6 +51,22 @@ reason_is view broker history stands command issue_error.OutOfMemory first is = 
   unbroken (is_broken broker) (λ broken. let wrong = first broken in cc),
   sym (refusal_is history stands command) ∙ is,
 )
+
+-- why a broker is not resumed, said of the history that it stands for
+pub not_resumed : {D : Type 0} {g : Ghosts D} (view : D → DiskView) (broker : Broker D g) (history : List Command) → Stands view broker history → (now : ℕ) (result : Result (Option ℕ) IssueError) (next : List Command)
+    → IsResumed (settings_of broker) history now result next → (is_broken broker ≡ true → result ≡ Err issue_error.Broken) → IfErr result (IsOwnReason broker)
+    → IfErr result (IsNotResumed (record { history = history; durable = durable_of broker; broken = is_broken broker }))
+not_resumed view broker history stands now (Ok number) next is first reason = tt
+not_resumed view broker history stands now (Err issue_error.Broken) next is first reason = reason
+not_resumed view broker history stands now (Err issue_error.WornOut) next is first reason =
+    let number : (table_in broker).number ≡ length history = ap (λ (t : Snapshot). t.number) stands.table_is ∙ number-table_of (settings_of broker) history in
+    (unbroken (is_broken broker) (λ broken. let wrong = first broken in cc), omega (arith, reason, number))
+not_resumed view broker history stands now (Err (issue_error.Illegal why)) next is first reason = is.0
+not_resumed view broker history stands now (Err issue_error.Backlog) next is first reason = (
+  unbroken (is_broken broker) (λ broken. let wrong = first broken in cc),
+  omega (arith, reason, ap length stands.pending_is, length-drop (durable_of broker) history, stands.durable_is),
+)
+not_resumed view broker history stands now (Err issue_error.OutOfMemory) next is first reason = unbroken (is_broken broker) (λ broken. let wrong = first broken in cc)
 
 module _ {g : Ghosts MemDisk} (old new : Broker MemDisk g) (history : List Command) (stands : Stands memory_view new history) where
   -- a step that changed nothing

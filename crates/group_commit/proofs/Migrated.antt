@@ -23,14 +23,14 @@ use Rattle.checkpoint.specs.declared.opened.Opened.{Opened}
 use Rattle.checkpoint.specs.declared.error.OpenError.{OpenError}
 use Rattle.checkpoint.specs.declared.error.OpenError.TheVariants as open_error
 use Rattle.checkpoint.specs.Image.{DiskImage, read_as, HasGeneration}
-use Rattle.checkpoint.specs.Live.{version_of, settings_of, generation_of, ReadsAs, ReadsToEither, RecoversTo, IsLiveIn, IsLive, may_stand, is_new, live_recovers}
+use Rattle.checkpoint.specs.Live.{version_of, settings_of, generation_of, ReadsAs, ReadsToEither, RecoversTo, IsLiveIn, IsLive, may_stand, is_new, live_reads, live_recovers}
 use Rattle.checkpoint.specs.Opening.{Refuses}
 use Rattle.group_commit.specs.declared.error.MigrateError.{MigrateError}
 use Rattle.group_commit.specs.declared.error.MigrateError.TheVariants as migrate_error
 use Rattle.group_commit.specs.History.{AreGood}
 use Rattle.group_commit.specs.Steps.{IsReadAs}
-use Rattle.group_commit.specs.Migrating.{ReadsTo, HoldsHistories, IsOldDisk, Phases, LeavesMigrating, Migrates, IsMigrateReason, IsSoundRefusal}
-use Rattle.group_commit.specs.MigrateSteps.{migrate_error_of, IsUnwritten}
+use Rattle.group_commit.specs.Migrating.{ReadsTo, HoldsHistories, IsOldDisk, Phases, LeavesMigrating, Migrates, IsMigrateReason, IsSoundRefusal, HoldsOne, HoldsOneWhere, IsUnchanged, WritesNothingBut}
+use Rattle.group_commit.specs.MigrateSteps.{migrate_error_of, IsUnwritten, IsFaultOr}
 
 -- ## Moments
 
@@ -86,6 +86,47 @@ unopened disk open_error.OutOfMemory new refused = tt
 unopened disk open_error.NotFormatted new refused = refused
 unopened disk (open_error.Damaged sector) new refused = refused
 unopened disk open_error.OldVersion new refused = absurd (new refl)
+
+-- what could not be read, and what was not written
+pub none_held : (disk : DiskView) (why : OpenError) → HoldsOneWhere disk (migrate_error_of why)
+none_held disk open_error.Fault = tt
+none_held disk open_error.OutOfMemory = tt
+none_held disk open_error.NotFormatted = tt
+none_held disk (open_error.Damaged sector) = tt
+none_held disk open_error.OldVersion = tt
+
+pub all_read : (disk : DiskView) (opened : Opened) (table : Snapshot) → IsLiveIn (version_of opened) disk opened table → HoldsOne disk
+all_read disk opened table live = (settings_of opened, table, λ image left. (version_of opened, live_reads (version_of opened) disk opened table live image left))
+
+pub one_behind : {D : Type 0} (view : D → DiskView) (mid new : D) (why : MigrateError) → HoldsOne (view mid) → IsFaultOr (new ≡ mid) why → HoldsOneWhere (view new) why
+one_behind {D} view mid new migrate_error.NotFormatted one same = tt
+one_behind {D} view mid new (migrate_error.Damaged sector) one same = tt
+one_behind {D} view mid new migrate_error.OutOfMemory one same = tt
+one_behind {D} view mid new migrate_error.Fault one same = tt
+one_behind {D} view mid new migrate_error.NotOld one same = subst (λ (d : D). HoldsOne (view d)) (sym same) one
+one_behind {D} view mid new (migrate_error.TooSmall least) one same = subst (λ (d : D). HoldsOne (view d)) (sym same) one
+one_behind {D} view mid new migrate_error.WornOut one same = subst (λ (d : D). HoldsOne (view d)) (sym same) one
+one_behind {D} view mid new migrate_error.BadKind one same = subst (λ (d : D). HoldsOne (view d)) (sym same) one
+
+pub unchanged : (old new : DiskView) (why : MigrateError) → IsUnchanged old new → WritesNothingBut old new why
+unchanged old new migrate_error.NotFormatted same = same
+unchanged old new (migrate_error.Damaged sector) same = same
+unchanged old new migrate_error.NotOld same = same
+unchanged old new (migrate_error.TooSmall least) same = same
+unchanged old new migrate_error.WornOut same = same
+unchanged old new migrate_error.BadKind same = same
+unchanged old new migrate_error.OutOfMemory same = same
+unchanged old new migrate_error.Fault same = tt
+
+pub unchanged_or : {D : Type 0} (view : D → DiskView) (old : DiskView) (mid new : D) (why : MigrateError) → IsUnchanged old (view mid) → IsFaultOr (new ≡ mid) why → WritesNothingBut old (view new) why
+unchanged_or {D} view old mid new migrate_error.NotFormatted was same = subst (λ (d : D). IsUnchanged old (view d)) (sym same) was
+unchanged_or {D} view old mid new (migrate_error.Damaged sector) was same = subst (λ (d : D). IsUnchanged old (view d)) (sym same) was
+unchanged_or {D} view old mid new migrate_error.NotOld was same = subst (λ (d : D). IsUnchanged old (view d)) (sym same) was
+unchanged_or {D} view old mid new (migrate_error.TooSmall least) was same = subst (λ (d : D). IsUnchanged old (view d)) (sym same) was
+unchanged_or {D} view old mid new migrate_error.WornOut was same = subst (λ (d : D). IsUnchanged old (view d)) (sym same) was
+unchanged_or {D} view old mid new migrate_error.BadKind was same = subst (λ (d : D). IsUnchanged old (view d)) (sym same) was
+unchanged_or {D} view old mid new migrate_error.OutOfMemory was same = subst (λ (d : D). IsUnchanged old (view d)) (sym same) was
+unchanged_or {D} view old mid new migrate_error.Fault was same = tt
 
 -- it was a fault only where reading met one
 pub fault_of : (why : OpenError) → (why ≡ open_error.OldVersion → ⊥) → migrate_error_of why ≡ migrate_error.Fault → why ≡ open_error.Fault

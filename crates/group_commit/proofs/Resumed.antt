@@ -1,6 +1,6 @@
 -- That the attempt which runs may be marked as interrupted.
-use Rattle.std.proofs.Common.{◌≡◌, ℕ, ◌≤◌, ◌++◌, ◌∷◌, List, true, false, not, None, Some, Option, refl, sym, ap, ◌∙◌, subst, arith, max}
-use Rattle.std.specs.Prelude.{nat_lt, Result, Err, IfErr}
+use Rattle.std.proofs.Common.{◌≡◌, ℕ, ◌≤◌, ◌++◌, ◌∷◌, List, true, false, not, None, Some, refl, sym, ap, ◌∙◌, subst, arith, max}
+use Rattle.std.specs.Prelude.{nat_lt}
 use Rattle.std.proofs.lemmas.Bool.{le-ltb, and_parts}
 use Rattle.retry_rules.specs.declared.settings.Settings.{Settings}
 use Rattle.invoke_records.specs.declared.command.Command.{Command}
@@ -21,8 +21,8 @@ use Rattle.sector_disk.specs.declared.disk.Disk.{Ghosts}
 use Rattle.group_commit.specs.declared.broker.Broker.{Broker}
 use Rattle.group_commit.specs.declared.error.IssueError.{IssueError}
 use Rattle.group_commit.specs.declared.error.IssueError.TheVariants as issue_error
-use Rattle.group_commit.specs.Broker.{settings_of, table_in, is_broken, IsReason}
-use Rattle.group_commit.specs.Resume.{interrupt_of, IsOwn, IsOwnReason}
+use Rattle.group_commit.specs.Broker.{settings_of, table_in, IsReason}
+use Rattle.group_commit.specs.Resume.{interrupt_of, IsOwn}
 
 -- each legal command has a moment
 moment_of_legal : (s : Settings) (h : List Command) (c : Command) → AreGood s → IsLegal s h → refusal_of s h c ≡ None → c.time ≤ 253402300799999
@@ -71,7 +71,3 @@ own_reason broker command issue_error.WornOut legal is = tt
 own_reason broker command (issue_error.Illegal why) legal is = absurd cc
 own_reason broker command issue_error.Backlog legal is = tt
 own_reason broker command issue_error.OutOfMemory legal is = tt
-
--- a resumption says that the broker is broken only where it is
-pub resumed_broken : {D : Type 0} {g : Ghosts D} (broker : Broker D g) (result : Result (Option ℕ) IssueError) → IfErr result (IsOwnReason broker) → result ≡ Err issue_error.Broken → is_broken broker ≡ true
-resumed_broken broker result reason is = subst (λ (r : Result (Option ℕ) IssueError). IfErr r (IsOwnReason broker)) is reason

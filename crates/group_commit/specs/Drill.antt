@@ -1,5 +1,5 @@
 -- What the answers of a script say of one history and of how much of it is durable.
-use Rattle.std.specs.Prelude.{◌≡◌, ◌⊎◌, ◌↔◌, ℕ, ◌+◌, ◌^◌, ◌<◌, ◌≤◌, Bool, true, false, List, [], ◌∷◌, ◌++◌, length, take, min, slice_get, IfSome, Option, Some, None, Result, Ok, Err, IsOk}
+use Rattle.std.specs.Prelude.{◌≡◌, ◌⊎◌, ℕ, ◌+◌, ◌^◌, ◌<◌, ◌≤◌, Bool, true, false, List, [], ◌∷◌, ◌++◌, length, take, min, slice_get, IfSome, Option, Some, None, Result, Ok, Err, IsOk, IfErr}
 use Rattle.retry_rules.specs.declared.settings.Settings.{Settings}
 use Rattle.invoke_records.specs.declared.command.Command.{Command}
 use Rattle.async_core.specs.History.{refusal_of}
@@ -42,6 +42,14 @@ IsNotCommitted log commit_error.Fault next = (log.broken ≡ false) × (next ≡
 IsNotCommitted log commit_error.BadKind next = ⊥
 IsNotCommitted log why next = (log.broken ≡ false) × (next ≡ log)
 
+-- why a resumption is refused: the device has failed, or one of the broker's own three other reasons holds
+abbrev pub IsNotResumed : Log → IssueError → Type 0
+IsNotResumed log issue_error.Broken = log.broken ≡ true
+IsNotResumed log issue_error.WornOut = (log.broken ≡ false) × (2 ^ 62 ≤ length log.history)
+IsNotResumed log (issue_error.Illegal why) = ⊥
+IsNotResumed log issue_error.Backlog = (log.broken ≡ false) × (length log.history ≡ log.durable + 256)
+IsNotResumed log issue_error.OutOfMemory = log.broken ≡ false
+
 -- what a step says of a resumption's answer
 abbrev pub answer_to : Result (Option ℕ) IssueError → StepAnswer
 answer_to (Ok None) = answer.Number 0
@@ -65,7 +73,8 @@ IsStep s log step.Switch (answer.CommitRefused why) next = IsNotCommitted log wh
 IsStep s log (step.Resume now) answer next =
     (result : Result (Option ℕ) IssueError) × (answer ≡ answer_to result)
     × IsResumed s log.history (min now 253402300799999) result next.history
-    × ((result ≡ Err issue_error.Broken) ↔ (log.broken ≡ true)) × (next.durable ≡ log.durable) × (next.broken ≡ log.broken)
+    × (log.broken ≡ true → result ≡ Err issue_error.Broken) × IfErr result (IsNotResumed log)
+    × (next.durable ≡ log.durable) × (next.broken ≡ log.broken)
 -- a stop leaves a prefix that has the durable commands
 IsStep s log (step.Stop choice) (answer.Number n) next =
     (log.durable ≤ n) × (n ≤ length log.history) × (next ≡ record { history = take n log.history; durable = n; broken = false })

@@ -28,6 +28,11 @@ IsUnwritten s table migrate_error.OutOfMemory = Unit {0}
 IsUnwritten s table migrate_error.Fault = Unit {0}
 IsUnwritten s table other = ⊥
 
+-- the device failed, or this holds
+abbrev pub IsFaultOr : Type 0 → MigrateError → Type 0
+IsFaultOr P migrate_error.Fault = Unit {0}
+IsFaultOr P why = P
+
 -- if an honest disk of either version was live with this table, it is now live with it in version 2
 abbrev pub WritesTable : DiskView → DiskView → Opened → Opened → Snapshot → Result (Unit {0}) MigrateError → Type 0
 WritesTable old new was is table result =

@@ -85,6 +85,27 @@ IsMigrateReason disk migrate_error.BadKind =
 IsMigrateReason disk migrate_error.OutOfMemory = Unit {0}
 IsMigrateReason disk migrate_error.Fault = Unit {0}
 
+-- each image of the disk reads to one table
+abbrev pub HoldsOne : DiskView → Type 0
+HoldsOne disk = (s : Settings) × (table : Snapshot) × ((image : List ℕ) → disk.may_leave image → ReadsTo s table image)
+
+-- where it was refused for its version, its size, its generation or its table, that is so of each image
+abbrev pub HoldsOneWhere : DiskView → MigrateError → Type 0
+HoldsOneWhere disk migrate_error.NotFormatted = Unit {0}
+HoldsOneWhere disk (migrate_error.Damaged sector) = Unit {0}
+HoldsOneWhere disk migrate_error.OutOfMemory = Unit {0}
+HoldsOneWhere disk migrate_error.Fault = Unit {0}
+HoldsOneWhere disk why = HoldsOne disk
+
+-- nothing was written: it reads as before, and a stop leaves an image from before
+abbrev pub IsUnchanged : DiskView → DiskView → Type 0
+IsUnchanged old new = (new.content ≡ old.content) × LeavesWhatWas old new
+
+-- only where the device failed may something have been written
+abbrev pub WritesNothingBut : DiskView → DiskView → MigrateError → Type 0
+WritesNothingBut old new migrate_error.Fault = Unit {0}
+WritesNothingBut old new why = IsUnchanged old new
+
 -- what may refuse a disk of which each image reads to the table of a legal history
 abbrev pub IsSoundRefusal : MigrateError → Type 0
 IsSoundRefusal migrate_error.NotFormatted = ⊥

@@ -6,8 +6,8 @@ ghost use Rattle.checkpoint.specs.declared.error.OpenError.TheVariants as open_e
 ghost use Rattle.group_commit.specs.declared.error.MigrateError.TheVariants as migrate_error;
 ghost use Rattle.group_commit.specs.History.{AreGood};
 ghost use Rattle.group_commit.specs.Promises.{LeavesWhatWas};
-ghost use Rattle.group_commit.specs.Migrating.{HoldsHistories, IsOldDisk, LeavesMigrating, Migrates, IsMigrateReason, IsSoundRefusal};
-ghost use Rattle.group_commit.specs.MigrateSteps.{migrate_error_of, IsUnwritten, WritesTable, LeavesTable};
+ghost use Rattle.group_commit.specs.Migrating.{HoldsHistories, IsOldDisk, LeavesMigrating, Migrates, IsMigrateReason, IsSoundRefusal, HoldsOneWhere, WritesNothingBut};
+ghost use Rattle.group_commit.specs.MigrateSteps.{migrate_error_of, IsUnwritten, IsFaultOr, WritesTable, LeavesTable};
 
 use crate::recovery::recover_either;
 use crate::{MigrateError, MigrateFailure};
@@ -49,6 +49,7 @@ fn open_old<D: Disk>(alloc: Global, disk: &mut D) -> Result<(Opened, Table), Mig
     ensures live { (D.view disk.old).honest → IfOk result (λ r. IsLiveIn (version_of r.0) (D.view disk.new) r.0 r.1.table) }
     ensures reason { (D.view disk.old).honest → IfErr result (IsMigrateReason (D.view disk.old)) }
     ensures sound { (D.view disk.old).honest → HoldsHistories (D.view disk.old) → IfErr result IsSoundRefusal }
+    ensures one { (D.view disk.old).honest → IfErr result (HoldsOneWhere (D.view disk.new)) }
 {
     let (opened, table) = match recover_either(alloc, disk) {
         Ok((opened, table)) => (opened, table),
@@ -86,6 +87,7 @@ fn write_new<D: Disk>(
     ensures kept { settings_of opened.new ≡ settings_of opened.old }
     ensures next { OnOk result (generation_of opened.new ≡ generation_of opened.old + 1) }
     ensures unwritten { IfErr result (IsUnwritten (settings_of opened.old) table.now.table) }
+    ensures no_call { IfErr result (IsFaultOr (disk.new ≡ disk.old)) }
     ensures written { WritesTable (D.view disk.old) (D.view disk.new) opened.old opened.new table.now.table result }
     ensures any_moment { LeavesTable (D.view disk.old) (D.view disk.new) opened.old table.now.table }
 {
@@ -110,6 +112,8 @@ fn migrate_disk<D: Disk>(alloc: Global, disk: &mut D) -> Result<(), MigrateError
     ensures reason { (D.view disk.old).honest → IfErr result (IsMigrateReason (D.view disk.old)) }
     ensures sound { (D.view disk.old).honest → HoldsHistories (D.view disk.old) → IfErr result IsSoundRefusal }
     ensures any_moment { (D.view disk.old).honest → LeavesMigrating (D.view disk.old) (D.view disk.new) }
+    ensures nothing { (D.view disk.old).honest → IfErr result (WritesNothingBut (D.view disk.old) (D.view disk.new)) }
+    ensures one { (D.view disk.old).honest → IfErr result (HoldsOneWhere (D.view disk.new)) }
 {
     match open_old(alloc, disk) {
         Ok((opened, table)) => {
@@ -142,8 +146,11 @@ pub fn migrate<D: Disk>(alloc: Global, disk: D) -> Result<D, MigrateFailure<D>>
     ensures sound { (D.view disk).honest → HoldsHistories (D.view disk) → IfErr result (λ e. IsSoundRefusal e.cause) }
 
     // claim: A refused disk is handed back. A crash meanwhile leaves an image from before, or one that reads, in its
-    // version, to the same table. [: any_moment, same_failed]
+    // version, to the same table. Only where the device failed was anything written. Refused for its version, size,
+    // generation or table, all images read to one table. [: any_moment, nothing, one, same_failed]
     ensures any_moment { (D.view disk).honest → IfErr result (λ e. LeavesMigrating (D.view disk) (D.view e.disk)) }
+    ensures nothing { (D.view disk).honest → IfErr result (λ e. WritesNothingBut (D.view disk) (D.view e.disk) e.cause) }
+    ensures one { (D.view disk).honest → IfErr result (λ e. HoldsOneWhere (D.view e.disk) e.cause) }
 {
     let mut disk = disk;
     match migrate_disk(alloc, &mut disk) {

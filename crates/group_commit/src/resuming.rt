@@ -1,8 +1,8 @@
 // Resuming after a stop: attempts that it cut off are marked as interrupted.
-ghost use Rattle.std.specs.Prelude.{◌≡◌, ◌≤◌, Err, IfErr, IsTrue};
+ghost use Rattle.std.specs.Prelude.{◌≡◌, ◌≤◌, Err, IfErr, OnErr, IsTrue};
 ghost use Rattle.invoke_records.specs.declared.command.Command.{Command};
 ghost use Rattle.group_commit.specs.declared.error.IssueError.TheVariants as issue_error;
-ghost use Rattle.group_commit.specs.Broker.{disk_of, settings_of, durable_of, is_broken};
+ghost use Rattle.group_commit.specs.Broker.{disk_of, settings_of, durable_of, is_broken, IsSameBroker};
 ghost use Rattle.group_commit.specs.Promises.{ForEachHistory, LeavesLegalStops};
 ghost use Rattle.group_commit.specs.Resume.{interrupt_at, Resumes, TellsRest, IsOwnReason};
 
@@ -32,9 +32,11 @@ impl<D: Disk> Broker<D> {
     pub fn resume(&mut self, now: u64) -> Result<Option<Ticket>, IssueError>
         requires { now ≤ 253402300799999 }
         // claim: It issues a legal Interrupt for the running event accepted first. At None each held event waits, is due
-        // again or ended. [: reason, no_call, resumes, rested]
+        // again or ended. A refusal has a reason of the broker's own, and changes nothing. [: reason, err, no_call, resumes,
+        // rested]
         ensures broken { IsTrue (is_broken self.old) → result ≡ Err issue_error.Broken }
         ensures reason { IfErr result (IsOwnReason self.old) }
+        ensures err { OnErr result (IsSameBroker self.old self.new) }
         ensures settings { settings_of self.new ≡ settings_of self.old }
         ensures durable { durable_of self.new ≡ durable_of self.old }
         ensures still { is_broken self.new ≡ is_broken self.old }

@@ -1,5 +1,5 @@
 -- What is read step by step is what is read at once: lemmas.
-use Rattle.std.proofs.Common.{◌≡◌, ℕ, Bool, true, false, not, ◌||◌, ltb, List, length, Option, Some, None, if◌then◌else◌, Result, Ok, Err, refl, sym, ap, ◌∙◌}
+use Rattle.std.proofs.Common.{◌≡◌, ℕ, Bool, true, false, not, ◌||◌, ltb, List, length, Option, Some, None, if◌then◌else◌, Result, Ok, Err, refl, sym, ap, subst, ◌∙◌}
 use Rattle.std.specs.List.{list_all}
 use Rattle.std.specs.Int.{Width, w16, w32, w64}
 use Rattle.retry_rules.specs.declared.policy.RetryPolicy.{RetryPolicy}
@@ -19,7 +19,7 @@ use Rattle.invoke_records.specs.declared.row_fields.Counts.{Counts}
 use Rattle.invoke_records.specs.Spelling.{is_bad_environment, is_bad_id, greatest_moment, greatest_number, are_in_order}
 use Rattle.invoke_records.specs.declared.error.RecordError.{RecordError}
 use Rattle.invoke_records.specs.declared.error.RecordError.TheVariants as fault
-use Rattle.invoke_records.specs.Reading.{◌>>=◌, Fails, unless, byte_at, bytes_at, number_at, small_at, limit_at, policy_at, policy_in, sized_at, text_at, limits_at, with_texts, settings_at, least_length, most_length, kind_at, fields_at, head_fault, body_at, command_at, life_at, counts_at, standing_of, answer_of, row_at, rows_at, snapshot_at, sound}
+use Rattle.invoke_records.specs.Reading.{◌>>=◌, Fails, Misses, unless, byte_at, bytes_at, number_at, small_at, limit_at, policy_at, policy_in, sized_at, text_at, limits_at, with_texts, settings_at, least_length, most_length, kind_at, fields_at, head_fault, body_at, command_at, life_at, counts_at, standing_of, answer_of, row_at, rows_at, snapshot_at, sound}
 use Rattle.invoke_records.specs.Versions.{most_payload}
 use Rattle.invoke_records.specs.laws.Fields.{done}
 use Rattle.invoke_records.specs.Steps.{Left, beside, with_rest, Reads, refused, refused_by, kind_behind, command_of, row_of}
@@ -38,6 +38,20 @@ fails_then fault.OutOfMemory read next e = tt
 fails_then fault.Truncated read next e = ap (λ r. r >>= next) e
 fails_then fault.BadKind read next e = ap (λ r. r >>= next) e
 fails_then fault.TooLong read next e = ap (λ r. r >>= next) e
+
+-- and is told
+pub stopped : {A B : Type 0} (why : RecordError) (read : Result A RecordError) (next : A → Result B RecordError) → read ≡ Err why → Misses why (read >>= next)
+stopped {A} why read next e = subst (λ (r : Result A RecordError). Misses why (r >>= next)) (sym e) refl
+
+-- what is told of what stopped the steps, is told where want of memory may come first
+pub fails_by : {A : Type 0} (why : RecordError) (read : Result A RecordError) → Misses why read → Fails why read
+fails_by fault.OutOfMemory read e = tt
+fails_by fault.Truncated (Ok x) e = absurd cc
+fails_by fault.Truncated (Err f) e = ap Err (sym e)
+fails_by fault.BadKind (Ok x) e = absurd cc
+fails_by fault.BadKind (Err f) e = ap Err (sym e)
+fails_by fault.TooLong (Ok x) e = absurd cc
+fails_by fault.TooLong (Err f) e = ap Err (sym e)
 
 -- the last step
 pub stop : {A : Type 0} (value : A) (left : Left) → (left >>= λ rest. Ok (value, rest)) ≡ beside value left

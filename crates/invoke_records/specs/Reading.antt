@@ -33,7 +33,7 @@ abbrev pub ◌>>=◌ : {A B : Type 0} → Result A RecordError → (A → Result
 (Ok x) >>= f = f x
 (Err e) >>= f = Err e
 
--- what a function returned, seen by view, is what reading gives, unless memory ran out
+-- what a function returned, seen by view, is what reading gives, unless memory ran out, which may be in front of a fault
 abbrev pub Fails : {Y : Type 0} → RecordError → Result Y RecordError → Type 0
 Fails fault.OutOfMemory read = Unit {0}
 Fails fault.Truncated read = read ≡ Err fault.Truncated
@@ -43,6 +43,21 @@ Fails fault.TooLong read = read ≡ Err fault.TooLong
 abbrev pub Gives : {X Y : Type 0} → (X → Y) → Result X RecordError → Result Y RecordError → Type 0
 Gives view (Ok x) read = read ≡ Ok (view x)
 Gives view (Err e) read = Fails e read
+
+-- it is what reading gives, seen by view, or why reading gives nothing
+abbrev pub IsRead : {X Y : Type 0} → (X → Y) → Result X RecordError → Result Y RecordError → Type 0
+IsRead view (Ok x) read = read ≡ Ok (view x)
+IsRead view (Err e) read = read ≡ Err e
+
+-- why it was not read: the first fault, or want of memory where there is none
+abbrev pub Misses : {Y : Type 0} → RecordError → Result Y RecordError → Type 0
+Misses e (Ok y) = e ≡ fault.OutOfMemory
+Misses e (Err why) = e ≡ why
+
+-- it is what reading gives, or why it was not read
+abbrev pub Decodes : {X Y : Type 0} → (X → Y) → Result X RecordError → Result Y RecordError → Type 0
+Decodes view (Ok x) read = read ≡ Ok (view x)
+Decodes view (Err e) read = Misses e read
 
 -- it is this value, unless the test holds
 abbrev pub unless : {A : Type 0} → Bool → RecordError → A → Result A RecordError

@@ -3,7 +3,7 @@ ghost use Rattle.std.specs.List.{list_all};
 ghost use Rattle.std.specs.Prelude.{◌≡◌, ◌++◌, ◌≤◌, None, Some, IfOk, MatchResult, drop, length, List, ℕ, Ok};
 ghost use Rattle.invoke_records.specs.declared.command.Command.{Command};
 ghost use Rattle.invoke_records.specs.Spelling.{command_text, is_bad_environment, is_zero, is_bad_id, IsCommand};
-ghost use Rattle.invoke_records.specs.Reading.{Gives, fields_at, head_fault, failure_at, configured_at, body_at, command_at, least_length, most_length};
+ghost use Rattle.invoke_records.specs.Reading.{IsRead, Decodes, fields_at, head_fault, failure_at, configured_at, body_at, command_at, least_length, most_length};
 ghost use Rattle.invoke_records.specs.Steps.{Reads, with_rest, refused_by, kind_behind, command_of};
 ghost use Rattle.invoke_records.specs.Records.{Finds};
 
@@ -55,7 +55,7 @@ fn read_head(reader: &mut Reader) -> Head
 }
 
 fn failure_of(byte: u8, error: &[u8]) -> Result<(Kind, &[u8]), RecordError>
-    ensures { Gives (λ x. (x.0, x.1.now)) result (failure_at byte error.now) }
+    ensures { IsRead (λ x. (x.0, x.1.now)) result (failure_at byte error.now) }
 {
     let cause = match byte {
         1 => return Ok((Kind::Fail(Cause::Reported), error)),
@@ -70,7 +70,7 @@ fn failure_of(byte: u8, error: &[u8]) -> Result<(Kind, &[u8]), RecordError>
 }
 
 fn configured(bytes: &[u8]) -> Result<(Kind, &[u8]), RecordError>
-    ensures { Gives (λ x. (x.0, x.1.now)) result (configured_at bytes.now) }
+    ensures { IsRead (λ x. (x.0, x.1.now)) result (configured_at bytes.now) }
 {
     let mut reader = Reader::new(bytes);
     let policy = reader.policy();
@@ -80,7 +80,7 @@ fn configured(bytes: &[u8]) -> Result<(Kind, &[u8]), RecordError>
 
 #[tactic(auto, unfolding(crate::specs::Reading::body_at))]
 fn body_of(kind: Kind, bytes: &[u8]) -> Result<(Kind, &[u8]), RecordError>
-    ensures { Gives (λ x. (x.0, x.1.now)) result (body_at kind bytes.now) }
+    ensures { IsRead (λ x. (x.0, x.1.now)) result (body_at kind bytes.now) }
 {
     match (kind, bytes) {
         (Kind::Fail(_), []) => Err(RecordError::BadKind),
@@ -164,7 +164,7 @@ fn command_of<'a>(
     body: &[u8],
     rest: &'a [u8],
 ) -> Result<(Command, &'a [u8]), RecordError>
-    ensures { Gives (λ x. (x.0, x.1.now)) result (with_rest (command_of head body.now) rest.now) }
+    ensures { Decodes (λ x. (x.0, x.1.now)) result (with_rest (command_of head body.now) rest.now) }
 {
     let (kind, carried) = body_of(head.kind, body)?;
     let bytes = Bytes::from_slice(alloc, carried)?;
@@ -180,7 +180,7 @@ fn command_of<'a>(
 }
 
 fn read_command(alloc: Global, bytes: &[u8]) -> Result<(Command, &[u8]), RecordError>
-    ensures { Gives (λ x. (x.0, x.1.now)) result (command_at bytes.now) }
+    ensures { Decodes (λ x. (x.0, x.1.now)) result (command_at bytes.now) }
 {
     let mut reader = Reader::new(bytes);
     reader.refuse(bytes.len() < 31, RecordError::Truncated);
@@ -200,9 +200,9 @@ impl Command {
     /// the causes Timeout and Exited are `TooLong`; then `OutOfMemory`.
     pub fn decode(alloc: Global, bytes: &[u8]) -> Result<(Command, usize), RecordError>
         // claim: A record is read only where the bytes begin with a spelling, and refused there for want of memory alone.
-        // Of others the first fault is told, or want of memory. [EventRow::decode, Snapshot::decode; SettingsRecord::decode:
-        // exact, size, found, good, only]
-        ensures exact { Gives (λ x. (x.0, drop x.1 bytes.now)) result (command_at bytes.now) }
+        // Of others the first fault is told; of a snapshot's bytes it may be want of memory. [EventRow::decode, Snapshot::decode;
+        // SettingsRecord::decode: exact, size, found, good, only]
+        ensures exact { Decodes (λ x. (x.0, drop x.1 bytes.now)) result (command_at bytes.now) }
         ensures spelled { IfOk result (λ x. IsCommand x.0) }
         ensures size { IfOk result (λ x. x.1 ≡ length (command_text x.0)) }
         ensures found { IfOk result (λ x. bytes.now ≡ command_text x.0 ++ drop x.1 bytes.now) }

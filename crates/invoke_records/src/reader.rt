@@ -1,7 +1,7 @@
 // Reading fields one after another from the front of some bytes.
 ghost use Rattle.std.specs.Prelude.{◌≡◌, Ok};
 ghost use Rattle.std.specs.Int.{w16, w32, w64};
-ghost use Rattle.invoke_records.specs.Reading.{Gives, byte_at, bytes_at, number_at, small_at, limit_at, policy_at, policy_in, sized_at};
+ghost use Rattle.invoke_records.specs.Reading.{IsRead, byte_at, bytes_at, number_at, small_at, limit_at, policy_at, policy_in, sized_at};
 ghost use Rattle.invoke_records.specs.Steps.{Reads, refused};
 
 use crate::{RecordError, Version};
@@ -33,7 +33,7 @@ impl<'a> Reader<'a> {
 
     /// What is left, or the first fault.
     pub fn end(self) -> Result<&'a [u8], RecordError>
-        ensures { Gives (λ rest. rest.now) result self.entry }
+        ensures { IsRead (λ rest. rest.now) result self.entry }
     {
         self.left
     }

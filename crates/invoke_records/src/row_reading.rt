@@ -2,7 +2,7 @@
 ghost use Rattle.std.specs.Prelude.{◌≡◌, ◌++◌, ◌<◌, IfOk, MatchResult, drop, length, List, ℕ, Ok};
 ghost use Rattle.invoke_records.specs.declared.row.EventRow.{EventRow};
 ghost use Rattle.invoke_records.specs.Spelling.{row_text, IsRow};
-ghost use Rattle.invoke_records.specs.Reading.{Gives, life_at, counts_at, outcome_at, standing_of, answer_of, row_at};
+ghost use Rattle.invoke_records.specs.Reading.{IsRead, Decodes, life_at, counts_at, outcome_at, standing_of, answer_of, row_at};
 ghost use Rattle.invoke_records.specs.Steps.{Reads, with_rest, row_of};
 ghost use Rattle.invoke_records.specs.declared.error.RecordError.TheVariants.{OutOfMemory};
 
@@ -42,7 +42,7 @@ fn read_counts(reader: &mut Reader, version: Version) -> Counts
 }
 
 fn read_outcome(byte: u8) -> Result<Outcome, RecordError>
-    ensures { Gives (λ outcome. outcome) result (outcome_at byte) }
+    ensures { IsRead (λ outcome. outcome) result (outcome_at byte) }
 {
     match byte {
         1 => Ok(Outcome::Success),
@@ -54,7 +54,7 @@ fn read_outcome(byte: u8) -> Result<Outcome, RecordError>
 
 #[tactic(auto, unfolding(crate::specs::Reading::standing_of))]
 fn read_standing(life: &Life) -> Result<Standing, RecordError>
-    ensures { Gives (λ standing. standing) result (standing_of life.now) }
+    ensures { IsRead (λ standing. standing) result (standing_of life.now) }
 {
     let environment = life.environment;
     if life.standing == 1 {
@@ -88,7 +88,7 @@ fn read_standing(life: &Life) -> Result<Standing, RecordError>
 }
 
 fn read_answer(alloc: Global, byte: u8, bytes: &[u8]) -> Result<Answer, RecordError>
-    ensures { Gives (λ answer. answer) result (answer_of byte bytes.now) }
+    ensures { Decodes (λ answer. answer) result (answer_of byte bytes.now) }
 {
     if byte == 0 {
         if !bytes.is_empty() {
@@ -112,11 +112,11 @@ fn row_of<'a>(
     text: &[u8],
     rest: &'a [u8],
 ) -> Result<(EventRow, &'a [u8]), RecordError>
-    ensures { Gives (λ x. (x.0, x.1.now)) result (with_rest (row_of life counts payload.now text.now) rest.now) }
+    ensures { Decodes (λ x. (x.0, x.1.now)) result (with_rest (row_of life counts payload.now text.now) rest.now) }
 {
     let standing = read_standing(&life)?;
-    let payload = Bytes::from_slice(alloc, payload)?;
     let answer = read_answer(alloc, counts.answer, text)?;
+    let payload = Bytes::from_slice(alloc, payload)?;
     let id = life.id;
     let row = EventRow {
         id,
@@ -140,7 +140,7 @@ pub fn read_row(
     version: Version,
     bytes: &[u8],
 ) -> Result<(EventRow, &[u8]), RecordError>
-    ensures { Gives (λ x. (x.0, x.1.now)) result (row_at version bytes.now) }
+    ensures { Decodes (λ x. (x.0, x.1.now)) result (row_at version bytes.now) }
 {
     let mut reader = Reader::new(bytes);
     let life = read_life(&mut reader);

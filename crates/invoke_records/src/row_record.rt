@@ -3,7 +3,7 @@ ghost use Rattle.std.specs.Prelude.{◌≡◌, ◌++◌, None, IfOk, IfErr, OnOk
 ghost use Rattle.invoke_records.specs.declared.row.EventRow.{EventRow};
 ghost use Rattle.invoke_records.specs.declared.version.Version.TheVariants.{Two};
 ghost use Rattle.invoke_records.specs.Spelling.{answer_bytes, row_text, row_fault, IsRow};
-ghost use Rattle.invoke_records.specs.Reading.{Gives, FailsBy, row_at};
+ghost use Rattle.invoke_records.specs.Reading.{Decodes, FailsBy, row_at};
 ghost use Rattle.invoke_records.specs.Records.{Finds};
 
 use crate::row_reading::read_row;
@@ -54,7 +54,7 @@ impl EventRow {
     /// The first bad field from the left is the refusal: one that is cut off is `Truncated`, a length above its
     /// greatest is `TooLong`, any other `BadKind`; then the rules between fields, which are `BadKind`.
     pub fn decode(alloc: Global, bytes: &[u8]) -> Result<(EventRow, usize), RecordError>
-        ensures exact { Gives (λ x. (x.0, drop x.1 bytes.now)) result (row_at Two bytes.now) }
+        ensures exact { Decodes (λ x. (x.0, drop x.1 bytes.now)) result (row_at Two bytes.now) }
         ensures spelled { IfOk result (λ x. IsRow x.0) }
         ensures size { IfOk result (λ x. x.1 ≡ length (row_text x.0)) }
         ensures found { IfOk result (λ x. bytes.now ≡ row_text x.0 ++ drop x.1 bytes.now) }

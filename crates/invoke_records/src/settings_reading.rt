@@ -3,7 +3,7 @@ ghost use Rattle.std.specs.Prelude.{◌≡◌, ◌++◌, None, IfOk, MatchResult
 ghost use Rattle.retry_rules.specs.Settings.{is_name_byte, is_plain_byte, bad_field};
 ghost use Rattle.retry_rules.specs.declared.settings.Settings.{Settings};
 ghost use Rattle.invoke_records.specs.Spelling.{settings_text};
-ghost use Rattle.invoke_records.specs.Reading.{Gives, text_at, limits_at, with_texts, settings_at};
+ghost use Rattle.invoke_records.specs.Reading.{Decodes, text_at, limits_at, with_texts, settings_at};
 ghost use Rattle.invoke_records.specs.Steps.{Reads, with_rest};
 ghost use Rattle.invoke_records.specs.Records.{AreSettings, Finds};
 ghost use Rattle.invoke_records.specs.declared.error.RecordError.TheVariants.{OutOfMemory};
@@ -65,7 +65,7 @@ fn settings_of<'a>(
     arn: &[u8],
     rest: &'a [u8],
 ) -> Result<(Settings, &'a [u8]), RecordError>
-    ensures { Gives (λ x. (x.0, x.1.now)) result (with_rest (Ok (with_texts limits name.now handler.now arn.now)) rest.now) }
+    ensures { Decodes (λ x. (x.0, x.1.now)) result (with_rest (Ok (with_texts limits name.now handler.now arn.now)) rest.now) }
 {
     let name = text_of(alloc, name)?;
     let handler = text_of(alloc, handler)?;
@@ -87,7 +87,7 @@ fn settings_of<'a>(
 }
 
 fn read_settings(alloc: Global, bytes: &[u8]) -> Result<(Settings, &[u8]), RecordError>
-    ensures { Gives (λ x. (x.0, x.1.now)) result (settings_at bytes.now) }
+    ensures { Decodes (λ x. (x.0, x.1.now)) result (settings_at bytes.now) }
 {
     let mut reader = Reader::new(bytes);
     let limits = read_limits(&mut reader);
@@ -100,7 +100,7 @@ fn read_settings(alloc: Global, bytes: &[u8]) -> Result<(Settings, &[u8]), Recor
 
 /// The settings at the front of the bytes, and how many bytes they take.
 pub fn decode_settings(alloc: Global, bytes: &[u8]) -> Result<(Settings, usize), RecordError>
-    ensures exact { Gives (λ x. (x.0, drop x.1 bytes.now)) result (settings_at bytes.now) }
+    ensures exact { Decodes (λ x. (x.0, drop x.1 bytes.now)) result (settings_at bytes.now) }
     ensures size { IfOk result (λ x. x.1 ≡ length (settings_text x.0)) }
     ensures found { IfOk result (λ x. bytes.now ≡ settings_text x.0 ++ drop x.1 bytes.now) }
     ensures good { IfOk result (λ x. bad_field x.0 ≡ None) }

@@ -3,7 +3,7 @@ ghost use Rattle.std.specs.Prelude.{◌≡◌, ◌++◌, None, IfOk, IfErr, OnOk
 ghost use Rattle.retry_rules.specs.Settings.{bad_field};
 ghost use Rattle.retry_rules.specs.declared.settings.Settings.{Settings};
 ghost use Rattle.invoke_records.specs.Spelling.{settings_text, settings_fault};
-ghost use Rattle.invoke_records.specs.Reading.{Gives, FailsBy, settings_at};
+ghost use Rattle.invoke_records.specs.Reading.{Decodes, FailsBy, settings_at};
 ghost use Rattle.invoke_records.specs.Records.{AreSettings, Finds};
 
 use crate::RecordError;
@@ -28,7 +28,7 @@ pub trait SettingsRecord: Sized {
     /// The first bad field from the left decides: one that is cut off is `Truncated`, a text with a length above its
     /// greatest is `TooLong`, any other `BadKind`.
     fn decode(alloc: Global, bytes: &[u8]) -> Result<(Self, usize), RecordError>
-        ensures exact { Gives (λ x. (settings_of x.0, drop x.1 bytes.now)) result (settings_at bytes.now) }
+        ensures exact { Decodes (λ x. (settings_of x.0, drop x.1 bytes.now)) result (settings_at bytes.now) }
         ensures size { IfOk result (λ x. x.1 ≡ length (settings_text (settings_of x.0))) }
         ensures found { IfOk result (λ x. bytes.now ≡ settings_text (settings_of x.0) ++ drop x.1 bytes.now) }
         ensures good { IfOk result (λ x. bad_field (settings_of x.0) ≡ None) }

@@ -7,7 +7,7 @@ use Rattle.std.proofs.lemmas.Nat.{be_bytes_2, be_bytes_4, be_bytes_8, from_be_by
 use Rattle.invoke_records.specs.declared.error.RecordError.{RecordError}
 use Rattle.invoke_records.specs.declared.error.RecordError.TheVariants as fault
 use Rattle.invoke_records.specs.Spelling.{IsBytes}
-use Rattle.invoke_records.specs.Reading.{◌>>=◌, Fails, unless, sound, byte_at, bytes_at, number_at}
+use Rattle.invoke_records.specs.Reading.{◌>>=◌, Fails, Misses, unless, sound, byte_at, bytes_at, number_at}
 
 pub IsBytes-drop : (n : ℕ) (bytes : List ℕ) → IsBytes bytes → IsBytes (drop n bytes)
 IsBytes-drop n bytes h i = rw get_or-drop (h (n + i))
@@ -76,6 +76,11 @@ lacks_memory fault.OutOfMemory x h = refl
 lacks_memory fault.Truncated x h = absurd cc
 lacks_memory fault.BadKind x h = absurd cc
 lacks_memory fault.TooLong x h = absurd cc
+
+-- what is told and is not want of memory is the first fault
+pub first_fault : {A : Type 0} (e : RecordError) (read : Result A RecordError) → (e ≡ fault.OutOfMemory → ⊥) → Misses e read → read ≡ Err e
+first_fault e (Ok found) other misses = absurd (other misses)
+first_fault e (Err why) other misses = ap Err (sym misses)
 
 -- ## One byte
 

@@ -2,7 +2,8 @@ use Rattle.std.proofs.Common.{◌≡◌, ◌+◌, ◌-◌, ◌++◌, ℕ, suc, L
 use Rattle.std.proofs.lemmas.List.{take_rest, length_push}
 use Rattle.invoke_records.specs.declared.command.Command.{Command}
 use Rattle.gate_journal.specs.Frames.{behind_gate, commands_at, whole}
-use Rattle.gate_journal.proofs.Decoding.{after_these, one_more, at_fault, at_end, is_fault, ended, behind_gate-push}
+use Rattle.invoke_records.specs.laws.Fields.{first_fault}
+use Rattle.gate_journal.proofs.Decoding.{after_these, one_more, at_fault, at_end, ended, behind_gate-push}
 use Rattle.gate_journal.proofs.reading.decode_all.Goals as goal
 
 pub loop-preserved : goal.loop-preserved
@@ -39,6 +40,6 @@ returns-in_default c =
     record {
       memory = tt;
       decoded = ap whole (was.3 ∙ ap (λ (n : ℕ). after_these was.0 (commands_at n rest)) one_left
-          ∙ at_fault was.0 k rest c.in-Err.error (is_fault c.in-Err.error _ c.in_default.not-OutOfMemory c.in-Err.ensures.exact));
+          ∙ at_fault was.0 k rest c.in-Err.error (first_fault c.in-Err.error _ c.in_default.not-OutOfMemory c.in-Err.ensures.exact));
       count = tt;
     }

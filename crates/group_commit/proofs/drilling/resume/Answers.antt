@@ -2,7 +2,8 @@ use Rattle.std.proofs.Common.{ℕ, refl, subst}
 use Rattle.group_commit.specs.Broker.{settings_of}
 use Rattle.group_commit.specs.Resume.{IsResumed}
 use Rattle.group_commit.specs.DrillBroker.{log_of}
-use Rattle.group_commit.proofs.Resumed.{resumed_broken}
+use Rattle.sector_disk.specs.Memory.{memory_view}
+use Rattle.group_commit.proofs.Drilled.{not_resumed}
 use Rattle.group_commit.proofs.drilling.resume.Goals as goal
 
 pub returns : goal.returns
@@ -16,7 +17,8 @@ returns c = record {
           c.resume.result,
           c.answer_to.ensures,
           subst (λ (now : ℕ). IsResumed (settings_of old) history now c.resume.result resumed.0) c.min.ensures resumed.1,
-          (λ is. resumed_broken old c.resume.result c.resume.ensures.reason is, λ broken. c.resume.ensures.broken broken),
+          λ broken. c.resume.ensures.broken broken,
+          not_resumed memory_view old history stands _ c.resume.result resumed.0 resumed.1 (λ broken. c.resume.ensures.broken broken) c.resume.ensures.reason,
           refl,
           refl,
         );

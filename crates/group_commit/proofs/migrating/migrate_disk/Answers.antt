@@ -1,7 +1,7 @@
 use Rattle.std.proofs.Common.{inl}
 use Rattle.std.proofs.lemmas.Result.{IfErr-weaker}
 use Rattle.checkpoint.specs.Live.{version_of}
-use Rattle.group_commit.proofs.Migrated.{leaves_migrating, migrates, on_both, unwritten, sound_unwritten}
+use Rattle.group_commit.proofs.Migrated.{leaves_migrating, migrates, on_both, unwritten, sound_unwritten, unchanged, unchanged_or, all_read, one_behind}
 use Rattle.group_commit.proofs.migrating.migrate_disk.Goals as goal
 
 pub returns-in-Err-clause-any_moment : goal.returns-in-Err-clause-any_moment
@@ -33,3 +33,19 @@ returns-in-Ok-clause-sound g c honest holds =
     IfErr-weaker c.write_new.result _ _
     (λ why is. sound_unwritten (g.D.Disk.view c.args.disk.now) _ _ _ why (g.met.D.Disk.laws c.args.disk.now honest).reads_an_image holds (c.in-Ok.ensures.old honest) c.in-Ok.ensures.good c.in-Ok.ensures.below is)
     c.write_new.ensures.unwritten
+
+pub returns-in-Err-clause-nothing : goal.returns-in-Err-clause-nothing
+returns-in-Err-clause-nothing g c honest =
+    unchanged (g.D.Disk.view c.args.disk.now) (g.D.Disk.view c.open_old.new.disk) c.in-Err.why (c.open_old.ensures.content honest, c.open_old.ensures.any_moment honest)
+
+pub returns-in-Ok-clause-nothing : goal.returns-in-Ok-clause-nothing
+returns-in-Ok-clause-nothing g c honest =
+    IfErr-weaker c.write_new.result _ _
+    (λ why is. unchanged_or g.D.Disk.view (g.D.Disk.view c.args.disk.now) c.open_old.new.disk c.write_new.new.disk why (c.open_old.ensures.content honest, c.open_old.ensures.any_moment honest) is)
+    c.write_new.ensures.no_call
+
+pub returns-in-Ok-clause-one : goal.returns-in-Ok-clause-one
+returns-in-Ok-clause-one g c honest =
+    IfErr-weaker c.write_new.result _ _
+    (λ why is. one_behind g.D.Disk.view c.open_old.new.disk c.write_new.new.disk why (all_read (g.D.Disk.view c.open_old.new.disk) c.in-Ok.opened c.in-Ok.table.table (c.in-Ok.ensures.live honest)) is)
+    c.write_new.ensures.no_call

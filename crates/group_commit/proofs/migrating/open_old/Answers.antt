@@ -2,8 +2,8 @@ use Rattle.std.proofs.Common.{◌≡◌, sym, ap, subst, ◌∙◌, arith, Err}
 use Rattle.checkpoint.specs.Image.{least_sectors}
 use Rattle.checkpoint.specs.Live.{settings_of}
 use Rattle.group_commit.specs.declared.error.MigrateError.{MigrateError}
-use Rattle.group_commit.specs.Migrating.{IsMigrateReason, IsSoundRefusal}
-use Rattle.group_commit.proofs.Migrated.{unopened, fault_of, sound_unopened, not_old, old_disk}
+use Rattle.group_commit.specs.Migrating.{IsMigrateReason, IsSoundRefusal, HoldsOneWhere}
+use Rattle.group_commit.proofs.Migrated.{unopened, fault_of, sound_unopened, not_old, old_disk, none_held, all_read}
 use Rattle.group_commit.proofs.migrating.open_old.Goals as goal
 
 pub returns-in-Err-clause-fault : goal.returns-in-Err-clause-fault
@@ -69,3 +69,17 @@ returns-clause-old g c honest =
 
 pub returns-clause-live : goal.returns-clause-live
 returns-clause-live g c honest = (c.in-Ok.ensures.live honest).1
+
+pub returns-in-Err-clause-one : goal.returns-in-Err-clause-one
+returns-in-Err-clause-one g c honest =
+    let disk = g.D.Disk.view c.recover_either.new.disk in
+    subst (λ (e : MigrateError). HoldsOneWhere disk e) (sym c.unopened.ensures) (none_held disk c.in-Err.why)
+
+pub returns-then-not-is_old-clause-one : goal.returns-then-not-is_old-clause-one
+returns-then-not-is_old-clause-one g c honest = all_read (g.D.Disk.view c.recover_either.new.disk) c.in-Ok.opened c.in-Ok.table.table (c.in-Ok.ensures.live honest).1
+
+pub returns-then-sectors-least-clause-one : goal.returns-then-sectors-least-clause-one
+returns-then-sectors-least-clause-one g c honest = all_read (g.D.Disk.view c.recover_either.new.disk) c.in-Ok.opened c.in-Ok.table.table (c.in-Ok.ensures.live honest).1
+
+pub returns-then-generation-ge-MOST_GENERATIONS-clause-one : goal.returns-then-generation-ge-MOST_GENERATIONS-clause-one
+returns-then-generation-ge-MOST_GENERATIONS-clause-one g c honest = all_read (g.D.Disk.view c.recover_either.new.disk) c.in-Ok.opened c.in-Ok.table.table (c.in-Ok.ensures.live honest).1

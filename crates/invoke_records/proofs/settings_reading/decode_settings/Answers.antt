@@ -3,8 +3,8 @@ use Rattle.std.proofs.lemmas.Result.{err_from_is_err_and}
 use Rattle.retry_rules.specs.declared.settings.Settings.{Settings}
 use Rattle.invoke_records.specs.declared.error.RecordError.{RecordError}
 use Rattle.invoke_records.specs.Spelling.{settings_text}
-use Rattle.invoke_records.specs.Reading.{Fails, settings_at}
-use Rattle.invoke_records.specs.laws.Fields.{ok_is, lacks_memory, taken_most, taken_size, taken_rest}
+use Rattle.invoke_records.specs.Reading.{Misses, settings_at}
+use Rattle.invoke_records.specs.laws.Fields.{ok_is, taken_most, taken_size, taken_rest}
 use Rattle.invoke_records.specs.laws.Settings.{settings_takes, settings_again}
 use Rattle.invoke_records.proofs.settings_reading.decode_settings.Goals as goal
 
@@ -18,7 +18,7 @@ pub returns-in_err-settings-clause-only : goal.returns-in_err-settings-clause-on
 returns-in_err-settings-clause-only c = λ d rest is e.
     let p = err_from_is_err_and c.from_residual.result c.from_residual.ensures.1 in
     let read : settings_at c.args.bytes.now ≡ good d rest = ap settings_at e ∙ settings_again d rest is in
-    rw (p.1, p.2) (lacks_memory c.in_err-settings.field-0.0 (pair d rest) (subst (Fails c.in_err-settings.field-0.0) read c.in_err-settings.ensures))
+    rw (p.1, p.2) (subst (Misses c.in_err-settings.field-0.0) read c.in_err-settings.ensures)
 
 pub overflow_sub-len : goal.overflow_sub-len
 overflow_sub-len c =

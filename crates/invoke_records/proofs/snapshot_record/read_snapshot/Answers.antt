@@ -1,14 +1,14 @@
 use Rattle.std.proofs.Common.{refl, sym, subst}
 use Rattle.std.proofs.lemmas.Result.{err_from_is_err_and}
 use Rattle.invoke_records.specs.Reading.{Fails}
-use Rattle.invoke_records.proofs.Steps.{fails_then, snapshot_read}
+use Rattle.invoke_records.proofs.Steps.{fails_then, fails_by, stopped, snapshot_read}
 use Rattle.invoke_records.proofs.snapshot_record.read_snapshot.Goals as goal
 
 pub returns-in_err-rest : goal.returns-in_err-rest
 returns-in_err-rest c =
     let p = err_from_is_err_and c.from_residual.result c.from_residual.ensures.1 in
     let read = snapshot_read c.args.version c.args.bytes.now c.new-reader.result c.limit64-number.new.self c.limit64-last_moment.new.self c.policy_in-policy.new.self c.sized-count.new.self c.limit64-number.result c.limit64-last_moment.result c.policy_in-policy.result c.sized-count.result c.new-reader.ensures c.limit64-number.ensures c.limit64-last_moment.ensures c.policy_in-policy.ensures c.sized-count.ensures in
-    rw (p.1, p.2) (subst (Fails c.in_err-rest.field-0.0) (sym read) (fails_then c.in_err-rest.field-0.0 c.sized-count.new.self _ c.in_err-rest.ensures))
+    rw (p.1, p.2) (subst (Fails c.in_err-rest.field-0.0) (sym read) (fails_by c.in_err-rest.field-0.0 _ (stopped c.in_err-rest.field-0.0 c.sized-count.new.self _ c.in_err-rest.ensures)))
 
 pub returns-in_err-rows : goal.returns-in_err-rows
 returns-in_err-rows c =

@@ -4,8 +4,8 @@ use Rattle.invoke_records.specs.declared.row.EventRow.{EventRow}
 use Rattle.invoke_records.specs.declared.version.Version.TheVariants.{Two}
 use Rattle.invoke_records.specs.declared.error.RecordError.{RecordError}
 use Rattle.invoke_records.specs.Spelling.{row_text}
-use Rattle.invoke_records.specs.Reading.{Fails, row_at}
-use Rattle.invoke_records.specs.laws.Fields.{ok_is, lacks_memory, taken_most, taken_size, taken_rest}
+use Rattle.invoke_records.specs.Reading.{Misses, row_at}
+use Rattle.invoke_records.specs.laws.Fields.{ok_is, taken_most, taken_size, taken_rest}
 use Rattle.invoke_records.specs.laws.Rows.{row_takes, row_again}
 use Rattle.invoke_records.proofs.row.EventRow.decode.Goals as goal
 
@@ -19,7 +19,7 @@ pub returns-in_err-row-clause-only : goal.returns-in_err-row-clause-only
 returns-in_err-row-clause-only c = λ d rest is e.
     let p = err_from_is_err_and c.from_residual.result c.from_residual.ensures.1 in
     let read : row_at Two c.args.bytes.now ≡ good d rest = ap (row_at Two) e ∙ row_again d rest is in
-    rw (p.1, p.2) (lacks_memory c.in_err-row.field-0.0 (pair d rest) (subst (Fails c.in_err-row.field-0.0) read c.in_err-row.ensures))
+    rw (p.1, p.2) (subst (Misses c.in_err-row.field-0.0) read c.in_err-row.ensures)
 
 pub overflow_sub-len : goal.overflow_sub-len
 overflow_sub-len c =
