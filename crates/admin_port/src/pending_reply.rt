@@ -33,8 +33,8 @@ impl<R: Wait + Clock + Drop, L: Ledger, T: Trace> Future for PendingReply<R, L, 
     fn poll(&mut self, cx: &mut Context<'_>) -> Poll<AdminResponse> {
         match self.view.poll(cx) {
             Poll::Pending => Poll::Pending,
-            Poll::Ready(Ok(view)) => {
-                Poll::Ready(self.context.tell(&self.rt, &self.request, &view))
+            Poll::Ready(Ok(told)) => {
+                Poll::Ready(self.context.tell(&self.rt, &self.request, &told.view))
             }
             Poll::Ready(Err(_)) => Poll::Ready(device_fault(self.context.alloc)),
         }

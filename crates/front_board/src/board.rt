@@ -2,7 +2,7 @@
 ghost use Rattle.std.specs.Prelude.{◌≡◌, ◌<◌, ◌≤◌, All, IfOk, IfErr, IsOk, vec_len};
 
 use crate::rule::{Looks, Raises, Rises, SeatView, Sits};
-use crate::{AnyNumber, Numbers};
+use crate::{AnyNumber, Numbers, Shown};
 use atomic_table::Table;
 use group_commit::{Durable, Receipt, Ticket};
 use std::alloc::{AllocError, Global};
@@ -85,13 +85,32 @@ impl<N: Numbers> Board<N> {
             .fetch_max::<Raises<N>>(&mut seat.place, 0, durable.number());
     }
 
-    /// Looks at the number: a receipt exactly where it is at least the ticket's, else the ticket is handed back. The
-    /// number was given to the board, and is at least each that was raised or seen from this seat.
-    pub fn check(&self, seat: &mut Seat, ticket: Ticket) -> Result<Receipt, Ticket>
+    /// Looks at the number: what shows the ticket's receipt exactly where it is at least the ticket's, else the ticket is handed
+    /// back. The number was given to the board, and is at least each that was raised or seen from this seat.
+    pub fn look(&self, seat: &mut Seat, ticket: Ticket) -> Result<Shown, Ticket>
         requires sits { SitsAt self.now seat.old }
         ensures sits { SitsAt self.now seat.new }
         // claim: The number found was given to the board, and a seat never sees less than before. [: shown, rises, known;
-        // Board::raise: shown, rises]
+        // Board::raise: shown, rises; Board::check: shown, rises, known]
+        ensures shown { N.given (seen_from seat.new) }
+        ensures rises { seen_from seat.old ≤ seen_from seat.new }
+        // claim: A look shows a ticket's receipt exactly where the number found is at least the ticket's.
+        ensures receipt { IfOk result (λ shown. (shown.receipt ≡ ticket) × (ticket ≤ seen_from seat.new)) }
+        ensures seat { IfOk result (λ shown. shown.seat.value ≡ seat.new) }
+        ensures waits { IfErr result (λ kept. (kept ≡ ticket) × (seen_from seat.new < ticket)) }
+        ensures known { ticket ≤ seen_from seat.old → IsOk result }
+    {
+        let number = self.word.shared.load::<Looks<N>>(&mut seat.place, 0);
+        match ticket.settled_by(number) {
+            Ok(receipt) => Ok(Shown::from(seat, receipt)),
+            Err(ticket) => Err(ticket),
+        }
+    }
+
+    /// A receipt exactly where a look finds at least the ticket's number, else the ticket is handed back.
+    pub fn check(&self, seat: &mut Seat, ticket: Ticket) -> Result<Receipt, Ticket>
+        requires sits { SitsAt self.now seat.old }
+        ensures sits { SitsAt self.now seat.new }
         ensures shown { N.given (seen_from seat.new) }
         ensures rises { seen_from seat.old ≤ seen_from seat.new }
         // claim: A ticket becomes a receipt exactly where that number is at least its own. By its type the call waits for
@@ -100,7 +119,9 @@ impl<N: Numbers> Board<N> {
         ensures waits { IfErr result (λ kept. (kept ≡ ticket) × (seen_from seat.new < ticket)) }
         ensures known { ticket ≤ seen_from seat.old → IsOk result }
     {
-        let number = self.word.shared.load::<Looks<N>>(&mut seat.place, 0);
-        ticket.settled_by(number)
+        match self.look(seat, ticket) {
+            Ok(shown) => Ok(shown.receipt()),
+            Err(ticket) => Err(ticket),
+        }
     }
 }

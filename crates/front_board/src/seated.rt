@@ -2,8 +2,8 @@
 ghost use Rattle.std.specs.Prelude.{◌≡◌, ◌<◌, ◌≤◌, All, IfOk, IfErr, IsOk, vec_len};
 ghost use Rattle.front_board.specs.Board.{SitsAt};
 
-use crate::{Board, Seat};
-use group_commit::{Durable, Receipt, Ticket};
+use crate::{Board, Seat, Shown};
+use group_commit::{Durable, Ticket};
 use std::alloc::{AllocError, Global};
 use std::sync::Arc;
 
@@ -44,17 +44,17 @@ impl Seated {
         board.raise(seat, durable);
     }
 
-    /// Looks at the number: a receipt exactly where it is at least the ticket's, else the ticket is handed back. The number
-    /// is at least each that was raised or seen from the seat.
-    pub fn check(&mut self, ticket: Ticket) -> Result<Receipt, Ticket>
+    /// Looks at the number: what shows the ticket's receipt exactly where it is at least the ticket's, else the ticket is handed
+    /// back. The number is at least each that was raised or seen from the seat.
+    pub fn look(&mut self, ticket: Ticket) -> Result<Shown, Ticket>
         // claim: A seat that stands beside its board says the same. [: rises, receipt, waits, known; Seated::raise: raised,
         // rises; Seated::open: count, seen]
         ensures rises { seen_by self.old ≤ seen_by self.new }
-        ensures receipt { IfOk result (λ receipt. (receipt ≡ ticket) × (ticket ≤ seen_by self.new)) }
+        ensures receipt { IfOk result (λ shown. (shown.receipt ≡ ticket) × (ticket ≤ seen_by self.new)) }
         ensures waits { IfErr result (λ kept. (kept ≡ ticket) × (seen_by self.new < ticket)) }
         ensures known { ticket ≤ seen_by self.old → IsOk result }
     {
         let Seated { board, seat } = self;
-        board.check(seat, ticket)
+        board.look(seat, ticket)
     }
 }

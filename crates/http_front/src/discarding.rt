@@ -204,8 +204,8 @@ impl<R: Wait + Clock + Drop + Copy, L: Ledger, T: Trace> Collector<R, L, T> {
     // What it saw, once all of that is durable.
     fn view(&mut self) -> Result<Option<View>, AllocError> {
         let (unreleased, ticket) = self.look()?;
-        match self.seated.check(ticket) {
-            Ok(receipt) => Ok(unreleased.release(receipt)),
+        match self.seated.look(ticket) {
+            Ok(shown) => Ok(unreleased.release(&shown)),
             Err(ticket) => {
                 self.seen = Some((unreleased, ticket));
                 Ok(None)

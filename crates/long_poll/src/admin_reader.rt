@@ -4,8 +4,8 @@ ghost use Rattle.receipts.specs.Locked.{hall_in};
 ghost use Rattle.receipts.specs.Views.{IsViewOf};
 
 use crate::bell::Bell;
-use front_board::Seated;
-use group_commit::{Receipt, Ticket};
+use front_board::{Seated, Shown};
+use group_commit::Ticket;
 use receipts::{Mark, Office, Trace, Unreleased, Witnessed};
 use std::alloc::AllocError;
 use std::sync::atomic::{AtomicU64, Ordering};
@@ -101,12 +101,12 @@ impl<L: Ledger, T: Trace> AdminReader<L, T> {
         }
     }
 
-    /// A receipt where the board shows at least the ticket's number, else the ticket again.
-    pub(crate) fn check<R: Wait>(&self, rt: &R, ticket: Ticket) -> Result<Receipt, Ticket>
-        ensures receipt { IfOk result (λ receipt. receipt ≡ ticket) }
+    /// What shows that the board shows at least the ticket's number, else the ticket again.
+    pub(crate) fn check<R: Wait>(&self, rt: &R, ticket: Ticket) -> Result<Shown, Ticket>
+        ensures receipt { IfOk result (λ shown. shown.receipt ≡ ticket) }
         ensures kept { IfErr result (λ kept. kept ≡ ticket) }
     {
-        self.seated.lock(rt).check(ticket)
+        self.seated.lock(rt).look(ticket)
     }
 
     /// A place at the bell, behind all slots.

@@ -14,6 +14,6 @@ mod waiting;
 
 pub use admin_reader::{AdminReader, TicketedView};
 pub use bell::{Bell, Rung, RungForAll, SaidBroken};
-pub use pending_view::{PendingView, ViewError};
+pub use pending_view::{DurableView, PendingView, ViewError};
 pub use port::{Arrived, Port};
 pub use waiting::Waiting;

@@ -5,9 +5,9 @@ ghost use Rattle.futures.specs.Poll.{IfReady, OnPending};
 
 use crate::admin_reader::{AdminReader, TicketedView};
 use crate::bell::SaidBroken;
+use front_board::Shown;
 use futures::Future;
 use futures::task::{Context, Poll};
-use group_commit::Receipt;
 use receipts::{Mark, Trace, Unreleased, View};
 use std::sync::ledger::Ledger;
 use std::sync::{Arc, Wait};
@@ -21,13 +21,21 @@ pub enum ViewError {
     Given,
 }
 
+/// What an operator is shown, with what shows that all of it is durable.
+#[derive(Drop)]
+pub struct DurableView {
+    pub view: View,
+    shown: Shown,
+}
+
 // What was unreleased, by a receipt of all that it shows.
-fn release(unreleased: Unreleased, receipt: Receipt) -> View
-    requires { unreleased.number ≤ receipt }
-    ensures { result ≡ unreleased.view }
+fn release(unreleased: Unreleased, shown: Shown) -> DurableView
+    requires { unreleased.number ≤ shown.receipt }
+    ensures view { result.view ≡ unreleased.view }
+    ensures shown { result.shown ≡ shown }
 {
-    match unreleased.release(receipt) {
-        Some(view) => view,
+    match unreleased.release(&shown) {
+        Some(view) => DurableView { view, shown },
         None => unreachable!(),
     }
 }
@@ -61,7 +69,7 @@ impl<R: Wait, L: Ledger, T: Trace> PendingView<R, L, T> {
     }
 
     // Looks at the board: what was seen, where all of it is durable.
-    fn check(&mut self) -> Poll<Result<View, ViewError>>
+    fn check(&mut self) -> Poll<Result<DurableView, ViewError>>
         ensures same { self.new.reader ≡ self.old.reader }
         ensures shown { IfReady result (IsOf (unreleased_in self.old.view)) }
         ensures waits { OnPending result (unreleased_in self.new.view ≡ unreleased_in self.old.view) }
@@ -71,7 +79,7 @@ impl<R: Wait, L: Ledger, T: Trace> PendingView<R, L, T> {
         };
         let (unreleased, ticket) = view.into_parts();
         match self.reader.check(&self.rt, ticket) {
-            Ok(receipt) => Poll::Ready(Ok(release(unreleased, receipt))),
+            Ok(shown) => Poll::Ready(Ok(release(unreleased, shown))),
             Err(ticket) => {
                 if let Some(said) = self.reader.bell().said_broken() {
                     return Poll::Ready(Err(ViewError::HallBroke(said)));
@@ -105,17 +113,18 @@ impl<R: Wait, L: Ledger, T: Trace> PendingView<R, L, T> {
 }
 
 impl<R: Wait + Drop, L: Ledger, T: Trace> Future for PendingView<R, L, T> {
-    type Output = Result<View, ViewError>;
+    type Output = Result<DurableView, ViewError>;
 
     ghost use Rattle.long_poll.specs.Bell.{source_of};
     ghost use Rattle.long_poll.specs.PendingView.{unreleased_in, IsOf};
 
     ghost needs = { λ pending source. source ≡ source_of pending.reader.value.bell.value };
 
-    // claim: The future of it gives just what was unreleased, or the word that the hall broke before. [: needs, gives]
+    // claim: The future of it gives just what was unreleased, with what shows that a board showed all of it to be durable, or the
+    // word that the hall broke before. [: needs, gives]
     ghost gives = { λ pending told. IsOf (unreleased_in pending.view) told };
 
-    fn poll(&mut self, cx: &mut Context<'_>) -> Poll<Result<View, ViewError>> {
+    fn poll(&mut self, cx: &mut Context<'_>) -> Poll<Result<DurableView, ViewError>> {
         if let Poll::Ready(told) = self.check() {
             return Poll::Ready(told);
         }

@@ -210,6 +210,9 @@ impl<L: Ledger, T: Trace> Port<L, T> {
         ensures receipt { IfOk result (λ receipt. receipt ≡ ticket) }
         ensures kept { IfErr result (λ kept. kept ≡ ticket) }
     {
-        self.seated.lock(rt).check(ticket)
+        match self.seated.lock(rt).look(ticket) {
+            Ok(shown) => Ok(shown.receipt()),
+            Err(ticket) => Err(ticket),
+        }
     }
 }

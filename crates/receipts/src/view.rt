@@ -2,7 +2,7 @@
 ghost use Rattle.std.specs.Prelude.{◌≡◌, ◌<◌, ◌≤◌, IfSome, IfNone};
 
 use crate::command_counters::CommandCounters;
-use group_commit::Receipt;
+use front_board::Shown;
 use hall_core::HallStatus;
 
 /// What an operator is shown of an office at one moment.
@@ -22,13 +22,13 @@ pub struct Unreleased {
 }
 
 impl Unreleased {
-    /// What was unreleased, where this is the receipt of all that it shows. None where fewer commands are durable by it.
-    pub fn release(self, receipt: Receipt) -> Option<View>
-        // claim: It is opened exactly by a receipt of at least that number, and is then what was seen.
-        ensures some { IfSome result (λ view. (view ≡ self.view) × (self.number ≤ receipt)) }
-        ensures none { IfNone result (receipt < self.number) }
+    /// What was unreleased, where a board showed the receipt of all that it shows. None where fewer commands are durable by it.
+    pub fn release(self, shown: &Shown) -> Option<View>
+        // claim: It is opened exactly by a receipt of at least that number, which a board showed, and is then what was seen.
+        ensures some { IfSome result (λ view. (view ≡ self.view) × (self.number ≤ shown.now.receipt)) }
+        ensures none { IfNone result (shown.now.receipt < self.number) }
     {
         let Unreleased { view, number } = self;
-        (number <= receipt.number()).then_some(view)
+        (number <= shown.receipt().number()).then_some(view)
     }
 }

@@ -327,7 +327,10 @@ where
 
     /// A receipt where the board shows the number of this ticket.
     pub fn check(&mut self, ticket: Ticket) -> Result<Receipt, Ticket> {
-        self.props.looker.check(ticket)
+        match self.props.looker.look(ticket) {
+            Ok(shown) => Ok(shown.receipt()),
+            Err(ticket) => Err(ticket),
+        }
     }
 
     /// Whether the board shows the number of this ticket.

@@ -3,7 +3,7 @@ use Rattle.std.specs.Prelude.{slice_index}
 use Rattle.atomic_table.specs.Table.{keeps}
 use Rattle.front_board.specs.Rule.{view}
 use Rattle.front_board.proofs.Moves.{looks}
-use Rattle.front_board.proofs.board.Board.check.Goals as goal
+use Rattle.front_board.proofs.board.Board.look.Goals as goal
 
 pub load-number-requires : goal.load-number-requires
 load-number-requires g c =
