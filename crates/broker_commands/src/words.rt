@@ -5,6 +5,7 @@ use crate::configuring::NewPolicy;
 use crate::copying::{NewCopy, NewLimits};
 use crate::formatting::{Function, NewDisk, NumericSettings};
 use crate::migrating::OldVersion;
+use crate::probing::Volume;
 use api_core::Dialect;
 use clap::builder::ValueParser;
 use clap::error::ErrorKind;
@@ -32,6 +33,7 @@ pub enum Job<'a> {
     Configure(NewPolicy<'a>),
     Migrate(OldVersion<'a>),
     Copy(NewCopy<'a>),
+    Probe(Volume<'a>),
 }
 
 // What a command is told, as `clap` has to know it. It is plain data, of which one function makes what `clap` keeps.
@@ -254,6 +256,14 @@ fn copy_command<'a>(alloc: Global) -> Result<Command<'a>, AllocError> {
     command_of(alloc, "copy", about, &told)
 }
 
+fn probe_command<'a>(alloc: Global) -> Result<Command<'a>, AllocError> {
+    let witness = "Another attachment of the same volume, which is only read";
+    let about =
+        "Tell what can be known of a volume before it holds a broker; only one of zeros is written";
+    let told = [disk(), Argument::option("witness", witness).called("DISK")];
+    command_of(alloc, "probe", about, &told)
+}
+
 // The option of an IP address.
 fn reach<'a>(help: &'a str) -> Argument<'a> {
     Argument::usual("address", help, "127.0.0.1", ValueParser::String).called("IP")
@@ -321,18 +331,20 @@ enum Name {
     Configure,
     Migrate,
     Copy,
+    Probe,
     Serve,
     Stop,
 }
 
 /// All commands, as help lists them.
-const NAMES: [Name; 8] = [
+const NAMES: [Name; 9] = [
     Name::Trial,
     Name::Format,
     Name::Audit,
     Name::Configure,
     Name::Migrate,
     Name::Copy,
+    Name::Probe,
     Name::Serve,
     Name::Stop,
 ];
@@ -345,6 +357,7 @@ fn named<'a>(alloc: Global, name: Name) -> Result<Command<'a>, AllocError> {
         Name::Configure => configure_command(alloc),
         Name::Migrate => migrate_command(alloc),
         Name::Copy => copy_command(alloc),
+        Name::Probe => probe_command(alloc),
         Name::Serve => serve_command(alloc),
         Name::Stop => stop_command(alloc),
     }
@@ -477,6 +490,13 @@ fn old_version<'a>(matches: &ArgMatches<'a>) -> Option<OldVersion<'a>> {
     })
 }
 
+fn volume<'a>(matches: &ArgMatches<'a>) -> Option<Volume<'a>> {
+    Some(Volume {
+        path: matches.get_str("disk")?,
+        witness: matches.get_str("witness"),
+    })
+}
+
 // The dialect of this name.
 fn dialect(name: &str) -> Dialect {
     if name == "aws" {
@@ -552,6 +572,7 @@ fn task_of<'a>(alloc: Global, matches: &ArgMatches<'a>) -> Result<Option<Task<'a
         "configure" => Ok(new_policy(told).map(Job::Configure).map(Task::Job)),
         "migrate" => Ok(old_version(told).map(Job::Migrate).map(Task::Job)),
         "copy" => Ok(new_copy(told).map(Job::Copy).map(Task::Job)),
+        "probe" => Ok(volume(told).map(Job::Probe).map(Task::Job)),
         _ => Ok(None),
     }
 }
