@@ -99,6 +99,14 @@ fn copy_command<'a>(alloc: Global) -> Result<Command<'a>, AllocError> {
     command_of(alloc, "copy", about, &told)
 }
 
+fn probe_command<'a>(alloc: Global) -> Result<Command<'a>, AllocError> {
+    let witness = "Another attachment of the same volume, which is only read";
+    let about =
+        "Tell what can be known of a volume before it holds a broker; only one of zeros is written";
+    let told = [disk(), Argument::option("witness", witness).called("DISK")];
+    command_of(alloc, "probe", about, &told)
+}
+
 // The option of an IP address.
 fn reach<'a>(help: &'a str) -> Argument<'a> {
     Argument::usual("address", help, "127.0.0.1", ValueParser::String).called("IP")
@@ -168,18 +176,20 @@ enum Name {
     Configure,
     Migrate,
     Copy,
+    Probe,
     Serve,
     Stop,
 }
 
 /// All commands, as help lists them.
-const NAMES: [Name; 8] = [
+const NAMES: [Name; 9] = [
     Name::Trial,
     Name::Format,
     Name::Audit,
     Name::Configure,
     Name::Migrate,
     Name::Copy,
+    Name::Probe,
     Name::Serve,
     Name::Stop,
 ];
@@ -192,6 +202,7 @@ fn named<'a>(alloc: Global, name: Name) -> Result<Command<'a>, AllocError> {
         Name::Configure => configure_command(alloc),
         Name::Migrate => migrate_command(alloc),
         Name::Copy => copy_command(alloc),
+        Name::Probe => probe_command(alloc),
         Name::Serve => serve_command(alloc),
         Name::Stop => stop_command(alloc),
     }

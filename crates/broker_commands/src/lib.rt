@@ -16,6 +16,7 @@ mod formatting;
 mod migrating;
 mod opening;
 mod printing;
+mod probing;
 mod telltale;
 mod words;
 
@@ -29,5 +30,6 @@ pub use formatting::{Function, NewDisk, NewDiskError, NumericSettings, make_disk
 pub use migrating::{Migrated, MigratingError, OldVersion, migrate_file};
 pub use opening::{Device, DiskError, check_size, open, open_device};
 pub use printing::{DONE, USAGE, print_fault, print_job, print_usage, refuse_for_memory};
+pub use probing::Volume;
 pub use telltale::Telltale;
 pub use words::{Job, Task, read_task};

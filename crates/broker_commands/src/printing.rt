@@ -8,6 +8,7 @@ use crate::configuring::{NewPolicy, configure_disk};
 use crate::copying::{Copied, NewCopy, copy_disk};
 use crate::formatting::{Function, NewDisk, make_disk};
 use crate::migrating::{Migrated, OldVersion, migrate_file};
+use crate::probing::{Volume, probe_volume};
 use crate::words::Job;
 use audit_report::Older;
 use broker_trial::{Trial, TrialError, run_trial};
@@ -47,6 +48,7 @@ where
         Job::Configure(new) => print_configure(rt, new, out),
         Job::Migrate(old) => print_migrate(rt, old, out),
         Job::Copy(new) => print_copy(rt, new, out),
+        Job::Probe(volume) => print_probe(rt, volume, out),
     }
 }
 
@@ -154,6 +156,22 @@ where
     match copy_disk(rt, new) {
         Ok(Copied { events, sectors }) => {
             writeln!(out, "copied {events} events to {sectors} sectors")?;
+            Ok(DONE)
+        }
+        Err(fault) => print_fault(&fault, fault.is_device_fault(), out),
+    }
+}
+
+// Measures a volume, and prints what that tells.
+fn print_probe<R, W>(rt: &R, volume: &Volume<'_>, out: &mut W) -> io::Result<u8>
+where
+    R: Files<File = File> + Clock + Eprint + AllocGlobal + Copy + Drop,
+    W: Write,
+    ensures { IfOk result (λ status. status ≤ 3) }
+{
+    match probe_volume(rt, volume) {
+        Ok(told) => {
+            writeln!(out, "{told}")?;
             Ok(DONE)
         }
         Err(fault) => print_fault(&fault, fault.is_device_fault(), out),

@@ -6,6 +6,7 @@ use crate::configuring::NewPolicy;
 use crate::copying::{NewCopy, NewLimits};
 use crate::formatting::{Function, NewDisk, NumericSettings};
 use crate::migrating::OldVersion;
+use crate::probing::Volume;
 use api_core::Dialect;
 use clap::error::ErrorKind;
 use clap::{ArgMatches, Command, Error};
@@ -32,6 +33,7 @@ pub enum Job<'a> {
     Configure(NewPolicy<'a>),
     Migrate(OldVersion<'a>),
     Copy(NewCopy<'a>),
+    Probe(Volume<'a>),
 }
 
 fn function<'a>(matches: &ArgMatches<'a>) -> Option<Function<'a>> {
@@ -144,6 +146,13 @@ fn old_version<'a>(matches: &ArgMatches<'a>) -> Option<OldVersion<'a>> {
     })
 }
 
+fn volume<'a>(matches: &ArgMatches<'a>) -> Option<Volume<'a>> {
+    Some(Volume {
+        path: matches.get_str("disk")?,
+        witness: matches.get_str("witness"),
+    })
+}
+
 // The dialect of this name.
 fn dialect(name: &str) -> Dialect {
     if name == "aws" {
@@ -219,6 +228,7 @@ fn task_of<'a>(alloc: Global, matches: &ArgMatches<'a>) -> Result<Option<Task<'a
         "configure" => Ok(new_policy(told).map(Job::Configure).map(Task::Job)),
         "migrate" => Ok(old_version(told).map(Job::Migrate).map(Task::Job)),
         "copy" => Ok(new_copy(told).map(Job::Copy).map(Task::Job)),
+        "probe" => Ok(volume(told).map(Job::Probe).map(Task::Job)),
         _ => Ok(None),
     }
 }
