@@ -1,32 +1,57 @@
-"""The operator's page: that it is the source's, and what its rules say of numbers."""
+"""The operator's page: that it is the source's, what its rules say of what the broker tells, and what a browser shows of it."""
+import base64
+import hashlib
+import html
 import json
 import os
 import re
 import shutil
 import subprocess
 
-from harness import DEADLINE, HERE, Apart, case, same
+from harness import DEADLINE, HERE, Apart, case, same, until
 
 SOURCE = os.path.join(HERE, "..", "crates", "admin_replies", "page.html")
 
-# Reads what /healthz?deep says as a list of JSON, and prints of each the first line and what was found.
-TELLS = """
-const told = JSON.parse(require("fs").readFileSync(0, "utf8"));
-console.log(JSON.stringify(told.map((text) => [headline(findings(text)), ...findings(text)])));
-"""
+# What the page makes of the texts that the program below is given, by a rule of its first script.
+VERDICTS = "(text) => [headline(findings(text)), ...findings(text)]"
+PLACES = "(hash) => [placeOf(hash), placeOf(hash).name ? sourceOf(placeOf(hash), 50) : null]"
+ERRORS = "(told) => error(told)"
 
 
-def shown(broker, texts):
-    """What the page shows of what the broker says: of each the first line, and a list of level, title and words."""
+def ruled(page, rule, texts):
+    """What a rule of a page says of texts."""
     if not shutil.which("node"):
         raise Apart("there is no node")
-    page = broker.look("/").body.decode()
-    path = os.path.join(broker.folder, "rules.js")
-    with open(path, "w", encoding="utf-8") as file:
-        file.write(re.search("<script>(.*?)</script>", page, re.S)[1] + TELLS)
-    ran = subprocess.run(["node", path], input=json.dumps(texts), capture_output=True, text=True, timeout=DEADLINE)
+    script = re.search("<script>(.*?)</script>", page, re.S)[1]
+    asked = f"{script}\nconsole.log(JSON.stringify(JSON.parse(require('fs').readFileSync(0, 'utf8')).map({rule})));"
+    ran = subprocess.run(["node", "-e", asked], input=json.dumps(texts), capture_output=True, text=True, timeout=DEADLINE)
     same((ran.returncode, ran.stderr), (0, ""))
     return json.loads(ran.stdout)
+
+
+def shown(broker, path="/"):
+    """What a browser shows of the page after some seconds of its own clock: its elements as HTML."""
+    browser = shutil.which("chromium")
+    if not browser:
+        raise Apart("there is no chromium")
+    words = ["--headless=new", "--no-sandbox", "--disable-gpu", f"--user-data-dir={broker.folder}/browser", "--virtual-time-budget=8000"]
+    address = f"http://127.0.0.1:{broker.admin}{path}"
+    ran = subprocess.run([browser, *words, "--dump-dom", address], capture_output=True, text=True, timeout=2 * DEADLINE)
+    same(ran.returncode, 0)
+    return ran.stdout
+
+
+def text_of(page, name):
+    """The text of the element of this id."""
+    found = re.search(rf'<(\w+)[^>]* id="{name}"[^>]*>(.*?)</\1>', page, re.S)
+    assert found, f"the page has no {name}"
+    return html.unescape(re.sub("<[^>]*>", " ", found[2])).strip()
+
+
+def view_of(page):
+    """The one view that is shown."""
+    views = re.findall(r'<section id="view-(\w+)"([^>]*)>', page)
+    return [view for view, more in views if "hidden" not in more]
 
 
 @case()
@@ -40,8 +65,24 @@ def the_page_is_that_of_its_source(broker):
 def the_page_inserts_text_and_asks_nobody_else(broker):
     broker.serve()
     page = broker.look("/").body.decode()
-    same([word for word in ("innerHTML", "outerHTML", "insertAdjacent", "document.write", "eval(", "src=", "@import") if word in page], [])
-    same(set(re.findall(r"https?://[^\"']*", page)), {"http://www.w3.org/2000/svg"})
+    same([word for word in ("innerHTML", "outerHTML", "insertAdjacent", "document.write", "eval(", "@import", "srcdoc") if word in page], [])
+    same(set(re.findall(r"https?://[^\"'`/]*", page)), {"http://www.w3.org", "http://127.0.0.1:P"})
+    same(set(re.findall(r'src="([^"]*)"', page)), {"healthz?deep", "metrics"})
+
+
+@case()
+def the_policy_allows_what_stands_in_the_page_and_no_more(broker):
+    broker.serve()
+    page = broker.look("/").body.decode()
+    policy = dict(part.split(" ", 1) for part in re.search('Content-Security-Policy" content="([^"]*)"', page)[1].split("; "))
+    for tag in ("style", "script"):
+        contents = re.findall(f"<{tag}>(.*?)</{tag}>", page, re.S)
+        sums = [base64.b64encode(hashlib.sha256(content.encode()).digest()).decode() for content in contents]
+        same(policy.pop(f"{tag}-src"), " ".join(f"'sha256-{one}'" for one in sums))
+        same(len(re.findall(f"<{tag}", page)), len(contents))
+    wanted = {"default-src": "'none'", "connect-src": "'self'", "frame-src": "'self'", "img-src": "data:"}
+    same(policy, wanted | {"base-uri": "'none'", "form-action": "'none'"})
+    same(re.findall(r"<[^>]* (?:style|on\w+)=", page), [])
 
 
 @case()
@@ -55,4 +96,64 @@ def the_page_shows_what_the_broker_says(broker):
         ["Bad: a.", ["bad", "a", "One: more."], ["look", "b c", "Two."]],
         ["Look: a; b.", ["look", "a", "One."], ["look", "b", "Two."]],
     ]
-    same(shown(broker, told), wanted)
+    same(ruled(broker.look("/").body.decode(), VERDICTS, told), wanted)
+
+
+@case()
+def the_page_finds_its_views_and_reads_errors(broker):
+    broker.serve()
+    page = broker.look("/").body.decode()
+    wanted = {
+        "": [{"view": "now"}, None],
+        "#settings": [{"view": "settings"}, None],
+        "#events": [{"view": "events", "name": "events", "after": ""}, "events?limit=50"],
+        "#waiting/a%2Fb": [{"view": "events", "name": "waiting", "after": "a"}, "events?standing=waiting&limit=50&after=a"],
+        "#failure/x": [{"view": "records", "name": "failure", "after": "x"}, "records/failure?limit=50&after=x"],
+        "#toString": [{"view": "event", "id": "toString"}, None],
+    }
+    same(ruled(page, PLACES, list(wanted)), list(wanted.values()))
+    errors = {
+        '{"errorType":"Bad","errorMessage":"no way"}': "Bad: no way",
+        '{"errorMessage":"no way"}': "no way",
+        '{"errorType":1}': '{"errorType":1}',
+        '"said"': "said",
+        "no JSON": "no JSON",
+        "x" * 201: "x" * 200 + "…",
+    }
+    same(ruled(page, ERRORS, [*errors, None]), [*errors.values(), "no answer"])
+
+
+@case({"retries": 0, "age": 120})
+def a_browser_shows_the_verdict_lists_and_events(broker):
+    broker.serve()
+    error = '{"errorType":"<b>Bad</b>","errorMessage":"no way"}'
+    failed = broker.live('{"text":"<i>x</i>"}', error, path="error")
+    succeeded = broker.live("{}", '"done"')
+    waits = broker.invoke("{}").id
+    page = until("the verdict", lambda: (page := shown(broker)) and "Bad: nobody polls" in page and page)
+    assert "and 1 events are due" in text_of(page, "findings"), text_of(page, "findings")
+    same((view_of(page), text_of(page, "name"), text_of(page, "held")), (["now"], "my-function", "3 of at most 16"))
+    assert "<b>Bad</b>: no way" in text_of(page, "fails"), text_of(page, "fails")
+    assert waits in text_of(page, "waits")
+    page = shown(broker, f"/#{failed}")
+    same((view_of(page), text_of(page, "error"), text_of(page, "error-text")), (["event"], "<b>Bad</b>: no way", error))
+    same((text_of(page, "payload"), text_of(page, "event").split()[:3]), ('{"text":"<i>x</i>"}', ["stands", "ended", "RetriesExhausted"]))
+    assert text_of(page, "collect").endswith(f"/broker/destinations/{failed}")
+    same(json.loads(text_of(page, "record"))["requestContext"]["requestId"], failed)
+    for name, wanted in (("failure", failed), ("success", succeeded)):
+        page = shown(broker, f"/#{name}")
+        same((view_of(page), [id for id in (failed, succeeded, waits) if id in text_of(page, "records")]), (["records"], [wanted]))
+    page = shown(broker, "/#waiting")
+    same((view_of(page), [id for id in (failed, succeeded, waits) if id in text_of(page, "list")]), (["events"], [waits]))
+    page = shown(broker, "/#settings")
+    assert "2 min" in text_of(page, "settings") and broker.said("--version")[1].split()[1] in text_of(page, "settings")
+
+
+@case()
+def a_browser_shows_that_a_broker_is_well(broker):
+    broker.serve()
+    poll = broker.send_next()
+    broker.until_parked(1)
+    page = shown(broker)
+    same((text_of(page, "health"), text_of(page, "findings")), ("The broker is well.", ""))
+    poll.leave()

@@ -1,7 +1,9 @@
-"""The broker's verdict: what it says is wrong with itself, in its health, in its metrics, and no longer."""
+"""The broker's verdict: what it says is wrong with itself, in its health, in its metrics and on its page, and no longer."""
 import json
+import shutil
 import time
 
+from cases.pages import VERDICTS, ruled
 from harness import case, same, until
 
 REASONS = (
@@ -28,10 +30,21 @@ def found(broker):
     return told
 
 
+def shows(broker, told):
+    """The page is seen to show just that, where there is a program to ask its rules by."""
+    if shutil.which("node"):
+        lines = "".join(f"{level} {reason}: {words}\n" for reason, (level, words) in told.items())
+        [[headline, *findings]] = ruled(broker.look("/").body.decode(), VERDICTS, [lines])
+        same({title.replace(" ", "_"): (level, words) for level, title, words in findings}, told)
+        same(headline == "The broker is well.", not told)
+
+
 def finds(broker, *reasons):
-    """Waits until just this is wrong: the words of each."""
+    """Waits until just this is wrong: the words of each. The page shows it."""
     until(reasons or "a broker that is well", lambda: set(found(broker)) == set(reasons))
-    return {reason: words for reason, (_, words) in found(broker).items()}
+    told = found(broker)
+    shows(broker, told)
+    return {reason: words for reason, (_, words) in told.items()}
 
 
 def poll(broker, environment=1):

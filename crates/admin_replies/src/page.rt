@@ -6,7 +6,7 @@ pub const PAGE: &str = r##"<!doctype html>
 <head>
 <meta charset="utf-8">
 <meta name="viewport" content="width=device-width, initial-scale=1">
-<meta http-equiv="Content-Security-Policy" content="default-src 'none'; connect-src 'self'; img-src data:; style-src 'unsafe-inline'; script-src 'unsafe-inline'">
+<meta http-equiv="Content-Security-Policy" content="default-src 'none'; connect-src 'self'; frame-src 'self'; img-src data:; base-uri 'none'; form-action 'none'; style-src 'sha256-RZ7toKQNGz3RDEW4JchliHeWqKWJrHs74ur5tVcIgcc='; script-src 'sha256-aIL3mbgRL4eDwHmTkpSmJa0VfaEdKQRyuCtEptIdQwk=' 'sha256-3IcmVt6StB5ylvc16lQdFVVeGkjxL+PUQ4tnmfyqOzQ='">
 <link rel="icon" href="data:,">
 <title>Lambda broker</title>
 <style>
@@ -15,10 +15,14 @@ pub const PAGE: &str = r##"<!doctype html>
 @media (prefers-color-scheme: dark) { :root { --ground: #0f1318; --ink: #e6edf3; --soft: #9aa5b1; --line: #30363d; --good: #56d364; --look: #e3b341; --bad: #ff8a80; --link: #79b8ff;
   --waiting: #d9a520; --due_again: #f0883e; --running: #58a6ff; --success: #3fb950; --retries_exhausted: #ff6b62; --event_age_exceeded: #bc8cff; } }
 * { box-sizing: border-box; }
+[hidden] { display: none !important; }
 body { margin: 0 auto; padding: 1rem; max-width: 72rem; background: var(--ground); color: var(--ink); font: 1rem/1.45 system-ui, sans-serif; font-variant-numeric: tabular-nums; }
 h1 { font-size: 1.35rem; margin: 0; }
-h1, .error, #health, #findings, #h-one { overflow-wrap: anywhere; }
+h1, h2, .error, #health, #findings, pre { overflow-wrap: anywhere; }
 h2 { font-size: 1.05rem; margin: 1.75rem 0 .5rem; }
+h2:focus { outline: none; }
+nav { display: flex; flex-wrap: wrap; gap: .25rem 1rem; margin: .8rem 0 0; padding: .3rem 0; border-bottom: 1px solid var(--line); }
+nav [aria-current] { color: var(--ink); font-weight: 600; text-decoration: none; }
 a { color: var(--link); }
 p { margin: .35rem 0; }
 .soft, figcaption, th { color: var(--soft); font-size: .875rem; }
@@ -35,8 +39,13 @@ main.gone { filter: grayscale(1); }
 #legend li, dl div { display: flex; gap: .6rem; align-items: baseline; border-bottom: 1px solid var(--line); padding: .2rem 0; }
 #legend i { flex: none; width: .8rem; height: .8rem; border: 1px solid var(--line); border-radius: 2px; }
 b, dd { margin: 0 0 0 auto; font-weight: 600; text-align: right; }
+dt { flex: none; max-width: 55%; }
 dd { overflow-wrap: anywhere; }
-#event { grid-template-columns: 1fr; }
+#event, .wide { grid-template-columns: 1fr; }
+pre { margin: .35rem 0; padding: .6rem .75rem; border: 1px solid var(--line); border-radius: 4px; white-space: pre-wrap; font: .875rem/1.4 ui-monospace, monospace; }
+.low { height: 8rem; }
+iframe:not(.low) { height: 20rem; }
+iframe { width: 100%; border: 1px solid var(--line); background: #fff; color-scheme: light; }
 #plots { display: grid; grid-template-columns: repeat(auto-fill, minmax(14rem, 1fr)); gap: 1rem 1.5rem; }
 figure { margin: 0; min-width: 0; }
 figcaption { display: flex; justify-content: space-between; align-items: end; gap: .5rem; color: var(--ink); }
@@ -46,12 +55,14 @@ table { border-collapse: collapse; width: 100%; }
 th, td { text-align: left; vertical-align: baseline; padding: .3rem 1.25rem .3rem 0; border-bottom: 1px solid var(--line); }
 .n { text-align: right; }
 td:not(.error, .wrap) { white-space: nowrap; }
+.more { display: flex; gap: 1rem; }
 .id a { font: .875rem ui-monospace, monospace; }
 @media (max-width: 44rem) {
   #plots { grid-template-columns: repeat(2, minmax(0, 1fr)); }
   body { padding: .75rem; }
   table { font-size: .9375rem; }
   th, td { padding-right: .4rem; }
+  .far { display: none; }
   .id a { display: inline-block; max-width: 4.4rem; overflow: hidden; text-overflow: ellipsis; vertical-align: bottom; }
 }
 </style>
@@ -59,18 +70,24 @@ td:not(.error, .wrap) { white-space: nowrap; }
 <body>
 <header>
 <h1 id="name">Lambda broker</h1>
-<p id="health" role="status">asking the broker</p>
+<p id="health" role="status" hidden>asking the broker</p>
 <ul id="findings" aria-label="What was found"></ul>
 <p class="soft" id="when"></p>
+<nav id="nav" aria-label="Pages" hidden>
+<a href="#">Now</a><a href="#waiting">Waiting</a><a href="#running">Running</a><a href="#failure">Failures</a><a href="#success">Successes</a><a href="#events">All events</a><a href="#settings">Settings</a>
+</nav>
 </header>
+<noscript>
+<p>Without JavaScript this page has what the broker says as text, as it was when the page was loaded.</p>
+<h2>What is wrong</h2>
+<iframe class="low" src="healthz?deep" title="what is wrong"></iframe>
+<h2>All numbers</h2>
+<iframe src="metrics" title="all numbers"></iframe>
+<p>As text: <a href="healthz?deep">what is wrong</a> · <a href="metrics">all numbers</a>. As JSON: <a href="events?standing=waiting">waiting</a> · <a href="events?standing=running">running</a> · <a href="events">all events</a> · <a href="records/failure">failures</a> · <a href="records/success">successes</a></p>
+</noscript>
 <main id="main">
-<noscript>This page needs JavaScript; the links at its end do not.</noscript>
-<section id="one" hidden aria-labelledby="h-one">
-<h2 id="h-one">Event</h2>
-<dl id="event"></dl>
-<p class="soft"><a id="whole" href="events">as JSON</a> · <a href="#">close</a></p>
-</section>
-<h2>Environments, waits, refusals</h2>
+<section id="view-now" hidden>
+<h2 tabindex="-1">Environments, waits, refusals</h2>
 <dl id="now"></dl>
 <h2>Events held: <span id="held">–</span></h2>
 <div id="bar" role="img" aria-label="not read yet"></div>
@@ -85,7 +102,40 @@ td:not(.error, .wrap) { white-space: nowrap; }
 <div id="plots"></div>
 <h2>The broker itself</h2>
 <dl id="more"></dl>
-<p class="soft"><a href="metrics">all numbers</a> · <a href="events">events</a> · <a href="records/failure">failures</a> · <a href="records/success">successes</a></p>
+<p class="soft"><a href="metrics">all numbers as text</a></p>
+</section>
+<section id="view-event" hidden>
+<h2 id="h-one" tabindex="-1">Event</h2>
+<div id="one">
+<dl id="event"></dl>
+<h2>Last error</h2>
+<p class="error" id="error"></p>
+<pre id="error-text"></pre>
+<h2>Payload<span id="payload-part"></span></h2>
+<pre id="payload"></pre>
+<h2>Record</h2>
+<p id="record-none"></p>
+<pre id="record"></pre>
+<p class="soft" id="collect-words">This collects it, so that it is held no longer. P is the callers’ port.</p>
+<pre id="collect"></pre>
+</div>
+<p class="soft"><a id="whole" href="events">as JSON</a></p>
+</section>
+<section id="view-events" hidden>
+<h2 id="h-list" tabindex="-1">Events</h2>
+<table id="list" aria-labelledby="h-list"></table><p class="soft" id="list-none"></p>
+<p class="more"><a id="list-first" hidden>from the first</a><a id="list-next" hidden>next</a><a class="soft" id="list-json" href="events">as JSON</a></p>
+</section>
+<section id="view-records" hidden>
+<h2 id="h-records" tabindex="-1">Records</h2>
+<table id="records" aria-labelledby="h-records"></table><p class="soft" id="records-none"></p>
+<p class="more"><a id="records-first" hidden>from the first</a><a id="records-next" hidden>next</a><a class="soft" id="records-json" href="records/failure">as lines of JSON</a></p>
+</section>
+<section id="view-settings" hidden>
+<h2 tabindex="-1">Settings</h2>
+<dl id="settings" class="wide"></dl>
+<p class="soft">Retries and age are those in force for new events. The rest was set when the disk was formatted.</p>
+</section>
 </main>
 <script>
 "use strict";
@@ -130,6 +180,35 @@ function findings(text) {
     .map(([, level, reason, words]) => [level, reason.replaceAll("_", " "), words])
     .sort((one, other) => (other[0] === BAD) - (one[0] === BAD));
 }
+// Where the part of the address behind its # leads: the whole, a list behind an event, or one event.
+const LISTS = { waiting: "events", running: "events", events: "events", failure: "records", success: "records" };
+function placeOf(hash) {
+  const [name, after = ""] = decodeURIComponent(hash.slice(1)).split("/");
+  if (!name) return { view: "now" };
+  if (name === "settings") return { view: name };
+  return Object.hasOwn(LISTS, name) ? { view: LISTS[name], name, after } : { view: "event", id: name };
+}
+// What a list is read from.
+function sourceOf({ view, name, after }, limit) {
+  const path = view === "records" ? `records/${name}?` : `events?${name === "events" ? "" : `standing=${name}&`}`;
+  return `${path}limit=${limit}${after && `&after=${encodeURIComponent(after)}`}`;
+}
+// What the function reported: a value of JSON as a rule.
+const LONG = 200;
+function short(text) { return text.length > LONG ? text.slice(0, LONG) + "…" : text; }
+function errorOf(said) {
+  const parts = [said?.errorType, said?.errorMessage].filter((part) => typeof part === "string" && part);
+  return short(parts.length ? parts.join(": ") : typeof said === "string" ? said : JSON.stringify(said));
+}
+function parsed(text) {
+  try { return JSON.parse(text); } catch { return text; }
+}
+function error(told) { return told === null ? "no answer" : errorOf(parsed(told)); }
+// What a record says in a line.
+function answerOf({ responsePayload }) {
+  if (responsePayload === undefined || responsePayload === null) return "no answer";
+  return typeof responsePayload === "object" ? errorOf(responsePayload) : short(String(responsePayload));
+}
 // The first line. It has no numbers, so that a screen reader tells it once.
 function word(level) { return level === BAD ? "Bad" : "Look"; }
 function headline(found) {
@@ -139,7 +218,7 @@ function headline(found) {
 </script>
 <script>
 "use strict";
-const EVERY = 3000, FIRST = 1000, WINDOW = 300000, PATIENCE = 5000, SHOWN = 6, RUNNING = 16, FAILED = 24, LARGE = 65536;
+const EVERY = 3000, FIRST = 1000, WINDOW = 300000, PATIENCE = 5000, SHOWN = 6, RUNNING = 16, FAILED = 24, LARGE = 65536, LISTED = 50, RECORDS = 25;
 const STANDINGS = { waiting: "waiting", due_again: "due again", running: "running", success: "ended: Success",
   retries_exhausted: "ended: RetriesExhausted", event_age_exceeded: "ended: EventAgeExceeded" };
 const $ = (id) => document.getElementById(id);
@@ -221,16 +300,15 @@ function showStandings({ count }) {
   $("bar").setAttribute("aria-label", `${$("held").textContent} events are held, as the list below tells`);
 }
 
-const facts = {};
+// Lines and cells are made once: only their text changes.
 function tell(list, texts) {
-  for (const [name, text] of Object.entries(texts)) {
-    if (!facts[name]) {
-      const line = add($(list), "div");
-      add(line, "dt", name);
-      facts[name] = add(line, "dd");
-    }
-    put(facts[name], text);
-  }
+  const into = $(list), entries = Object.entries(texts);
+  while (into.children.length > entries.length) into.lastChild.remove();
+  entries.forEach(([name, text], place) => {
+    const line = into.children[place] || add(into, "div");
+    put(line.children[0] || add(line, "dt"), name);
+    put(line.children[1] || add(line, "dd"), text);
+  });
 }
 // The counts of a family by a label.
 function each(families, family, label) {
@@ -248,8 +326,6 @@ function showFacts({ families, waits, now, count, waiting, ended }) {
   });
   tell("more", {
     "oldest record": ended ? span(count("oldest_record_age_seconds")) : "none",
-    "in force for new events": `retries ${number("retries_limit")}, age ${span(age)}`,
-    "timeout of an attempt": span(count("timeout_seconds")),
     "parked polls, of open requests": `${number("parked_polls")} of ${number("open_slots")}`,
     "commands not durable yet": number("pending_commands"),
     "throttled, interrupted": `${number("attempts_throttled_total")}, ${number("attempts_interrupted_total")}`,
@@ -258,8 +334,25 @@ function showFacts({ families, waits, now, count, waiting, ended }) {
     "memory": `${whole(count("process_resident_memory_bytes") / 1048576)} MiB`,
   });
 }
+function showSettings({ families, now, count }) {
+  const number = (...of) => whole(count(...of)), of = families.settings_info?.[0].labels ?? {}, started = count("process_start_time_seconds");
+  tell("settings", {
+    "function": of.function,
+    "handler": of.handler,
+    "ARN": of.arn,
+    "retries, age": `${number("retries_limit")}, ${span(count("age_limit_seconds"))}`,
+    "timeout of an attempt": span(count("timeout_seconds")),
+    "attempts at once": `at most ${number("attempts_limit")}`,
+    "environments": number("environments"),
+    "events held": `at most ${number("table_limit")}`,
+    "bytes of a payload, of a response": `at most ${number("payload_limit_bytes")}, ${number("response_limit_bytes")}`,
+    "bytes of the disk": number("disk_bytes"),
+    "version": families.build_info?.[0].labels.version,
+    "served since": `${stamp(1000 * started)}, for ${span(now / 1000 - started)}`,
+  });
+}
 
-// Rows and cells are made once: only their text changes. A list is an event's id, and the words that lead to it.
+// A list is an event's id, and the words that lead to it.
 function fill(cell, text) {
   const leads = Array.isArray(text), inner = cell.firstElementChild || add(cell, leads ? "a" : "bdi");
   if (leads) inner.href = `#${encodeURIComponent(text[0])}`;
@@ -267,7 +360,7 @@ function fill(cell, text) {
 }
 function table(id, columns, none) {
   const head = add(add($(id), "thead"), "tr"), body = add($(id), "tbody");
-  for (const [name, kind] of columns) add(head, "th", name, kind).scope = "col";
+  for (const [name, kind] of columns) add(head, "th", name, kind.replace("id", "")).scope = "col";
   return (rows) => {
     $(id).hidden = !rows.length;
     put($(`${id}-none`), rows.length ? "" : none);
@@ -280,6 +373,8 @@ function table(id, columns, none) {
 }
 const showRuns = table("runs", [["event", "id"], ["environ\u00adment", "n"], ["age", "n"], ["deadline in", "n"]], "No event runs.");
 const showFails = table("fails", [["error", "error"], ["events", "n"], ["last", "n wrap"]], "No event that failed is held.");
+const showList = table("list", [["event", "id"], ["stands", "wrap"], ["accepted", "n far"], ["due or ended", "n"], ["starts", "n"], ["failures", "n far"], ["bytes", "n far"]], "No such event is held.");
+const showRecords = table("records", [["event", "id"], ["ended", "wrap"], ["outcome", "wrap far"], ["starts", "n far"], ["error or response", "error"]], "No such record is held.");
 const showWaits = table("waits", [["event", "id"], ["waits", "n"], ["due in", "n"], ["starts", "n"], ["failures", "n"]], "No event waits.");
 
 async function ask(path) {
@@ -289,24 +384,65 @@ async function ask(path) {
 }
 const json = async (path) => (await ask(path)).json();
 const until = (moment, now) => moment > now ? span((moment - now) / 1000) : "now";
-// One event, which the part of the address behind its # names.
-async function readOne(now) {
-  const id = decodeURIComponent(location.hash.slice(1));
-  $("one").hidden = !id;
-  if (!id) return;
-  const e = await json(`events/${encodeURIComponent(id)}`), ended = e.standing.startsWith("ended");
-  $("whole").href = `events/${encodeURIComponent(id)}`;
-  put($("h-one"), `Event ${e.id}`);
+const ago = (moment, now) => moment > now ? `in ${span((moment - now) / 1000)}` : `${span((now - moment) / 1000)} ago`;
+const ends = (standing) => standing.startsWith("ended") ? "ended" : standing === "running" ? "deadline" : "due";
+function showPart(name, text) {
+  $(name).hidden = !text;
+  put($(name), text);
+}
+function showEvent(e, now) {
   tell("event", {
-    "stands": e.standing,
-    "accepted": `${stamp(e.accepted)}, ${span((now - e.accepted) / 1000)} ago`,
-    "due, deadline or end": stamp(e.moment),
+    "stands": e.environment === null ? e.standing : `${e.standing} in environment ${e.environment}`,
+    "accepted": `${stamp(e.accepted)}, ${ago(e.accepted, now)}`,
+    [ends(e.standing)]: `${stamp(e.moment)}, ${ago(e.moment, now)}`,
     "starts, failures, put back since": `${e.starts}, ${e.failures}, ${e.pushbacks}`,
-    "given up at": span(e.age),
-    "last error": e.lastError === null ? "none was reported" : error(e.lastError),
-    "payload": e.payload.length < e.payloadBytes ? `${e.payload.slice(0, 200)}… (${whole(e.payloadBytes)} bytes)` : e.payload.slice(0, 200),
-    "to collect its record": ended ? `DELETE /broker/destinations/${e.id}` : "it has none yet",
+    "retries": `at most ${e.retries}`,
+    "too old": `${stamp(e.accepted + 1000 * e.age)}, ${ago(e.accepted + 1000 * e.age, now)}`,
+    "bytes of its payload, of its answer": `${whole(e.payloadBytes)}, ${whole(e.answerBytes)}`,
   });
+  put($("error"), e.lastError === null ? "None was reported." : error(e.lastError));
+  showPart("error-text", e.lastError);
+  put($("payload-part"), new TextEncoder().encode(e.payload).length < e.payloadBytes ? ": its beginning" : "");
+  showPart("payload", e.payload);
+  showPart("record-none", e.record ? "" : "It has none until it has ended.");
+  showPart("record", e.record && JSON.stringify(e.record, null, 2));
+  $("collect-words").hidden = !e.record;
+  showPart("collect", e.record && `curl -X DELETE http://127.0.0.1:P/broker/destinations/${e.id}`);
+}
+async function readEvent({ id }, now) {
+  const path = `events/${encodeURIComponent(id)}`;
+  $("whole").href = path;
+  put($("h-one"), `Event ${id}`);
+  try {
+    showEvent(await json(path), now);
+    $("one").hidden = false;
+  } catch (why) {
+    $("one").hidden = true;
+    throw why;
+  }
+}
+function showMore(view, { name, after }, next, path) {
+  $(`${view}-first`).href = `#${name}`;
+  $(`${view}-first`).hidden = !after;
+  $(`${view}-next`).href = `#${name}/${next}`;
+  $(`${view}-next`).hidden = !next;
+  $(`${view}-json`).href = path;
+}
+const TITLES = { waiting: "Events that wait", running: "Events that run", events: "All events", failure: "Failures", success: "Successes" };
+async function readList(place, now) {
+  const path = sourceOf(place, LISTED), { events, next } = await json(path);
+  put($("h-list"), TITLES[place.name] + (place.after ? ", further on" : ", in the order of acceptance"));
+  showList(events.map((e) => [[e.id, e.id], e.standing, ago(e.accepted, now), ago(e.moment, now), e.starts, e.failures, whole(e.payloadBytes)]));
+  showMore("list", place, next, path);
+}
+async function readRecords(place) {
+  const path = sourceOf(place, RECORDS), reply = await ask(path), lines = (await reply.text()).split("\n").filter(Boolean).map((line) => JSON.parse(line));
+  put($("h-records"), TITLES[place.name] + (place.after ? ", further on" : ", in the order of their ends"));
+  showRecords(lines.map((record) => {
+    const { requestId, condition, approximateInvokeCount } = record.requestContext;
+    return [[requestId, requestId], stamp(Date.parse(record.timestamp)), condition, approximateInvokeCount, answerOf(record)];
+  }));
+  showMore("records", place, reply.headers.get("next-after"), path);
 }
 async function readRuns(now) {
   const { events } = await json(`events?standing=running&limit=${RUNNING}`);
@@ -317,17 +453,8 @@ async function readWaits(now) {
   showWaits(events.slice(0, SHOWN).map((e) => [[e.id, e.id], span((now - e.accepted) / 1000), until(e.moment, now), e.starts, e.failures]));
   return events;
 }
-// What the function reported last: a text, JSON as a rule.
-function error(told) {
-  if (told === null) return "no answer";
-  let said;
-  try { said = JSON.parse(told); } catch { said = told; }
-  const parts = [said?.errorType, said?.errorMessage].filter((part) => typeof part === "string" && part);
-  const text = parts.length ? parts.join(": ") : typeof said === "string" ? said : told;
-  return text.length > 200 ? text.slice(0, 200) + "…" : text;
-}
 let known = {}, shown = "";
-async function errorOf({ id, starts, payloadBytes }) {
+async function lastError({ id, starts, payloadBytes }) {
   return known[`${id} ${starts}`] ?? (payloadBytes > LARGE ? "not read: the payload is large" : error((await json(`events/${id}`)).lastError));
 }
 // The list is in the order of acceptance, so the last that ended are found by all of it.
@@ -342,10 +469,9 @@ async function lastFailures() {
   return all.sort((a, b) => b.moment - a.moment);
 }
 // Equal errors are one line. They are read where a count has changed.
-async function readFails(families) {
-  const state = JSON.stringify([families.events, families.attempts_failed_total, families.events_ended_total, families.records_collected_total]);
+async function readFails(state) {
   if (state === shown) return;
-  const last = (await lastFailures()).slice(0, FAILED), errors = await Promise.all(last.map(errorOf)), lines = {};
+  const last = (await lastFailures()).slice(0, FAILED), errors = await Promise.all(last.map(lastError)), lines = {};
   known = {};
   last.forEach(({ id, moment, standing, starts }, place) => {
     const said = known[`${id} ${starts}`] = errors[place];
@@ -377,15 +503,28 @@ async function readNumbers(at) {
   answered = at;
   return { families, said: health.ok ? "" : await health.text(), now: Date.parse(reply.headers.get("date")) || at };
 }
-async function readLists({ now, families }) {
-  try {
+// What a view reads beside the numbers. Records are read where one may have come or gone.
+let records = "";
+async function readView(place, now, state) {
+  const of = location.hash + state;
+  if (place.view === "now") {
     waits = await readWaits(now);
     await readRuns(now);
-    await readFails(families);
-    await readOne(now);
+    await readFails(state);
+  } else if (place.view === "event") await readEvent(place, now);
+  else if (place.view === "events") await readList(place, now);
+  else if (place.view === "records" && of !== records) {
+    await readRecords(place);
+    records = of;
+  }
+}
+async function readLists({ now, families }) {
+  const state = JSON.stringify([families.events, families.attempts_failed_total, families.events_ended_total, families.records_collected_total]);
+  try {
+    await readView(placeOf(location.hash), now, state);
     return "";
   } catch (why) {
-    return `, but not all of the tables: ${why.message}`;
+    return `, but not all of this page: ${why.message}`;
   }
 }
 function showState(seen, at) {
@@ -393,6 +532,7 @@ function showState(seen, at) {
   put($("name"), seen.families.settings_info?.[0].labels.function || "Lambda broker");
   for (const plot of PLOTS) step(plot, seen.families, at);
   showFacts(state);
+  showSettings(state);
   showStandings(state);
   showFound(found);
   if (seen.said && !found.length) health(`Bad: the broker says ${seen.said.trim()}.`, BAD);
@@ -417,14 +557,29 @@ async function readAll(at) {
   return `Read at ${stamp(at)}, and again every ${EVERY / 1000} seconds${missing}.`;
 }
 const opened = Date.now();
+let turns = 0;
 async function look() {
-  const at = Date.now();
-  put($("when"), await readAll(at));
+  const at = Date.now(), turn = ++turns, said = await readAll(at);
+  put($("when"), said);
   for (const plot of PLOTS) draw(plot, at);
   put($("seen"), `the last ${span(Math.min(at - opened, WINDOW) / 1000)}`);
-  setTimeout(look, PLOTS[0].points.length < 3 ? FIRST : EVERY);
+  if (turn === turns) setTimeout(() => turn === turns && look(), PLOTS[0].points.length < 3 ? FIRST : EVERY);
 }
-addEventListener("hashchange", () => readOne(Date.now()).catch((why) => put($("h-one"), why.message)));
+// The view that the address names.
+function turnTo() {
+  const { view } = placeOf(location.hash), name = location.hash.split("/")[0] || "#";
+  for (const section of $("main").children) section.hidden = section.id !== `view-${view}`;
+  for (const link of $("nav").children)
+    if (link.getAttribute("href") === name) link.ariaCurrent = "page";
+    else link.removeAttribute("aria-current");
+}
+addEventListener("hashchange", () => {
+  turnTo();
+  $(`view-${placeOf(location.hash).view}`).querySelector("h2").focus();
+  look();
+});
+$("health").hidden = $("nav").hidden = false;
+turnTo();
 look();
 </script>
 </body>
