@@ -7,6 +7,7 @@ use crate::permits::Permit;
 use crate::timer::Timer;
 use futures::Future;
 use futures::task::{Context, Poll};
+use std::alloc::Global;
 use std::time::Clock;
 
 // A connection that is open, and has a permit.
@@ -33,32 +34,39 @@ impl<C: Future<Output = T>, T: Drop, R: Clock + Drop> Connected<C, R> {
     }
 }
 
-/// A connection as a task. How it ended is not told.
+/// A connection as a task. How it ended is not told. It stays where it is, and each poll moves a pointer alone.
 #[derive(Drop)]
 pub(crate) struct ConnectionFuture<C, R> {
-    connected: Option<Connected<C, R>>,
+    connected: Option<Box<Connected<C, R>>>,
 }
 
-impl<C: Future, R> ConnectionFuture<C, R> {
-    /// Serves a connection that can be polled, in this time, and gives its permit back.
-    pub(crate) fn new(conn: C, timer: Timer<R>, permit: Permit) -> ConnectionFuture<C, R>
+impl<C: Future, R: Drop> ConnectionFuture<C, R> {
+    /// Serves a connection that can be polled, in this time, and gives its permit back. None where memory was wanting.
+    pub(crate) fn new(
+        alloc: Global,
+        conn: C,
+        timer: Timer<R>,
+        permit: Permit,
+    ) -> Option<ConnectionFuture<C, R>>
         requires { C.can_poll conn }
-        ensures { IfSome result.connected (λ connected. C.can_poll connected.conn) }
+        ensures { IfSome result (λ served. IfSome served.connected (λ connected. C.can_poll connected.value.conn)) }
     {
-        ConnectionFuture {
-            connected: Some(Connected {
-                conn,
-                timer,
-                permit,
-            }),
-        }
+        let connected = Connected {
+            conn,
+            timer,
+            permit,
+        };
+        let connected = Box::new(alloc, connected).ok()?;
+        Some(ConnectionFuture {
+            connected: Some(connected),
+        })
     }
 }
 
 impl<C: Future<Output = T>, T: Drop, R: Clock + Drop> Future for ConnectionFuture<C, R> {
     type Output = ();
 
-    ghost can_poll = { λ s. IfSome s.connected (λ connected. C.can_poll connected.conn) };
+    ghost can_poll = { λ s. IfSome s.connected (λ connected. C.can_poll connected.value.conn) };
 
     fn poll(&mut self, cx: &mut Context<'_>) -> Poll<()> {
         let Some(mut connected) = self.connected.take() else {

@@ -84,6 +84,6 @@ impl<R: Clock + Copy + Drop, A: Application> Door for HttpDoor<R, A> {
         let ending = self.ending.cancelled().ok()?;
         let timer = Timer::new(self.rt, &self.timers, self.limits, phase_cell)?;
         let conn = until(self.http.serve_connection(socket, requests), ending);
-        Some(ConnectionFuture::new(conn, timer, permit))
+        ConnectionFuture::new(self.alloc, conn, timer, permit)
     }
 }
