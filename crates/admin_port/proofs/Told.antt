@@ -1,7 +1,11 @@
--- What is told of what is still unreleased is told of what was.
-use Rattle.std.proofs.Common.{refl, Option, Some, None, Result, Ok, Err, inl, inr, subst}
+-- What is told of what is still unreleased is told of what was. A reply that tells of a view does so as it is handed on.
+use Rattle.std.proofs.Common.{◌≡◌, ℕ, refl, sym, Option, Some, None, Result, Ok, Err, IfOk, inl, inr, subst}
+use Rattle.std.specs.Result.{result_ok}
 use Rattle.admin_replies.specs.declared.admin_reply.AdminReply.{AdminReply}
+use Rattle.admin_replies.specs.declared.history.History.{History}
+use Rattle.admin_replies.specs.declared.measuring.Measures.{Measures}
 use Rattle.admin_replies.specs.declared.telling.Baseline.{Baseline}
+use Rattle.admin_replies.specs.Telling.{TellsOf}
 use Rattle.admin_replies.specs.declared.admin_request.AdminRequest.{AdminRequest}
 use Rattle.receipts.specs.declared.view.View.{View}
 use Rattle.receipts.specs.declared.view.Unreleased.{Unreleased}
@@ -21,3 +25,11 @@ told_later baseline request None (Some now) reply same tells =
 told_later baseline request (Some w) (Some now) reply same (inl tells) =
     inl (subst (λ (s : View). TellsOfView baseline request s reply) (same (Ok now.view) refl) tells)
 told_later baseline request (Some w) (Some now) reply same (inr fault) = inr fault
+
+pub told_now : {E : Type 0} (baseline : Baseline) (request : AdminRequest) (view : View) (measures : Measures) (history : History) (now : ℕ)
+    (told : Result AdminReply E) (reply : Option AdminReply) → reply ≡ result_ok told
+    → IfOk told (λ (r : AdminReply). TellsOf baseline view measures history now request r) → TellsOfView baseline request view reply
+told_now baseline request view measures history now (Ok r) reply is tells =
+    subst (λ (o : Option AdminReply). TellsOfView baseline request view o) (sym is) (measures, (history, (now, tells)))
+told_now baseline request view measures history now (Err w) reply is tells =
+    subst (λ (o : Option AdminReply). TellsOfView baseline request view o) (sym is) tt
