@@ -125,6 +125,7 @@ def each_reply_to_an_operator_says_of_what_kind_it_is(broker):
         ("/", 200, "text/html; charset=utf-8"),
         ("/healthz", 200, "text/plain; charset=utf-8"),
         ("/metrics", 200, "text/plain; version=0.0.4; charset=utf-8"),
+        ("/history", 200, "text/plain; charset=utf-8"),
         ("/events", 200, "application/json"),
         ("/events?standing=success&limit=1", 200, "application/json"),
         (f"/events/{event}", 200, "application/json"),
@@ -137,6 +138,41 @@ def each_reply_to_an_operator_says_of_what_kind_it_is(broker):
         same((path, told.status, told.headers["Content-Type"]), (path, status, kind))
         same(told.headers["Cache-Control"], "no-store")
         assert (told.headers["Content-Type"] == "text/html; charset=utf-8") == told.body.startswith(b"<!doctype html>"), path
+
+
+SAMPLED = "at,accepted,started,succeeded,failed,ended,collected,waiting,refused_full,refused_busy,commits,commit_microseconds,written_bytes"
+
+
+def samples(broker):
+    """The samples that a broker keeps, each as its numbers by name."""
+    names, *lines = broker.look("/history").body.decode().splitlines()
+    same(names, SAMPLED)
+    return [dict(zip(names.split(","), map(int, line.split(",")))) for line in lines]
+
+
+@case({"retries": 0, "events": 3})
+def the_broker_keeps_samples_of_its_numbers(broker):
+    before = 1000 * time.time()
+    broker.serve()
+    first = until("the first sample", lambda: samples(broker))[0]
+    same([first[name] for name in SAMPLED.split(",")[1:11]], 10 * [0])
+    assert before - 1 <= first["at"] <= 1000 * time.time(), first
+    collected = broker.live("{}", "1")
+    same(broker.delete(collected).status, 204)
+    broker.live("{}", "1")
+    broker.live("{}", "1", path="error")
+    same([broker.invoke("{}").status for _ in range(3)], [202, 429, 429])
+    last = until("a sample of that", lambda: (last := samples(broker)[-1])["refused_full"] == 2 and last)
+    numbers = broker.numbers()
+    wanted = {
+        "accepted": 4, "started": 3, "succeeded": 2, "failed": 1, "ended": 3, "collected": 1, "waiting": 1, "refused_full": 2, "refused_busy": 0,
+        "commits": numbers["commit_seconds_count"], "commit_microseconds": round(1e6 * numbers["commit_seconds_sum"]),
+        "written_bytes": numbers["written_bytes_total"],
+    }
+    same({name: last[name] for name in wanted}, wanted)
+    kept = until("two samples more", lambda: len(kept := samples(broker)) > 3 and kept)
+    same(kept[0], first)
+    assert all(5000 <= later["at"] - one["at"] for one, later in zip(kept, kept[1:])), kept
 
 
 @case()
@@ -187,6 +223,7 @@ def what_an_operator_may_not_ask_is_refused_by_name(broker):
         "/events?after=x": 400,
         "/events?a=b": 400,
         "/metrics?a=b": 400,
+        "/history?a=b": 400,
         "/records/success?standing=all": 400,
         "/records": 404,
         "/records/other": 404,

@@ -16,6 +16,7 @@ SOURCE = os.path.join(HERE, "..", "crates", "admin_replies", "page.html")
 VERDICTS = "(text) => [headline(findings(text)), ...findings(text)]"
 PLACES = "(hash) => [placeOf(hash), placeOf(hash).name ? sourceOf(placeOf(hash), 50) : null]"
 ERRORS = "(told) => error(told)"
+POINTS = """([text, of, by, times]) => pointsOf(samplesOf(text), { of, by, times }).map(({ at, value }) => [at, value])"""
 
 
 def ruled(page, rule, texts):
@@ -67,7 +68,7 @@ def the_page_inserts_text_and_asks_nobody_else(broker):
     page = broker.look("/").body.decode()
     same([word for word in ("innerHTML", "outerHTML", "insertAdjacent", "document.write", "eval(", "@import", "srcdoc") if word in page], [])
     same(set(re.findall(r"https?://[^\"'`/]*", page)), {"http://www.w3.org", "http://127.0.0.1:P"})
-    same(set(re.findall(r'src="([^"]*)"', page)), {"healthz?deep", "metrics"})
+    same(set(re.findall(r'src="([^"]*)"', page)), {"healthz?deep", "history", "metrics"})
 
 
 @case()
@@ -107,8 +108,9 @@ def the_page_finds_its_views_and_reads_errors(broker):
         "": [{"view": "now"}, None],
         "#settings": [{"view": "settings"}, None],
         "#events": [{"view": "events", "name": "events", "after": ""}, "events?limit=50"],
-        "#waiting/a%2Fb": [{"view": "events", "name": "waiting", "after": "a"}, "events?standing=waiting&limit=50&after=a"],
+        "#waiting/a%2Fb": [{"view": "events", "name": "waiting", "after": "a/b"}, "events?standing=waiting&limit=50&after=a%2Fb"],
         "#failure/x": [{"view": "records", "name": "failure", "after": "x"}, "records/failure?limit=50&after=x"],
+        "#%": [{"view": "event", "id": "%"}, None],
         "#toString": [{"view": "event", "id": "toString"}, None],
     }
     same(ruled(page, PLACES, list(wanted)), list(wanted.values()))
@@ -123,16 +125,38 @@ def the_page_finds_its_views_and_reads_errors(broker):
     same(ruled(page, ERRORS, [*errors, None]), [*errors.values(), "no answer"])
 
 
-@case({"retries": 0, "age": 120})
+@case()
+def the_page_plots_what_the_broker_keeps(broker):
+    broker.serve()
+    text = "at,accepted,waiting,commits,commit_microseconds\n1000,5,2,1,500\n6000,15,1,1,500\n11000,15,0,5,8500\n"
+    asked = {
+        "levels": [text, ["waiting"], None, 1],
+        "rates": [text, ["accepted"], "at", 1000],
+        "sums": [text, ["accepted", "waiting"], "at", 1000],
+        "means": [text, ["commit_microseconds"], "commits", 0.001],
+        "none": [text.split("\n")[0], ["accepted"], "at", 1000],
+    }
+    wanted = {
+        "levels": [[1000, 2], [6000, 1], [11000, 0]],
+        "rates": [[6000, 2], [11000, 0]],
+        "sums": [[6000, 1.8], [11000, -0.2]],
+        "means": [[6000, None], [11000, 2]],
+        "none": [],
+    }
+    same(dict(zip(asked, ruled(broker.look("/").body.decode(), POINTS, list(asked.values())))), wanted)
+
+
+@case({"retries": 0, "age": 600})
 def a_browser_shows_the_verdict_lists_and_events(broker):
     broker.serve()
     error = '{"errorType":"<b>Bad</b>","errorMessage":"no way"}'
-    failed = broker.live('{"text":"<i>x</i>"}', error, path="error")
-    succeeded = broker.live("{}", '"done"')
-    waits = broker.invoke("{}").id
+    failed = broker.invoke('{"text":"<i>x</i>"}').id
     page = until("the verdict", lambda: (page := shown(broker)) and "Bad: nobody polls" in page and page)
     assert "and 1 events are due" in text_of(page, "findings"), text_of(page, "findings")
-    same((view_of(page), text_of(page, "name"), text_of(page, "held")), (["now"], "my-function", "3 of at most 16"))
+    same((view_of(page), text_of(page, "name"), text_of(page, "held")), (["now"], "my-function", "1 of at most 16"))
+    same((broker.next().id, broker.respond(failed, error, path="error").status), (failed, 202))
+    succeeded, waits = broker.live("{}", '"done"'), broker.invoke("{}").id
+    page = shown(broker)
     assert "<b>Bad</b>: no way" in text_of(page, "fails"), text_of(page, "fails")
     assert waits in text_of(page, "waits")
     page = shown(broker, f"/#{failed}")
@@ -145,8 +169,10 @@ def a_browser_shows_the_verdict_lists_and_events(broker):
         same((view_of(page), [id for id in (failed, succeeded, waits) if id in text_of(page, "records")]), (["records"], [wanted]))
     page = shown(broker, "/#waiting")
     same((view_of(page), [id for id in (failed, succeeded, waits) if id in text_of(page, "list")]), (["events"], [waits]))
+    page = shown(broker, "/#00000000-0000-4000-8000-000000000009")
+    same((view_of(page), text_of(page, "event-none").endswith("404 no event of this id is held")), (["event"], True))
     page = shown(broker, "/#settings")
-    assert "2 min" in text_of(page, "settings") and broker.said("--version")[1].split()[1] in text_of(page, "settings")
+    assert "10 min" in text_of(page, "settings") and broker.said("--version")[1].split()[1] in text_of(page, "settings")
 
 
 @case()
@@ -154,6 +180,10 @@ def a_browser_shows_that_a_broker_is_well(broker):
     broker.serve()
     poll = broker.send_next()
     broker.until_parked(1)
+    until("two samples", lambda: len(broker.look("/history").body.splitlines()) > 2)
     page = shown(broker)
     same((text_of(page, "health"), text_of(page, "findings")), ("The broker is well.", ""))
+    # The plots have points at once, but for that of the time of commits.
+    plots = page.split('id="plots"')[1].split("<h2>")[0]
+    same((plots.count('>at most'), plots.count('>nothing yet')), (7, 1))
     poll.leave()

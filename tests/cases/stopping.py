@@ -1,8 +1,11 @@
 """Ending a broker by the program's own command."""
+import os
+import signal
 import socket
+import subprocess
 import threading
 
-from harness import Ports, case, same
+from harness import Apart, Ports, case, same
 
 
 @case()
@@ -22,6 +25,21 @@ def a_broker_is_stopped_at_the_address_that_it_serves_on(broker):
         broker.serve("--address", address)
         same(broker.said("stop", "--port", broker.port, "--address", address), (0, f"stopped {address}:{broker.port}\n"))
         same(broker.ended(), (0, ""))
+
+
+@case()
+def the_first_process_of_a_container_is_ended_by_its_command_and_not_by_a_signal(broker):
+    first = ["unshare", "--user", "--map-root-user", "--pid", "--fork", "--kill-child"]
+    if subprocess.run([*first, "true"], capture_output=True).returncode != 0:
+        raise Apart("no namespace of processes can be made")
+    broker.serve(under=first)
+    [number] = map(int, subprocess.check_output(["pgrep", "-P", str(broker.served.pid)]).split())
+    for one in signal.SIGTERM, signal.SIGINT, signal.SIGHUP, signal.SIGQUIT:
+        os.kill(number, one)
+    same(broker.invoke("{}").status, 202)
+    same(broker.said("stop", "--port", broker.port), (0, f"stopped 127.0.0.1:{broker.port}\n"))
+    same(broker.ended(), (0, ""))
+    same(broker.held(), 1)
 
 
 def stranger(reply):

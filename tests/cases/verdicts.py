@@ -4,7 +4,7 @@ import shutil
 import time
 
 from cases.pages import VERDICTS, ruled
-from harness import case, same, until
+from harness import OPENING, case, same, statuses, until
 
 REASONS = (
     "callers_are_refused", "nobody_polls", "nothing_ends", "table_full", "table_nearly_full", "events_expire", "most_attempts_fail",
@@ -121,6 +121,33 @@ def attempts_that_fail_are_told(broker):
         broker.live("{}", "1")
     finds(broker)
     same([broker.number(name) for name in ("attempts_started_total", "attempts_failed_total")], [10, 5])
+
+
+@case({"timeout": 1, "retries": 0}, slow=True)
+def a_runtime_that_starts_anew_at_each_event_is_told(broker):
+    broker.serve()
+    for _ in range(5):
+        event = broker.invoke("{}").id
+        same(broker.next().id, event)
+        # It dies, and the one that is started in its place polls once that is noticed.
+        until("the end of the attempt", lambda: broker.look(f"/events/{event}").json["standing"] == "ended RetriesExhausted")
+    words = finds(broker, "most_attempts_fail", "nobody_polls")["most_attempts_fail"]
+    same("5 attempts failed, and 0 succeeded" in words, True)
+
+
+@case({"events": 300, "payload": 16, "response": 16})
+def callers_that_are_told_503_are_told(broker):
+    watch = broker.watches_disk()
+    broker.serve()
+    watch.hold_flush = OPENING + 1
+    asked = [broker.send_invoke("{}") for _ in range(260)]
+    until("a flush", lambda: watch.flushes == OPENING + 1)
+    until("the refusals", lambda: sum(one.is_answered() for one in asked) == 4)
+    watch.let_go()
+    same(sorted(statuses(asked)), 256 * [202] + 4 * [503])
+    same(broker.next().status, 200)
+    words = finds(broker, "callers_are_refused", "table_nearly_full")["callers_are_refused"]
+    same("0 × 429" in words and " 4 × 503" in words, True)
 
 
 @case({"age": 60}, slow=True)

@@ -2,6 +2,7 @@
 use Rattle.std.specs.Prelude.{◌≡◌, ℕ, Option, Result, Ok, Err, IfSome}
 use Rattle.std.specs.Option.{option_map_or}
 use Rattle.admin_replies.specs.declared.measuring.Measures.{Measures}
+use Rattle.admin_replies.specs.declared.history.History.{History}
 use Rattle.admin_replies.specs.declared.admin_reply.AdminReply.{AdminReply}
 use Rattle.admin_replies.specs.declared.telling.Baseline.{Baseline}
 use Rattle.admin_replies.specs.Telling.{TellsOf}
@@ -18,7 +19,7 @@ status_told reply = option_map_or (λ (r : AdminReply). r.status) reply 503
 
 -- the reply tells of what was seen, with what was measured at some moment; or there is no memory for one
 abbrev pub TellsOfView : Baseline → AdminRequest → View → Option AdminReply → Type 0
-TellsOfView baseline request view reply = IfSome reply (λ told. (measures : Measures) × ((now : ℕ) × TellsOf baseline view measures now request told))
+TellsOfView baseline request view reply = IfSome reply (λ told. (measures : Measures) × ((history : History) × ((now : ℕ) × TellsOf baseline view measures history now request told)))
 
 -- it is refused: the hall broke before what was asked for became durable
 abbrev pub TellsOfFault : Option AdminReply → Type 0

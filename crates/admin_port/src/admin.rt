@@ -4,7 +4,7 @@ ghost use Rattle.admin_replies.specs.Telling.{CountsEnded};
 
 use crate::admin_context::AdminContext;
 use crate::application::AdminApplication;
-use admin_replies::Baseline;
+use admin_replies::{Baseline, History};
 use async_core::Table;
 use http_port::{HttpLimits, Listening};
 use long_poll::AdminReader;
@@ -65,6 +65,7 @@ fn context_of<L: Ledger, T: Trace>(
     port: AdminPort,
     reader: Arc<AdminReader<L, T>>,
     meters: Arc<Meters>,
+    history: History,
     started_at: u64,
 ) -> (AdminContext<L, T>, Listening)
     ensures baseline { result.0.baseline ≡ port.baseline }
@@ -85,6 +86,7 @@ fn context_of<L: Ledger, T: Trace>(
         memory,
         started_at,
         looks: Mutex::new(Memory::begun(started_at)),
+        history: Mutex::new(history),
     };
     (context, listening)
 }
@@ -102,7 +104,8 @@ impl<R: Machine, L: Ledger, T: Trace> Beside<R, AdminReader<L, T>> for AdminPort
         let alloc = rt.alloc();
         let reader = Arc::new(alloc, reader)?;
         let started_at = Moment::now(&rt)?.millis();
-        let (context, listening) = context_of(alloc, self, reader, meters, started_at);
+        let history = History::new(alloc)?;
+        let (context, listening) = context_of(alloc, self, reader, meters, history, started_at);
         let context = Arc::new(alloc, context)?;
         let application = AdminApplication { rt, context };
         http_port::serve(rt, application, listening, HttpLimits::default(), ending)?;

@@ -3,7 +3,7 @@ ghost use Rattle.std.specs.Prelude.{◌≡◌};
 
 use crate::admin_response::AdminResponse;
 use crate::memory::resident_bytes;
-use admin_replies::{AdminRequest, Baseline, Measures, counts_of, tell};
+use admin_replies::{AdminRequest, Baseline, History, Measures, sample_of, tell};
 use long_poll::AdminReader;
 use operator_view::{Counts, Memory};
 use port_meters::{Counters, Meters, Moment};
@@ -31,6 +31,8 @@ pub(crate) struct AdminContext<L: Ledger, T: Trace> {
     pub(crate) started_at: u64,
     /// What is remembered of the looks up to now.
     pub(crate) looks: Mutex<Memory>,
+    /// The numbers of the last minutes.
+    pub(crate) history: Mutex<History>,
 }
 
 impl<L: Ledger, T: Trace> AdminContext<L, T> {
@@ -55,7 +57,7 @@ impl<L: Ledger, T: Trace> AdminContext<L, T> {
         }
     }
 
-    /// What is told of what was seen.
+    /// What is told of what was seen. Some numbers of it are kept.
     pub(crate) fn tell<R: Wait + Clock>(
         &self,
         rt: &R,
@@ -69,9 +71,19 @@ impl<L: Ledger, T: Trace> AdminContext<L, T> {
             Err(_) => 0,
         };
         let counters = self.meters.read(rt);
-        let seen = counts_of(&self.baseline, view, &counters, now);
-        let measures = self.measures(rt, counters, self.remember(rt, seen));
-        let reply = tell(self.alloc, &self.baseline, request, view, &measures, now);
+        let sample = sample_of(&self.baseline, view, &counters, self.written.bytes(), now);
+        let measures = self.measures(rt, counters, self.remember(rt, sample.counts));
+        let mut history = self.history.lock(rt);
+        history.note(sample);
+        let reply = tell(
+            self.alloc,
+            &self.baseline,
+            request,
+            view,
+            &measures,
+            &*history,
+            now,
+        );
         AdminResponse { reply: reply.ok() }
     }
 }

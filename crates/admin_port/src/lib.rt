@@ -1,8 +1,9 @@
 //! The operator's port of a broker: HTTP/1.1 on one port, for those who look and change nothing.
 //!
 //! A request looks at the office by its reader. What was seen there is unreleased until all of it is durable, and the reply
-//! is made of it then. The crate above hands an `AdminPort` to the front, which serves it beside its own ports, and uses that a
-//! reply tells of the view that its own future held back, by what is known of the broker from its opening on.
+//! is made of it then; some numbers of it are kept. The crate above hands an `AdminPort` to the front, which serves it beside its
+//! own ports, and uses that a reply tells of the view that its own future held back, by what is known of the broker from its
+//! opening on.
 #![tactic(auto)]
 
 mod admin;

@@ -6,6 +6,7 @@ use Rattle.operator_view.specs.declared.verdict.Problem.TheVariants as problem
 use Rattle.admin_replies.specs.declared.admin_request.AdminRequest.{AdminRequest}
 use Rattle.admin_replies.specs.declared.admin_refusal.AdminRefusal.{AdminRefusal}
 use Rattle.admin_replies.specs.declared.metrics.Metrics.{Metrics}
+use Rattle.admin_replies.specs.declared.sample.Sample.{Sample}
 use Rattle.admin_replies.specs.Requests.{asked_of}
 
 abbrev pub asks : String → String → Result AdminRequest AdminRefusal
@@ -150,3 +151,30 @@ problems_text =
     ++ (codes "lambda_broker_problem{reason=\"events_expire\"} 0\n"
     ++ (codes "lambda_broker_problem{reason=\"most_attempts_fail\"} 0\n"
     ++ (codes "lambda_broker_problem{reason=\"commits_are_slow\"} 0\n" ++ codes "lambda_broker_problem{reason=\"records_not_collected\"} 0\n"))))))))
+
+-- a sample, in which each number is another one too
+abbrev pub sample : Sample
+sample = record {
+  counts = record {
+    at = 1573755365568;
+    started = 2;
+    succeeded = 3;
+    failed = 4;
+    ended = 5;
+    expired = 6;
+    commits = 7;
+    commit_microseconds = 8;
+    quick_commits = 9;
+    refused_full = 10;
+    refused_busy = 11;
+  };
+  accepted = 12;
+  collected = 13;
+  waiting = 14;
+  written_bytes = 15;
+}
+
+abbrev pub history_text : List ℕ
+history_text =
+    codes "at,accepted,started,succeeded,failed,ended,collected,waiting,refused_full,refused_busy,commits,commit_microseconds,written_bytes\n"
+    ++ codes "1573755365568,12,2,3,4,5,13,14,10,11,7,8,15\n"

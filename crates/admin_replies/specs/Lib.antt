@@ -1,4 +1,5 @@
 pub mod Examples
+pub mod History
 pub mod Lines
 pub mod Lists
 pub mod Media

@@ -59,6 +59,7 @@ abbrev pub resource_of : List ℕ → Result Resource AdminRefusal
 resource_of path =
     if bytes_eq path (codes "/") then Ok resource.Page
     else if bytes_eq path (codes "/metrics") then Ok resource.Metrics
+    else if bytes_eq path (codes "/history") then Ok resource.History
     else if bytes_eq path (codes "/healthz") then Ok resource.Health
     else if bytes_eq path (codes "/events") then Ok resource.Events
     else if bytes_eq path (codes "/records/success") then Ok (resource.Records side.Success)
@@ -145,6 +146,7 @@ records_asked s (Ok after) (Ok limit) = Ok (request.Records s after limit)
 abbrev pub told_at : Resource → List (List ℕ) → Result AdminRequest AdminRefusal
 told_at resource.Page parts = Ok request.Page
 told_at resource.Metrics parts = Ok request.Metrics
+told_at resource.History parts = Ok request.History
 told_at resource.Health parts = Ok (request.Health (is_some (given name.Deep parts)))
 told_at (resource.Event id) parts = Ok (request.Event id)
 told_at resource.Events parts =

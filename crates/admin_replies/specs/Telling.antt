@@ -10,6 +10,8 @@ use Rattle.admin_replies.specs.declared.admin_request.AdminRequest.{AdminRequest
 use Rattle.admin_replies.specs.declared.admin_request.AdminRequest.TheVariants as request
 use Rattle.admin_replies.specs.declared.metrics.Metrics.{Metrics}
 use Rattle.admin_replies.specs.MetricsText.{metrics_text}
+use Rattle.admin_replies.specs.declared.history.History.{History}
+use Rattle.admin_replies.specs.History.{history_text}
 use Rattle.admin_replies.specs.declared.telling.Baseline.{Baseline}
 use Rattle.admin_replies.specs.declared.measuring.Measures.{Measures}
 use Rattle.admin_replies.specs.declared.admin_reply.AdminReply.{AdminReply}
@@ -41,13 +43,18 @@ TellsNumbers baseline view measures now reply =
     (metrics : Metrics) × AreMetrics baseline view measures now metrics
     × (reply.status ≡ 200) × (reply.body.items ≡ metrics_text metrics baseline.settings)
 
+-- the text of the samples that are kept
+abbrev pub TellsHistory : History → AdminReply → Type 0
+TellsHistory history reply = (reply.status ≡ 200) × (reply.body.items ≡ history_text history.samples.items)
+
 -- each list, event and number is that of the table that was seen
-abbrev pub TellsOf : Baseline → View → Measures → ℕ → AdminRequest → AdminReply → Type 0
-TellsOf baseline view measures now request.Page reply = reply.status ≡ 200
-TellsOf baseline view measures now request.Metrics reply = TellsNumbers baseline view measures now reply
-TellsOf baseline view measures now (request.Health is_deep) reply = TellsHealth baseline view measures now is_deep reply
-TellsOf baseline view measures now (request.Events which after limit) reply =
+abbrev pub TellsOf : Baseline → View → Measures → History → ℕ → AdminRequest → AdminReply → Type 0
+TellsOf baseline view measures history now request.Page reply = reply.status ≡ 200
+TellsOf baseline view measures history now request.Metrics reply = TellsNumbers baseline view measures now reply
+TellsOf baseline view measures history now request.History reply = TellsHistory history reply
+TellsOf baseline view measures history now (request.Health is_deep) reply = TellsHealth baseline view measures now is_deep reply
+TellsOf baseline view measures history now (request.Events which after limit) reply =
     TellsEvents which after limit view.hall.table.rows reply
-TellsOf baseline view measures now (request.Event id) reply = TellsEvent baseline.settings id view.hall.table.rows reply
-TellsOf baseline view measures now (request.Records side after limit) reply =
+TellsOf baseline view measures history now (request.Event id) reply = TellsEvent baseline.settings id view.hall.table.rows reply
+TellsOf baseline view measures history now (request.Records side after limit) reply =
     TellsRecords baseline.settings side after limit 4194304 view.hall.table.rows reply

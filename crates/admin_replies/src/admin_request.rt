@@ -10,6 +10,8 @@ pub enum AdminRequest {
     Page,
     /// `/metrics`: the numbers, as text.
     Metrics,
+    /// `/history`: the numbers of the last minutes, as text.
+    History,
     /// `/healthz`: whether the broker serves, and with `?deep` what is wrong with it too.
     Health {
         is_deep: bool,

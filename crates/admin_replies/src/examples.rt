@@ -1,18 +1,20 @@
 // Worked examples of what is meant, computed by the check: a definition that changes one is refused.
-ghost use Rattle.std.specs.Prelude.{◌≡◌, Ok, Err, Some, None, true, false};
+ghost use Rattle.std.specs.Prelude.{◌≡◌, ◌∷◌, [], Ok, Err, Some, None, true, false};
 ghost use Rattle.async_core.specs.declared.choice.Side.TheVariants as side;
 ghost use Rattle.operator_view.specs.declared.standings.Which.TheVariants as which;
 ghost use Rattle.admin_replies.specs.declared.admin_request.AdminRequest.TheVariants as request;
 ghost use Rattle.admin_replies.specs.declared.admin_refusal.AdminRefusal.TheVariants as why;
 ghost use Rattle.admin_replies.specs.declared.table.Section.TheVariants as section;
 ghost use Rattle.admin_replies.specs.MetricsText.{section_text, info_text};
-ghost use Rattle.admin_replies.specs.Examples.{asks, gets, third, numbers, usual, held_text, waits_text, commits_text, usual_text, problems_text};
+ghost use Rattle.admin_replies.specs.History as kept;
+ghost use Rattle.admin_replies.specs.Examples.{asks, gets, third, numbers, usual, held_text, waits_text, commits_text, usual_text, problems_text, sample, history_text};
 
 /// Requests that are understood.
 pub fn requests()
     // claim: The prover computes worked requests, refusals and lines. [: behind; refusals: twice; lines: waits]
     ensures page { gets "/" ≡ Ok request.Page }
     ensures metrics { gets "/metrics" ≡ Ok request.Metrics }
+    ensures history { gets "/history" ≡ Ok request.History }
     ensures health { gets "/healthz?" ≡ Ok (request.Health false) }
     ensures deep { gets "/healthz?deep" ≡ Ok (request.Health true) }
     ensures events { gets "/events" ≡ Ok (request.Events which.All None 100) }
@@ -50,4 +52,5 @@ pub fn lines()
     ensures commits { section_text numbers section.Commits ≡ commits_text }
     ensures info { info_text usual ≡ usual_text }
     ensures problems { section_text numbers section.Problems ≡ problems_text }
+    ensures samples { kept.history_text (sample ∷ []) ≡ history_text }
 {}

@@ -1,13 +1,12 @@
 // What an operator's port sees by which a verdict is found.
 ghost use Rattle.std.specs.Prelude.{◌≡◌, ◌^◌, min};
-ghost use Rattle.admin_replies.specs.Numbers.{ended_in, event_counters, counts_told, IsSight, AreProblems};
+ghost use Rattle.admin_replies.specs.Numbers.{ended_in, counts_told, IsSight, AreProblems};
 
-use crate::measuring::{count_in_phase, ended_in, event_counters, oldest_record_age};
+use crate::measuring::{count_in_phase, ended_in, oldest_record_age};
 use crate::metrics::EventCounters;
-use crate::telling::Baseline;
 use env_phase::Phase;
 use operator_view::{
-    Census, Counts, Memory, Problem, Sight, census, count_due, count_expiring, first_due, problems,
+    Census, Counts, Memory, Problem, Sight, count_due, count_expiring, first_due, problems,
 };
 use port_meters::Counters;
 use receipts::View;
@@ -77,11 +76,4 @@ pub(crate) fn problems_of(
 {
     let sight = sight_of(settings, view, census, memory, counts);
     problems(&sight)
-}
-
-/// What was counted of a broker that is seen so, up to now, in milliseconds since 1970.
-pub fn counts_of(baseline: &Baseline, view: &View, counters: &Counters, now: u64) -> Counts {
-    let census = census(view.hall.table.rows.as_slice());
-    let events = event_counters(baseline.ended_before, ended_in(&census), &view.counters);
-    counts_told(now, &events, counters)
 }

@@ -6,7 +6,7 @@ pub const PAGE: &str = r##"<!doctype html>
 <head>
 <meta charset="utf-8">
 <meta name="viewport" content="width=device-width, initial-scale=1">
-<meta http-equiv="Content-Security-Policy" content="default-src 'none'; connect-src 'self'; frame-src 'self'; img-src data:; base-uri 'none'; form-action 'none'; style-src 'sha256-RZ7toKQNGz3RDEW4JchliHeWqKWJrHs74ur5tVcIgcc='; script-src 'sha256-aIL3mbgRL4eDwHmTkpSmJa0VfaEdKQRyuCtEptIdQwk=' 'sha256-3IcmVt6StB5ylvc16lQdFVVeGkjxL+PUQ4tnmfyqOzQ='">
+<meta http-equiv="Content-Security-Policy" content="default-src 'none'; connect-src 'self'; frame-src 'self'; img-src data:; base-uri 'none'; form-action 'none'; style-src 'sha256-Eipr057BhPRKufHSfKTUAaBt9rzMJfGtjNjbFfNYLBw='; script-src 'sha256-IUp32Fw3i7rFQyoI6NiDZ+ntEUHTl8u84vzCth1J7bk=' 'sha256-CyDWxjQ/FMGv68FM93Uah8Q3WNqocdwvRILIzrGfxEQ='">
 <link rel="icon" href="data:,">
 <title>Lambda broker</title>
 <style>
@@ -39,7 +39,7 @@ main.gone { filter: grayscale(1); }
 #legend li, dl div { display: flex; gap: .6rem; align-items: baseline; border-bottom: 1px solid var(--line); padding: .2rem 0; }
 #legend i { flex: none; width: .8rem; height: .8rem; border: 1px solid var(--line); border-radius: 2px; }
 b, dd { margin: 0 0 0 auto; font-weight: 600; text-align: right; }
-dt { flex: none; max-width: 55%; }
+dt { flex-shrink: .1; }
 dd { overflow-wrap: anywhere; }
 #event, .wide { grid-template-columns: 1fr; }
 pre { margin: .35rem 0; padding: .6rem .75rem; border: 1px solid var(--line); border-radius: 4px; white-space: pre-wrap; font: .875rem/1.4 ui-monospace, monospace; }
@@ -81,9 +81,11 @@ td:not(.error, .wrap) { white-space: nowrap; }
 <p>Without JavaScript this page has what the broker says as text, as it was when the page was loaded.</p>
 <h2>What is wrong</h2>
 <iframe class="low" src="healthz?deep" title="what is wrong"></iframe>
+<h2>The last minutes</h2>
+<iframe src="history" title="the last minutes"></iframe>
 <h2>All numbers</h2>
 <iframe src="metrics" title="all numbers"></iframe>
-<p>As text: <a href="healthz?deep">what is wrong</a> · <a href="metrics">all numbers</a>. As JSON: <a href="events?standing=waiting">waiting</a> · <a href="events?standing=running">running</a> · <a href="events">all events</a> · <a href="records/failure">failures</a> · <a href="records/success">successes</a></p>
+<p>As text: <a href="healthz?deep">what is wrong</a> · <a href="history">the last minutes</a> · <a href="metrics">all numbers</a>. As JSON: <a href="events?standing=waiting">waiting</a> · <a href="events?standing=running">running</a> · <a href="events">all events</a> · <a href="records/failure">failures</a> · <a href="records/success">successes</a></p>
 </noscript>
 <main id="main">
 <section id="view-now" hidden>
@@ -98,14 +100,15 @@ td:not(.error, .wrap) { white-space: nowrap; }
 <table id="fails" aria-labelledby="h-fails"></table><p class="soft" id="fails-none"></p>
 <h2 id="h-waits">Oldest waits</h2>
 <table id="waits" aria-labelledby="h-waits"></table><p class="soft" id="waits-none"></p>
-<h2>Seen by this page: <span id="seen">–</span></h2>
+<h2>The last <span id="seen">minutes</span></h2>
 <div id="plots"></div>
 <h2>The broker itself</h2>
 <dl id="more"></dl>
-<p class="soft"><a href="metrics">all numbers as text</a></p>
+<p class="soft">As text: <a href="metrics">all numbers</a> · <a href="history">the last minutes</a></p>
 </section>
 <section id="view-event" hidden>
 <h2 id="h-one" tabindex="-1">Event</h2>
+<p id="event-none"></p>
 <div id="one">
 <dl id="event"></dl>
 <h2>Last error</h2>
@@ -166,6 +169,20 @@ function sum(families, family, ...labels) {
     if (!labels.length || Object.values(of).some((label) => labels.includes(label))) total += value;
   return total;
 }
+// What /history says: a sample a line, by the names of its first line.
+function samplesOf(text) {
+  const [names, ...lines] = text.trim().split("\n").map((line) => line.split(","));
+  return lines.map((line) => Object.fromEntries(line.map((number, place) => [names[place], Number(number)])));
+}
+// What is plotted of them: numbers, or how they grew for each one of another number. Where that did not grow there is nothing.
+function pointsOf(samples, { of, by, times }) {
+  const total = (sample) => of.reduce((sum, name) => sum + sample[name], 0);
+  if (!by) return samples.map((sample) => ({ at: sample.at, value: total(sample) }));
+  return samples.slice(1).map((sample, place) => {
+    const before = samples[place], weight = sample[by] - before[by];
+    return { at: sample.at, value: weight > 0 ? (total(sample) - total(before)) / weight * times : null };
+  });
+}
 // What the page knows: how much each family is (count).
 function stateOf({ families, ...seen }) {
   const count = (...of) => sum(families, ...of);
@@ -180,10 +197,13 @@ function findings(text) {
     .map(([, level, reason, words]) => [level, reason.replaceAll("_", " "), words])
     .sort((one, other) => (other[0] === BAD) - (one[0] === BAD));
 }
+function decoded(text) {
+  try { return decodeURIComponent(text); } catch { return text; }
+}
 // Where the part of the address behind its # leads: the whole, a list behind an event, or one event.
 const LISTS = { waiting: "events", running: "events", events: "events", failure: "records", success: "records" };
 function placeOf(hash) {
-  const [name, after = ""] = decodeURIComponent(hash.slice(1)).split("/");
+  const [name, after = ""] = hash.slice(1).split("/").map(decoded);
   if (!name) return { view: "now" };
   if (name === "settings") return { view: name };
   return Object.hasOwn(LISTS, name) ? { view: LISTS[name], name, after } : { view: "event", id: name };
@@ -218,7 +238,7 @@ function headline(found) {
 </script>
 <script>
 "use strict";
-const EVERY = 3000, FIRST = 1000, WINDOW = 300000, PATIENCE = 5000, SHOWN = 6, RUNNING = 16, FAILED = 24, LARGE = 65536, LISTED = 50, RECORDS = 25;
+const EVERY = 3000, PATIENCE = 5000, SHOWN = 6, RUNNING = 16, FAILED = 24, LARGE = 65536, LISTED = 50, RECORDS = 25;
 const STANDINGS = { waiting: "waiting", due_again: "due again", running: "running", success: "ended: Success",
   retries_exhausted: "ended: RetriesExhausted", event_age_exceeded: "ended: EventAgeExceeded" };
 const $ = (id) => document.getElementById(id);
@@ -233,48 +253,43 @@ function add(parent, tag, text = "", kind = "") {
 }
 const stamp = (moment) => new Date(moment).toLocaleString("sv").replaceAll("-", "\u2011");
 
-// What is plotted: how a family grows, by the clock or by another family, or a level.
-function clock(families, at) { return at; }
+// What is plotted of the samples: a number, or how it grows by the milliseconds or by another number.
 const PLOTS = [
-  ["accepted a second", "running", clock, "events_accepted_total"],
-  ["successes a second", "success", clock, "events_ended_total", "success"],
-  ["failures a second", "retries_exhausted", clock, "events_ended_total", "retries_exhausted", "event_age_exceeded"],
-  ["collected a second", "running", clock, "records_collected_total"],
-  ["waiting or due again", "waiting", null, "events", "waiting", "due_again"],
-  ["refused a second", "retries_exhausted", clock, "refused_total"],
-  ["a commit, ms", "running", (families) => sum(families, "commit_seconds_count"), "commit_seconds_sum"],
-  ["bytes a second", "running", clock, "written_bytes_total"],
-].map(([name, colour, by, ...of]) => {
+  ["accepted a second", "running", "at", 1000, "accepted"],
+  ["successes a second", "success", "at", 1000, "succeeded"],
+  ["failed attempts a second", "retries_exhausted", "at", 1000, "failed"],
+  ["collected a second", "running", "at", 1000, "collected"],
+  ["waiting or due again", "waiting", null, 1, "waiting"],
+  ["429 and 503 a second", "retries_exhausted", "at", 1000, "refused_full", "refused_busy"],
+  ["a commit, ms", "running", "commits", 0.001, "commit_microseconds"],
+  ["bytes a second", "running", "at", 1000, "written_bytes"],
+].map(([name, colour, by, times, ...of]) => {
   const figure = add($("plots"), "figure"), caption = add(figure, "figcaption", name), svg = "http://www.w3.org/2000/svg";
   const picture = figure.appendChild(document.createElementNS(svg, "svg")), path = picture.appendChild(document.createElementNS(svg, "path"));
   picture.setAttribute("viewBox", "0 0 300 50");
   picture.setAttribute("preserveAspectRatio", "none");
   picture.role = "img";
   path.style.stroke = `var(--${colour})`;
-  return { name, of, by, picture, path, now: add(caption, "b"), most: add(figure, "div", "", "soft"), points: [] };
+  return { name, of, by, times, picture, path, now: add(caption, "b"), most: add(figure, "div", "", "soft") };
 });
-// A count that has fallen is that of a broker that was served anew, and gives no rate.
-function step(plot, families, at) {
-  const { by, last } = plot, count = sum(families, ...plot.of), weight = by?.(families, at);
-  let value = by ? null : count;
-  if (last && count >= last.count && weight > last.weight) value = (count - last.count) / (weight - last.weight) * 1000;
-  plot.points.push({ at, value });
-  plot.last = { count, weight };
-}
-// A plot is as wide as what was seen.
-function draw(plot, at) {
-  while (plot.points[0].at < at - WINDOW) plot.points.shift();
-  const values = plot.points.filter((point) => point.value !== null), most = Math.max(0, ...values.map((point) => point.value));
-  const now = rate(plot.points.at(-1).value), wide = Math.max(at - values[0]?.at, EVERY);
+// A plot is as wide as what is kept.
+function draw(plot, samples) {
+  const points = pointsOf(samples, plot), values = points.map((point) => point.value).filter((value) => value !== null);
+  const most = Math.max(0, ...values), now = rate(points.at(-1)?.value ?? null), end = samples.at(-1).at, wide = Math.max(end - samples[0].at, 1);
   let line = "", open = false;
-  for (const { at: moment, value } of plot.points) {
-    if (value !== null) line += `${open ? "L" : "M"}${298 - (at - moment) * 297 / wide} ${48 - (most ? value / most * 45 : 0)}${open ? "" : "h1"}`;
+  for (const { at, value } of points) {
+    if (value !== null) line += `${open ? "L" : "M"}${298 - (end - at) * 297 / wide} ${48 - (most ? value / most * 45 : 0)}${open ? "" : "h1"}`;
     open = value !== null;
   }
   plot.path.setAttribute("d", line);
   put(plot.now, now);
   put(plot.most, values.length ? `at most ${rate(most)}` : "nothing yet");
   plot.picture.setAttribute("aria-label", `${plot.name}: ${now} now, ${plot.most.textContent}`);
+}
+function showHistory(samples) {
+  if (!samples.length) return;
+  for (const plot of PLOTS) draw(plot, samples);
+  put($("seen"), span((samples.at(-1).at - samples[0].at) / 1000));
 }
 
 const marks = Object.entries(STANDINGS).map(([standing, words]) => {
@@ -415,10 +430,11 @@ async function readEvent({ id }, now) {
   put($("h-one"), `Event ${id}`);
   try {
     showEvent(await json(path), now);
+    put($("event-none"), "");
     $("one").hidden = false;
   } catch (why) {
+    put($("event-none"), why.message);
     $("one").hidden = true;
-    throw why;
   }
 }
 function showMore(view, { name, after }, next, path) {
@@ -508,6 +524,7 @@ let records = "";
 async function readView(place, now, state) {
   const of = location.hash + state;
   if (place.view === "now") {
+    showHistory(samplesOf(await (await ask("history")).text()));
     waits = await readWaits(now);
     await readRuns(now);
     await readFails(state);
@@ -527,10 +544,9 @@ async function readLists({ now, families }) {
     return `, but not all of this page: ${why.message}`;
   }
 }
-function showState(seen, at) {
+function showState(seen) {
   const state = stateOf({ ...seen, waits }), found = findings(seen.said);
   put($("name"), seen.families.settings_info?.[0].labels.function || "Lambda broker");
-  for (const plot of PLOTS) step(plot, seen.families, at);
   showFacts(state);
   showSettings(state);
   showStandings(state);
@@ -538,8 +554,7 @@ function showState(seen, at) {
   if (seen.said && !found.length) health(`Bad: the broker says ${seen.said.trim()}.`, BAD);
   else health(headline(found), found[0]?.[0] ?? "good");
 }
-function showSilence(why, at) {
-  for (const plot of PLOTS) plot.points.push({ at, value: null });
+function showSilence(why) {
   showFound([]);
   const said = why.constructor === Error ? why.message : `the broker has not answered${answered ? ` since ${stamp(answered)}` : ""}`;
   health(`Bad: ${said}. Look at its last lines on standard error.`, "gone");
@@ -550,20 +565,17 @@ async function readAll(at) {
   try {
     seen = await readNumbers(at);
   } catch (why) {
-    return showSilence(why, at);
+    return showSilence(why);
   }
   const missing = await readLists(seen);
-  showState(seen, at);
+  showState(seen);
   return `Read at ${stamp(at)}, and again every ${EVERY / 1000} seconds${missing}.`;
 }
-const opened = Date.now();
 let turns = 0;
 async function look() {
-  const at = Date.now(), turn = ++turns, said = await readAll(at);
-  put($("when"), said);
-  for (const plot of PLOTS) draw(plot, at);
-  put($("seen"), `the last ${span(Math.min(at - opened, WINDOW) / 1000)}`);
-  if (turn === turns) setTimeout(() => turn === turns && look(), PLOTS[0].points.length < 3 ? FIRST : EVERY);
+  const turn = ++turns;
+  put($("when"), await readAll(Date.now()));
+  if (turn === turns) setTimeout(() => turn === turns && look(), EVERY);
 }
 // The view that the address names.
 function turnTo() {

@@ -73,6 +73,7 @@ fn told_at(resource: Resource, query: &str) -> Result<AdminRequest, AdminRefusal
     match resource {
         Resource::Page => Ok(AdminRequest::Page),
         Resource::Metrics => Ok(AdminRequest::Metrics),
+        Resource::History => Ok(AdminRequest::History),
         Resource::Health => Ok(AdminRequest::Health {
             is_deep: given(Name::Deep, query).is_some(),
         }),

@@ -11,6 +11,7 @@ use async_core::Side;
 pub(crate) enum Resource {
     Page,
     Metrics,
+    History,
     Health,
     Events,
     Event([u8; 16]),
@@ -44,6 +45,7 @@ pub(crate) fn resource_of(path: &str) -> Result<Resource, AdminRefusal>
     match path {
         "/" => Ok(Resource::Page),
         "/metrics" => Ok(Resource::Metrics),
+        "/history" => Ok(Resource::History),
         "/healthz" => Ok(Resource::Health),
         "/events" => Ok(Resource::Events),
         "/records/success" => Ok(Resource::Records(Side::Success)),

@@ -1,10 +1,11 @@
 // What is told of what was seen.
 ghost use Rattle.std.specs.Prelude.{◌≡◌, IfOk, true, is_some};
 ghost use Rattle.std.specs.List.{list_any};
-ghost use Rattle.admin_replies.specs.Telling.{TellsOf, TellsHealth, TellsNumbers, CountsEnded, health_status};
+ghost use Rattle.admin_replies.specs.Telling.{TellsOf, TellsHealth, TellsNumbers, TellsHistory, CountsEnded, health_status};
 
 use crate::admin_reply::{AdminReply, Media};
 use crate::admin_request::AdminRequest;
+use crate::history::History;
 use crate::lists::{event_reply, events_reply, records_reply};
 use crate::measuring::{Measures, ended_in, metrics_of};
 use crate::metrics_text::metrics_text;
@@ -96,6 +97,14 @@ fn metrics_reply(
     Ok(AdminReply::shown(Media::Metrics, text))
 }
 
+// The samples that are kept, as text.
+fn history_reply(alloc: Global, history: &History) -> Result<AdminReply, AllocError>
+    ensures { IfOk result (TellsHistory history.now) }
+{
+    let text = history.text(alloc)?;
+    Ok(AdminReply::shown(Media::Text, text))
+}
+
 fn page_reply(alloc: Global) -> Result<AdminReply, AllocError>
     ensures { IfOk result (λ reply. reply.status ≡ 200) }
 {
@@ -103,25 +112,27 @@ fn page_reply(alloc: Global) -> Result<AdminReply, AllocError>
     Ok(AdminReply::shown(Media::Html, body))
 }
 
-/// What is told to an operator who asked so, of what was seen of a broker, now, in milliseconds since 1970. Only want of memory
-/// is refused.
+/// What is told to an operator who asked so, of what was seen of a broker and what is kept of its numbers, now, in milliseconds
+/// since 1970. Only want of memory is refused.
 pub fn tell(
     alloc: Global,
     baseline: &Baseline,
     request: &AdminRequest,
     view: &View,
     measures: &Measures,
+    history: &History,
     now: u64,
 ) -> Result<AdminReply, AllocError>
     // claim: What is told is of the table that was seen, as asked for. What is not held is 404. [events_reply; event_reply;
     // records_reply]
-    ensures { IfOk result (TellsOf baseline.now view.now measures.now now request.now) }
+    ensures { IfOk result (TellsOf baseline.now view.now measures.now history.now now request.now) }
 {
     let rows = view.hall.table.rows.as_slice();
     let settings = &baseline.settings;
     match request {
         AdminRequest::Page => page_reply(alloc),
         AdminRequest::Metrics => metrics_reply(alloc, baseline, view, measures, now),
+        AdminRequest::History => history_reply(alloc, history),
         AdminRequest::Health { is_deep: false } => {
             health_reply(alloc, measures, view.hall.is_stopping)
         }

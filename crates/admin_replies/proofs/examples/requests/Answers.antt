@@ -11,6 +11,7 @@ unfolding encode_utf8 is_utf8 chars uuid_on_literals named_by asked_at fits give
 returns c = record {
   page = refl;
   metrics = refl;
+  history = refl;
   health = refl;
   deep = refl;
   events = refl;

@@ -14,13 +14,13 @@ differ_by true xs ys e h = absurd (h ((bytes_eq-Decides xs ys).0 e))
 differ : (xs ys : List ℕ) → (xs ≡ ys → ⊥) → bytes_eq xs ys ≡ false
 differ xs ys h = differ_by (bytes_eq xs ys) xs ys refl h
 
-elsewhere : (path : List ℕ) (r : Result Resource AdminRefusal) → bytes_eq path (codes "/") ≡ false → bytes_eq path (codes "/metrics") ≡ false → bytes_eq path (codes "/healthz") ≡ false
+elsewhere : (path : List ℕ) (r : Result Resource AdminRefusal) → bytes_eq path (codes "/") ≡ false → bytes_eq path (codes "/metrics") ≡ false → bytes_eq path (codes "/history") ≡ false → bytes_eq path (codes "/healthz") ≡ false
     → bytes_eq path (codes "/events") ≡ false → bytes_eq path (codes "/records/success") ≡ false → bytes_eq path (codes "/records/failure") ≡ false → r ≡ named_by path → r ≡ resource_of path
-elsewhere path r page metrics health events success failure h = rw (page, metrics, health, events, success, failure) h
+elsewhere path r page metrics history health events success failure h = rw (page, metrics, history, health, events, success, failure) h
 
 pub returns-in_default : goal.returns-in_default
 returns-in_default c =
     let path = c.args.path.now in
     elsewhere path _ (differ path _ c.in_default.not-text) (differ path _ c.in_default.not-text-2) (differ path _ c.in_default.not-text-3)
-    (differ path _ c.in_default.not-text-4) (differ path _ c.in_default.not-text-5) (differ path _ c.in_default.not-text-6)
+    (differ path _ c.in_default.not-text-4) (differ path _ c.in_default.not-text-5) (differ path _ c.in_default.not-text-6) (differ path _ c.in_default.not-text-7)
     (rw c.as_bytes.ensures.value at c.named_by.ensures)

@@ -1,0 +1,66 @@
+// What is kept of a broker's numbers at one moment.
+ghost use Rattle.std.specs.Prelude.{◌≡◌};
+ghost use Rattle.admin_replies.specs.History.{IsSample, numbers_in};
+
+use crate::judging::counts_told;
+use crate::measuring::{ended_in, event_counters};
+use crate::telling::Baseline;
+use operator_view::{Counts, census};
+use port_meters::Counters;
+use receipts::View;
+
+/// What is kept of a broker's numbers at one moment. But for those that wait, each was counted since the broker was opened.
+#[derive(Clone, Copy)]
+pub struct Sample {
+    /// The moment, and what a verdict is found by.
+    pub counts: Counts,
+    pub accepted: u64,
+    pub collected: u64,
+    /// How many events wait, for any attempt.
+    pub waiting: u64,
+    pub written_bytes: u64,
+}
+
+/// What is kept of a broker that is seen so, when so much was counted and so many bytes were written, in milliseconds since 1970.
+pub fn sample_of(
+    baseline: &Baseline,
+    view: &View,
+    counters: &Counters,
+    written_bytes: u64,
+    now: u64,
+) -> Sample
+    // claim: What is kept of a moment is counted by what was seen then.
+    ensures { IsSample baseline.now view.now counters.now written_bytes now result }
+{
+    let census = census(view.hall.table.rows.as_slice());
+    let events = event_counters(baseline.ended_before, ended_in(&census), &view.counters);
+    Sample {
+        counts: counts_told(now, &events, counters),
+        accepted: view.counters.accepted,
+        collected: view.counters.collected,
+        waiting: (census.waiting as u64).saturating_add(census.due_again as u64),
+        written_bytes,
+    }
+}
+
+/// The numbers behind the moment, as they are told.
+#[tactic(auto, unfolding(crate::specs::History::numbers_in))]
+pub(crate) fn numbers_in(sample: &Sample) -> [u64; 12]
+    ensures { result ≡ numbers_in sample.now }
+{
+    let counts = sample.counts;
+    [
+        sample.accepted,
+        counts.started,
+        counts.succeeded,
+        counts.failed,
+        counts.ended,
+        sample.collected,
+        sample.waiting,
+        counts.refused_full,
+        counts.refused_busy,
+        counts.commits,
+        counts.commit_microseconds,
+        sample.written_bytes,
+    ]
+}
