@@ -1,8 +1,9 @@
 """The dialect of AWS: what its SDK for Python, its runtimes and its extensions are told."""
+import datetime
 import json
 import uuid
 
-from harness import ARN, EVENT, INVOKE, OPENING, Beside, Skipped, case, same
+from harness import ARN, EVENT, INVOKE, OPENING, Beside, Skipped, case, same, until
 
 
 def in_dialect(broker, *words):
@@ -146,6 +147,32 @@ def an_answer_that_is_too_large_ends_its_attempt_as_an_error(broker):
             "errorMessage": "Response payload size exceeded maximum allowed payload size (512 bytes).",
         })
         same(broker.delete(held).status, 204)
+
+
+def read_as_sample(record):
+    """Reads each member that AWS's documented sample of a failure has, as a consumer of that would."""
+    context, response = record["requestContext"], record["responseContext"]
+    datetime.datetime.strptime(record["timestamp"], "%Y-%m-%dT%H:%M:%S.%fZ")
+    same((record["version"], context["functionArn"], record["requestPayload"]), ("1.0", f"{ARN}:$LATEST", {}))
+    same((response["statusCode"], response["executedVersion"], response["functionError"]), (200, "$LATEST", "Unhandled"))
+    return context["requestId"], context["condition"], context["approximateInvokeCount"], record["responsePayload"]["errorMessage"]
+
+
+def failed(broker, event):
+    """What the record of a failed event, which is collected, has as its error."""
+    record = until("a record", lambda: broker.record("failure").status == 200 and broker.record("failure").json)
+    told = read_as_sample(record)
+    same((told[:3], broker.delete(event).status), ((event, "RetriesExhausted", 1), 204))
+    return told[3]
+
+
+@case({"retries": 0, "response": 512})
+def a_consumer_of_awss_sample_reads_each_failure(broker):
+    in_dialect(broker)
+    event = broker.live("{}", '{"errorMessage":"x","errorType":"y"}', path="error")
+    same(failed(broker, event), "x")
+    event = broker.live("{}", 513 * "1")
+    same(failed(broker, event), "Response payload size exceeded maximum allowed payload size (512 bytes).")
 
 
 @case({"concurrency": 10})

@@ -90,9 +90,12 @@ def nginx_leads_each_name_of_a_function_to_its_broker(broker):
             told = [proxy.invoke(spelling) for spelling in (name, quote(name, safe=""))]
             same((name, [reply.status for reply in told]), (name, [202, 202]))
             same(broker.number("events_accepted_total"), 2 * (n + 1))
-        # Of a broker that is there each unknown name is told alike, by it or by nginx.
+        # Of a broker that is there each unknown name is told alike, by it or by nginx, which does not know its ARN.
+        *wanted, words = refusal(broker.ask("POST", "/x"))
         for name in "other", "my-function:prod", "123456789013:my-function", ARN.replace("east", "west"), "function:", "a%2Fb":
-            same((name, refusal(proxy.invoke(name))), (name, refusal(broker.ask("POST", "/x"))))
+            *told, found = refusal(proxy.invoke(name))
+            same((name, told, [*found]), (name, wanted, [*words]))
+            same((name, words["message"].startswith(found["message"])), (name, True))
         same(proxy.invoke("send-mail").status, 502)
         client = by_boto3(proxy)
         same([called(client, name=name) for name in names], 5 * [202])
@@ -103,12 +106,15 @@ def nginx_leads_each_name_of_a_function_to_its_broker(broker):
 @case({"retries": 0})
 def a_runtime_behind_nginx_tells_a_long_cause_of_an_error(broker):
     with before(broker.serve()) as proxy:
-        poll = Asked(proxy.runtimes, "GET", f"{RUNTIME}/invocation/next")
-        broker.until_parked(1)
-        event = broker.invoke("{}").id
-        same(poll.done().id, event)
-        told = Asked(proxy.runtimes, "POST", f"{RUNTIME}/invocation/{event}/error", "1", {CAUSE: 1000000 * "y"}).done()
-        same((told.status, broker.record("failure").json["responsePayload"]), (202, 1))
+        # A short one, and the longest that a broker reads over.
+        for size in 9000, 1034464:
+            poll = Asked(proxy.runtimes, "GET", f"{RUNTIME}/invocation/next")
+            broker.until_parked(1)
+            event = broker.invoke("{}").id
+            same(poll.done().id, event)
+            told = Asked(proxy.runtimes, "POST", f"{RUNTIME}/invocation/{event}/error", "1", {CAUSE: size * "y"}).done()
+            same((size, told.status, broker.record("failure").json["responsePayload"]), (size, 202, 1))
+            same(broker.delete(event).status, 204)
         broker.kill()
         told = Asked(proxy.runtimes, "GET", f"{RUNTIME}/invocation/next").done()
         same(refusal(told)[:3], (502, "ServiceException", "application/json"))
