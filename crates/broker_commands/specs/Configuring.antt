@@ -1,5 +1,5 @@
 -- What the command `configure` does to a disk's history, and which of its faults are the device's.
-use Rattle.std.specs.Prelude.{◌≡◌, ℕ, Bool, true, false, List, [], ◌∷◌, ◌++◌, Option, Some, None, max, if◌then◌else◌}
+use Rattle.std.specs.Prelude.{◌≡◌, ◌≤◌, ℕ, Bool, true, false, List, [], ◌∷◌, ◌++◌, length, take, Option, Some, None, max, if◌then◌else◌}
 use Rattle.sector_disk.specs.Disk.{DiskView}
 use Rattle.sector_disk.specs.declared.disk.Disk.{Ghosts}
 use Rattle.retry_rules.specs.declared.policy.RetryPolicy.{RetryPolicy}
@@ -12,6 +12,7 @@ use Rattle.invoke_records.specs.declared.command.Kind.TheVariants.{Configure}
 use Rattle.invoke_records.specs.declared.snapshot.Snapshot.{Snapshot}
 use Rattle.async_core.specs.History.{last_moment, in_force}
 use Rattle.checkpoint.specs.declared.error.OpenError.TheVariants as open_error
+use Rattle.group_commit.specs.History.{IsLegalStop}
 use Rattle.group_commit.specs.declared.broker.Broker.{Broker}
 use Rattle.group_commit.specs.declared.error.CommitError.TheVariants as commit_error
 use Rattle.group_commit.specs.Broker.{settings_of, IsReason, Stands}
@@ -53,10 +54,20 @@ configure_after s history new now = configure_with (in_force s history) (last_mo
 abbrev pub configure_at : Snapshot → NewPolicy → ℕ → Command
 configure_at table new now = configure_with table.policy table.last_moment new now
 
+-- the history with it
+abbrev pub with_configure : Settings → List Command → NewPolicy → ℕ → List Command
+with_configure s history new now = history ++ configure_after s history new now ∷ []
+
 -- behind this history just that command was issued
 abbrev pub IsConfigured : {D : Type 0} {g : Ghosts D} → (D → DiskView) → NewPolicy → ℕ → List Command → Broker D g → Type 0
-IsConfigured view new now history broker =
-    Stands view broker (history ++ configure_after (settings_of broker) history new now ∷ [])
+IsConfigured view new now history broker = Stands view broker (with_configure (settings_of broker) history new now)
+
+-- each image of the disk holds, all durable, a prefix of the history with the durable commands, and behind it that command
+abbrev pub HoldsConfigured : Settings → List Command → ℕ → NewPolicy → ℕ → DiskView → Type 0
+HoldsConfigured s history durable new now disk =
+    (size : ℕ) × (durable ≤ size) × (size ≤ length history)
+    × ((image : List ℕ) → disk.may_leave image
+    → IsLegalStop s (with_configure s (take size history) new now) (length (with_configure s (take size history) new now)) image)
 
 -- it was not configured since the broker did not issue that command, for this reason, or did not commit it
 abbrev pub IsRefusal : {D : Type 0} {g : Ghosts D} → Broker D g → Command → ConfiguringError → Type 0

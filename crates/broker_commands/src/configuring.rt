@@ -1,9 +1,10 @@
 // Setting the retry policy of a disk.
 ghost use Rattle.std.specs.Prelude.{◌≡◌, [], Some, Err, IfErr, IfOk, OnOk};
 ghost use Rattle.async_core.specs.Policies.{pair_of};
-ghost use Rattle.group_commit.specs.Broker.{pending_of, table_in, IsReason};
-ghost use Rattle.group_commit.specs.Promises.{ForEachHistory};
-ghost use Rattle.broker_commands.specs.Configuring.{bad_option, policy_for, configure_at, IsConfigured, IsRefusal, IsAsked, refused_for, is_device_fault};
+ghost use Rattle.sector_disk.specs.Disk.{IsSameDisk};
+ghost use Rattle.group_commit.specs.Broker.{disk_of, settings_of, pending_of, table_in, IsReason};
+ghost use Rattle.group_commit.specs.Promises.{ForEachHistory, ForEachHistoryOn};
+ghost use Rattle.broker_commands.specs.Configuring.{bad_option, policy_for, configure_at, IsConfigured, HoldsConfigured, IsRefusal, IsAsked, refused_for, is_device_fault};
 ghost use Rattle.retry_rules.specs.declared.settings.Field.{Field};
 
 use crate::clock::now;
@@ -98,6 +99,8 @@ fn issue<D: Disk>(broker: &mut Broker<D>, new: &NewPolicy<'_>, now: u64) -> Resu
     ensures reason { IfErr result (IsReason broker.old (configure_at (table_in broker.old) new.now now)) }
     ensures policy { OnOk result ((table_in broker.new).policy ≡ policy_for (table_in broker.old).policy new.now) }
     ensures configured { ForEachHistory D.view broker.old (λ history. OnOk result (IsConfigured D.view new.now now history broker.new)) }
+    ensures settings { settings_of broker.new ≡ settings_of broker.old }
+    ensures no_call { disk_of broker.new ≡ disk_of broker.old }
 {
     let kind = Kind::Configure(policy_for(broker.table(), new));
     let time = now.max(broker.table().last_moment());
@@ -126,6 +129,8 @@ fn configure<D: Disk>(
     ensures reason { IfErr result (IsRefusal broker.old (configure_at (table_in broker.old) new.now now)) }
     ensures durable { OnOk result (pending_of broker.new ≡ []) }
     ensures configured { ForEachHistory D.view broker.old (λ history. OnOk result (IsConfigured D.view new.now now history broker.new)) }
+    ensures settings { settings_of broker.new ≡ settings_of broker.old }
+    ensures same { IsSameDisk (D.view (disk_of broker.old)) (D.view (disk_of broker.new)) }
 {
     if let Err(why) = issue(broker, new, now) {
         return Err(ConfiguringError::Issue(why));
@@ -136,17 +141,22 @@ fn configure<D: Disk>(
     }
 }
 
-// Opens the disk, and brings a retry policy in force on it.
+// Opens the disk, and brings a retry policy in force on it: what is in force then, and the disk.
 fn configure_on<D: Disk + Drop>(
     alloc: Global,
     disk: D,
     new: &NewPolicy<'_>,
     now: u64,
-) -> Result<(u8, u32), ConfiguringError>
-    ensures asked { IfOk result (IsAsked new.now) }
+) -> Result<((u8, u32), D), ConfiguringError>
+    // claim: Behind an Ok each image of the disk holds the Configure that was asked for, behind a prefix with all that was
+    // durable. Just its values are told. [: asked, configured; configure_disk: asked]
+    ensures asked { IfOk result (λ done. IsAsked new.now done.0) }
+    ensures configured { (D.view disk).honest → ForEachHistoryOn (D.view disk) (λ s history durable.
+        IfOk result (λ done. HoldsConfigured s history durable new.now now (D.view done.1))) }
 {
     let mut broker = open(alloc, disk)?;
-    configure(&mut broker, new, now)
+    let told = configure(&mut broker, new, now)?;
+    Ok((told, broker.close()))
 }
 
 /// Brings a retry policy in force on a disk, for the events that are accepted from then on: what is in force after it, the
@@ -164,5 +174,6 @@ where
     }
     let disk = open_device(rt, new.path)?;
     let now = now(rt)?;
-    configure_on(rt.alloc(), disk, new, now)
+    let (told, _) = configure_on(rt.alloc(), disk, new, now)?;
+    Ok(told)
 }

@@ -1,6 +1,8 @@
 // Opening a disk for a command.
-ghost use Rattle.std.specs.Prelude.{◌≡◌, ◌≤◌, IfErr};
-ghost use Rattle.sector_disk.specs.Disk.{HasRisen};
+ghost use Rattle.std.specs.Prelude.{◌≡◌, ◌≤◌, IfOk, IfErr};
+ghost use Rattle.sector_disk.specs.Disk.{HasRisen, IsSameDisk};
+ghost use Rattle.group_commit.specs.Broker.{disk_of};
+ghost use Rattle.group_commit.specs.Promises.{ForEachHistoryOn, IsRecovered};
 ghost use Rattle.resized_disk.specs.Reading.{OnlyReads};
 ghost use Rattle.broker_commands.specs.Opening.{is_disk_fault, TellsSize};
 ghost use Rattle.broker_commands.specs.declared.opening.DiskError.TheVariants as disk_error;
@@ -45,7 +47,11 @@ impl DiskError {
 pub type Device<R> = FileDisk<LoggedFile<Telltale<R>>>;
 
 /// The broker on a disk, which is given up where it is not opened.
-pub fn open<D: Disk + Drop>(alloc: Global, disk: D) -> Result<Broker<D>, OpenError> {
+pub fn open<D: Disk + Drop>(alloc: Global, disk: D) -> Result<Broker<D>, OpenError>
+    ensures same { IfOk result (λ broker. IsSameDisk (D.view disk) (D.view (disk_of broker))) }
+    ensures stands { (D.view disk).honest
+        → ForEachHistoryOn (D.view disk) (λ s history durable. IfOk result (IsRecovered D.view s history durable)) }
+{
     without_disk(Broker::open(alloc, disk))
 }
 
