@@ -131,6 +131,12 @@ counts_told now events counters = record {
   refused_busy = counters.refused.unavailable;
 }
 
+-- so much was counted up to now of a broker that is seen so
+abbrev pub AreCounts : Baseline → View → Counters → ℕ → Counts → Type 0
+AreCounts baseline view counters now counts =
+    (census : Census) × IsCensus view.hall.table.rows census
+    × (counts ≡ counts_told now (event_counters baseline.ended_before (min (ended_in census) (2 ^ 64 - 1)) view.counters) counters)
+
 -- what the port sees by which a verdict is found
 pub record IsSight (settings : Settings) (view : View) (census : Census) (memory : Memory) (counts : Counts) (sight : Sight) : Type 0 where
   pub at : sight.at ≡ counts.at

@@ -1,6 +1,6 @@
 // What an operator's port sees by which a verdict is found.
 ghost use Rattle.std.specs.Prelude.{◌≡◌, ◌^◌, min};
-ghost use Rattle.admin_replies.specs.Numbers.{ended_in, event_counters, counts_told, IsSight, AreProblems};
+ghost use Rattle.admin_replies.specs.Numbers.{ended_in, event_counters, counts_told, IsSight, AreCounts, AreProblems};
 
 use crate::measuring::{count_in_phase, ended_in, event_counters, oldest_record_age};
 use crate::metrics::EventCounters;
@@ -80,7 +80,9 @@ pub(crate) fn problems_of(
 }
 
 /// What was counted of a broker that is seen so, up to now, in milliseconds since 1970.
-pub fn counts_of(baseline: &Baseline, view: &View, counters: &Counters, now: u64) -> Counts {
+pub fn counts_of(baseline: &Baseline, view: &View, counters: &Counters, now: u64) -> Counts
+    ensures { AreCounts baseline.now view.now counters.now now result }
+{
     let census = census(view.hall.table.rows.as_slice());
     let events = event_counters(baseline.ended_before, ended_in(&census), &view.counters);
     counts_told(now, &events, counters)
