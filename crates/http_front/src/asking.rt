@@ -1,13 +1,13 @@
 // Asking the office to commit.
-ghost use Rattle.std.specs.Prelude.{◌≡◌, IfOk, IfErr, OnErr};
+ghost use Rattle.std.specs.Prelude.{◌≡◌, IfOk, IfErr, OnErr, Ok, Err};
 ghost use Rattle.group_commit.specs.Splitting.{broker_of};
 ghost use Rattle.receipts.specs.Answers.{IsToldMore, IsCommitRefusal};
 ghost use Rattle.receipts.specs.Serving.{HasServed};
-ghost use Rattle.receipts.specs.UnderLock.{IsCommitted, IsNotCommitted};
+ghost use Rattle.receipts.specs.Committing.{CommitsBy};
 
 use group_commit::{DiskHalf, Durable};
 use hall_core::HallError;
-use receipts::{Desk, Office, Trace, Witnessed};
+use receipts::{Committed, Desk, Office, Trace};
 use sector_disk::Disk;
 use std::sync::Wait;
 use std::sync::ledger::Ledger;
@@ -35,20 +35,20 @@ pub(crate) fn ask<D: Disk, L: Ledger, T: Trace, R: Wait>(
     office: &Office<L, T>,
     desk: &mut Desk<L, T>,
     half: &mut DiskHalf<D>,
-) -> Witnessed<Result<Durable, NotCommitted>, L, T>
+) -> (Result<Durable, NotCommitted>, Committed<L, T>)
     // claim: A refused commit is the office's refusal, with its reason. `Fault` and `Broken` are those that end a hall. [:
-    // told, err, refused, committed, reason; NotCommitted::is_last]
-    ensures told { IfOk result.answer (IsToldMore desk.old.told desk.new.told) }
-    ensures err { OnErr result.answer (desk.new.told ≡ desk.old.told) }
-    ensures refused { IfErr result.answer (λ refused. IsCommitRefusal desk.old.told refused.why) }
+    // told, err, refused, ok, why, steps; NotCommitted::is_last]
+    ensures told { IfOk result.0 (IsToldMore desk.old.told desk.new.told) }
+    ensures err { OnErr result.0 (desk.new.told ≡ desk.old.told) }
+    ensures refused { IfErr result.0 (λ refused. IsCommitRefusal desk.old.told refused.why) }
     ensures served { HasServed D.view D.fault_count (broker_of half.old) (broker_of half.new) }
-    ensures committed { IfOk result.answer (IsCommitted result.before.value.hall.issuer result.after.value.hall.issuer) }
-    ensures reason { IfErr result.answer (λ refused.
-        IsNotCommitted desk.old.told result.before.value.hall.issuer result.after.value.hall.issuer refused.why) }
+    ensures ok { IfOk result.0 (λ durable. result.1.answer ≡ Ok durable) }
+    ensures why { IfErr result.0 (λ refused. result.1.answer ≡ Err refused.why) }
+    ensures steps { CommitsBy D.view D.fault_count result.1 desk.old desk.new (broker_of half.old) (broker_of half.new) }
 {
-    let (answer, seen) = office.commit(rt, desk, half).split();
-    match answer {
-        Ok(durable) => seen.with(Ok(durable)),
-        Err(why) => seen.with(Err(NotCommitted { why })),
+    let committed = office.commit(rt, desk, half);
+    match committed.answer {
+        Ok(durable) => (Ok(durable), committed),
+        Err(why) => (Err(NotCommitted { why }), committed),
     }
 }

@@ -85,13 +85,12 @@ impl<R: Wait + Clock, L: Ledger, T: Trace, D: Disk> Committing for AtFront<'_, R
 
     fn commit(&mut self) -> Result<Durable, NotCommitted> {
         let begun = Instant::now(self.rt);
-        let committed = ask(
+        let (committed, _) = ask(
             self.rt,
             &self.front.office,
             &mut self.committer.desk,
             &mut self.committer.half,
-        )
-        .answer;
+        );
         let disk = state_of(&self.committer.half);
         self.front
             .meters

@@ -1,8 +1,8 @@
 // A port of the front, whose requests become calls.
 ghost use Rattle.std.specs.Prelude.{◌≡◌, IfOk};
-ghost use Rattle.hall_core.specs.Hall.{slot_told};
 ghost use Rattle.receipts.specs.Locked.{hall_in};
 ghost use Rattle.long_poll.specs.Port.{IsDoneFor};
+ghost use Rattle.long_poll.specs.Waiting.{IsTaken};
 ghost use Rattle.http_front.specs.Calls.{IsCallOf, target_in};
 
 use crate::drawing::new_id;
@@ -42,18 +42,18 @@ pub(crate) struct Replying<R: Wait, L: Ledger, T: Trace> {
 }
 
 impl<R: Wait + Eprint + Drop, L: Ledger, T: Trace> Future for Replying<R, L, T> {
-    type Output = Telling;
+    type Output = Telling<L, T>;
 
-    ghost gives = { λ replying telling. slot_told telling.released ≡ replying.waiting.slot };
+    ghost gives = { λ replying telling. IsTaken replying.waiting.slot telling.released };
 
-    fn poll(&mut self, cx: &mut Context<'_>) -> Poll<Telling> {
+    fn poll(&mut self, cx: &mut Context<'_>) -> Poll<Telling<L, T>> {
         match self.waiting.poll(cx) {
             Poll::Pending => Poll::Pending,
-            Poll::Ready(released) => {
-                let status = released.status();
+            Poll::Ready(told) => {
+                let status = told.answer.status();
                 self.front.meters.note_status(&self.rt, status);
                 note_report(&self.rt, self.number, self.report, status);
-                Poll::Ready(Telling::new(released, self.id))
+                Poll::Ready(Telling::new(told, self.id))
             }
         }
     }
@@ -207,7 +207,7 @@ impl<R: Wait + Clock + RandomSource + Eprint + Copy, L: Ledger, T: Trace> PortAp
 
 impl<R: Wait + Clock + RandomSource + Eprint + Drop + Copy, L: Ledger, T: Trace> Application
     for PortApplication<R, L, T> {
-    type Response = Telling;
+    type Response = Telling<L, T>;
 
     type Future = Replying<R, L, T>;
 

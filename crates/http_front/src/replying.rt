@@ -10,8 +10,10 @@ use http::response::Builder;
 use http_body_util::Full;
 use http_port::{HttpResponse, IntoResponse, Refused};
 use hyper::{Response, StatusCode};
+use receipts::{Trace, Witnessed};
 use retry_rules::Settings;
 use std::alloc::Global;
+use std::sync::ledger::Ledger;
 
 // The headers of a reply.
 fn with_headers(builder: Builder, reply: &Reply) -> Builder {
@@ -44,29 +46,30 @@ fn with_id(alloc: Global, reply: Reply, id: Option<[u8; 16]>) -> Reply
     }
 }
 
-/// A reply that was released, to be told to a client.
+/// A reply that was released, to be told to a client. Proofs see beside it what stood under the lock as it was taken.
 #[derive(Drop)]
-pub(crate) struct Telling {
-    released: Released,
+pub(crate) struct Telling<L: Ledger, T: Trace> {
+    released: Witnessed<Released, L, T>,
     /// The id of a request that is none of an event, where the reply is to tell it.
     id: Option<[u8; 16]>,
 }
 
-impl Telling {
-    pub(crate) fn new(released: Released, id: Option<[u8; 16]>) -> Telling
+impl<L: Ledger, T: Trace> Telling<L, T> {
+    pub(crate) fn new(released: Witnessed<Released, L, T>, id: Option<[u8; 16]>) -> Telling<L, T>
         ensures { result.released ≡ released }
     {
         Telling { released, id }
     }
 }
 
-impl IntoResponse for Telling {
-    // claim: A reply is told with its own status and bytes, to the slot that asked, or not at all. [: status; response_of:
-    // status, body; Replying: gives]
-    ghost status = { λ telling. telling.released.reply.status };
+impl<L: Ledger, T: Trace> IntoResponse for Telling<L, T> {
+    // claim: A reply is told with its own status and bytes, to the slot that asked, as the hall gave it, or not at all. [:
+    // status; response_of: status, body; Replying: gives]
+    ghost status = { λ telling. telling.released.answer.reply.status };
 
     fn into_response(self, alloc: Global) -> Option<HttpResponse> {
         let Telling { released, id } = self;
+        let (released, _) = released.split();
         response_of(alloc, with_id(alloc, released.into_reply(), id))
     }
 }

@@ -1,5 +1,5 @@
 // By what an operator reads the office.
-ghost use Rattle.std.specs.Prelude.{◌≡◌, map, IfOk, IfErr};
+ghost use Rattle.std.specs.Prelude.{◌≡◌, ◌≤◌, ◌^◌, map, IfOk, IfErr};
 ghost use Rattle.receipts.specs.Locked.{hall_in};
 ghost use Rattle.receipts.specs.Views.{IsViewOf};
 
@@ -110,7 +110,9 @@ impl<L: Ledger, T: Trace> AdminReader<L, T> {
     }
 
     /// A place at the bell, behind all slots.
-    pub(crate) fn take_place(&self) -> u64 {
-        FIRST_PLACE | (self.places.fetch_add(1, Ordering::SeqCst) & (FIRST_PLACE - 1))
+    pub(crate) fn take_place(&self) -> u64
+        ensures { 2 ^ 63 ≤ result }
+    {
+        FIRST_PLACE + self.places.fetch_add(1, Ordering::SeqCst) % FIRST_PLACE
     }
 }

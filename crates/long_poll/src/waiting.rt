@@ -1,7 +1,6 @@
 // The future of one reply.
 ghost use Rattle.std.specs.Prelude.{◌≡◌, Some, None, IfSome, IfNone, OnSome};
 ghost use Rattle.futures.specs.Task.{Covers, Keeps};
-ghost use Rattle.hall_core.specs.Hall.{slot_told};
 
 use crate::port::{Arrived, Port};
 use crate::waiters::{Parked, Registered};
@@ -46,7 +45,7 @@ pub struct Waiting<R: Wait, L: Ledger, T: Trace = Mark> {
 
 impl<R: Wait, L: Ledger, T: Trace> Waiting<R, L, T> {
     ghost use Rattle.long_poll.specs.Bell.{IsUnder, IsParkedAt, source_of};
-    ghost use Rattle.long_poll.specs.Waiting.{number_at, number_for};
+    ghost use Rattle.long_poll.specs.Waiting.{number_at, number_for, IsTaken};
 
     /// Waits for the reply of a request that came to this port.
     pub fn new(rt: R, port: Arc<Port<L, T>>, arrived: Arrived<L, T>) -> Waiting<R, L, T>
@@ -160,21 +159,22 @@ impl<R: Wait, L: Ledger, T: Trace> Waiting<R, L, T> {
     }
 
     // Takes the reply, if it may be told.
-    fn take(&mut self) -> Option<Released>
+    fn take(&mut self) -> Option<Witnessed<Released, L, T>>
         ensures same { (self.new.slot ≡ self.old.slot) × (self.new.port ≡ self.old.port) }
-        ensures slot { IfSome result (λ released. slot_told released ≡ self.old.slot) }
+        ensures takes { IfSome result (IsTaken self.old.slot) }
         ensures told { OnSome result (number_at self.new.progress ≡ None) }
         ensures waits { IfNone result (number_at self.new.progress ≡ number_at self.old.progress) }
     {
-        let released = self.port.take(&self.rt, self.slot).answer?;
+        let (answer, seen) = self.port.take(&self.rt, self.slot).split();
+        let released = answer?;
         self.progress = Progress::Told;
-        Some(released)
+        Some(seen.with(released))
     }
 
     // Asks the office, of which there has to be a cause.
-    fn ask(&mut self, cause: TakeReason) -> Option<Released>
+    fn ask(&mut self, cause: TakeReason) -> Option<Witnessed<Released, L, T>>
         ensures same { (self.new.slot ≡ self.old.slot) × (self.new.port ≡ self.old.port) }
-        ensures slot { IfSome result (λ released. slot_told released ≡ self.old.slot) }
+        ensures takes { IfSome result (IsTaken self.old.slot) }
         ensures told { OnSome result (number_at self.new.progress ≡ None) }
         ensures waits { IfNone result (number_at self.new.progress ≡ number_at self.old.progress) }
     {
@@ -183,10 +183,10 @@ impl<R: Wait, L: Ledger, T: Trace> Waiting<R, L, T> {
     }
 
     // Takes the reply, after the task has registered for the number at which it may be told.
-    fn take_registered(&mut self, registered: Registered) -> Option<Released>
+    fn take_registered(&mut self, registered: Registered) -> Option<Witnessed<Released, L, T>>
         requires { registered.slot ≡ self.old.slot }
         ensures same { (self.new.slot ≡ self.old.slot) × (self.new.port ≡ self.old.port) }
-        ensures slot { IfSome result (λ released. slot_told released ≡ self.old.slot) }
+        ensures takes { IfSome result (IsTaken self.old.slot) }
         ensures told { OnSome result (number_at self.new.progress ≡ None) }
         ensures waits { IfNone result (number_at self.new.progress ≡ number_at self.old.progress) }
     {
@@ -233,9 +233,9 @@ impl<R: Wait, L: Ledger, T: Trace> Waiting<R, L, T> {
     }
 
     // Waits for the reply: for the slot's answer, and where that was computed, for its number.
-    fn wait(&mut self, cx: &mut Context<'_>) -> Option<Released>
+    fn wait(&mut self, cx: &mut Context<'_>) -> Option<Witnessed<Released, L, T>>
         ensures same { (self.new.slot ≡ self.old.slot) × (self.new.port ≡ self.old.port) }
-        ensures slot { IfSome result (λ released. slot_told released ≡ self.old.slot) }
+        ensures takes { IfSome result (IsTaken self.old.slot) }
         ensures covers { IfNone result (Covers cx.new (λ source. source ≡ source_of self.old.port.value.bell.value)) }
         ensures kept { Keeps cx.old cx.new }
     {
@@ -245,26 +245,27 @@ impl<R: Wait, L: Ledger, T: Trace> Waiting<R, L, T> {
 }
 
 impl<R: Wait + Drop, L: Ledger, T: Trace> Future for Waiting<R, L, T> {
-    type Output = Released;
+    type Output = Witnessed<Released, L, T>;
 
     ghost use Rattle.long_poll.specs.Bell.{source_of};
+    ghost use Rattle.long_poll.specs.Waiting.{IsTaken};
 
     // claim: Where the future of a reply is pending it has registered at the bell, or is polled again. [: needs;
     // Bell::register, Bell::park: under, armed, heard]
     ghost needs = { λ waiting source. source ≡ source_of waiting.port.value.bell.value };
 
-    // claim: It gives the reply of its own slot.
-    ghost gives = { λ waiting released. slot_told released ≡ waiting.slot };
+    // claim: It gives the reply of its own slot, as the hall under the lock gave it.
+    ghost gives = { λ waiting told. IsTaken waiting.slot told };
 
-    fn poll(&mut self, cx: &mut Context<'_>) -> Poll<Released> {
+    fn poll(&mut self, cx: &mut Context<'_>) -> Poll<Witnessed<Released, L, T>> {
         let Some(cause) = self.cause(cx) else {
             return Poll::Pending;
         };
-        if let Some(released) = self.ask(cause) {
-            return Poll::Ready(released);
+        if let Some(told) = self.ask(cause) {
+            return Poll::Ready(told);
         }
         match self.wait(cx) {
-            Some(released) => Poll::Ready(released),
+            Some(told) => Poll::Ready(told),
             None => Poll::Pending,
         }
     }

@@ -5,4 +5,5 @@ pub mod Refused
 pub mod UnderLock
 pub mod Running
 pub mod Histories
+pub mod Lent
 pub mod Counted

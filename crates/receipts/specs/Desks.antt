@@ -5,7 +5,7 @@ use Rattle.receipts.specs.declared.error.FinishError.{FinishError}
 use Rattle.receipts.specs.declared.error.FinishError.TheVariants.{Mismatch, NotJoined}
 use Rattle.receipts.specs.declared.mark.Mark.{Mark}
 use Rattle.group_commit.specs.declared.error.JoinError.{JoinError}
-use Rattle.receipts.specs.Marks.{history_of_desk, AreNumberedFromSome}
+use Rattle.receipts.specs.Marks.{history_of_desk}
 
 -- for each environment one, and three more; at least eight
 abbrev pub desk_count : Settings → ℕ
@@ -28,11 +28,6 @@ pub record AreAll {X : Type 0} (number : X → ℕ) (own : X → List Mark) (cou
 abbrev pub IsReason : Type 0 → FinishError → Type 0
 IsReason all Mismatch = all → ⊥
 IsReason all (NotJoined why) = all
-
--- the same, of numbered marks of which no more is known
-abbrev pub IsReasonForSome : {X : Type 0} → (X → ℕ) → (X → List Mark) → ℕ → List X → FinishError → Type 0
-IsReasonForSome number own count desks cause =
-    (marks : List Mark) × AreNumberedFromSome marks × IsReason (AreAll number own count marks desks) cause
 
 -- where it was not joined, this holds of why
 abbrev pub IsWhyNotJoined : (JoinError → Type 0) → FinishError → Type 0

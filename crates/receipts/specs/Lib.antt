@@ -2,6 +2,7 @@ pub mod Marks
 pub mod Following
 pub mod Answers
 pub mod Desks
+pub mod Steps
 pub mod Locked
 pub mod UnderLock
 pub mod Running
@@ -10,3 +11,4 @@ pub mod Counters
 pub mod Views
 pub mod laws
 pub mod Told
+pub mod Committing

@@ -27,6 +27,7 @@ use Rattle.receipts.specs.Answers.{IsArrivalRefusal, IsTickRefusal}
 use Rattle.receipts.specs.Locked.{hall_in, issuer_in, IsToldByLoan, IsNotLentTo}
 use Rattle.receipts.specs.Marks.{KeepsHistories}
 use Rattle.receipts.specs.Serving.{IsToldOf}
+use Rattle.receipts.specs.Steps.{after_step}
 use Rattle.receipts.specs.UnderLock.{DoesAt, AnswersItsNumber, IssuedAt, AddBoth, LendsAs, Counts, IsNotMade, IsNotMoved, IsSameUnderLock, IsNoFault}
 
 -- the marks under the lock
@@ -43,7 +44,16 @@ abbrev pub IsLeftSame : {L T O : Type 0} {l : LedgerGhosts L} {g : TraceGhosts T
     → Locked L T O l g o → Locked L T O l g o → Type 0
 IsLeftSame before after = IsSameUnderLock (hall_in before.hall) (hall_in after.hall) (marks_in before) (marks_in after) before.slots after.slots
 
--- just this request was done, with the slot that is answered, and its command was marked here and at the desk; a refusal is
+-- one step was made from the desk, of which nothing else changed
+pub record MakesStep {L T O : Type 0} {g : TraceGhosts T O} {o : OpeningGhosts O} (desk desk' : Desk L T O g o) : Type 0 where
+  pub steps : desk'.steps ≡ after_step desk.steps
+  pub number : desk'.number ≡ desk.number
+  pub told : desk'.told ≡ desk.told
+  pub own : desk'.own ≡ desk.own
+  pub answered : desk'.answered ≡ desk.answered
+  pub issued : desk'.issued ≡ desk.issued
+
+-- one step did just this request, with the slot that is answered, and its command was marked here and at the desk; a refusal is
 -- the first check that fails, and changes nothing
 pub record Arrives {L T O : Type 0} {l : LedgerGhosts L} {g : TraceGhosts T O} {o : OpeningGhosts O}
     (before after : Locked L T O l g o) (desk desk' : Desk L T O g o) (call : Call) (now : ℕ) (words : List ℕ)
@@ -51,6 +61,7 @@ pub record Arrives {L T O : Type 0} {l : LedgerGhosts L} {g : TraceGhosts T O} {
   pub marks : IfOk result (λ r. AddsAtMostOne desk.number (own_of desk) (own_of desk') r.0)
   pub told : IfOk result (λ r. IsToldMore desk.told desk'.told r.0)
   pub slot : IfOk result (λ r. IsSlotOf desk.number r.1)
+  pub steps : desk'.steps ≡ after_step desk.steps
   pub number : desk'.number ≡ desk.number
   pub err : OnErr result ((desk'.own.items ≡ desk.own.items) × (desk'.told ≡ desk.told))
   pub asked : OnOk result (AddsAsked (drawn_by words) call (own_of desk) (own_of desk'))
@@ -75,12 +86,13 @@ pub record Arrives {L T O : Type 0} {l : LedgerGhosts L} {g : TraceGhosts T O} {
   pub answered : IfOk result (λ r. AnswersPolls (hall_in before.hall) (request r.1 call now words) desk'.answered.items)
   pub kept_answered : OnErr result (desk'.answered.items ≡ desk.answered.items)
 
--- just this move was made, and its command was marked here and at the desk; a refusal is the first check that fails, and
+-- one step made just this move, and its command was marked here and at the desk; a refusal is the first check that fails, and
 -- changes nothing
 pub record Moves {L T O : Type 0} {l : LedgerGhosts L} {g : TraceGhosts T O} {o : OpeningGhosts O}
     (before after : Locked L T O l g o) (desk desk' : Desk L T O g o) (now : ℕ) (result : Result (Option ℕ) HallError) : Type 0 where
   pub marks : IfOk result (AddsAnswered desk.number (own_of desk) (own_of desk'))
   pub told : IfOk result (IsToldIfAny desk.told desk'.told)
+  pub steps : desk'.steps ≡ after_step desk.steps
   pub number : desk'.number ≡ desk.number
   pub err : OnErr result ((desk'.own.items ≡ desk.own.items) × (desk'.told ≡ desk.told))
   pub refused : IfErr result (IsTickRefusal desk.told)
@@ -102,10 +114,11 @@ pub record Moves {L T O : Type 0} {l : LedgerGhosts L} {g : TraceGhosts T O} {o 
   pub answered : OnOk result (AnswersPolls (hall_in before.hall) (tick now) desk'.answered.items)
   pub kept_answered : OnErr result (desk'.answered.items ≡ desk.answered.items)
 
--- just all that is pending was lent, or nothing was, and then the desk is told how much is durable
+-- one step lent just all that is pending, or nothing, and then the desk is told how much is durable
 pub record LendsTo {L T O : Type 0} {l : LedgerGhosts L} {g : TraceGhosts T O} {o : OpeningGhosts O}
     (before after : Locked L T O l g o) (desk desk' : Desk L T O g o) (result : Result Loan HallError) : Type 0 where
   pub told : IfOk result (IsToldByLoan desk.told desk'.told)
+  pub steps : desk'.steps ≡ after_step desk.steps
   pub number : desk'.number ≡ desk.number
   pub own : desk'.own.items ≡ desk.own.items
   pub answered : desk'.answered ≡ desk.answered
@@ -117,11 +130,12 @@ pub record LendsTo {L T O : Type 0} {l : LedgerGhosts L} {g : TraceGhosts T O} {
   pub same : IsLeftSame before after
   pub opening : after.opening ≡ before.opening
 
--- just the batch that was out is durable, which the desk is told, or there is a reason why it is not
+-- by one step just the batch that was out is durable, which the desk is told, or there is a reason why it is not
 pub record Settles {L T O : Type 0} {l : LedgerGhosts L} {g : TraceGhosts T O} {o : OpeningGhosts O}
     (before after : Locked L T O l g o) (desk desk' : Desk L T O g o) (outcome : Result Written Failed)
     (result : Result ℕ HallError) : Type 0 where
   pub told : IfOk result (IsToldMore desk.told desk'.told)
+  pub steps : desk'.steps ≡ after_step desk.steps
   pub number : desk'.number ≡ desk.number
   pub own : desk'.own.items ≡ desk.own.items
   pub answered : desk'.answered ≡ desk.answered

@@ -1,13 +1,10 @@
 -- What the calls under the lock make of the hall and of the marks, and why they are refused.
-use Rattle.std.specs.Prelude.{◌≡◌, ◌⊎◌, ℕ, ◌+◌, ◌*◌, ◌<◌, ◌≤◌, ◌^◌, List, ◌++◌, Option, Some, None, option_map, Result}
+use Rattle.std.specs.Prelude.{◌≡◌, ◌⊎◌, ℕ, ◌+◌, ◌*◌, ◌<◌, ◌≤◌, ◌^◌, List, ◌++◌, Option, Some, None, option_map}
 use Rattle.api_core.specs.declared.call.Call.{Call}
 use Rattle.group_commit.specs.declared.issue_half.IssueHalf.{IssueHalf}
 use Rattle.group_commit.specs.Issuer.{issued_in}
 use Rattle.group_commit.specs.IssuerHalf.{half_view}
-use Rattle.group_commit.specs.Lending.{CanLend, Lends, SettlesBy}
-use Rattle.group_commit.specs.declared.batch.Written.{Written}
-use Rattle.group_commit.specs.declared.batch.Failed.{Failed}
-use Rattle.hall_core.specs.Halves.{IsNotDurable}
+use Rattle.group_commit.specs.Lending.{CanLend, Lends}
 use Rattle.hall_core.specs.declared.issuing.Issued.{Issued}
 use Rattle.hall_core.specs.declared.error.HallError.{HallError}
 use Rattle.hall_core.specs.declared.error.HallError.TheVariants as error
@@ -19,7 +16,7 @@ use Rattle.receipts.specs.declared.locked.Loan.TheVariants.{Nothing, Out}
 use Rattle.receipts.specs.declared.mark.Mark.{Mark}
 use Rattle.receipts.specs.Marks.{marks_by}
 use Rattle.receipts.specs.Answers.{IsMismatch}
-use Rattle.receipts.specs.Locked.{number_of, IsNotLentTo}
+use Rattle.receipts.specs.Locked.{number_of}
 
 -- ## What was done
 
@@ -47,17 +44,6 @@ AddBoth own own' all all' = (more : List Mark) × (own' ≡ own ++ more) × (all
 abbrev pub LendsAs : IssueHalf → IssueHalf → Loan → Type 0
 LendsAs old new (Nothing durable) = CanLend old × Lends old new None × (durable ≡ (half_view old).durable)
 LendsAs old new (Out batch) = CanLend old × Lends old new (Some batch)
-
--- a commit that answered so many durable commands: nothing was pending, and so many were durable, or what was lent was settled as written
-abbrev pub IsCommitted : IssueHalf → IssueHalf → ℕ → Type 0
-IsCommitted old new durable =
-    (CanLend old × Lends old new None × (durable ≡ (half_view old).durable))
-    ⊎ ((outcome : Result Written Failed) × SettlesBy old new outcome durable)
-
--- a commit of a desk that was told so much was refused so: nothing was lent to it, or what was lent was settled as not written
-abbrev pub IsNotCommitted : ℕ → IssueHalf → IssueHalf → HallError → Type 0
-IsNotCommitted told old new why =
-    IsNotLentTo told old why ⊎ ((outcome : Result Written Failed) × IsNotDurable old new outcome why)
 
 -- ## Slots
 

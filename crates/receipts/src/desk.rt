@@ -5,6 +5,7 @@ ghost use Rattle.receipts.specs.Desks.{desk_count};
 use crate::mark::{Mark, Trace};
 use hall_core::Issued;
 use retry_rules::Settings;
+use std::alloc::Global;
 use std::mem;
 use std::sync::ledger::{Ledger, Share};
 
@@ -15,6 +16,24 @@ pub fn desks(settings: &Settings) -> u64
 {
     let wanted = u64::from(settings.environments) + 3;
     if wanted < 8 { 8 } else { wanted }
+}
+
+/// How many steps a desk made under the lock of its office, modulo 2^64. A step counts itself, and nothing takes one back.
+#[derive(Drop)]
+pub(crate) struct Steps {
+    count: u64,
+}
+
+impl Steps {
+    ghost use Rattle.receipts.specs.Steps.{after_step};
+
+    /// One more.
+    #[tactic(auto, unfolding(crate::specs::Steps::after_step))]
+    pub(crate) fn count(&mut self)
+        ensures { self.new ≡ after_step self.old }
+    {
+        self.count = self.count.wrapping_add(1);
+    }
 }
 
 /// A place from which one thread asks the office at a time. It keeps the marks of the commands that its calls issued, the
@@ -33,12 +52,34 @@ pub struct Desk<L: Ledger, T: Trace = Mark> {
     pub(crate) answered: Vec<u64>,
     /// What its last request or move issued.
     pub(crate) issued: Option<Issued>,
+    /// How many steps it made under the lock.
+    pub(crate) steps: Steps,
     ghost one: { share.parts ≡ 1 },
     ghost counted: { vec_len own ≡ share.amount },
     ghost few: { number < 32 },
 }
 
 impl<L: Ledger, T: Trace> Desk<L, T> {
+    /// A desk of this number, with this part of the share, that made no step.
+    pub(crate) fn new(alloc: Global, number: u64, share: Share<L>) -> Desk<L, T>
+        requires few { number < 32 }
+        requires one { share.parts ≡ 1 }
+        requires none { share.amount ≡ 0 }
+        ensures number { result.number ≡ number }
+        ensures none { result.own.items ≡ [] }
+        ensures untold { result.told ≡ 0 }
+    {
+        Desk {
+            number,
+            told: 0,
+            own: Vec::new(alloc),
+            share,
+            answered: Vec::new(alloc),
+            issued: None,
+            steps: Steps { count: 0 },
+        }
+    }
+
     /// Its number among the desks of its office, from 0 on.
     pub fn number(&self) -> u64
         ensures { result ≡ self.now.number }
@@ -76,6 +117,7 @@ impl<L: Ledger, T: Trace> Desk<L, T> {
         ensures told { self.new.told ≡ self.old.told }
         ensures marks { self.new.own ≡ self.old.own }
         ensures issued { self.new.issued ≡ self.old.issued }
+        ensures steps { self.new.steps ≡ self.old.steps }
     {
         let none = Vec::new(*self.answered.allocator());
         mem::replace(&mut self.answered, none)

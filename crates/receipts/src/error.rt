@@ -1,6 +1,5 @@
 // Why an office is not opened or not closed.
 use crate::desk::Desk;
-use crate::office::Office;
 use crate::unlocked::Unlocked;
 use group_commit::{DiskHalf, JoinError, SplitError};
 use sector_disk::Disk;
@@ -26,17 +25,7 @@ pub enum FinishError {
     NotJoined(JoinError),
 }
 
-/// An office that was not closed, and why. All is handed back.
-#[derive(Drop)]
-pub struct FinishFailure<D: Disk, L: Ledger> {
-    pub cause: FinishError,
-    pub office: Office<L>,
-    pub desks: Vec<Desk<L>>,
-    /// The half over the disk, with what it took.
-    pub disk: DiskHalf<D>,
-}
-
-/// An office out of its lock that was not closed, and why. All is handed back.
+/// An office that was not closed, and why. All is handed back, the office out of its lock.
 #[derive(Drop)]
 pub struct UnlockedFailure<D: Disk, L: Ledger> {
     pub cause: FinishError,

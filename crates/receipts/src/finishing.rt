@@ -2,11 +2,11 @@
 ghost use Rattle.std.specs.Prelude.{◌≡◌, ◌<◌, ◌↔◌, ◌==◌, ◌∷◌, length, count_by, IfSome, IfNone, List, All, IsTrue, IfOk, IfErr, OnOk};
 ghost use Rattle.receipts.specs.Marks.{history_of_desk, AreNumberedFromSome, sum_of_lists};
 ghost use Rattle.receipts.specs.declared.mark.Mark.{Mark};
-ghost use Rattle.receipts.specs.Desks.{IsEachOnce, HaveEachOnce, AreAll, IsReason, IsReasonForSome, IsNotMismatch, IsWhyNotJoined};
+ghost use Rattle.receipts.specs.Desks.{IsEachOnce, HaveEachOnce, AreAll, IsReason, IsWhyNotJoined};
 ghost use Rattle.group_commit.specs.Splitting.{broker_of, Joins, IsNotJoined};
 
 use crate::desk::Desk;
-use crate::error::{FinishError, FinishFailure, UnlockedFailure};
+use crate::error::{FinishError, UnlockedFailure};
 use crate::locked::Locked;
 use crate::mark::Mark;
 use crate::marks::Marks;
@@ -103,46 +103,6 @@ impl<L: Ledger> Locked<L, Mark> {
         have_each_number(desks, self.desk_count.count()) && are_histories(&self.marks.all, desks)
     }
 
-    // Joins the hall with the disk half.
-    fn join<D: Disk>(
-        self,
-        disk: DiskHalf<D>,
-    ) -> Result<(Hall<Broker<D>>, Marks<L, Mark>), NotClosed<D, L>>
-        ensures marks { IfOk result (λ r. r.1.all.items ≡ self.marks.all.items) }
-        ensures joined { IfOk result (λ r. Joins self.hall.issuer (broker_of disk) r.0.issuer) }
-        ensures err { IfErr result (λ failure. IsNotMismatch failure.cause) }
-        ensures not_joined { IfErr result (λ failure. IsWhyNotJoined
-            (IsNotJoined self.hall.issuer failure.locked.hall.issuer (broker_of disk) (broker_of failure.disk)) failure.cause) }
-        ensures same { IfErr result (λ failure. failure.locked.marks.all.items ≡ self.marks.all.items) }
-    {
-        let Locked {
-            hall,
-            opening,
-            marks,
-            slots,
-            desk_count,
-        } = self;
-        match hall.join(disk) {
-            Ok(hall) => Ok((hall, marks)),
-            Err(failure) => {
-                let locked = Locked {
-                    hall: failure.hall,
-                    opening,
-                    marks,
-                    slots,
-                    desk_count,
-                };
-                let cause = FinishError::NotJoined(failure.cause);
-                let disk = failure.disk;
-                Err(NotClosed {
-                    cause,
-                    locked,
-                    disk,
-                })
-            }
-        }
-    }
-
     /// The hall and the marks, exactly where these are all its desks, each with its own marks, and the hall joins.
     pub(crate) fn close<D: Disk>(
         self,
@@ -175,39 +135,22 @@ impl<L: Ledger> Office<L> {
     /// Closes the office: its hall, over the broker that the halves make again, and the marks of all commands that were
     /// issued since it was opened.
     ///
-    /// It is refused, and hands all back: `Mismatch` where the desks do not have each desk number once, or a desk's marks
-    /// are not those of its number; and where the hall does not join with the disk half. Of the marks under the lock nothing
-    /// can be told but that they are numbered: `unlock` and then `Unlocked::finish` say it of the marks themselves.
+    /// It is refused as `Unlocked::finish` is, and hands all back, the office out of its lock: of marks behind a lock nothing
+    /// can be told but that they are numbered.
     pub fn finish<D: Disk>(
         self,
         desks: Vec<Desk<L>>,
         disk: DiskHalf<D>,
-    ) -> Result<(Hall<Broker<D>>, Vec<Mark>), FinishFailure<D, L>>
-        // claim: An office is closed only where each desk is there once with its own marks. Of the marks it tells only that
-        // they are numbered, and as many as the desks have.
+    ) -> Result<(Hall<Broker<D>>, Vec<Mark>), UnlockedFailure<D, L>>
+        // claim: An office is closed only where each desk is there once with its own marks, and answers them: numbered, as many
+        // as the desks have. It is a mismatch exactly where the marks of the office that is handed back are not those.
         ensures all { IfOk result (λ r. AreAll (λ d. d.number) (λ d. d.own.items) L.parts r.1.items desks.items) }
         ensures numbered { IfOk result (λ r. AreNumberedFromSome r.1.items) }
         ensures sum { IfOk result (λ r. sum_of_lists (λ d. d.own.items) desks.items ≡ length r.1.items) }
-        ensures refused { IfErr result (λ failure. IsReasonForSome (λ d. d.number) (λ d. d.own.items) L.parts desks.items failure.cause) }
+        ensures refused { IfErr result (λ failure. IsReason
+            (AreAll (λ d. d.number) (λ d. d.own.items) L.parts failure.office.locked.marks.all.items desks.items) failure.cause) }
         ensures back { IfErr result (λ failure. failure.desks.items ≡ desks.items) }
     {
-        match self.unlock().finish(desks, disk) {
-            Ok(closed) => Ok(closed),
-            Err(failure) => {
-                let UnlockedFailure {
-                    cause,
-                    office,
-                    desks,
-                    disk,
-                } = failure;
-                let office = office.lock();
-                Err(FinishFailure {
-                    cause,
-                    office,
-                    desks,
-                    disk,
-                })
-            }
-        }
+        self.unlock().finish(desks, disk)
     }
 }

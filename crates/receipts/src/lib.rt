@@ -10,6 +10,7 @@
 #![tactic(auto)]
 
 mod command_counters;
+mod committed;
 mod desk;
 mod desk_count;
 mod drill;
@@ -27,9 +28,10 @@ mod view;
 mod witness;
 
 pub use command_counters::CommandCounters;
+pub use committed::Committed;
 pub use desk::{Desk, desks};
 pub use drill::{Ask, DeskStep};
-pub use error::{FinishError, FinishFailure, OfficeFailure, UnlockedFailure};
+pub use error::{FinishError, OfficeFailure, UnlockedFailure};
 pub use looking::Rest;
 pub use mark::{Gone, Mark, SharedTrace, Trace};
 pub use office::Office;

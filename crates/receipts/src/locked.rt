@@ -1,5 +1,5 @@
 // What the office keeps under its lock: the hall, and the marks of all that it issued.
-ghost use Rattle.std.specs.Prelude.{◌≡◌, ◌+◌, ◌<◌, ◌≤◌, ◌^◌, ◌++◌, map, length, vec_len, vec_capacity, IfOk, IfErr, OnOk, option_map};
+ghost use Rattle.std.specs.Prelude.{◌≡◌, ◌+◌, ◌<◌, ◌≤◌, ◌^◌, ◌++◌, [], map, length, vec_len, vec_capacity, IfOk, IfErr, OnOk, option_map};
 ghost use Rattle.group_commit.specs.Issuer.{issued_in};
 ghost use Rattle.receipts.specs.Marks.{marks_by, AreNumbered};
 ghost use Rattle.receipts.specs.Following.{Follows};
@@ -9,14 +9,17 @@ ghost use Rattle.hall_core.specs.Hall.{IsSameHall, answered_slots};
 
 use crate::desk::Desk;
 use crate::desk_count::DeskCount;
+use crate::error::FinishError;
+use crate::finishing::NotClosed;
 use crate::mark::{Mark, Trace};
 use crate::marks::Marks;
 use crate::view::{Unreleased, View};
 use api_core::Call;
-use group_commit::{Batch, Durable, Failed, IssueHalf, Ticket, Written};
+use group_commit::{Batch, Broker, DiskHalf, Durable, Failed, IssueHalf, Ticket, Written};
 use hall_core::{Hall, HallError, Issued, Released};
-use std::alloc::AllocError;
-use std::sync::ledger::Ledger;
+use sector_disk::Disk;
+use std::alloc::{AllocError, Global};
+use std::sync::ledger::{Book, Ledger};
 
 /// How many slots an office counts.
 pub(crate) const MOST_SLOTS: u64 = 1 << 58;
@@ -33,10 +36,11 @@ pub(crate) enum Loan {
     Out(Batch),
 }
 
-/// The hall, and the marks of the commands that it issued since the opening.
+/// The hall, and the marks of the commands that it issued since the opening. The hall is changed by the steps below alone, of
+/// which each counts itself at the desk that makes it.
 #[derive(Drop)]
 pub(crate) struct Locked<L: Ledger, T: Trace> {
-    pub(crate) hall: Hall<IssueHalf>,
+    hall: Hall<IssueHalf>,
     /// What is kept of the table at the opening.
     pub(crate) opening: T::Opening,
     pub(crate) marks: Marks<L, T>,
@@ -62,7 +66,7 @@ fn note<L: Ledger, T: Trace>(marks: &mut Marks<L, T>, desk: &mut Desk<L, T>, iss
     requires room_there { vec_len desk.old.own < vec_capacity desk.old.own }
     ensures all { map T.mark marks.new.all.items ≡ map T.mark marks.old.all.items ++ marks_by desk.old.number issued }
     ensures own { map T.mark desk.new.own.items ≡ map T.mark desk.old.own.items ++ marks_by desk.old.number issued }
-    ensures desk { (desk.new.number ≡ desk.old.number) × (desk.new.told ≡ desk.old.told) }
+    ensures desk { (desk.new.number ≡ desk.old.number) × (desk.new.told ≡ desk.old.told) × (desk.new.steps ≡ desk.old.steps) }
     ensures issued { desk.new.issued ≡ issued }
 {
     if let Some(issued) = issued {
@@ -76,7 +80,7 @@ fn note<L: Ledger, T: Trace>(marks: &mut Marks<L, T>, desk: &mut Desk<L, T>, iss
 fn told_by<L: Ledger, T: Trace>(desk: &mut Desk<L, T>, issued: Option<Issued>) -> Option<u64>
     ensures number { result ≡ option_map number_of issued }
     ensures told { desk.new.told ≡ either_number desk.old.told issued }
-    ensures rest { (desk.new.number ≡ desk.old.number) × (desk.new.own.items ≡ desk.old.own.items) }
+    ensures rest { (desk.new.number ≡ desk.old.number) × (desk.new.own.items ≡ desk.old.own.items) × (desk.new.steps ≡ desk.old.steps) }
     ensures issued { desk.new.issued ≡ desk.old.issued }
 {
     match issued {
@@ -99,7 +103,7 @@ fn hand_out(hall: &mut Hall<IssueHalf>, answered: &mut Vec<u64>)
 }
 
 impl<L: Ledger, T: Trace> Locked<L, T> {
-    ghost use Rattle.receipts.specs.Told.{Arrives, Moves, LendsTo, Settles, Takes, TellsPoint, Forgets};
+    ghost use Rattle.receipts.specs.Told.{Arrives, Moves, LendsTo, Settles, Takes, TellsPoint, Forgets, MakesStep};
     ghost use Rattle.receipts.specs.Answers.{IsSlotOf, IsMismatch};
     ghost use Rattle.receipts.specs.UnderLock.{next_slot};
     ghost use Rattle.receipts.specs.Views.{IsViewOf};
@@ -108,6 +112,35 @@ impl<L: Ledger, T: Trace> Locked<L, T> {
     ghost use Rattle.hall_core.specs.Slots.{open_slots};
     ghost use Rattle.hall_core.specs.Hall.{ForEachPast, pending_in, open_slot_count};
     ghost use Rattle.hall_core.specs.declared.error.HallError.TheVariants.{WornOut};
+
+    /// What an office keeps over a new hall, of whose table this is kept, and over a book of no marks.
+    pub(crate) fn new(
+        alloc: Global,
+        hall: Hall<IssueHalf>,
+        opening: T::Opening,
+        book: Book<L>,
+        desk_count: DeskCount<L>,
+    ) -> Locked<L, T>
+        requires none { book.total ≡ 0 }
+        requires reached { issued_in (issuer_in hall) ≡ (T.Opening.table opening).number }
+        requires followed { Follows (issuer_in hall).settings (T.Opening.table opening) [] (issuer_in hall).table }
+        requires runs { ∥ HasRuns (hall_in hall) (T.Opening.table opening) ∥₁ }
+    {
+        Locked {
+            hall,
+            opening,
+            marks: Marks::new(alloc, book),
+            slots: 0,
+            desk_count,
+        }
+    }
+
+    /// The hall.
+    pub(crate) fn hall(&self) -> &Hall<IssueHalf>
+        ensures { result.now ≡ self.now.hall }
+    {
+        &self.hall
+    }
 
     // What the hall issued is not below what the desk was told.
     fn check(&self, desk: &Desk<L, T>) -> Result<(), HallError>
@@ -147,6 +180,7 @@ impl<L: Ledger, T: Trace> Locked<L, T> {
     ) -> Result<(Ticket, u64), HallError>
         ensures { Arrives self.old self.new desk.old desk.new call now words result }
     {
+        desk.steps.count();
         self.check(desk)?;
         let slot = self.next_slot(desk)?;
         if !self.hall.fits(slot, &call, now, &words) {
@@ -177,6 +211,7 @@ impl<L: Ledger, T: Trace> Locked<L, T> {
         requires { now ≤ greatest_moment }
         ensures { Moves self.old self.new desk.old desk.new now result }
     {
+        desk.steps.count();
         self.check(desk)?;
         self.marks.reserve(desk)?;
         let Locked { hall, marks, .. } = self;
@@ -197,6 +232,7 @@ impl<L: Ledger, T: Trace> Locked<L, T> {
         // durable, or says why not. [: lends, refused, same; Locked::settle: settles, stands, parts, refused]
         ensures { LendsTo self.old self.new desk.old desk.new result }
     {
+        desk.steps.count();
         self.check(desk)?;
         match self.hall.lend() {
             Ok(Some(batch)) => Ok(Loan::Out(batch)),
@@ -218,6 +254,7 @@ impl<L: Ledger, T: Trace> Locked<L, T> {
         requires { desk.old.told ≤ last_in outcome }
         ensures { Settles self.old self.new desk.old desk.new outcome result }
     {
+        desk.steps.count();
         match self.hall.settle(outcome) {
             Ok(durable) => {
                 desk.told = durable.number();
@@ -228,9 +265,11 @@ impl<L: Ledger, T: Trace> Locked<L, T> {
     }
 
     /// The reply of a slot, where it is told.
-    pub(crate) fn take(&mut self, slot: u64) -> Option<Released>
-        ensures { Takes self.old self.new slot result }
+    pub(crate) fn take(&mut self, desk: &mut Desk<L, T>, slot: u64) -> Option<Released>
+        ensures desk { MakesStep desk.old desk.new }
+        ensures takes { Takes self.old self.new slot result }
     {
+        desk.steps.count();
         self.hall.take(slot)
     }
 
@@ -242,9 +281,11 @@ impl<L: Ledger, T: Trace> Locked<L, T> {
     }
 
     /// The reply of a slot is not wanted any more.
-    pub(crate) fn forget(&mut self, slot: u64)
-        ensures { Forgets self.old self.new slot }
+    pub(crate) fn forget(&mut self, desk: &mut Desk<L, T>, slot: u64)
+        ensures desk { MakesStep desk.old desk.new }
+        ensures forgets { Forgets self.old self.new slot }
     {
+        desk.steps.count();
         self.hall.forget(slot);
     }
 
@@ -297,5 +338,50 @@ impl<L: Ledger, T: Trace> Locked<L, T> {
         ensures { result ≡ (issuer_in self.now.hall).broken }
     {
         self.hall.is_broken()
+    }
+}
+
+impl<L: Ledger> Locked<L, Mark> {
+    ghost use Rattle.group_commit.specs.Splitting.{broker_of, Joins, IsNotJoined};
+    ghost use Rattle.receipts.specs.Desks.{IsNotMismatch, IsWhyNotJoined};
+
+    /// Joins the hall with the disk half.
+    pub(crate) fn join<D: Disk>(
+        self,
+        disk: DiskHalf<D>,
+    ) -> Result<(Hall<Broker<D>>, Marks<L, Mark>), NotClosed<D, L>>
+        ensures marks { IfOk result (λ r. r.1.all.items ≡ self.marks.all.items) }
+        ensures joined { IfOk result (λ r. Joins self.hall.issuer (broker_of disk) r.0.issuer) }
+        ensures err { IfErr result (λ failure. IsNotMismatch failure.cause) }
+        ensures not_joined { IfErr result (λ failure. IsWhyNotJoined
+            (IsNotJoined self.hall.issuer failure.locked.hall.issuer (broker_of disk) (broker_of failure.disk)) failure.cause) }
+        ensures same { IfErr result (λ failure. failure.locked.marks.all.items ≡ self.marks.all.items) }
+    {
+        let Locked {
+            hall,
+            opening,
+            marks,
+            slots,
+            desk_count,
+        } = self;
+        match hall.join(disk) {
+            Ok(hall) => Ok((hall, marks)),
+            Err(failure) => {
+                let locked = Locked {
+                    hall: failure.hall,
+                    opening,
+                    marks,
+                    slots,
+                    desk_count,
+                };
+                let cause = FinishError::NotJoined(failure.cause);
+                let disk = failure.disk;
+                Err(NotClosed {
+                    cause,
+                    locked,
+                    disk,
+                })
+            }
+        }
     }
 }

@@ -53,7 +53,7 @@ impl<L: Ledger, T: Trace> Marks<L, T> {
     pub(crate) fn reserve(&mut self, desk: &mut Desk<L, T>) -> Result<(), AllocError>
         ensures all { self.new.all.items ≡ self.old.all.items }
         ensures own { desk.new.own.items ≡ desk.old.own.items }
-        ensures desk { (desk.new.number ≡ desk.old.number) × (desk.new.told ≡ desk.old.told) }
+        ensures desk { (desk.new.number ≡ desk.old.number) × (desk.new.told ≡ desk.old.told) × (desk.new.steps ≡ desk.old.steps) }
         ensures answered { desk.new.answered ≡ desk.old.answered }
         ensures issued { desk.new.issued ≡ desk.old.issued }
         ensures room_here { OnOk result (vec_len self.new.all < vec_capacity self.new.all) }
@@ -70,7 +70,7 @@ impl<L: Ledger, T: Trace> Marks<L, T> {
         requires room_there { vec_len desk.old.own < vec_capacity desk.old.own }
         ensures all { map T.mark self.new.all.items ≡ map T.mark self.old.all.items ++ mark ∷ [] }
         ensures own { map T.mark desk.new.own.items ≡ map T.mark desk.old.own.items ++ mark ∷ [] }
-        ensures desk { (desk.new.number ≡ desk.old.number) × (desk.new.told ≡ desk.old.told) }
+        ensures desk { (desk.new.number ≡ desk.old.number) × (desk.new.told ≡ desk.old.told) × (desk.new.steps ≡ desk.old.steps) }
     {
         let Marks {
             all,

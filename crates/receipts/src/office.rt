@@ -13,17 +13,17 @@ ghost use Rattle.hall_core.specs.Halves.{HasSameParts};
 ghost use Rattle.receipts.specs.Desks.{desk_count};
 ghost use Rattle.receipts.specs.Answers.{IsToldMore, IsCommitRefusal};
 ghost use Rattle.receipts.specs.Locked.{hall_in};
-ghost use Rattle.receipts.specs.Told.{Arrives, Moves, LendsTo, Settles, Takes, TellsPoint, Forgets};
+ghost use Rattle.receipts.specs.Told.{Arrives, Moves, LendsTo, Settles, Takes, TellsPoint, Forgets, MakesStep};
 ghost use Rattle.receipts.specs.Serving.{CommitsTo};
-ghost use Rattle.receipts.specs.UnderLock.{IsCommitted, IsNotCommitted};
+ghost use Rattle.receipts.specs.Committing.{CommitsBy};
 ghost use Rattle.group_commit.specs.Batch.{last_in};
 
+use crate::committed::Committed;
 use crate::desk::{Desk, desks};
 use crate::desk_count::DeskCount;
 use crate::error::OfficeFailure;
 use crate::locked::{Loan, Locked};
 use crate::mark::{Mark, Trace};
-use crate::marks::Marks;
 use crate::opening::OpeningTrace;
 use crate::witness::Witnessed;
 use api_core::Call;
@@ -96,14 +96,7 @@ fn make_desks<L: Ledger, T: Trace>(
     let mut rest = share;
     for number in 0..count {
         let share = rest.split_off(1, 0);
-        desks.push_reserved(Desk {
-            number,
-            told: 0,
-            own: Vec::new(alloc),
-            share,
-            answered: Vec::new(alloc),
-            issued: None,
-        });
+        desks.push_reserved(Desk::new(alloc, number, share));
     }
     desks
 }
@@ -146,13 +139,7 @@ impl<L: Ledger, T: Trace> Office<L, T> {
             Ok((hall, disk)) => {
                 let (book, share) = blank.open::<L>();
                 let made = make_desks(alloc, room, share, count);
-                let locked = Locked {
-                    hall,
-                    opening,
-                    marks: Marks::new(alloc, book),
-                    slots: 0,
-                    desk_count: DeskCount::new(count),
-                };
+                let locked = Locked::new(alloc, hall, opening, book, DeskCount::new(count));
                 let office = Office {
                     locked: Mutex::new(locked),
                 };
@@ -182,10 +169,10 @@ impl<L: Ledger, T: Trace> Office<L, T> {
         now: u64,
         words: [u64; 2],
     ) -> Witnessed<Result<(Ticket, u64), HallError>, L, T>
-        // claim: A request or a tick does just that call to the hall that was under the lock. Its command, and no other, is
-        // marked at its desk and there. Each desk keeps its list. Nothing becomes durable, and no disk is called. [: done,
-        // counts, both, histories, ticket, kept, no_call; Office::tick: done, answer, both, histories, counted, kept,
-        // no_call]
+        // claim: A request or a tick does by one step just that call to the hall that was under the lock. Its command, and no
+        // other, is marked at its desk and there. Each desk keeps its list. Nothing becomes durable, and no disk is called. [:
+        // steps, done, counts, both, histories, ticket, kept, no_call; Office::tick: steps, done, answer, both, histories,
+        // counted, kept, no_call]
         // claim: A request marks at most one command, which it may have by itself. A tick marks that whose number it
         // answers. [: marks, asked; Office::tick: marks]
         // claim: The slot is the desk's next. The desk gets the slots of just the polls answered, and hands them out once.
@@ -229,13 +216,13 @@ impl<L: Ledger, T: Trace> Office<L, T> {
         &self,
         rt: &R,
         desk: &mut Desk<L, T>,
-    ) -> Witnessed<Result<Loan, HallError>, L, T>
-        ensures { LendsTo result.before.value result.after.value desk.old desk.new result.answer }
+    ) -> (Result<Loan, HallError>, Witnessed<(), L, T>)
+        ensures { LendsTo result.1.before.value result.1.after.value desk.old desk.new result.0 }
     {
         let mut locked = self.locked.lock(rt);
         let before = Seen::of(&*locked);
         let loan = locked.lend(desk);
-        Witnessed::new(loan, before, &locked)
+        (loan, Witnessed::new((), before, &locked))
     }
 
     // Settles what became of the batch that is out, as `Locked::settle` says.
@@ -244,14 +231,14 @@ impl<L: Ledger, T: Trace> Office<L, T> {
         rt: &R,
         desk: &mut Desk<L, T>,
         outcome: Result<Written, Failed>,
-    ) -> Witnessed<Result<Durable, HallError>, L, T>
+    ) -> (Result<Durable, HallError>, Witnessed<(), L, T>)
         requires { desk.old.told ≤ last_in outcome }
-        ensures { Settles result.before.value result.after.value desk.old desk.new outcome result.answer }
+        ensures { Settles result.1.before.value result.1.after.value desk.old desk.new outcome result.0 }
     {
         let mut locked = self.locked.lock(rt);
         let before = Seen::of(&*locked);
         let settled = locked.settle(desk, outcome);
-        Witnessed::new(settled, before, &locked)
+        (settled, Witnessed::new((), before, &locked))
     }
 
     /// Makes all that is pending durable: how many commands that is. The commands are lent under the lock, written outside
@@ -268,7 +255,7 @@ impl<L: Ledger, T: Trace> Office<L, T> {
         rt: &R,
         desk: &mut Desk<L, T>,
         disk: &mut DiskHalf<D>,
-    ) -> Witnessed<Result<Durable, HallError>, L, T>
+    ) -> Committed<L, T>
         ensures told { IfOk result.answer (IsToldMore desk.old.told desk.new.told) }
         ensures number { desk.new.number ≡ desk.old.number }
         ensures marks { desk.new.own.items ≡ desk.old.own.items }
@@ -280,45 +267,36 @@ impl<L: Ledger, T: Trace> Office<L, T> {
         ensures disk { CommitsTo D.view D.fault_count (broker_of disk.old) (broker_of disk.new) result.answer }
         ensures fault { result.answer ≡ Err HallError.Fault → FaultsHaveRisen D.fault_count (broker_of disk.old) (broker_of disk.new) }
 
-        // claim: Its last step found nothing pending, or settled a batch as written. One refused lent nothing, or settled one
-        // as not written, with its reason. [: committed, reason, refused]
-        ensures committed { IfOk result.answer
-            (IsCommitted result.before.value.hall.issuer result.after.value.hall.issuer) }
-        ensures reason { IfErr result.answer
-            (IsNotCommitted desk.old.told result.before.value.hall.issuer result.after.value.hall.issuer) }
-        ensures stands { ForEachPast (hall_in result.before.value.hall) (λ past. StandsFor (hall_in result.after.value.hall) past) }
-        ensures unmarked { map T.mark result.after.value.marks.all.items ≡ map T.mark result.before.value.marks.all.items }
-        ensures counted { result.after.value.slots ≡ result.before.value.slots }
-        ensures opening { result.after.value.opening ≡ result.before.value.opening }
+        // claim: It makes one step, which lent nothing, and tells why; or two: all that was pending was lent, and what the disk
+        // half answered of that batch was settled, and is told. [: steps, refused]
+        ensures steps { CommitsBy D.view D.fault_count result desk.old desk.new (broker_of disk.old) (broker_of disk.new) }
     {
-        let Witnessed {
-            answer,
-            before,
-            after,
-        } = self.lend(rt, desk);
-        let loan = match answer {
+        let (lend, lent) = self.lend(rt, desk);
+        let loan = match lend {
             Ok(loan) => loan,
             Err(why) => {
                 let answer = Err(why);
-                return Witnessed {
+                return Committed {
                     answer,
-                    before,
-                    after,
+                    lent,
+                    settled: None,
                 };
             }
         };
         match loan {
-            Loan::Nothing(durable) => {
-                let answer = Ok(durable);
-                Witnessed {
-                    answer,
-                    before,
-                    after,
-                }
-            }
+            Loan::Nothing(durable) => Committed {
+                answer: Ok(durable),
+                lent,
+                settled: None,
+            },
             Loan::Out(batch) => {
                 let outcome = disk.write(batch);
-                self.settle(rt, desk, outcome)
+                let (answer, settled) = self.settle(rt, desk, outcome);
+                Committed {
+                    answer,
+                    lent,
+                    settled: Some(settled),
+                }
             }
         }
     }
@@ -330,15 +308,14 @@ impl<L: Ledger, T: Trace> Office<L, T> {
         desk: &mut Desk<L, T>,
         slot: u64,
     ) -> Witnessed<Option<Released>, L, T>
-        ensures desk { desk.new ≡ desk.old }
-        // claim: A take gives the reply that the hall before gives, to the slot that asked, and does just that; so does a
-        // forgetting. [: slot, gives, by_events, done, none; Office::forget: done]
+        ensures desk { MakesStep desk.old desk.new }
+        // claim: A take gives the reply that the hall before gives, to the slot that asked, and does by one step just that; so
+        // does a forgetting. [: steps, slot, gives, by_events, done, none; Office::forget: steps, done]
         ensures takes { Takes result.before.value result.after.value slot result.answer }
     {
-        let _ = desk;
         let mut locked = self.locked.lock(rt);
         let before = Seen::of(&*locked);
-        let released = locked.take(slot);
+        let released = locked.take(desk, slot);
         Witnessed::new(released, before, &locked)
     }
 
@@ -362,13 +339,12 @@ impl<L: Ledger, T: Trace> Office<L, T> {
 
     /// The reply of a slot is not wanted any more, as `Hall::forget` says. It takes no memory.
     pub fn forget<R: Wait>(&self, rt: &R, desk: &mut Desk<L, T>, slot: u64) -> Witnessed<(), L, T>
-        ensures desk { desk.new ≡ desk.old }
+        ensures desk { MakesStep desk.old desk.new }
         ensures forgets { Forgets result.before.value result.after.value slot }
     {
-        let _ = desk;
         let mut locked = self.locked.lock(rt);
         let before = Seen::of(&*locked);
-        locked.forget(slot);
+        locked.forget(desk, slot);
         Witnessed::new((), before, &locked)
     }
 }

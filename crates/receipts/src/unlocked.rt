@@ -59,7 +59,7 @@ impl<L: Ledger, T: Trace> Unlocked<L, T> {
     pub fn hall(&self) -> &Hall<IssueHalf>
         ensures { result.now ≡ self.now.locked.hall }
     {
-        &self.locked.hall
+        self.locked.hall()
     }
 
     /// What is kept of the table at the opening.

@@ -225,6 +225,7 @@ where
     expect(rt, told == Ok(1), "a command is durable");
     match released {
         Ok(released) => {
+            let released = released.answer;
             let is_told = released.slot() == slot && released.into_reply().status == 202;
             expect(rt, is_told, "the thread is told 202");
             true

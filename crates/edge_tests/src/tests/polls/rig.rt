@@ -84,7 +84,7 @@ impl<R: Wait + Drop, L: Ledger> Future for Noted<R, L> {
                 heard.pending = heard.pending.saturating_add(1);
                 return Poll::Pending;
             }
-            Poll::Ready(released) => released,
+            Poll::Ready(told) => told.answer,
         };
         let reply = (released.slot(), released.into_reply().status);
         let mut heard = self.told.lock(&self.rt);

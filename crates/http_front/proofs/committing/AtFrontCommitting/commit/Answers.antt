@@ -6,6 +6,6 @@ use Rattle.http_front.proofs.committing.AtFrontCommitting.commit.Goals as goal
 pub returns : goal.returns
 returns g c = (
   learned_commit (λ refused. is_last refused.why) c.args.self.now.committer.desk.told c.ask-committed.new.desk.told (seen_by c.args.self.now.committer.seated)
-      c.ask-committed.result.answer c.ask-committed.ensures.told c.ask-committed.ensures.err,
+      c.ask-committed.result.0 c.ask-committed.ensures.told c.ask-committed.ensures.err,
   c.ask-committed.ensures.served,
 )

@@ -18,6 +18,7 @@ pub returns-in-Err : goal.returns-in-Err
 returns-in-Err g c =
     record {
       told = search rules;
+      steps = search rules;
       number = search rules;
       own = search rules;
       answered = search rules;

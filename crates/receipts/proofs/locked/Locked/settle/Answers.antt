@@ -24,6 +24,7 @@ returns-in-Ok g c =
     let told = c.requires in
     record {
       told = search (rules, number, told);
+      steps = search rules;
       number = search rules;
       own = search rules;
       answered = search rules;
@@ -42,6 +43,7 @@ pub returns-in-Err : goal.returns-in-Err
 returns-in-Err g c =
     record {
       told = search rules;
+      steps = search rules;
       number = search rules;
       own = search rules;
       answered = search rules;

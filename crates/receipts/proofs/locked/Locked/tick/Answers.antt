@@ -39,6 +39,7 @@ returns-in-Ok g c =
     record {
       marks = adds_answered _ _ _ c.in-Ok.issued own _ c.told_by-told.ensures.number;
       told = search rules;
+      steps = search rules;
       number = search rules;
       err = search rules;
       refused = search rules;
@@ -64,6 +65,7 @@ returns-in-Err g c =
     record {
       marks = search rules;
       told = search rules;
+      steps = search rules;
       number = search rules;
       err = search rules;
       refused = refused_tick _ (view_of half_view c.args.self.now.hall) c.args.now c.in-Err.why c.in-Err.ensures.reason;

@@ -1,19 +1,37 @@
-use Rattle.std.proofs.Common.{inl, inr, refl}
+use Rattle.std.proofs.Common.{Ok, inl, inr, refl, ◌∙◌, ap}
+use Rattle.receipts.specs.declared.locked.Loan.TheVariants.{Out}
+use Rattle.receipts.proofs.Lent.{told_why, told_durable, lends_as}
 use Rattle.receipts.proofs.UnderLock.{fault_told}
 use Rattle.receipts.proofs.office.Office.commit.Goals as goal
 
 pub returns-in-Err-clause-disk : goal.returns-in-Err-clause-disk
 returns-in-Err-clause-disk g c = inl refl
 
+pub returns-in-Err-clause-steps : goal.returns-in-Err-clause-steps
+returns-in-Err-clause-steps g c = record {
+  loan = c.lend-lend.result.0;
+  lends = c.lend-lend.ensures;
+  tells = told_why c.lend-lend.result.0 c.in-Err.why c.in-Err.is;
+  disk = refl;
+}
+
 pub returns-in-Nothing-clause-disk : goal.returns-in-Nothing-clause-disk
 returns-in-Nothing-clause-disk g c = inl refl
+
+pub returns-in-Nothing-clause-steps : goal.returns-in-Nothing-clause-steps
+returns-in-Nothing-clause-steps g c = record {
+  loan = c.lend-lend.result.0;
+  lends = c.lend-lend.ensures;
+  tells = told_durable c.lend-lend.result.0 c.in-Nothing.durable (c.in-Ok.is ∙ ap Ok c.in-Nothing.is);
+  disk = refl;
+}
 
 pub returns-in-Out-clause-disk : goal.returns-in-Out-clause-disk
 returns-in-Out-clause-disk g c = inr (
   c.in-Out.batch,
   record {
     outcome = c.write-outcome.result;
-    told = c.settle.ensures.tells;
+    told = c.settle-answer.ensures.tells;
     last = c.write-outcome.ensures.last;
     done = c.write-outcome.ensures.ok;
     refused = c.write-outcome.ensures.err;
@@ -29,4 +47,28 @@ returns-in-Out-clause-disk g c = inr (
 )
 
 pub returns-in-Out-clause-fault : goal.returns-in-Out-clause-fault
-returns-in-Out-clause-fault g c is = c.write-outcome.ensures.fault (fault_told _ _ c.settle.ensures.tells is)
+returns-in-Out-clause-fault g c is = c.write-outcome.ensures.fault (fault_told _ _ c.settle-answer.ensures.tells is)
+
+pub returns-in-Out-clause-steps : goal.returns-in-Out-clause-steps
+returns-in-Out-clause-steps g c = record {
+  batch = c.in-Out.batch;
+  between = c.lend-lend.new.desk;
+  lends = lends_as _ _ _ _ c.lend-lend.result.0 (Ok (Out c.in-Out.batch)) (c.in-Ok.is ∙ ap Ok c.in-Out.is) c.lend-lend.ensures;
+  writes = record {
+    outcome = c.write-outcome.result;
+    told = c.settle-answer.ensures.tells;
+    last = c.write-outcome.ensures.last;
+    done = c.write-outcome.ensures.ok;
+    refused = c.write-outcome.ensures.err;
+    fault = c.write-outcome.ensures.fault;
+    later = c.write-outcome.ensures.later;
+    same = c.write-outcome.ensures.same;
+    settings = c.write-outcome.ensures.settings;
+    longer = c.write-outcome.ensures.longer;
+    stands = c.write-outcome.ensures.stands;
+    front = c.write-outcome.ensures.front;
+    any_moment = c.write-outcome.ensures.any_moment;
+  };
+  first = c.write-outcome.ensures.first;
+  settles = c.settle-answer.ensures;
+}

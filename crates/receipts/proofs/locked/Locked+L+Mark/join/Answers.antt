@@ -1,7 +1,7 @@
 use Rattle.std.proofs.Common.{rules}
 use Rattle.std.proofs.Math.Logic.{∥∥₁_map}
 use Rattle.receipts.proofs.Running.{runs_moved}
-use Rattle.receipts.proofs.finishing.Locked+L+Mark.join.Goals as goal
+use Rattle.receipts.proofs.locked.Locked+L+Mark.join.Goals as goal
 
 pub invariant_of-locked : goal.invariant_of-locked
 invariant_of-locked g c = record {

@@ -1,0 +1,17 @@
+// What a commit answers.
+
+use crate::mark::{Mark, Trace};
+use crate::witness::Witnessed;
+use group_commit::Durable;
+use hall_core::HallError;
+use std::sync::ledger::Ledger;
+
+/// What a commit answered. Proofs see beside it what stood under the lock around each of its steps.
+#[derive(Drop)]
+pub struct Committed<L: Ledger, T: Trace = Mark> {
+    pub answer: Result<Durable, HallError>,
+    /// Around the step that lent what was pending, or nothing.
+    pub(crate) lent: Witnessed<(), L, T>,
+    /// Around the step that settled what became of that, if something was lent.
+    pub(crate) settled: Option<Witnessed<(), L, T>>,
+}
