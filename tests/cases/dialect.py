@@ -3,7 +3,7 @@ import datetime
 import json
 import uuid
 
-from harness import ARN, EVENT, INVOKE, OPENING, Beside, Skipped, case, same, until
+from harness import ARN, EVENT, EXTENSION, INVOKE, OPENING, Beside, Skipped, case, same, until
 
 
 def in_dialect(broker, *words):
@@ -73,8 +73,29 @@ def boto3_raises_a_typed_exception_for_each_refusal(broker):
     same(called(client, payload=b'"' + 1024 * b"a" + b'"'), ("RequestTooLargeException", 413, large))
     same(called(client, kind="DryRun"), 204)
     same(called(client), 202)
-    full = "table is full: my-function holds at most 1 events, with those whose records wait to be collected"
-    same(called(client), ("TooManyRequestsException", 429, full))
+    same(called(client), ("TooManyRequestsException", 429, full_with(1, 0, 0)))
+
+
+def full_with(events, successes, failures):
+    where = "/broker/destinations/success", "/broker/destinations/failure"
+    counts = f"{successes} records wait to be collected at {where[0]}, {failures} at {where[1]}"
+    return f"table is full: my-function holds at most {events} events; {counts}"
+
+
+@case({"events": 4, "retries": 0})
+def a_full_table_says_how_many_records_wait_and_where(broker):
+    client = by_boto3(in_dialect(broker))
+    for path in "response", "error", "response":
+        broker.live("{}", "1", path=path)
+    waiting = broker.invoke("{}").id
+    same(called(client), ("TooManyRequestsException", 429, full_with(4, 2, 1)))
+    broker.kill()
+    in_dialect(broker)
+    same(called(by_boto3(broker)), ("TooManyRequestsException", 429, full_with(4, 2, 1)))
+    same(broker.delete(broker.record().id).status, 204)
+    same(broker.invoke("{}").status, 202)
+    same(called(by_boto3(broker)), ("TooManyRequestsException", 429, full_with(4, 1, 1)))
+    same(broker.next().id, waiting)
 
 
 @case()
@@ -158,11 +179,17 @@ def read_as_sample(record):
     return context["requestId"], context["condition"], context["approximateInvokeCount"], record["responsePayload"]["errorMessage"]
 
 
-def failed(broker, event):
+def unanswered(event, after="900.00 seconds"):
+    """What stands in place of an answer: that of AWS's sample, and AWS's words for a timeout."""
+    exited = f"RequestId: {event} Process exited before completing request"
+    return f"{exited}, or Task timed out after {after}"
+
+
+def failed(broker, event, count=1, condition="RetriesExhausted"):
     """What the record of a failed event, which is collected, has as its error."""
     record = until("a record", lambda: broker.record("failure").status == 200 and broker.record("failure").json)
     told = read_as_sample(record)
-    same((told[:3], broker.delete(event).status), ((event, "RetriesExhausted", 1), 204))
+    same((told[:3], broker.delete(event).status), ((event, condition, count), 204))
     return told[3]
 
 
@@ -173,6 +200,35 @@ def a_consumer_of_awss_sample_reads_each_failure(broker):
     same(failed(broker, event), "x")
     event = broker.live("{}", 513 * "1")
     same(failed(broker, event), "Response payload size exceeded maximum allowed payload size (512 bytes).")
+    same(broker.stop(), (202, 0, ""))
+    in_dialect(broker, "--extensions", "1")
+    extension = broker.extension()
+    parked = broker.send_extension_next(extension), broker.send_next()
+    event = broker.invoke("{}").id
+    same([poll.done().status for poll in parked], [200, 200])
+    same(broker.ask("POST", f"{EXTENSION}/exit/error", "{}", extension, 1).status, 202)
+    same(failed(broker, event), unanswered(event))
+
+
+@case({"retries": 0, "timeout": 1})
+def a_consumer_of_awss_sample_reads_a_timeout(broker):
+    in_dialect(broker)
+    event = broker.invoke("{}").id
+    same(broker.next().id, event)
+    same(failed(broker, event), unanswered(event, "1.00 seconds"))
+
+
+@case({"timeout": 1, "age": 60}, slow=True)
+def a_consumer_of_awss_sample_reads_what_grew_too_old(broker):
+    in_dialect(broker)
+    tried, never = broker.invoke("{}").id, broker.invoke("{}").id
+    same(broker.next().id, tried)
+    until("two ends", lambda: broker.number('events{standing="event_age_exceeded"}') == 2, 180)
+    same(failed(broker, tried, condition="EventAgeExceeded"), unanswered(tried, "1.00 seconds, or the broker ended"))
+    # No version of it was executed.
+    record = broker.record("failure").json
+    same((record["requestContext"]["requestId"], record["requestContext"]["approximateInvokeCount"]), (never, 0))
+    same([*record], ["version", "timestamp", "requestContext", "requestPayload"])
 
 
 @case({"concurrency": 10})

@@ -3,7 +3,9 @@ use Rattle.std.specs.Prelude.{ℕ, List, [], ◌∷◌, ◌++◌, Result, codes,
 use Prim.Native.String.{String}
 use Rattle.http_header.specs.FieldValue.{plain_value}
 use Rattle.retry_rules.specs.declared.settings.Settings.{Settings}
-use Rattle.destination_json.specs.Examples.{usual}
+use Rattle.invoke_records.specs.declared.row.Answer.TheVariants as answer
+use Rattle.async_core.specs.Readers.{Ending}
+use Rattle.destination_json.specs.Examples.{usual, grown_old}
 use Rattle.api_core.specs.declared.dialect.Dialect.{Dialect}
 use Rattle.api_core.specs.declared.dialect.Dialect.TheVariants.{Profile, Aws}
 use Rattle.api_core.specs.declared.dialect.Audience.TheVariants.{Caller, Environment}
@@ -197,3 +199,13 @@ service_reply status blamed name message =
 
 abbrev pub not_found_text : List ℕ
 not_found_text = codes "{\"errorMessage\":\"no such path or function\",\"errorType\":\"NotFound\"}"
+
+-- ## Events without an answer
+
+-- an event that was started once, and grew too old
+abbrev pub tried_then_old : Ending
+tried_then_old = record grown_old { starts = 1 }
+
+-- the event with this error as its answer
+abbrev pub with_answer : Ending → String → Ending
+with_answer e text = record e { answer = answer.Error (codes text) }

@@ -6,6 +6,7 @@ pub mod Headers
 pub mod Bodies
 pub mod Requests
 pub mod Refusals
+pub mod Unanswered
 pub mod Reply
 pub mod Replies
 pub mod Steps

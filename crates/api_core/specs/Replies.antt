@@ -1,9 +1,13 @@
 -- The reply of an answer: its status, its headers in their order, and the bytes of its body.
-use Rattle.std.specs.Prelude.{ℕ, ◌≤◌, Bool, true, List, [], ◌∷◌, ◌++◌, codes, decimal, bytes_eq, if◌then◌else◌}
+use Rattle.std.specs.Prelude.{ℕ, ◌≤◌, Bool, true, List, [], ◌∷◌, ◌++◌, codes, count_by, decimal, bytes_eq, if◌then◌else◌}
 use Rattle.std.specs.List.{list_any}
 use Prim.Native.String.{String}
 use Rattle.retry_rules.specs.declared.settings.Settings.{Settings}
 use Rattle.invoke_records.specs.Spelling.{greatest_moment}
+use Rattle.invoke_records.specs.declared.row.EventRow.{EventRow}
+use Rattle.async_core.specs.declared.choice.Side.{Side}
+use Rattle.async_core.specs.declared.choice.Side.TheVariants.{Success, Failure as Failed}
+use Rattle.async_core.specs.Choice.{ended_on}
 use Rattle.async_core.specs.Readers.{Ending, told}
 use Rattle.destination_json.specs.Json.{in_quotes, member, object}
 use Rattle.destination_json.specs.Record.{id_text, latest, record_text}
@@ -14,7 +18,7 @@ use Rattle.api_core.specs.declared.dialect.Audience.TheVariants.{Caller}
 use Rattle.api_core.specs.declared.dialect.Stream.{Stream}
 use Rattle.api_core.specs.declared.dialect.Stream.TheVariants.{Telemetry, Logs}
 use Rattle.api_core.specs.declared.refusal.Refusal.{Refusal}
-use Rattle.api_core.specs.declared.refusal.Refusal.TheVariants.{NotEnded}
+use Rattle.api_core.specs.declared.refusal.Refusal.TheVariants.{NotEnded, TooManyEvents}
 use Rattle.api_core.specs.declared.reply.Reply.{Reply}
 use Rattle.api_core.specs.declared.answer.Answer.{Answer}
 use Rattle.api_core.specs.declared.answer.Answer.TheVariants as answer
@@ -23,7 +27,8 @@ use Rattle.api_core.specs.declared.dialect.Description.TheVariants.{DryRun, Func
 use Rattle.api_core.specs.declared.answer.ShutdownReason.{ShutdownReason}
 use Rattle.api_core.specs.declared.answer.ShutdownReason.TheVariants.{Spindown, Timeout, Failure}
 use Rattle.api_core.specs.Dialect.{account_of}
-use Rattle.api_core.specs.Refusals.{fault_of, error_object, error_text, error_name, service_text}
+use Rattle.api_core.specs.Refusals.{fault_of, error_object, error_text, error_name, service_object, service_message, full_message}
+use Rattle.api_core.specs.Unanswered.{ending_told}
 
 -- ## What is told, without references
 
@@ -34,6 +39,7 @@ pub data Told : Type 0 where
   no_record : Told
   deleted : List ℕ → Told
   not_ended : List ℕ → Told
+  table_full : (successes failures : ℕ) → Told
   described : Description → Told
   taken : Told
   registered : (identifier : List ℕ) (with_account : Bool) → Told
@@ -43,6 +49,14 @@ pub data Told : Type 0 where
   not_supported : Stream → Told
   refused : Audience → Refusal → Told
 
+-- how many of these events have ended on this side
+abbrev pub ended_count : Side → List EventRow → ℕ
+ended_count side rows = count_by (λ (r : EventRow). ended_on side r.standing) rows
+
+-- a table of these events is full
+abbrev pub full_of : List EventRow → Told
+full_of rows = table_full (ended_count Success rows) (ended_count Failed rows)
+
 abbrev pub told_by : Answer → Told
 told_by (answer.Accepted id) = accepted id
 told_by (answer.AcceptedAsync id) = accepted_async id
@@ -50,6 +64,7 @@ told_by (answer.Record e) = record_of (told e)
 told_by answer.NoRecord = no_record
 told_by (answer.Deleted id) = deleted id
 told_by (answer.NotEnded id) = not_ended id
+told_by (answer.TableFull table) = full_of table.now.table.rows
 told_by (answer.Described what) = described what
 told_by answer.Taken = taken
 told_by (answer.Registered identifier account) = registered identifier account
@@ -91,11 +106,20 @@ of_event Profile id reply = reply
 of_event Aws id reply =
     record { status = reply.status; headers = reply.headers ++ request_id id ∷ []; body = reply.body }
 
+-- a refusal in the words of AWS's services
+abbrev pub service_reply : Refusal → List ℕ → Reply
+service_reply why message =
+    with_json (fault_of why).status (header "X-Amzn-ErrorType" (error_name why) ∷ []) (service_object why message)
+
 -- a refusal, as it is told to callers and to environments
 abbrev pub refusing : Dialect → Settings → Audience → Refusal → Reply
-refusing Aws s Caller why =
-    with_json (fault_of why).status (header "X-Amzn-ErrorType" (error_name why) ∷ []) (service_text s why)
+refusing Aws s Caller why = service_reply why (service_message s why)
 refusing d s who why = with_json (fault_of why).status [] (error_text (fault_of why))
+
+-- a caller is refused since the table is full, with so many records of each side in it
+abbrev pub refusing_full : Dialect → Settings → (successes failures : ℕ) → Reply
+refusing_full Profile s successes failures = refusing Profile s Caller TooManyEvents
+refusing_full Aws s successes failures = service_reply TooManyEvents (full_message s successes failures)
 
 -- what InvokeAsync tells of an event that is accepted
 abbrev pub async_body : List ℕ
@@ -206,10 +230,11 @@ not_supported_text Logs = error_object (codes "Logs API is not supported") (code
 abbrev pub reply_of_told : Dialect → Settings → Told → Reply
 reply_of_told d s (accepted id) = bare 202 (request_id id ∷ [])
 reply_of_told d s (accepted_async id) = with_json 202 (request_id id ∷ []) async_body
-reply_of_told d s (record_of e) = of_event d e.id (with_json 200 [] (record_text s e))
+reply_of_told d s (record_of e) = of_event d e.id (with_json 200 [] (record_text s (ending_told d s e)))
 reply_of_told d s no_record = bare 204 []
 reply_of_told d s (deleted id) = of_event d id (bare 204 [])
 reply_of_told d s (not_ended id) = of_event d id (refusing d s Caller NotEnded)
+reply_of_told d s (table_full successes failures) = refusing_full d s successes failures
 reply_of_told d s (described what) = describing s what
 reply_of_told d s taken = with_json 202 [] ok_body
 reply_of_told d s (registered identifier with_account) =

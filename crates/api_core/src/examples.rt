@@ -1,13 +1,14 @@
 // Worked examples of what is meant, computed by the check: a definition that changes one is refused.
 ghost use Rattle.std.specs.Prelude.{◌≡◌, ◌∷◌, [], codes, Ok, Err, Some, None, true, false};
-ghost use Rattle.destination_json.specs.Examples.{usual, id, grown_old, grown_old_text};
+ghost use Rattle.destination_json.specs.Examples.{usual, id, grown_old, grown_old_text, exhausted, timed_out};
+ghost use Rattle.api_core.specs.Unanswered.{ending_told};
 ghost use Rattle.api_core.specs.Examples.{with_header, of_type, event, identified, third, named, small, caller_asks_aws, tells_too_much, too_large_text};
 ghost use Rattle.api_core.specs.Examples.{on, asks, invoke_as, invoke_with, invoke, tells_in, tells, register, nested};
 ghost use Rattle.api_core.specs.Examples.{empty_reply, json_reply, accepted_headers, registered_headers, next_headers};
-ghost use Rattle.api_core.specs.Examples.{refusal, error_reply, invoke_aws, asks_aws, accepting, refusal_aws, service_reply, account_text, configuration_shown, function_shown, not_ended_headers};
+ghost use Rattle.api_core.specs.Examples.{refusal, error_reply, invoke_aws, asks_aws, accepting, refusal_aws, service_reply, account_text, configuration_shown, function_shown, not_ended_headers, tried_then_old, with_answer};
 ghost use Rattle.api_core.specs.declared.dialect.Dialect.TheVariants.{Profile, Aws};
 ghost use Rattle.api_core.specs.Examples.{registered_text, invoked_text, spindown_text, timeout_text, failure_text, not_found_text};
-ghost use Rattle.api_core.specs.Replies.{reply_of_told, accepted, accepted_async, record_of, no_record, deleted, not_ended, described, taken, registered};
+ghost use Rattle.api_core.specs.Replies.{reply_of_told, accepted, accepted_async, record_of, no_record, deleted, not_ended, table_full, described, taken, registered};
 ghost use Rattle.api_core.specs.Replies.{runtime_event, invoke_event, shutdown_event, not_supported, refused, with_request_id};
 
 use crate::{Audience, Call, Description, Dialect, Refusal, ShutdownReason, Stream};
@@ -226,6 +227,15 @@ pub fn replies_aws()
     ensures identified_before { with_request_id (id 2) (empty_reply 202 accepted_headers) ≡ empty_reply 202 accepted_headers }
 {}
 
+/// What the record of an event tells that has ended without an answer.
+pub fn unanswered()
+    ensures timed_out { ending_told Aws usual timed_out ≡ with_answer timed_out "{\"errorMessage\":\"RequestId: 00000000-0000-4000-8000-000000000001 Process exited before completing request, or Task timed out after 3.00 seconds\"}" }
+    ensures tried_then_old { ending_told Aws usual tried_then_old ≡ with_answer tried_then_old "{\"errorMessage\":\"RequestId: 00000000-0000-4000-8000-000000000001 Process exited before completing request, or Task timed out after 3.00 seconds, or the broker ended\"}" }
+    ensures never_started { ending_told Aws usual grown_old ≡ grown_old }
+    ensures answered { ending_told Aws usual exhausted ≡ exhausted }
+    ensures in_profile { ending_told Profile usual timed_out ≡ timed_out }
+{}
+
 /// The replies that refuse a caller in the dialect of AWS.
 pub fn refusals_aws()
     ensures mode { refusal_aws Refusal.UnsupportedInvocationType ≡ service_reply 400 "User" "InvalidParameterValueException" "InvocationType must be Event or DryRun" }
@@ -235,7 +245,8 @@ pub fn refusals_aws()
     ensures method_not_allowed { refusal_aws Refusal.MethodNotAllowed ≡ service_reply 405 "User" "InvalidParameterValueException" "method not allowed" }
     ensures not_ended { refusal_aws Refusal.NotEnded ≡ service_reply 409 "User" "ResourceConflictException" "event has not ended" }
     ensures too_large { refusal_aws Refusal.TooLarge ≡ service_reply 413 "User" "RequestTooLargeException" "body is too large: a payload for my-function has at most 1024 bytes, any other body 4096" }
-    ensures too_many_events { refusal_aws Refusal.TooManyEvents ≡ service_reply 429 "User" "TooManyRequestsException" "table is full: my-function holds at most 4 events, with those whose records wait to be collected" }
+    ensures full { reply_of_told Aws usual (table_full 3 1) ≡ service_reply 429 "User" "TooManyRequestsException" "table is full: my-function holds at most 4 events; 3 records wait to be collected at /broker/destinations/success, 1 at /broker/destinations/failure" }
+    ensures full_in_profile { reply_of_told Profile usual (table_full 3 1) ≡ error_reply 429 "TooManyEvents" "table is full" }
     ensures id_in_use { refusal_aws Refusal.IdInUse ≡ service_reply 500 "Service" "ServiceException" "drawn id is in use" }
     ensures unavailable { refusal_aws Refusal.Unavailable ≡ service_reply 503 "Service" "ServiceException" "broker is not available" }
 {}

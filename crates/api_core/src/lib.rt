@@ -12,6 +12,7 @@ mod body;
 mod call;
 mod calls;
 mod checks;
+mod counting;
 mod dialect;
 mod drafts;
 pub mod examples;
@@ -28,6 +29,7 @@ mod replying;
 mod route;
 mod routing;
 mod texts;
+mod unanswered;
 
 pub use answer::{Answer, ShutdownReason};
 pub use body::Body;

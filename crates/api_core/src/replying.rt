@@ -1,20 +1,24 @@
 // The reply of an answer.
 ghost use Rattle.std.specs.Prelude.{◌≡◌, ◌⊎◌, [], ◌∷◌, ◌++◌, IfOk};
 ghost use Rattle.retry_rules.specs.declared.settings.Settings.{Settings as SettingsValue};
-ghost use Rattle.api_core.specs.Replies.{bare, with_json, request_id, of_event, refusing, describing, IsTellable, reply_text, async_body, refused};
+ghost use Rattle.api_core.specs.Replies.{bare, with_json, request_id, of_event, refusing, service_reply, full_of, describing, IsTellable, reply_text, async_body, refused};
 ghost use Rattle.api_core.specs.declared.refusal.Refusal.TheVariants.{Unavailable, NotEnded};
 ghost use Rattle.api_core.specs.declared.dialect.Dialect.TheVariants.{Aws};
 ghost use Rattle.api_core.specs.declared.dialect.Audience.TheVariants.{Caller};
 ghost use Rattle.api_core.specs.Replies.{reply_of_told, registered, runtime_headers, with_request_id};
 
+use crate::counting::ended_count;
 use crate::drafts::HeaderDraft;
 use crate::reply::FixedHeader;
 use crate::texts::{
     ASYNC_BODY, OK_BODY, TRACE_ID, configuration_text, described_text, digits, error_text,
-    function_text, invoke_text, not_supported_text, service_text, shutdown_text,
+    full_message, function_text, invoke_text, not_supported_text, service_message, service_object,
+    shutdown_text,
 };
+use crate::unanswered::record_told;
 use crate::{Answer, Audience, Description, Dialect, Headers, Refusal, Reply};
-use destination_json::{id_text, record};
+use async_core::{Side, Table};
+use destination_json::id_text;
 use retry_rules::Settings;
 use std::alloc::{AllocError, Global};
 
@@ -152,10 +156,10 @@ fn runtime_event(
 }
 
 // A refusal in the words of AWS's services, whose kits look for its name in a header.
-fn refusing_callers(alloc: Global, settings: &Settings, why: Refusal) -> Result<Reply, AllocError>
-    ensures { IfOk result (λ reply. reply ≡ refusing Aws settings.now Caller why) }
+fn service_reply(alloc: Global, why: Refusal, message: &[u8]) -> Result<Reply, AllocError>
+    ensures { IfOk result (λ reply. reply ≡ service_reply why message.now) }
 {
-    let text = service_text(alloc, settings, why)?;
+    let text = service_object(alloc, why, message)?;
     let mut headers = HeaderDraft::new(alloc);
     headers.add("X-Amzn-ErrorType", why.error_name().as_bytes());
     headers.with_json(why.status(), text)
@@ -171,8 +175,46 @@ fn refusing(
     ensures { IfOk result (λ reply. reply ≡ refusing dialect settings.now audience why) }
 {
     match (dialect, audience) {
-        (Dialect::Aws, Audience::Caller) => refusing_callers(alloc, settings, why),
+        (Dialect::Aws, Audience::Caller) => {
+            let message = service_message(alloc, settings, why)?;
+            service_reply(alloc, why, &message)
+        }
         _ => json(alloc, why.status(), error_text(alloc, why)?),
+    }
+}
+
+// The refusal of a caller since this table is full, in the words of AWS's services.
+fn service_full(alloc: Global, settings: &Settings, table: &Table) -> Result<Reply, AllocError>
+    ensures { IfOk result (λ reply. reply ≡ reply_of_told Aws settings.now (full_of table.now.table.rows)) }
+{
+    let snapshot = table.snapshot()?;
+    let rows = snapshot.rows.as_slice();
+    let successes = ended_count(rows, Side::Success);
+    let failures = ended_count(rows, Side::Failure);
+    let message = full_message(alloc, settings, successes, failures)?;
+    service_reply(alloc, Refusal::TooManyEvents, &message)
+}
+
+// The refusal of a caller since this table is full.
+fn refusing_full(
+    alloc: Global,
+    dialect: Dialect,
+    settings: &Settings,
+    table: &Table,
+) -> Result<Reply, AllocError>
+    ensures { IfOk result (λ reply. reply ≡ reply_of_told dialect settings.now (full_of table.now.table.rows)) }
+{
+    match dialect {
+        Dialect::Profile => {
+            refusing(
+                alloc,
+                dialect,
+                settings,
+                Audience::Caller,
+                Refusal::TooManyEvents,
+            )
+        }
+        Dialect::Aws => service_full(alloc, settings, table),
     }
 }
 
@@ -225,12 +267,14 @@ pub fn reply_text(
         Answer::Accepted(id) => accepted(alloc, id),
         Answer::AcceptedAsync(id) => accepted_async(alloc, id),
         Answer::Record(ended) => {
-            let reply = json(alloc, 200, record(alloc, ended, settings)?)?;
+            let text = record_told(alloc, dialect, settings, ended)?;
+            let reply = json(alloc, 200, text)?;
             of_event(alloc, dialect, ended.id, reply)
         }
         Answer::NoRecord => empty(alloc, 204),
         Answer::Deleted(id) => of_event(alloc, dialect, id, empty(alloc, 204)?),
         Answer::NotEnded(id) => not_ended(alloc, dialect, settings, id),
+        Answer::TableFull(table) => refusing_full(alloc, dialect, settings, table),
         Answer::Described(what) => describing(alloc, settings, *what),
         Answer::Taken => json(alloc, 202, Vec::from_slice(alloc, OK_BODY)?),
         Answer::Registered {

@@ -1,6 +1,6 @@
 // The bodies of replies.
 ghost use Rattle.std.specs.Prelude.{◌≡◌, ℕ, List, ◌∷◌, ◌++◌, IfOk, decimal, string_bytes};
-ghost use Rattle.api_core.specs.Refusals.{error_object, error_text, service_message, service_text, response_too_large, fault_of};
+ghost use Rattle.api_core.specs.Refusals.{error_object, error_text, service_message, full_message, service_object, response_too_large, fault_of};
 ghost use Rattle.api_core.specs.Replies.{ok_body, trace_id, tracing, invoke_text, reason_text, shutdown_text, function_members, account_member, account_members, function_text, not_supported_text, async_body};
 ghost use Rattle.api_core.specs.Replies.{configuration_text, concurrency_text, described_text};
 ghost use Rattle.api_core.specs.Steps.{Begun};
@@ -48,13 +48,18 @@ pub(crate) fn error_text(alloc: Global, why: Refusal) -> Result<Vec<u8>, AllocEr
     error_object(alloc, message, error_type)
 }
 
-// A name between two texts.
-fn naming(alloc: Global, before: &str, name: &[u8], after: &str) -> Result<Vec<u8>, AllocError>
+/// A name between two texts.
+pub(crate) fn naming(
+    alloc: Global,
+    before: &str,
+    name: &[u8],
+    after: &[u8],
+) -> Result<Vec<u8>, AllocError>
     ensures { IfOk result (λ text. text.items ≡ before.now ++ (name.now ++ after.now)) }
 {
     let mut text = Vec::from_slice(alloc, before.as_bytes())?;
     text.extend_from_slice(name)?;
-    text.extend_from_slice(after.as_bytes())?;
+    text.extend_from_slice(after)?;
     Ok(text)
 }
 
@@ -65,19 +70,21 @@ fn limiting(
     settings: &Settings,
     between: &str,
     most: u64,
-    after: &str,
+    after: &[u8],
 ) -> Result<Vec<u8>, AllocError>
     ensures { IfOk result (λ text. text.items ≡ before.now ++ (settings.now.name ++ (between.now ++ (decimal most ++ after.now)))) }
 {
     let most = digits(alloc, most)?;
-    let mut text = naming(alloc, before, settings.name.as_bytes(), between)?;
-    text.extend_from_slice(most.as_bytes())?;
-    text.extend_from_slice(after.as_bytes())?;
-    Ok(text)
+    let limit = naming(alloc, between, most.as_bytes(), after)?;
+    naming(alloc, before, settings.name.as_bytes(), &limit)
 }
 
-// What a caller is told of a refusal.
-fn service_message(alloc: Global, settings: &Settings, why: Refusal) -> Result<Vec<u8>, AllocError>
+/// What a caller is told of a refusal.
+pub(crate) fn service_message(
+    alloc: Global,
+    settings: &Settings,
+    why: Refusal,
+) -> Result<Vec<u8>, AllocError>
     ensures { IfOk result (λ text. text.items ≡ service_message settings.now why) }
 {
     match why {
@@ -88,13 +95,13 @@ fn service_message(alloc: Global, settings: &Settings, why: Refusal) -> Result<V
             alloc,
             "Could not parse request body into json: the payload for ",
             settings.name.as_bytes(),
-            " is not JSON",
+            b" is not JSON",
         ),
         Refusal::NotFound => naming(
             alloc,
             "no such path or function: only ",
             settings.arn.as_bytes(),
-            " is here",
+            b" is here",
         ),
         Refusal::TooLarge => limiting(
             alloc,
@@ -102,15 +109,7 @@ fn service_message(alloc: Global, settings: &Settings, why: Refusal) -> Result<V
             settings,
             " has at most ",
             settings.payload as u64,
-            " bytes, any other body 4096",
-        ),
-        Refusal::TooManyEvents => limiting(
-            alloc,
-            "table is full: ",
-            settings,
-            " holds at most ",
-            settings.events as u64,
-            " events, with those whose records wait to be collected",
+            b" bytes, any other body 4096",
         ),
         _ => {
             let (_, message) = why.words();
@@ -119,18 +118,45 @@ fn service_message(alloc: Global, settings: &Settings, why: Refusal) -> Result<V
     }
 }
 
-/// What is told of a refusal, in the words of AWS's services.
-pub(crate) fn service_text(
+/// The same where the table is full, with so many records of each side in it.
+pub(crate) fn full_message(
     alloc: Global,
     settings: &Settings,
-    why: Refusal,
+    successes: usize,
+    failures: usize,
 ) -> Result<Vec<u8>, AllocError>
-    ensures { IfOk result (λ text. text.items ≡ service_text settings.now why) }
+    ensures { IfOk result (λ text. text.items ≡ full_message settings.now successes failures) }
 {
-    let message = service_message(alloc, settings, why)?;
+    let successes = digits(alloc, successes as u64)?;
+    let failures = digits(alloc, failures as u64)?;
+    let failed = naming(
+        alloc,
+        " records wait to be collected at /broker/destinations/success, ",
+        failures.as_bytes(),
+        b" at /broker/destinations/failure",
+    )?;
+    let ended = naming(alloc, " events; ", successes.as_bytes(), &failed)?;
+    limiting(
+        alloc,
+        "table is full: ",
+        settings,
+        " holds at most ",
+        settings.events as u64,
+        &ended,
+    )
+}
+
+/// What is told of a refusal with this message, in the words of AWS's services.
+pub(crate) fn service_object(
+    alloc: Global,
+    why: Refusal,
+    message: &[u8],
+) -> Result<Vec<u8>, AllocError>
+    ensures { IfOk result (λ text. text.items ≡ service_object why message.now) }
+{
     let mut object = Object::of_text(alloc, "Type", why.blamed().as_bytes());
-    object.add_text("message", &message);
-    object.add_text("Message", &message);
+    object.add_text("message", message);
+    object.add_text("Message", message);
     object.end()
 }
 
@@ -143,7 +169,7 @@ pub(crate) fn response_too_large(alloc: Global, settings: &Settings) -> Result<V
         alloc,
         "Response payload size exceeded maximum allowed payload size (",
         most.as_bytes(),
-        " bytes).",
+        b" bytes).",
     )?;
     let mut object = Object::of_text(alloc, "errorType", b"Function.ResponseSizeTooLarge");
     object.add_text("errorMessage", &message);

@@ -4,6 +4,7 @@ pub mod Flat
 mod Drawn
 mod Moments
 mod Oldest
+mod Records
 mod Kept
 mod OpenCount
 mod Points

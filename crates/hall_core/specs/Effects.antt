@@ -1,5 +1,5 @@
 -- What one call of a hall does: its command, its calls of environments, and its own reply.
-use Rattle.std.specs.Prelude.{ℕ, ◌+◌, ◌*◌, ◌/◌, ◌%◌, ◌^◌, Bool, true, false, List, [], ◌∷◌, ◌++◌, map, Option, Some, None, is_some, option_map, unwrap_or, if◌then◌else◌}
+use Rattle.std.specs.Prelude.{ℕ, ◌+◌, ◌*◌, ◌/◌, ◌%◌, ◌^◌, Bool, true, false, List, [], ◌∷◌, ◌++◌, count_by, map, Option, Some, None, is_some, option_map, unwrap_or, if◌then◌else◌}
 use Rattle.std.specs.Int.{to_be_bytes, w64}
 use Rattle.retry_rules.specs.declared.settings.Settings.{Settings}
 use Rattle.invoke_records.specs.declared.command.Command.{Command}
@@ -7,12 +7,13 @@ use Rattle.invoke_records.specs.declared.command.Kind.{Kind}
 use Rattle.invoke_records.specs.declared.command.Kind.TheVariants.{Accept, Start, Succeed, Fail, Interrupt, Collect}
 use Rattle.invoke_records.specs.declared.command.Cause.TheVariants.{Reported, Timeout, Exited}
 use Rattle.async_core.specs.declared.choice.Side.{Side}
+use Rattle.async_core.specs.declared.choice.Side.TheVariants as side
 use Rattle.async_core.specs.declared.illegal.Illegal.{Illegal}
 use Rattle.async_core.specs.declared.illegal.Illegal.TheVariants as illegal
 use Rattle.async_core.specs.Lives.{life}
 use Rattle.async_core.specs.Standings.{is_past_deadline}
-use Rattle.async_core.specs.History.{standing_in, refusal_of}
-use Rattle.async_core.specs.Choice.{move_of}
+use Rattle.async_core.specs.History.{held, standing_in, refusal_of}
+use Rattle.async_core.specs.Choice.{move_of, ended_on}
 use Rattle.async_core.specs.Readers.{Ending, ending_in}
 use Rattle.env_phase.specs.declared.refusal.Refusal.{Refusal as EnvRefusal}
 use Rattle.env_phase.specs.declared.refusal.Refusal.TheVariants as env_refusal
@@ -67,14 +68,22 @@ id_of words =
 
 -- ## Callers
 
-abbrev pub accept_by : Told → Option Illegal → Command → Effect
-accept_by told None c = record { command = Some c; made = []; reply = Some told }
-accept_by told (Some illegal.Full) c = refuses_caller refusal.TooManyEvents
-accept_by told (Some why) c = refuses_caller refusal.IdInUse
+-- how many events have ended on this side, and are records that wait to be collected
+abbrev pub record_count : Scene → Side → ℕ
+record_count x side = count_by (λ (e : Event). ended_on side (standing_in x.settings x.past.history e.1)) (held x.past.history)
+
+-- so many of success and of failure
+abbrev pub record_counts : Scene → ℕ × ℕ
+record_counts x = (record_count x side.Success, record_count x side.Failure)
+
+abbrev pub accept_by : Told → ℕ × ℕ → Option Illegal → Command → Effect
+accept_by told records None c = record { command = Some c; made = []; reply = Some told }
+accept_by told records (Some illegal.Full) c = says (reply.table_full records.0 records.1)
+accept_by told records (Some why) c = refuses_caller refusal.IdInUse
 
 -- an invocation is accepted where that is legal, and told so
 abbrev pub accepts : Told → Scene → Command → Effect
-accepts told x c = accept_by told (refusal_of x.settings x.past.history c) c
+accepts told x c = accept_by told (record_counts x) (refusal_of x.settings x.past.history c) c
 
 abbrev pub collect_by : Option Illegal → Command → Effect
 collect_by None c = record { command = Some c; made = []; reply = Some (reply.deleted c.id) }

@@ -183,6 +183,10 @@ asked_and_ticked = runtime_asks 1 5000 ∷ tick 5000 ∷ []
 abbrev pub three_come : List HallCall
 three_come = invokes 1 t 1 ∷ invokes 2 t 2 ∷ invokes 3 t 3 ∷ []
 
+-- the first one runs and is answered, and a fourth comes
+abbrev pub first_is_answered : List HallCall
+first_is_answered = three_come ++ runtime_asks 4 t ∷ tick t ∷ responds 5 t 1 braces ∷ invokes 7 t 4 ∷ []
+
 -- the first one runs, is answered, collected, and accepted anew
 abbrev pub first_comes_again : List HallCall
 first_comes_again =

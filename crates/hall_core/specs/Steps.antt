@@ -52,10 +52,10 @@ goes_on x = interrupts_or_moves x (ready_in x.settings x.past) (first_unheld x.s
 
 -- ## Refusals
 
--- why an invocation is refused that is not legal
-abbrev pub why_not_accepted : Illegal → Refusal
-why_not_accepted illegal.Full = refusal.TooManyEvents
-why_not_accepted why = refusal.IdInUse
+-- what is told of an invocation that is not legal, where so many events are records
+abbrev pub why_not_accepted : ℕ × ℕ → Illegal → Told
+why_not_accepted records illegal.Full = reply.table_full records.0 records.1
+why_not_accepted records why = reply.refused Caller refusal.IdInUse
 
 -- what is told of an event that is not collected where that is not legal
 abbrev pub why_not_collected : List ℕ → Illegal → Told

@@ -23,7 +23,7 @@ ghost use Rattle.hall_core.specs.Examples.{ends_at, for_two, once_failed};
 ghost use Rattle.hall_core.specs.Examples.{tells, starts_at, timed_out, throttled_history, first_anew_history};
 ghost use Rattle.hall_core.specs.Examples.{second_is_start, first_failure};
 ghost use Rattle.hall_core.specs.Examples.{one_runs, one_answered, asked_and_ticked, comes_and_waits, three_come};
-ghost use Rattle.hall_core.specs.Examples.{first_comes_again, anew_and_asked, one_fails};
+ghost use Rattle.hall_core.specs.Examples.{first_is_answered, first_comes_again, anew_and_asked, one_fails};
 ghost use Rattle.hall_core.specs.Examples.{extensions_run, ten_register, eleven_register, stopped, poll_and_second};
 ghost use Rattle.hall_core.specs.Examples.{many};
 ghost use Rattle.hall_core.specs.Examples.{one_at_a_time, start_of_two, after_a_stop, throttled_run, due_before_first};
@@ -96,7 +96,8 @@ pub fn attempts()
 
 /// A full table, and an event that is accepted anew once it was collected.
 pub fn anew()
-    ensures full { reply_of (for_two three_come) 3 ≡ caller_refused_at Refusal.TooManyEvents 2 }
+    ensures full { reply_of (for_two three_come) 3 ≡ Some (reply.table_full 0 0, 2) }
+    ensures full_of_a_record { reply_of (for_two first_is_answered) 7 ≡ Some (reply.table_full 1 0, 4) }
     ensures history { history_of for_two_events 0 [] first_comes_again ≡ first_anew_history }
     ensures accepted { reply_of (for_two first_comes_again) 7 ≡ accepted_at 1 6 }
     ensures waits { standing_in for_two_events (history_of for_two_events 0 [] first_comes_again) (id 1) ≡ Standing.Waiting t }

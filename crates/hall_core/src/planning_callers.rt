@@ -4,7 +4,7 @@ ghost use Rattle.invoke_records.specs.declared.command.Kind.TheVariants.{Accept}
 ghost use Rattle.async_core.specs.Readers.{told, ending_after};
 ghost use Rattle.api_core.specs.Replies.{told_by, accepted_async};
 ghost use Rattle.env_phase.specs.Calls.{IsMoment};
-ghost use Rattle.hall_core.specs.Effects.{command_for, accepts, collects, tells_oldest, stops};
+ghost use Rattle.hall_core.specs.Effects.{command_for, record_counts, accepts, collects, tells_oldest, stops};
 ghost use Rattle.hall_core.specs.Planner.{ForEachScene};
 ghost use Rattle.hall_core.specs.Asked.{Accepts, Collects};
 ghost use Rattle.hall_core.specs.Plans.{AreCallable, moment_told};
@@ -15,15 +15,6 @@ use crate::planner::Planner;
 use api_core::{Answer, Audience, Refusal};
 use async_core::{Ended, Illegal, Side};
 use invoke_records::{Bytes, GREATEST_MOMENT, Kind};
-
-fn why_not_accepted(why: Illegal) -> Refusal
-    ensures { result ≡ why_not_accepted why }
-{
-    match why {
-        Illegal::Full => Refusal::TooManyEvents,
-        _ => Refusal::IdInUse,
-    }
-}
 
 fn why_not_collected(why: Illegal, id: [u8; 16]) -> Answer<'static>
     ensures told { told_by result ≡ why_not_collected id why }
@@ -36,6 +27,16 @@ fn why_not_collected(why: Illegal, id: [u8; 16]) -> Answer<'static>
 }
 
 impl<'a> Planner<'a> {
+    fn why_not_accepted(&self, why: Illegal) -> Answer<'a>
+        ensures told { ForEachScene self.now (λ x. told_by result ≡ why_not_accepted (record_counts x) why) }
+        ensures moment { moment_told result ≡ 0 }
+    {
+        match why {
+            Illegal::Full => Answer::TableFull(self.table),
+            _ => Answer::Refusal(Audience::Caller, Refusal::IdInUse),
+        }
+    }
+
     /// An invocation: an event is accepted under the id that was drawn, and told so. The payload is moved into the command.
     pub(crate) fn accept(&self, drawn: [u8; 16], payload: Bytes, answer: Answer<'a>) -> Plan<'a>
         requires { IsMoment (moment_told answer) }
@@ -46,7 +47,7 @@ impl<'a> Planner<'a> {
         let command = self.command(Kind::Accept, drawn, payload);
         match self.table.judge(&command) {
             Ok(()) => Plan::issues(command, answer),
-            Err(why) => Plan::refuses_caller(why_not_accepted(why)),
+            Err(why) => Plan::says(self.why_not_accepted(why)),
         }
     }
 

@@ -30,7 +30,7 @@ use Rattle.api_core.specs.declared.refusal.Refusal.TheVariants as refusal
 use Rattle.api_core.specs.Replies.{Told}
 use Rattle.api_core.specs.Replies as reply
 use Rattle.hall_core.specs.Past.{call_stops, Past, calls_of, calls_in}
-use Rattle.hall_core.specs.Effects.{Effect, Scene, says, refuses, command_for, accept_by, collect_by, collects, says_record, where_accepted, requests, is_late, answers_event, responds, exit_of, exits, effect_of_request}
+use Rattle.hall_core.specs.Effects.{Effect, Scene, says, refuses, command_for, record_counts, accept_by, collect_by, collects, says_record, where_accepted, requests, is_late, answers_event, responds, exit_of, exits, effect_of_request}
 use Rattle.hall_core.specs.Run.{option_list}
 use Rattle.hall_core.specs.Agreement.{text_of, AllAgree}
 use Rattle.hall_core.specs.laws.Keeping.{keeps_nothing, keeps_command, keeps_call, keeps_end}
@@ -97,12 +97,12 @@ module _ (x : Scene) (all : AllAgree x.settings x.past.wanted x.past.history (ca
 
   -- ## Requests of callers
 
-  refused_accept : (told : Told) (c : Command) (why : Illegal) → Fine x.settings x.past (accept_by told (Some why) c)
-  refused_accept told c illegal.Full = quiet (accept_by told (Some illegal.Full) c) refl refl
-  refused_accept told c why = quiet (accept_by told (Some why) c) refl refl
+  refused_accept : (told : Told) (c : Command) (why : Illegal) → Fine x.settings x.past (accept_by told (record_counts x) (Some why) c)
+  refused_accept told c illegal.Full = quiet (accept_by told (record_counts x) (Some illegal.Full) c) refl refl
+  refused_accept told c why = quiet (accept_by told (record_counts x) (Some why) c) refl refl
 
   accepting : (told : Told) (id bytes : List ℕ) (o : Option Illegal) → refusal_of x.settings x.past.history (command_for Accept id x.now bytes) ≡ o
-      → Fine x.settings x.past (accept_by told o (command_for Accept id x.now bytes))
+      → Fine x.settings x.past (accept_by told (record_counts x) o (command_for Accept id x.now bytes))
   accepting told id bytes None passes =
       commanding (command_for Accept id x.now bytes) _ refl refl passes (idle_never x.settings x.past all id (accepted_rests x.settings x.past.history id x.now bytes passes))
   accepting told id bytes (Some why) passes = refused_accept told (command_for Accept id x.now bytes) why

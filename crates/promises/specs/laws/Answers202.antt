@@ -14,7 +14,7 @@ use Rattle.api_core.specs.declared.dialect.Description.TheVariants.{DryRun, Func
 use Rattle.api_core.specs.declared.refusal.Refusal.{Refusal}
 use Rattle.api_core.specs.declared.refusal.Refusal.TheVariants.{UnsupportedInvocationType, InvalidRequestContent, InvalidRequestId, InvalidExtensionHeader, BadSubscription, UnknownExtension, RegistrationClosed, TooManyExtensions, WrongPhase, NotFound, UnknownEvent, MethodNotAllowed, Replaced, NotEnded, TooLarge, TooManyEvents, EnvironmentReset, IdInUse, Unavailable}
 use Rattle.api_core.specs.Refusals.{fault_of}
-use Rattle.api_core.specs.Replies.{Told, accepted, accepted_async, record_of, no_record, deleted, not_ended, described, taken, registered, runtime_event, invoke_event, shutdown_event, not_supported, refused, Words, reply_in, reply_of_told, refusing, describing, async_body, ok_body, not_supported_text}
+use Rattle.api_core.specs.Replies.{Told, accepted, accepted_async, record_of, no_record, deleted, not_ended, table_full, described, taken, registered, runtime_event, invoke_event, shutdown_event, not_supported, refused, Words, reply_in, reply_of_told, refusing, describing, async_body, ok_body, not_supported_text}
 
 refused_apart : {A : Type 0} (why : Refusal) → (fault_of why).status ≡ 202 → A
 refused_apart UnsupportedInvocationType h = absurd (omega arith)
@@ -65,6 +65,8 @@ others_apart Profile s (deleted id) not h = absurd (omega arith)
 others_apart Aws s (deleted id) not h = absurd (omega arith)
 others_apart Profile s (not_ended id) not h = refusing_apart Profile s Caller NotEnded h
 others_apart Aws s (not_ended id) not h = refusing_apart Aws s Caller NotEnded h
+others_apart Profile s (table_full successes failures) not h = absurd (omega arith)
+others_apart Aws s (table_full successes failures) not h = absurd (omega arith)
 others_apart d s (described what) not h = described_apart s what h
 others_apart d s taken not h = absurd (true≢false not)
 others_apart d s (registered identifier account) not h = absurd (omega arith)

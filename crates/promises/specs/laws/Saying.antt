@@ -27,7 +27,7 @@ use Rattle.api_core.specs.Replies.{Told}
 use Rattle.api_core.specs.Replies as reply
 use Rattle.hall_core.specs.Past.{HallCall, arrive, Past, calls_of}
 use Rattle.hall_core.specs.Firsts.{Event, oldest_ended}
-use Rattle.hall_core.specs.Effects.{Effect, Scene, scene, command_for, command_of, effect_of, effect_of_request, accept_by, collect_by, collects, says_record, ending_of_event, where_accepted, requests, is_late, answers_event, responds}
+use Rattle.hall_core.specs.Effects.{Effect, Scene, scene, command_for, command_of, effect_of, effect_of_request, record_counts, accept_by, collect_by, collects, says_record, ending_of_event, where_accepted, requests, is_late, answers_event, responds}
 use Rattle.hall_core.specs.Run.{option_list, reply_to_poll, past_after}
 use Rattle.hall_core.specs.laws.Adding.{history_grows}
 use Rattle.promises.specs.Promises.{Accepts}
@@ -89,14 +89,14 @@ pub record IsInvocation (x : Scene) (call : Call) (effect : Effect) (told : Told
   pub command : effect.command ≡ Some (command_for Accept id x.now payload)
 
 -- what is told of an acceptance is what the call says
-accepting : (says : Told) (o : Option Illegal) (c : Command) (told : Told) → is_other (Some told) ≡ false → (accept_by says o c).reply ≡ Some told
-    → ((accept_by says o c).command ≡ Some c) × (says ≡ told)
-accepting says None c told not h = (refl, same says told h)
+accepting : (says : Told) (records : ℕ × ℕ) (o : Option Illegal) (c : Command) (told : Told) → is_other (Some told) ≡ false
+    → (accept_by says records o c).reply ≡ Some told → ((accept_by says records o c).command ≡ Some c) × (says ≡ told)
+accepting says records None c told not h = (refl, same says told h)
   where
     same : (a b : Told) → Some a ≡ Some b → a ≡ b
     same a b h = cc
-accepting says (Some illegal.Full) c told not h = other_is_not _ told refl not h
-accepting says (Some why) c told not h = other_is_not _ told refl not h
+accepting says records (Some illegal.Full) c told not h = other_is_not _ told refl not h
+accepting says records (Some why) c told not h = other_is_not _ told refl not h
 
 by_invoke : (drawn id : List ℕ) (told : Told) → reply.accepted drawn ≡ told → SaysAccepted told id → (told ≡ reply.accepted id) × (drawn ≡ id)
 by_invoke drawn id told says (inl is) = (is, cc)
@@ -115,12 +115,12 @@ request_accepts : (x : Scene) (slot : ℕ) (drawn : List ℕ) (call : Call) (tol
     → IsInvocation x call (effect_of_request x slot drawn call) told id
 request_accepts x slot drawn (calls.Invoke payload) told id says h =
     let c = command_for Accept drawn x.now payload in
-    let parts = accepting (reply.accepted drawn) (refusal_of x.settings x.past.history c) c told (not_other told id says) h in
+    let parts = accepting (reply.accepted drawn) (record_counts x) (refusal_of x.settings x.past.history c) c told (not_other told id says) h in
     let is = by_invoke drawn id told parts.1 says in
     record { payload = payload; is = inl (refl, is.0); command = parts.0 ∙ ap (λ n. Some (command_for Accept n x.now payload)) is.1 }
 request_accepts x slot drawn (calls.InvokeAsync payload) told id says h =
     let c = command_for Accept drawn x.now payload in
-    let parts = accepting (reply.accepted_async drawn) (refusal_of x.settings x.past.history c) c told (not_other told id says) h in
+    let parts = accepting (reply.accepted_async drawn) (record_counts x) (refusal_of x.settings x.past.history c) c told (not_other told id says) h in
     let is = by_invoke_async drawn id told parts.1 says in
     record { payload = payload; is = inr (refl, is.0); command = parts.0 ∙ ap (λ n. Some (command_for Accept n x.now payload)) is.1 }
 request_accepts x slot drawn (calls.Describe what) told id says h = other_is_not _ told refl (not_other told id says) h
@@ -178,10 +178,10 @@ request_shows : (x : Scene) (slot : ℕ) (drawn : List ℕ) (call : Call) (e : E
     → IsShowing x call (effect_of_request x slot drawn call) e
 request_shows x slot drawn (calls.Invoke payload) e h =
     let c = command_for Accept drawn x.now payload in
-    accepted_no_record drawn e (accepting (reply.accepted drawn) (refusal_of x.settings x.past.history c) c (reply.record_of e) refl h).1
+    accepted_no_record drawn e (accepting (reply.accepted drawn) (record_counts x) (refusal_of x.settings x.past.history c) c (reply.record_of e) refl h).1
 request_shows x slot drawn (calls.InvokeAsync payload) e h =
     let c = command_for Accept drawn x.now payload in
-    accepted_async_no_record drawn e (accepting (reply.accepted_async drawn) (refusal_of x.settings x.past.history c) c (reply.record_of e) refl h).1
+    accepted_async_no_record drawn e (accepting (reply.accepted_async drawn) (record_counts x) (refusal_of x.settings x.past.history c) c (reply.record_of e) refl h).1
 request_shows x slot drawn (calls.Describe what) e h = other_is_not _ (reply.record_of e) refl refl h
 request_shows x slot drawn (calls.Oldest side) e h =
     let ending = ending_of_event x.settings x.past.history (oldest_ended x.settings x.past.history side) in

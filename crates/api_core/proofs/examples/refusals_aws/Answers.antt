@@ -13,7 +13,8 @@ returns c = record {
   method_not_allowed = refl;
   not_ended = refl;
   too_large = refl;
-  too_many_events = refl;
+  full = refl;
+  full_in_profile = refl;
   id_in_use = refl;
   unavailable = refl;
 }
