@@ -256,7 +256,7 @@ def the_package_has_what_an_operator_needs(broker):
         units = "".join(text_of(root, name) for name in FILES if name.endswith(".service"))
         run_by_units = {path[1:] for path in re.findall("^Exec[A-Z][A-Za-z]*=-?(/[^ ]+)", units, re.M)} - {"bin/sh", "usr/sbin/nft"}
         same(run_by_units - {*FILES}, set())
-        commands = {"trial", "format", "audit", "configure", "migrate", "copy", "serve", "stop"}
+        commands = {"trial", "format", "audit", "configure", "migrate", "copy", "probe", "serve", "stop"}
         with gzip.open(os.path.join(root, "usr/share/man/man8/lambda_broker.8.gz"), "rt") as file:
             page = file.read().replace("\\-", "-")
         same({*re.findall("^[.]SS (.*)$", page, re.M)}, commands)
