@@ -102,38 +102,13 @@ where
     })
 }
 
-// The connections that come to a port, in this runtime.
-fn opened<R, A>(
-    rt: R,
-    application: A,
-    listening: Listening,
-    runtime: &LocalRuntime,
-    limits: HttpLimits,
-    ending: &CancellationToken,
-) -> io::Result<Connections<R, HttpDoor<R, A>>>
-where
-    R: Clock + RandomSource + AllocGlobal + Copy + Drop,
-    A: Application,
-{
-    let Listening { listener, hosts } = listening;
-    let listener = TcpListener::from_std(listener, runtime.handle().reactor())?;
-    let timers = runtime.handle().time();
-    let application = Arc::new(rt.alloc(), application)?;
-    let door = door_of(rt, application, hosts, timers, limits, ending)?;
-    connections_of(rt, door, timers, listener, ending)
-}
-
-// Serves the connections that come through a door until the port ends. Nothing is known of the door here, whose type is large.
-fn run<R, D>(
-    rt: &R,
-    runtime: &mut LocalRuntime,
-    connections: io::Result<Connections<R, D>>,
-) -> io::Result<()>
+// Serves the connections that come through a door until the port ends.
+fn run<R, D>(rt: &R, runtime: &mut LocalRuntime, connections: Connections<R, D>) -> io::Result<()>
 where
     R: Wait + Clock + RandomSource + AllocGlobal + Drop,
     D: Door,
 {
-    runtime.run_all(rt, connections?)
+    runtime.run_all(rt, connections)
 }
 
 /// Serves a port on this thread until `ending` is cancelled. A connection goes on from request to request. At the end the
@@ -166,8 +141,13 @@ where
         + Drop,
     A: Application,
 {
+    let Listening { listener, hosts } = listening;
     let mut runtime = LocalRuntime::new(&rt)?;
     runtime.set_shutdown_timeout(Some(Duration::from_secs(LAST_REPLIES)));
-    let connections = opened(rt, application, listening, &runtime, limits, ending);
+    let listener = TcpListener::from_std(listener, runtime.handle().reactor())?;
+    let timers = runtime.handle().time();
+    let application = Arc::new(rt.alloc(), application)?;
+    let door = door_of(rt, application, hosts, timers, limits, ending)?;
+    let connections = connections_of(rt, door, timers, listener, ending)?;
     run(&rt, &mut runtime, connections)
 }
