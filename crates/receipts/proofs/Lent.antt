@@ -6,6 +6,7 @@ use Rattle.hall_core.specs.declared.error.HallError.{HallError}
 use Rattle.receipts.specs.declared.mark.Trace.{Ghosts as TraceGhosts}
 use Rattle.receipts.specs.declared.opening.OpeningTrace.{Ghosts as OpeningGhosts}
 use Rattle.receipts.specs.declared.desk.Desk.{Desk}
+use Rattle.receipts.specs.declared.desk.Steps.{Steps}
 use Rattle.receipts.specs.declared.locked.Locked.{Locked}
 use Rattle.receipts.specs.declared.locked.Loan.{Loan}
 use Rattle.receipts.specs.declared.locked.Loan.TheVariants.{Nothing}
@@ -18,6 +19,6 @@ told_why loan why is = subst (λ (x : Result Loan HallError). IsToldOfLoan x (Er
 pub told_durable : (loan : Result Loan HallError) (durable : ℕ) → loan ≡ Ok (Nothing durable) → IsToldOfLoan loan (Ok durable)
 told_durable loan durable is = subst (λ (x : Result Loan HallError). IsToldOfLoan x (Ok durable)) (sym is) refl
 
-module _ {L T O : Type 0} {l : LedgerGhosts L} {g : TraceGhosts T O} {o : OpeningGhosts O} (before after : Locked L T O l g o) (desk desk' : Desk L T O g o) where
-  pub lends_as : (loan loan' : Result Loan HallError) → loan ≡ loan' → LendsTo before after desk desk' loan → LendsTo before after desk desk' loan'
-  lends_as loan loan' is lends = subst (LendsTo before after desk desk') is lends
+module _ {L T O : Type 0} {l : LedgerGhosts L} {g : TraceGhosts T O} {o : OpeningGhosts O} (before after : Locked L T O l g o) (from to : Steps) (desk desk' : Desk L T O g o) where
+  pub lends_as : (loan loan' : Result Loan HallError) → loan ≡ loan' → LendsTo before after from to desk desk' loan → LendsTo before after from to desk desk' loan'
+  lends_as loan loan' is lends = subst (LendsTo before after from to desk desk') is lends

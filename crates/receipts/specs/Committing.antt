@@ -27,7 +27,7 @@ IsToldOfLoan (Err why) told = told ≡ Err why
 pub record LendsNothing {D L T O A : Type 0} {b : Ghosts D} {l : LedgerGhosts L} {g : TraceGhosts T O} {o : OpeningGhosts O}
     (lent : Witnessed A L T O l g o) (desk desk' : Desk L T O g o) (half half' : Broker D b) (told : Result ℕ HallError) : Type 0 where
   pub loan : Result Loan HallError
-  pub lends : LendsTo lent.before.value lent.after.value desk desk' loan
+  pub lends : LendsTo lent.before.value lent.after.value lent.from.value lent.to.value desk desk' loan
   pub tells : IsToldOfLoan loan told
   pub disk : half' ≡ half
 
@@ -37,10 +37,10 @@ pub record WritesLent {D L T O A : Type 0} {b : Ghosts D} {l : LedgerGhosts L} {
     (half half' : Broker D b) (told : Result ℕ HallError) : Type 0 where
   pub batch : Batch
   pub between : Desk L T O g o
-  pub lends : LendsTo lent.before.value lent.after.value desk between (Ok (Out batch))
+  pub lends : LendsTo lent.before.value lent.after.value lent.from.value lent.to.value desk between (Ok (Out batch))
   pub writes : WritesBatch view count half half' batch told
   pub first : first_in writes.outcome ≡ first_of batch
-  pub settles : Settles settled.before.value settled.after.value between desk' writes.outcome told
+  pub settles : Settles settled.before.value settled.after.value settled.from.value settled.to.value between desk' writes.outcome told
 
 -- what was done from a desk and to a half by a commit that answered this
 abbrev pub CommitsBy : {D L T O : Type 0} {b : Ghosts D} {l : LedgerGhosts L} {g : TraceGhosts T O} {o : OpeningGhosts O}

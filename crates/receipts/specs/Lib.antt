@@ -11,4 +11,5 @@ pub mod Counters
 pub mod Views
 pub mod laws
 pub mod Told
+pub mod Witness
 pub mod Committing

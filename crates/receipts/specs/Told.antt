@@ -1,5 +1,5 @@
 -- What each call under the lock tells of what it met there and of what it leaves, and of its desk: one record for each call,
--- which the office cites, and what it keeps.
+-- which the office cites, and what it keeps. Beside what was under the lock stands how many steps the desk had made.
 use Rattle.std.specs.Prelude.{◌≡◌, ℕ, List, map, Option, Result, IfOk, IfErr, OnOk, OnErr, OnSome, IfSome, IfNone}
 use Rattle.std.specs.declared.sync.ledger.Ledger.{Ghosts as LedgerGhosts}
 use Rattle.api_core.specs.declared.call.Call.{Call}
@@ -20,6 +20,7 @@ use Rattle.receipts.specs.declared.mark.Mark.{Mark}
 use Rattle.receipts.specs.declared.mark.Trace.{Ghosts as TraceGhosts}
 use Rattle.receipts.specs.declared.opening.OpeningTrace.{Ghosts as OpeningGhosts}
 use Rattle.receipts.specs.declared.desk.Desk.{Desk}
+use Rattle.receipts.specs.declared.desk.Steps.{Steps}
 use Rattle.receipts.specs.declared.locked.Locked.{Locked}
 use Rattle.receipts.specs.declared.locked.Loan.{Loan}
 use Rattle.receipts.specs.Answers.{AddsAtMostOne, AddsAnswered, AddsAsked, IsToldMore, IsToldIfAny, IsSlotOf}
@@ -44,9 +45,11 @@ abbrev pub IsLeftSame : {L T O : Type 0} {l : LedgerGhosts L} {g : TraceGhosts T
     → Locked L T O l g o → Locked L T O l g o → Type 0
 IsLeftSame before after = IsSameUnderLock (hall_in before.hall) (hall_in after.hall) (marks_in before) (marks_in after) before.slots after.slots
 
--- one step was made from the desk, of which nothing else changed
-pub record MakesStep {L T O : Type 0} {g : TraceGhosts T O} {o : OpeningGhosts O} (desk desk' : Desk L T O g o) : Type 0 where
+-- one step was made from the desk, which had made so many before it and after it, and of which nothing else changed
+pub record MakesStep {L T O : Type 0} {g : TraceGhosts T O} {o : OpeningGhosts O} (from to : Steps) (desk desk' : Desk L T O g o) : Type 0 where
   pub steps : desk'.steps ≡ after_step desk.steps
+  pub from_is : from ≡ desk.steps
+  pub to_is : to ≡ desk'.steps
   pub number : desk'.number ≡ desk.number
   pub told : desk'.told ≡ desk.told
   pub own : desk'.own ≡ desk.own
@@ -56,12 +59,14 @@ pub record MakesStep {L T O : Type 0} {g : TraceGhosts T O} {o : OpeningGhosts O
 -- one step did just this request, with the slot that is answered, and its command was marked here and at the desk; a refusal is
 -- the first check that fails, and changes nothing
 pub record Arrives {L T O : Type 0} {l : LedgerGhosts L} {g : TraceGhosts T O} {o : OpeningGhosts O}
-    (before after : Locked L T O l g o) (desk desk' : Desk L T O g o) (call : Call) (now : ℕ) (words : List ℕ)
+    (before after : Locked L T O l g o) (from to : Steps) (desk desk' : Desk L T O g o) (call : Call) (now : ℕ) (words : List ℕ)
     (result : Result (ℕ × ℕ) HallError) : Type 0 where
   pub marks : IfOk result (λ r. AddsAtMostOne desk.number (own_of desk) (own_of desk') r.0)
   pub told : IfOk result (λ r. IsToldMore desk.told desk'.told r.0)
   pub slot : IfOk result (λ r. IsSlotOf desk.number r.1)
   pub steps : desk'.steps ≡ after_step desk.steps
+  pub from_is : from ≡ desk.steps
+  pub to_is : to ≡ desk'.steps
   pub number : desk'.number ≡ desk.number
   pub err : OnErr result ((desk'.own.items ≡ desk.own.items) × (desk'.told ≡ desk.told))
   pub asked : OnOk result (AddsAsked (drawn_by words) call (own_of desk) (own_of desk'))
@@ -89,10 +94,12 @@ pub record Arrives {L T O : Type 0} {l : LedgerGhosts L} {g : TraceGhosts T O} {
 -- one step made just this move, and its command was marked here and at the desk; a refusal is the first check that fails, and
 -- changes nothing
 pub record Moves {L T O : Type 0} {l : LedgerGhosts L} {g : TraceGhosts T O} {o : OpeningGhosts O}
-    (before after : Locked L T O l g o) (desk desk' : Desk L T O g o) (now : ℕ) (result : Result (Option ℕ) HallError) : Type 0 where
+    (before after : Locked L T O l g o) (from to : Steps) (desk desk' : Desk L T O g o) (now : ℕ) (result : Result (Option ℕ) HallError) : Type 0 where
   pub marks : IfOk result (AddsAnswered desk.number (own_of desk) (own_of desk'))
   pub told : IfOk result (IsToldIfAny desk.told desk'.told)
   pub steps : desk'.steps ≡ after_step desk.steps
+  pub from_is : from ≡ desk.steps
+  pub to_is : to ≡ desk'.steps
   pub number : desk'.number ≡ desk.number
   pub err : OnErr result ((desk'.own.items ≡ desk.own.items) × (desk'.told ≡ desk.told))
   pub refused : IfErr result (IsTickRefusal desk.told)
@@ -116,9 +123,11 @@ pub record Moves {L T O : Type 0} {l : LedgerGhosts L} {g : TraceGhosts T O} {o 
 
 -- one step lent just all that is pending, or nothing, and then the desk is told how much is durable
 pub record LendsTo {L T O : Type 0} {l : LedgerGhosts L} {g : TraceGhosts T O} {o : OpeningGhosts O}
-    (before after : Locked L T O l g o) (desk desk' : Desk L T O g o) (result : Result Loan HallError) : Type 0 where
+    (before after : Locked L T O l g o) (from to : Steps) (desk desk' : Desk L T O g o) (result : Result Loan HallError) : Type 0 where
   pub told : IfOk result (IsToldByLoan desk.told desk'.told)
   pub steps : desk'.steps ≡ after_step desk.steps
+  pub from_is : from ≡ desk.steps
+  pub to_is : to ≡ desk'.steps
   pub number : desk'.number ≡ desk.number
   pub own : desk'.own.items ≡ desk.own.items
   pub answered : desk'.answered ≡ desk.answered
@@ -132,10 +141,12 @@ pub record LendsTo {L T O : Type 0} {l : LedgerGhosts L} {g : TraceGhosts T O} {
 
 -- by one step just the batch that was out is durable, which the desk is told, or there is a reason why it is not
 pub record Settles {L T O : Type 0} {l : LedgerGhosts L} {g : TraceGhosts T O} {o : OpeningGhosts O}
-    (before after : Locked L T O l g o) (desk desk' : Desk L T O g o) (outcome : Result Written Failed)
+    (before after : Locked L T O l g o) (from to : Steps) (desk desk' : Desk L T O g o) (outcome : Result Written Failed)
     (result : Result ℕ HallError) : Type 0 where
   pub told : IfOk result (IsToldMore desk.told desk'.told)
   pub steps : desk'.steps ≡ after_step desk.steps
+  pub from_is : from ≡ desk.steps
+  pub to_is : to ≡ desk'.steps
   pub number : desk'.number ≡ desk.number
   pub own : desk'.own.items ≡ desk.own.items
   pub answered : desk'.answered ≡ desk.answered

@@ -27,6 +27,13 @@ pub(crate) struct Steps {
 impl Steps {
     ghost use Rattle.receipts.specs.Steps.{after_step};
 
+    /// None.
+    pub(crate) fn none() -> Steps
+        ensures { result ≡ record { count = 0 } }
+    {
+        Steps { count: 0 }
+    }
+
     /// One more.
     #[tactic(auto, unfolding(crate::specs::Steps::after_step))]
     pub(crate) fn count(&mut self)
@@ -76,7 +83,7 @@ impl<L: Ledger, T: Trace> Desk<L, T> {
             share,
             answered: Vec::new(alloc),
             issued: None,
-            steps: Steps { count: 0 },
+            steps: Steps::none(),
         }
     }
 

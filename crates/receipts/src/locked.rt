@@ -178,7 +178,7 @@ impl<L: Ledger, T: Trace> Locked<L, T> {
         now: u64,
         words: [u64; 2],
     ) -> Result<(Ticket, u64), HallError>
-        ensures { Arrives self.old self.new desk.old desk.new call now words result }
+        ensures { Arrives self.old self.new desk.old.steps desk.new.steps desk.old desk.new call now words result }
     {
         desk.steps.count();
         self.check(desk)?;
@@ -209,7 +209,7 @@ impl<L: Ledger, T: Trace> Locked<L, T> {
     /// A move of the hall, and a mark of its command.
     pub(crate) fn tick(&mut self, desk: &mut Desk<L, T>, now: u64) -> Result<Option<u64>, HallError>
         requires { now ≤ greatest_moment }
-        ensures { Moves self.old self.new desk.old desk.new now result }
+        ensures { Moves self.old self.new desk.old.steps desk.new.steps desk.old desk.new now result }
     {
         desk.steps.count();
         self.check(desk)?;
@@ -230,7 +230,7 @@ impl<L: Ledger, T: Trace> Locked<L, T> {
     pub(crate) fn lend(&mut self, desk: &mut Desk<L, T>) -> Result<Loan, HallError>
         // claim: Nothing is lent where nothing is pending, else all that is. A settlement makes just the batch that is out
         // durable, or says why not. [: lends, refused, same; Locked::settle: settles, stands, parts, refused]
-        ensures { LendsTo self.old self.new desk.old desk.new result }
+        ensures { LendsTo self.old self.new desk.old.steps desk.new.steps desk.old desk.new result }
     {
         desk.steps.count();
         self.check(desk)?;
@@ -252,7 +252,7 @@ impl<L: Ledger, T: Trace> Locked<L, T> {
         outcome: Result<Written, Failed>,
     ) -> Result<Durable, HallError>
         requires { desk.old.told ≤ last_in outcome }
-        ensures { Settles self.old self.new desk.old desk.new outcome result }
+        ensures { Settles self.old self.new desk.old.steps desk.new.steps desk.old desk.new outcome result }
     {
         desk.steps.count();
         match self.hall.settle(outcome) {
@@ -266,7 +266,7 @@ impl<L: Ledger, T: Trace> Locked<L, T> {
 
     /// The reply of a slot, where it is told.
     pub(crate) fn take(&mut self, desk: &mut Desk<L, T>, slot: u64) -> Option<Released>
-        ensures desk { MakesStep desk.old desk.new }
+        ensures desk { MakesStep desk.old.steps desk.new.steps desk.old desk.new }
         ensures takes { Takes self.old self.new slot result }
     {
         desk.steps.count();
@@ -282,7 +282,7 @@ impl<L: Ledger, T: Trace> Locked<L, T> {
 
     /// The reply of a slot is not wanted any more.
     pub(crate) fn forget(&mut self, desk: &mut Desk<L, T>, slot: u64)
-        ensures desk { MakesStep desk.old desk.new }
+        ensures desk { MakesStep desk.old.steps desk.new.steps desk.old desk.new }
         ensures forgets { Forgets self.old self.new slot }
     {
         desk.steps.count();

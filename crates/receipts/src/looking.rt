@@ -12,7 +12,6 @@ use crate::view::Unreleased;
 use crate::witness::Witnessed;
 use group_commit::Ticket;
 use std::alloc::AllocError;
-use std::snapshot::Snapshot as Seen;
 use std::sync::Wait;
 use std::sync::ledger::Ledger;
 
@@ -35,8 +34,7 @@ impl<L: Ledger, T: Trace> Office<L, T> {
         ensures same { result.after.value ≡ result.before.value }
     {
         let locked = self.locked.lock(rt);
-        let before = Seen::of(&*locked);
-        Witnessed::new(locked.pending(), before, &locked)
+        Witnessed::of_look(locked.pending(), &locked)
     }
 
     /// How many slots are open.
@@ -50,8 +48,7 @@ impl<L: Ledger, T: Trace> Office<L, T> {
         ensures same { result.after.value ≡ result.before.value }
     {
         let locked = self.locked.lock(rt);
-        let before = Seen::of(&*locked);
-        Witnessed::new(locked.open_slots(), before, &locked)
+        Witnessed::of_look(locked.open_slots(), &locked)
     }
 
     /// What an operator is shown of the office, unreleased until all of it is durable, with a ticket of that. It changes nothing,
@@ -65,8 +62,7 @@ impl<L: Ledger, T: Trace> Office<L, T> {
         ensures same { result.after.value ≡ result.before.value }
     {
         let locked = self.locked.lock(rt);
-        let before = Seen::of(&*locked);
-        Witnessed::new(locked.look_with_ticket(), before, &locked)
+        Witnessed::of_look(locked.look_with_ticket(), &locked)
     }
 
     /// Whether a request asked the broker to stop, how many commands are pending and how many slots are open, all at one moment.
@@ -77,13 +73,12 @@ impl<L: Ledger, T: Trace> Office<L, T> {
         ensures same { result.after.value ≡ result.before.value }
     {
         let locked = self.locked.lock(rt);
-        let before = Seen::of(&*locked);
         let rest = Rest {
             stops: locked.is_stopping(),
             pending: locked.pending(),
             open_slots: locked.open_slots(),
         };
-        Witnessed::new(rest, before, &locked)
+        Witnessed::of_look(rest, &locked)
     }
 
     /// Whether the device failed: the disk has to be opened again.
@@ -92,7 +87,6 @@ impl<L: Ledger, T: Trace> Office<L, T> {
         ensures same { result.after.value ≡ result.before.value }
     {
         let locked = self.locked.lock(rt);
-        let before = Seen::of(&*locked);
-        Witnessed::new(locked.is_broken(), before, &locked)
+        Witnessed::of_look(locked.is_broken(), &locked)
     }
 }

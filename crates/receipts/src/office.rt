@@ -31,7 +31,6 @@ use group_commit::{Broker, DiskHalf, Durable, Failed, SplitError, Ticket, Writte
 use hall_core::{Hall, HallError, Released};
 use sector_disk::Disk;
 use std::alloc::{AllocError, Global};
-use std::snapshot::Snapshot as Seen;
 use std::sync::ledger::{Blank, Ledger, Share};
 use std::sync::{Mutex, Wait};
 
@@ -182,12 +181,10 @@ impl<L: Ledger, T: Trace> Office<L, T> {
         // claim: A refusal is the first of these: fewer commands than the desk was told, no slot left, unfit, no memory for
         // a mark, the hall's own. A tick has the first and last two. Nothing under the lock changes. [: refused, reason,
         // same; Office::tick: refused, reason, same]
-        ensures { Arrives result.before.value result.after.value desk.old desk.new call now words result.answer }
+        ensures { Arrives result.before.value result.after.value result.from.value result.to.value
+            desk.old desk.new call now words result.answer }
     {
-        let mut locked = self.locked.lock(rt);
-        let before = Seen::of(&*locked);
-        let answer = locked.arrive(desk, call, now, words);
-        Witnessed::new(answer, before, &locked)
+        self.locked.lock(rt).arrive_seen(desk, call, now, words)
     }
 
     /// Makes one move that is due now, as `Hall::tick` does, and answers the number of its command, of which the desk gets
@@ -203,12 +200,10 @@ impl<L: Ledger, T: Trace> Office<L, T> {
         now: u64,
     ) -> Witnessed<Result<Option<u64>, HallError>, L, T>
         requires { now ≤ greatest_moment }
-        ensures { Moves result.before.value result.after.value desk.old desk.new now result.answer }
+        ensures { Moves result.before.value result.after.value result.from.value result.to.value
+            desk.old desk.new now result.answer }
     {
-        let mut locked = self.locked.lock(rt);
-        let before = Seen::of(&*locked);
-        let answer = locked.tick(desk, now);
-        Witnessed::new(answer, before, &locked)
+        self.locked.lock(rt).tick_seen(desk, now)
     }
 
     // Lends what is pending, as `Locked::lend` says.
@@ -217,12 +212,10 @@ impl<L: Ledger, T: Trace> Office<L, T> {
         rt: &R,
         desk: &mut Desk<L, T>,
     ) -> (Result<Loan, HallError>, Witnessed<(), L, T>)
-        ensures { LendsTo result.1.before.value result.1.after.value desk.old desk.new result.0 }
+        ensures { LendsTo result.1.before.value result.1.after.value result.1.from.value result.1.to.value
+            desk.old desk.new result.0 }
     {
-        let mut locked = self.locked.lock(rt);
-        let before = Seen::of(&*locked);
-        let loan = locked.lend(desk);
-        (loan, Witnessed::new((), before, &locked))
+        self.locked.lock(rt).lend_seen(desk)
     }
 
     // Settles what became of the batch that is out, as `Locked::settle` says.
@@ -233,12 +226,10 @@ impl<L: Ledger, T: Trace> Office<L, T> {
         outcome: Result<Written, Failed>,
     ) -> (Result<Durable, HallError>, Witnessed<(), L, T>)
         requires { desk.old.told ≤ last_in outcome }
-        ensures { Settles result.1.before.value result.1.after.value desk.old desk.new outcome result.0 }
+        ensures { Settles result.1.before.value result.1.after.value result.1.from.value result.1.to.value
+            desk.old desk.new outcome result.0 }
     {
-        let mut locked = self.locked.lock(rt);
-        let before = Seen::of(&*locked);
-        let settled = locked.settle(desk, outcome);
-        (settled, Witnessed::new((), before, &locked))
+        self.locked.lock(rt).settle_seen(desk, outcome)
     }
 
     /// Makes all that is pending durable: how many commands that is. The commands are lent under the lock, written outside
@@ -308,15 +299,12 @@ impl<L: Ledger, T: Trace> Office<L, T> {
         desk: &mut Desk<L, T>,
         slot: u64,
     ) -> Witnessed<Option<Released>, L, T>
-        ensures desk { MakesStep desk.old desk.new }
+        ensures desk { MakesStep result.from.value result.to.value desk.old desk.new }
         // claim: A take gives the reply that the hall before gives, to the slot that asked, and does by one step just that; so
         // does a forgetting. [: steps, slot, gives, by_events, done, none; Office::forget: steps, done]
         ensures takes { Takes result.before.value result.after.value slot result.answer }
     {
-        let mut locked = self.locked.lock(rt);
-        let before = Seen::of(&*locked);
-        let released = locked.take(desk, slot);
-        Witnessed::new(released, before, &locked)
+        self.locked.lock(rt).take_seen(desk, slot)
     }
 
     /// How many commands have to be durable before the reply of a slot is told, where it is computed and still wanted, as
@@ -333,18 +321,14 @@ impl<L: Ledger, T: Trace> Office<L, T> {
     {
         let _ = desk;
         let locked = self.locked.lock(rt);
-        let before = Seen::of(&*locked);
-        Witnessed::new(locked.point(slot), before, &locked)
+        Witnessed::of_look(locked.point(slot), &locked)
     }
 
     /// The reply of a slot is not wanted any more, as `Hall::forget` says. It takes no memory.
     pub fn forget<R: Wait>(&self, rt: &R, desk: &mut Desk<L, T>, slot: u64) -> Witnessed<(), L, T>
-        ensures desk { MakesStep desk.old desk.new }
+        ensures desk { MakesStep result.from.value result.to.value desk.old desk.new }
         ensures forgets { Forgets result.before.value result.after.value slot }
     {
-        let mut locked = self.locked.lock(rt);
-        let before = Seen::of(&*locked);
-        locked.forget(desk, slot);
-        Witnessed::new((), before, &locked)
+        self.locked.lock(rt).forget_seen(desk, slot)
     }
 }

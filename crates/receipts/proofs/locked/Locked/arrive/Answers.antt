@@ -1,4 +1,4 @@
-use Rattle.std.proofs.Common.{rules, ◌≡◌, ◌++◌, map, ◌∙◌}
+use Rattle.std.proofs.Common.{rules, refl, ◌≡◌, ◌++◌, map, ◌∙◌}
 use Rattle.receipts.specs.Marks.{marks_by}
 use Rattle.receipts.specs.UnderLock.{Asking}
 use Rattle.receipts.proofs.Histories.{histories_by}
@@ -43,6 +43,8 @@ returns-in-Ok g c =
       told = search rules;
       slot = search rules;
       steps = search rules;
+      from_is = refl;
+      to_is = refl;
       number = search rules;
       err = search rules;
       asked = adds_asked _ _ _ _ _ c.in-Ok.issued own c.in-Ok.ensures.asked;
@@ -74,6 +76,8 @@ returns-then-not-fits g c =
       told = search rules;
       slot = search rules;
       steps = search rules;
+      from_is = refl;
+      to_is = refl;
       number = search rules;
       err = search rules;
       asked = search rules;
@@ -106,6 +110,8 @@ returns-in-Err g c =
       told = search rules;
       slot = search rules;
       steps = search rules;
+      from_is = refl;
+      to_is = refl;
       number = search rules;
       err = search rules;
       asked = search rules;
@@ -137,6 +143,8 @@ returns-in_err-reserve g c =
       told = search rules;
       slot = search rules;
       steps = search rules;
+      from_is = refl;
+      to_is = refl;
       number = search rules;
       err = search rules;
       asked = search rules;

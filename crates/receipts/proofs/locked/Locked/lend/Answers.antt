@@ -1,4 +1,4 @@
-use Rattle.std.proofs.Common.{rules}
+use Rattle.std.proofs.Common.{rules, refl}
 use Rattle.std.proofs.Math.Logic.{∥∥₁_map}
 use Rattle.group_commit.specs.IssuerHalf.{half_view}
 use Rattle.hall_core.specs.Hall.{view_of}
@@ -19,6 +19,8 @@ returns-in-Err g c =
     record {
       told = search rules;
       steps = search rules;
+      from_is = refl;
+      to_is = refl;
       number = search rules;
       own = search rules;
       answered = search rules;

@@ -1,4 +1,4 @@
-use Rattle.std.proofs.Common.{rules, map, Ok, Err}
+use Rattle.std.proofs.Common.{rules, refl, map, Ok, Err}
 use Rattle.receipts.proofs.Settled.{settle_same, settled_number, follows_still, reached_still}
 use Rattle.std.proofs.Math.Logic.{∥∥₁_map}
 use Rattle.group_commit.specs.IssuerHalf.{half_view}
@@ -25,6 +25,8 @@ returns-in-Ok g c =
     record {
       told = search (rules, number, told);
       steps = search rules;
+      from_is = refl;
+      to_is = refl;
       number = search rules;
       own = search rules;
       answered = search rules;
@@ -44,6 +46,8 @@ returns-in-Err g c =
     record {
       told = search rules;
       steps = search rules;
+      from_is = refl;
+      to_is = refl;
       number = search rules;
       own = search rules;
       answered = search rules;

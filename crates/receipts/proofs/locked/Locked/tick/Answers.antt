@@ -1,4 +1,4 @@
-use Rattle.std.proofs.Common.{rules, ◌≡◌, ◌++◌, map, inr, ◌∙◌}
+use Rattle.std.proofs.Common.{rules, refl, ◌≡◌, ◌++◌, map, inr, ◌∙◌}
 use Rattle.receipts.specs.Marks.{marks_by}
 use Rattle.receipts.proofs.Histories.{histories_by}
 use Rattle.receipts.proofs.Followed.{numbered_by, reached_by, follows_by, adds_answered}
@@ -40,6 +40,8 @@ returns-in-Ok g c =
       marks = adds_answered _ _ _ c.in-Ok.issued own _ c.told_by-told.ensures.number;
       told = search rules;
       steps = search rules;
+      from_is = refl;
+      to_is = refl;
       number = search rules;
       err = search rules;
       refused = search rules;
@@ -66,6 +68,8 @@ returns-in-Err g c =
       marks = search rules;
       told = search rules;
       steps = search rules;
+      from_is = refl;
+      to_is = refl;
       number = search rules;
       err = search rules;
       refused = refused_tick _ (view_of half_view c.args.self.now.hall) c.args.now c.in-Err.why c.in-Err.ensures.reason;

@@ -53,7 +53,7 @@ pub returns-in-Out-clause-steps : goal.returns-in-Out-clause-steps
 returns-in-Out-clause-steps g c = record {
   batch = c.in-Out.batch;
   between = c.lend-lend.new.desk;
-  lends = lends_as _ _ _ _ c.lend-lend.result.0 (Ok (Out c.in-Out.batch)) (c.in-Ok.is ∙ ap Ok c.in-Out.is) c.lend-lend.ensures;
+  lends = lends_as _ _ _ _ _ _ c.lend-lend.result.0 (Ok (Out c.in-Out.batch)) (c.in-Ok.is ∙ ap Ok c.in-Out.is) c.lend-lend.ensures;
   writes = record {
     outcome = c.write-outcome.result;
     told = c.settle-answer.ensures.tells;
