@@ -2,12 +2,14 @@
 //!
 //!     load accepts SERVER ADDRESS CONNECTIONS COUNT
 //!     load lives SERVER ADDRESS CALLERS RUNTIMES SECONDS MOST own|oldest
+//!     load collects ADDRESS ADMIN EVENTS ROUNDS
 //!     load floor ADDRESS FOLDER [start] [half]
 //!     load flushes FOLDER SECONDS
 //!
 //! SERVER is `broker` or `floor`. Each measurement prints one line of JSON. A reply that is no 2xx ends it with status 1, so
 //! nothing that was refused is ever counted.
 mod accepts;
+mod collects;
 mod connection;
 mod floor;
 mod flushes;
@@ -50,6 +52,7 @@ fn run(words: &[&str]) -> Result<()> {
             };
             lives::measure(server, address, plan)
         }
+        ["collects", address, admin, events, rounds] => collects::measure(address, admin, events.parse()?, rounds.parse()?),
         ["floor", address, folder, rest @ ..] => floor::serve(address, folder, rest.contains(&"start"), rest.contains(&"half")),
         ["flushes", folder, seconds] => flushes::measure(folder, seconds.parse()?),
         _ => Err("the words are those at the head of main.rs".into()),
