@@ -3,7 +3,8 @@
 
 Usage: forward.py PORT success|failure URL [--admin PORT [--jobs N]] [--timeout SECONDS] [--proxy URL]
 
-PORT is that of the broker's callers. With its admin port many records are read at once, else one. It runs until it is stopped.
+PORT is that of the broker's callers. With its admin port many records are read at once, else one, and where the broker is served
+with --acts, many are collected at once. It runs until it is stopped.
 
 Records go in the order in which their events ended. With --jobs N they go side by side: N jobs share them out by their ids, and
 each job forwards its own in order, so that what the URL does not take holds up one share alone.
@@ -29,6 +30,8 @@ import traceback
 import urllib.parse
 
 HEADERS = {"Content-Type": "application/json", "X-Amz-Invocation-Type": "Event", "Connection": "close"}
+ACT = {"lambda-broker-act": "1"}
+MOST_AT_ONCE = 100
 KINDS = {"http": http.client.HTTPConnection, "https": http.client.HTTPSConnection}
 PAUSE = 0.2
 BROKER_SECONDS = 60
@@ -124,8 +127,8 @@ def ask(url, method="GET", body=None, headers={}, seconds=BROKER_SECONDS, proxy=
         connection.close()
 
 
-def until(what, done, *request, **more):
-    """Asks until it is done, ever more seldom: the reply."""
+def until(what, done, *request, stuck=lambda: None, **more):
+    """Asks until it is done, ever more seldom, and does this before each pause: the reply."""
     pause = 1
     while True:
         status, headers, body = ask(*request, **more)
@@ -134,6 +137,7 @@ def until(what, done, *request, **more):
         why = {0: "no answer", 3: f"{status}, a redirect, which is not followed"}.get(status // 100, status)
         text = " ".join(body[:200].decode(errors="replace").split())
         print(f"{what}: {why}: {text}: again in {pause} s", file=sys.stderr, flush=True)
+        stuck()
         time.sleep(pause)
         pause = min(2 * pause, 60)
 
@@ -167,16 +171,54 @@ def page(words, job):
             return []  # Another job has collected that one meanwhile: from the beginning.
 
 
-def forward(words, event, record):
-    """Posts a record until it is taken, and then collects it."""
-    hook = {"seconds": words.timeout, "proxy": words.proxy, "most": 200}
-    until(f"posting {event}", lambda status: 200 <= status < 300, words.url, "POST", record, HEADERS, **hook)
+def note_gone(event):
+    print(f"collecting {event}, which was taken: it was there no more", file=sys.stderr, flush=True)
+
+
+def collect(words, event):
+    """Collects a record that was taken."""
     # 404 says that it was collected already: by an earlier try whose answer was lost.
     what = f"collecting {event}, which was taken"
     status, _, _ = until(what, lambda status: status in (204, 404), f"{words.callers}/{event}", "DELETE")
     if status == 404:
-        print(f"{what}: it was there no more", file=sys.stderr, flush=True)
+        note_gone(event)
         time.sleep(PAUSE)
+
+
+def takes_lists(words):
+    """Whether the admin port collects records by lists."""
+    return bool(words.admin) and ask(words.lists, "POST", b"", ACT)[0] == 200
+
+
+def collect_list(words, events):
+    """Collects records that were taken."""
+    what = f"collecting {len(events)} records, which were taken"
+    _, _, body = until(what, lambda status: status == 200, words.lists, "POST", "\n".join(events), ACT)
+    for line in body.decode().splitlines():
+        if line.endswith(" unknown"):
+            note_gone(line.split()[0])
+
+
+def forward(words, share):
+    """Posts these records, each until it is taken. What was taken is collected, by lists where that may be, and at once where the
+    next is not taken."""
+    taken, at_once = [], takes_lists(words)
+
+    def collect_taken():
+        if at_once and taken:
+            collect_list(words, taken)
+        else:
+            for event in taken:
+                collect(words, event)
+        taken.clear()
+
+    hook = {"seconds": words.timeout, "proxy": words.proxy, "most": 200, "stuck": collect_taken}
+    for event, record in share:
+        until(f"posting {event}", lambda status: 200 <= status < 300, words.url, "POST", record, HEADERS, **hook)
+        taken.append(event)
+        if len(taken) == (MOST_AT_ONCE if at_once else 1):
+            collect_taken()
+    collect_taken()
 
 
 def work(words, job):
@@ -184,9 +226,9 @@ def work(words, job):
     try:
         while True:
             share = page(words, job) if words.admin else oldest(words)
-            for event, record in share:
-                forward(words, event, record)
-            if not share:
+            if share:
+                forward(words, share)
+            else:
                 time.sleep(PAUSE)
     except Exception:
         traceback.print_exc()
@@ -224,6 +266,7 @@ def main():
     if not 0 < words.timeout <= 3600:
         parser.error("--timeout is more than 0 and at most 3600 seconds")
     words.callers = f"http://127.0.0.1:{words.port}/broker/destinations"
+    words.lists = f"http://127.0.0.1:{words.admin}/records/collect"
     for job in range(1, words.jobs):
         threading.Thread(target=work, args=(words, job), daemon=True).start()
     work(words, 0)

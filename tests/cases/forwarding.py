@@ -248,6 +248,24 @@ def a_proxy_of_the_environment_changes_nothing(broker):
         hook.close()
 
 
+@case()
+def what_the_hook_does_not_take_is_in_no_list(broker):
+    broker.serve("--acts")
+    taken = [broker.live(f"{n}", "ok") for n in range(3)]
+    left = broker.live("3", "ok")
+    hook = Hook(tell(200), tell(200), tell(200), tell(500), tell(500), tell(200))
+    forwarder = Forwarder(broker, hook.url, "--admin", broker.admin)
+    try:
+        said = forwarder.until_told(f"posting {left}: 500")
+        until("the collection of the others", lambda: broker.number("records_collected_total") == 3)
+        same(broker.record().json["requestContext"]["requestId"], left)
+        until("the collection", lambda: broker.record().status == 204)
+        same((len(hook.posted), [event for event in taken if event in said]), (6, []))
+    finally:
+        forwarder.close()
+        hook.close()
+
+
 class ProxyHandler(Handler):
     def do_POST(self):
         self.rfile.read(int(self.headers["Content-Length"]))
