@@ -2,12 +2,13 @@
 ghost use Rattle.std.specs.Prelude.{◌≡◌, IfOk};
 ghost use Rattle.admin_replies.specs.Telling.{CountsEnded};
 
+use crate::acts::Acts;
 use crate::admin_context::AdminContext;
 use crate::application::AdminApplication;
 use admin_replies::{Baseline, History};
 use async_core::Table;
 use http_port::{HttpLimits, Listening};
-use long_poll::AdminReader;
+use long_poll::{Acting, AdminReader};
 use operator_view::Memory;
 use port_meters::{Beside, Machine, Meters, Moment};
 use receipts::Trace;
@@ -27,6 +28,8 @@ pub struct Admin {
     pub written: Written,
     /// Where Linux tells how many pages the process has, `/proc/self/statm`.
     pub memory: Option<File>,
+    /// Whether he may act.
+    pub acts: bool,
 }
 
 /// The operator's port of a broker, which is not served yet.
@@ -76,6 +79,7 @@ fn context_of<L: Ledger, T: Trace>(
         listening,
         written,
         memory,
+        acts: _,
     } = admin;
     let context = AdminContext {
         alloc,
@@ -91,23 +95,35 @@ fn context_of<L: Ledger, T: Trace>(
     (context, listening)
 }
 
-impl<R: Machine, L: Ledger, T: Trace> Beside<R, AdminReader<L, T>> for AdminPort {
+impl<R, L, T, A> Beside<R, AdminReader<L, T>, A> for AdminPort
+where
+    R: Machine,
+    L: Ledger,
+    T: Trace,
+    A: Acting<R, L, T>,
+{
     type Served = AdminServed;
 
     fn serve(
         self,
         rt: R,
         reader: AdminReader<L, T>,
+        acting: A,
         meters: Arc<Meters>,
         ending: &CancellationToken,
     ) -> io::Result<AdminServed> {
         let alloc = rt.alloc();
+        let acts = Acts::by(alloc, self.admin.acts, acting)?;
         let reader = Arc::new(alloc, reader)?;
         let started_at = Moment::now(&rt)?.millis();
         let history = History::new(alloc)?;
         let (context, listening) = context_of(alloc, self, reader, meters, history, started_at);
         let context = Arc::new(alloc, context)?;
-        let application = AdminApplication { rt, context };
+        let application = AdminApplication {
+            rt,
+            context,
+            acts,
+        };
         http_port::serve(rt, application, listening, HttpLimits::default(), ending)?;
         Ok(AdminServed { served: () })
     }

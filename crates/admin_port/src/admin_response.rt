@@ -52,3 +52,17 @@ pub(crate) fn device_fault(alloc: Global) -> AdminResponse
         reply: AdminReply::line(alloc, 503, "device fault").ok(),
     }
 }
+
+/// That the broker was not available for all records of a list.
+pub(crate) fn unavailable(alloc: Global) -> AdminResponse
+    ensures { TellsOfFault result.reply }
+{
+    AdminResponse {
+        reply: AdminReply::line(
+            alloc,
+            503,
+            "the broker is not available; of the list, some records may be collected",
+        )
+        .ok(),
+    }
+}

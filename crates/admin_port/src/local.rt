@@ -1,6 +1,10 @@
 // Which hosts the operator's port answers to.
 use http::request::Parts;
 
+/// What another host is told.
+pub(crate) const NOT_LOCAL: &str =
+    "this port answers to the hosts 127.0.0.1, localhost and [::1] alone";
+
 // Whether a host is this name, with a port or without.
 fn has_name(host: &str, name: &str) -> bool {
     match host.strip_prefix(name) {

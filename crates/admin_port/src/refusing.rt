@@ -2,7 +2,7 @@
 ghost use Rattle.std.specs.Prelude.{◌≤◌};
 
 use crate::admin_response::response_of;
-use admin_replies::AdminReply;
+use admin_replies::{AdminRefusal, AdminReply, ListError};
 use http_port::Refused;
 use hyper::StatusCode;
 use std::alloc::Global;
@@ -22,7 +22,15 @@ pub(crate) fn refuse(alloc: Global, status: u16, words: &str) -> Refused
 }
 
 /// Why a request is refused, in words.
-pub(crate) fn refuse_words(alloc: Global, why: admin_replies::AdminRefusal) -> Refused {
+pub(crate) fn refuse_words(alloc: Global, why: AdminRefusal) -> Refused {
+    match format!(in alloc; "{why}") {
+        Ok(words) => refuse(alloc, why.status(), words.as_str()),
+        Err(_) => Refused::bare(alloc, StatusCode::SERVICE_UNAVAILABLE),
+    }
+}
+
+/// Why a list is refused, in words.
+pub(crate) fn refuse_list(alloc: Global, why: ListError) -> Refused {
     match format!(in alloc; "{why}") {
         Ok(words) => refuse(alloc, why.status(), words.as_str()),
         Err(_) => Refused::bare(alloc, StatusCode::SERVICE_UNAVAILABLE),

@@ -1,5 +1,5 @@
 -- Worked examples: requests, and numbers with some of the lines that tell them.
-use Rattle.std.specs.Prelude.{ℕ, List, [], ◌∷◌, ◌++◌, false, true, Result, Some, None, codes}
+use Rattle.std.specs.Prelude.{ℕ, Bool, List, [], ◌∷◌, ◌++◌, false, true, Option, Result, Some, None, codes}
 use Prim.Native.String.{String}
 use Rattle.retry_rules.specs.declared.settings.Settings.{Settings}
 use Rattle.operator_view.specs.declared.verdict.Problem.TheVariants as problem
@@ -7,10 +7,17 @@ use Rattle.admin_replies.specs.declared.admin_request.AdminRequest.{AdminRequest
 use Rattle.admin_replies.specs.declared.admin_refusal.AdminRefusal.{AdminRefusal}
 use Rattle.admin_replies.specs.declared.metrics.Metrics.{Metrics}
 use Rattle.admin_replies.specs.declared.sample.Sample.{Sample}
+use Rattle.admin_replies.specs.Collecting.{brings_list, ids_in}
 use Rattle.admin_replies.specs.Requests.{asked_of}
 
 abbrev pub asks : String → String → Result AdminRequest AdminRefusal
 asks method target = asked_of (codes method) (codes target)
+
+abbrev pub brings : String → String → Bool
+brings method target = brings_list (codes method) (codes target)
+
+abbrev pub listed : String → List (Option (List ℕ))
+listed text = ids_in (codes text)
 
 abbrev pub gets : String → Result AdminRequest AdminRefusal
 gets target = asks "GET" target

@@ -1,3 +1,4 @@
+pub mod Collecting
 pub mod Examples
 pub mod History
 pub mod Lines

@@ -7,7 +7,7 @@ ghost use Rattle.admin_replies.specs.declared.admin_refusal.AdminRefusal.TheVari
 ghost use Rattle.admin_replies.specs.declared.table.Section.TheVariants as section;
 ghost use Rattle.admin_replies.specs.MetricsText.{section_text, info_text};
 ghost use Rattle.admin_replies.specs.History as kept;
-ghost use Rattle.admin_replies.specs.Examples.{asks, gets, third, numbers, usual, held_text, waits_text, commits_text, usual_text, problems_text, sample, history_text};
+ghost use Rattle.admin_replies.specs.Examples.{asks, brings, listed, gets, third, numbers, usual, held_text, waits_text, commits_text, usual_text, problems_text, sample, history_text};
 
 /// Requests that are understood.
 pub fn requests()
@@ -43,6 +43,15 @@ pub fn refusals()
     ensures thousand { gets "/events?limit=1001" ≡ Err why.Limit }
     ensures sign { gets "/events?limit=+5" ≡ Err why.Limit }
     ensures empty { gets "/events?limit" ≡ Err why.Limit }
+{}
+
+/// Lists that are brought.
+pub fn lists()
+    ensures brought { brings "POST" "/records/collect" ≡ true }
+    ensures got { brings "GET" "/records/collect" ≡ false }
+    ensures query { brings "POST" "/records/collect?" ≡ false }
+    ensures ids { listed "00000000-0000-4000-8000-000000000003\r\n\nx" ≡ Some third ∷ None ∷ None ∷ [] }
+    ensures ended { listed "00000000-0000-4000-8000-000000000003\n" ≡ Some third ∷ [] }
 {}
 
 /// Numbers as they are told.

@@ -6,7 +6,8 @@ ghost use Rattle.admin_replies.specs.Requests.{id_of};
 use std::str;
 use uuid::Uuid;
 
-fn read_text(text: &str) -> Option<[u8; 16]>
+/// The id that a text is.
+pub(crate) fn read_text(text: &str) -> Option<[u8; 16]>
     ensures { result ≡ parsed text.now }
 {
     match Uuid::parse_str(text) {
@@ -15,7 +16,7 @@ fn read_text(text: &str) -> Option<[u8; 16]>
     }
 }
 
-/// The id that a text is.
+/// The same of bytes, which may be no text.
 pub(crate) fn read_id(bytes: &[u8]) -> Option<[u8; 16]>
     ensures { result ≡ id_of bytes.now }
 {

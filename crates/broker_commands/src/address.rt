@@ -14,8 +14,9 @@ pub struct Address<'a> {
     pub port: u16,
     /// A host name under which the ports are asked, beside `localhost` and addresses.
     pub host: Option<&'a str>,
-    /// The operator's port, which is on the loopback address.
+    /// The operator's port, which is on the loopback address, and whether he may act.
     pub admin: Option<u16>,
+    pub acts: bool,
     pub dialect: Dialect,
     pub extensions: u8,
     /// Whether it waits for a disk that another program has open.

@@ -122,6 +122,7 @@ pub(crate) fn serve_command<'a>(alloc: Global) -> Result<Command<'a>, AllocError
     let discard =
         "Whose records are collected as soon as they are durable, so that nobody reads them";
     let admin = "Port of the operator, who only looks, 1024 to 65535, on the loopback address";
+    let acts = "Let the operator act, too";
     let dialects = ValueParser::Names(&["profile", "aws"]);
     let sides = ValueParser::Names(&["success", "failure", "both"]);
     let told = [
@@ -139,6 +140,7 @@ pub(crate) fn serve_command<'a>(alloc: Global) -> Result<Command<'a>, AllocError
         Argument::flag("standby", standby),
         Argument::option("discard", discard).of(sides),
         Argument::option("admin", admin).of(value_parser!(u16).range(1024..65536)),
+        Argument::flag("acts", acts),
     ];
     command_of(
         alloc,

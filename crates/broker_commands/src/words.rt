@@ -186,6 +186,7 @@ fn address_at<'a>(matches: &ArgMatches<'a>, reach: IpAddr) -> Option<Address<'a>
         port: matches.get_one("port")?,
         host: matches.get_str("host"),
         admin: matches.get_one("admin"),
+        acts: matches.get_flag("acts"),
         dialect: dialect(matches.get_str("dialect")?),
         extensions: matches.get_one("extensions")?,
         is_standby: matches.get_flag("standby"),

@@ -3,9 +3,10 @@
 //! Each port has a thread of its own, on which each request becomes a call, is handed to the office and waits for its
 //! reply. A committer writes what is pending outside the office's lock, and a ticker makes the moves
 //! that are due. Beside its ports a front serves what the crate above brings along, an operator's port, which is given a reader
-//! of the office. The crate above uses `serve`; the loops of committer and ticker are calls of their own.
+//! of the office and the callers' port to act at. The crate above uses `serve`; the loops of committer and ticker are calls of their own.
 #![tactic(auto)]
 
+mod acting;
 mod arriving;
 mod asking;
 mod committing;
@@ -24,6 +25,7 @@ mod starting;
 mod ticking;
 mod wake;
 
+pub use acting::CallersPort;
 pub use commit_loop::{Gate, Turn, WhenPending};
 pub use committing::Committer;
 pub use discarding::Discard;

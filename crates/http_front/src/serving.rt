@@ -6,6 +6,7 @@ ghost use Rattle.hall_core.specs.Fresh.{IsFresh};
 ghost use Rattle.receipts.specs.Desks.{desk_count};
 ghost use Rattle.receipts.specs.Serving.{HasServed};
 
+use crate::acting::CallersPort;
 use crate::committing::{Committer, state_of};
 use crate::discarding::{Discard, start_collector};
 use crate::error::ServeError;
@@ -111,13 +112,14 @@ where
     L: Ledger + Send + Sync + 'static,
     T: SharedTrace + 'static,
     T::Opening: SharedOpening + 'static,
-    B: Beside<R, AdminReader<L, T>> + Send + 'static,
+    B: Beside<R, AdminReader<L, T>, CallersPort<L, T>> + Send + 'static,
     B::Served: Send + 'static,
     ensures { IfOk result (λ thread. is_some thread ≡ is_some beside) }
 {
     start_collector(rt, front, ports.first(), seat, threads)?;
+    let acting = CallersPort::new(front, ports.first())?;
     start(rt, front, ports, listeners, threads)?;
-    start_beside(rt, front, reader, beside)
+    start_beside(rt, front, reader, acting, beside)
 }
 
 // Ends a front, and waits for the threads of its ports and for the one beside them: what it leaves, where this is what came of
@@ -168,7 +170,7 @@ where
     T::Opening: SharedOpening + 'static,
     D: Disk + Drop,
     G: Gate,
-    B: Beside<R, AdminReader<L, T>> + Send + 'static,
+    B: Beside<R, AdminReader<L, T>, CallersPort<L, T>> + Send + 'static,
     B::Served: Send + 'static,
     ensures served { IfOk result (λ served. HasServed D.view D.fault_count (broker_of opened.committer.half) (broker_of served.half)) }
     ensures beside { IfOk result (λ served. is_some served.beside ≡ is_some beside) }
@@ -212,7 +214,8 @@ fn port_count(settings: &Settings) -> u64
 /// the callers' port at the first listener, that of environment n at the listener n behind it. It returns once the broker
 /// was stopped or its device failed and every open request was answered or its client has gone. The committer, on the
 /// calling thread, is asked by the gate beside that. What is beside the ports, where there is something, is served on a thread
-/// of its own, with a reader of the office, until the front ends. On another one, records that are discarded are collected.
+/// of its own, with a reader of the office and the callers' port to act at, until the front ends. On another one, records that
+/// are discarded are collected.
 ///
 /// The half over the disk is handed back: it is the hall's broker with what was committed since. On an honest disk a stop at any
 /// moment of the serving leaves a legal stop of its list: a beginning of that with all that was durable before.
@@ -235,7 +238,7 @@ where
     T::Opening: SharedOpening + 'static,
     D: Disk + Drop,
     G: Gate,
-    B: Beside<R, AdminReader<L, T>> + Send + 'static,
+    B: Beside<R, AdminReader<L, T>, CallersPort<L, T>> + Send + 'static,
     B::Served: Send + 'static,
     requires nothing { pending_of hall.issuer ≡ [] }
     requires fresh { IsFresh (settings_of hall.issuer) hall }

@@ -1,6 +1,7 @@
 // The threads of a front's ports, and of what is served beside them.
 ghost use Rattle.std.specs.Prelude.{◌≡◌, IfOk, is_some};
 
+use crate::acting::CallersPort;
 use crate::front_state::FrontState;
 use crate::port_application::PortApplication;
 use http_port::{HttpLimits, Listening};
@@ -76,14 +77,21 @@ where
 }
 
 // Serves what is beside the ports of a front to its end. Where it fails, the front goes on.
-fn serve_beside<R: Machine, L: Ledger, T: Trace, B: Beside<R, AdminReader<L, T>>>(
+fn serve_beside<R, L, T, B>(
     rt: R,
     front: Arc<FrontState<L, T>>,
     reader: AdminReader<L, T>,
+    acting: CallersPort<L, T>,
     beside: B,
-) -> io::Result<B::Served> {
+) -> io::Result<B::Served>
+where
+    R: Machine,
+    L: Ledger,
+    T: Trace,
+    B: Beside<R, AdminReader<L, T>, CallersPort<L, T>>,
+{
     let meters = Arc::try_clone(&front.meters)?;
-    beside.serve(rt, reader, meters, &front.ending)
+    beside.serve(rt, reader, acting, meters, &front.ending)
 }
 
 /// Starts a thread that serves what is beside the ports, where there is something.
@@ -91,6 +99,7 @@ pub(crate) fn start_beside<R, L, T, B>(
     rt: R,
     front: &Arc<FrontState<L, T>>,
     reader: AdminReader<L, T>,
+    acting: CallersPort<L, T>,
     beside: Option<B>,
 ) -> io::Result<Option<JoinHandle<io::Result<B::Served>>>>
 where
@@ -98,7 +107,7 @@ where
     L: Ledger + Send + Sync + 'static,
     T: SharedTrace + 'static,
     T::Opening: SharedOpening + 'static,
-    B: Beside<R, AdminReader<L, T>> + Send + 'static,
+    B: Beside<R, AdminReader<L, T>, CallersPort<L, T>> + Send + 'static,
     B::Served: Send + 'static,
     ensures { IfOk result (λ thread. is_some thread ≡ is_some beside) }
 {
@@ -106,7 +115,9 @@ where
         return Ok(None);
     };
     let front = Arc::try_clone(front)?;
-    let thread = thread::spawn(&rt, move || serve_beside(rt, front, reader, beside))?;
+    let thread = thread::spawn(&rt, move || {
+        serve_beside(rt, front, reader, acting, beside)
+    })?;
     Ok(Some(thread))
 }
 

@@ -153,6 +153,7 @@ where
         listening: bind(rt, address, at.host)?,
         written,
         memory: File::open(rt, MEMORY).ok(),
+        acts: at.acts,
     }))
 }
 

@@ -5,6 +5,7 @@
 //! crates above use that it gives the reply of its own slot, and that a poll which is pending has registered.
 #![tactic(auto)]
 
+mod acting;
 mod admin_reader;
 mod bell;
 mod pending_view;
@@ -12,6 +13,7 @@ mod port;
 mod waiters;
 mod waiting;
 
+pub use acting::Acting;
 pub use admin_reader::{AdminReader, TicketedView};
 pub use bell::{Bell, Rung, RungForAll, SaidBroken};
 pub use pending_view::{DurableView, PendingView, ViewError};

@@ -1,0 +1,116 @@
+// What an operator may do.
+ghost use Rattle.std.specs.Prelude.{◌≡◌, map, IfOk};
+ghost use Rattle.admin_replies.specs.Collecting.{ids_in};
+
+use crate::collecting::Collecting;
+use crate::local::{NOT_LOCAL, is_local};
+use crate::refusing::{refuse, refuse_list};
+use admin_replies::{MOST_LIST, read_list};
+use http::request::Parts;
+use http_port::{BodyError, Refused};
+use hyper::StatusCode;
+use long_poll::Acting;
+use receipts::Trace;
+use std::alloc::{AllocError, Global};
+use std::sync::ledger::Ledger;
+use std::sync::{Arc, Wait};
+
+/// The header without which nothing is done. No form of a web page sends it.
+const ACT: &str = "lambda-broker-act";
+
+const NO_ACT: &str = "an act needs the header lambda-broker-act";
+
+const TOO_LONG: &str = "a list has 48000 bytes at most";
+
+/// What an operator may do, and by what his calls come to the hall.
+#[derive(Drop)]
+pub(crate) struct Acts<A> {
+    alloc: Global,
+    acting: Arc<A>,
+}
+
+// Whether a request may do something.
+fn may_act(alloc: Global, head: &Parts) -> Result<(), Refused> {
+    if !is_local(head) {
+        return Err(refuse(alloc, 403, NOT_LOCAL));
+    }
+    if head.headers.get(ACT).is_none() {
+        return Err(refuse(alloc, 403, NO_ACT));
+    }
+    Ok(())
+}
+
+// That there is no memory.
+fn no_memory(alloc: Global) -> Refused {
+    Refused::bare(alloc, StatusCode::SERVICE_UNAVAILABLE)
+}
+
+// The body of a request that does something.
+fn whole(alloc: Global, body: Result<Vec<u8>, BodyError>) -> Result<Vec<u8>, Refused> {
+    match body {
+        Ok(body) => Ok(body),
+        Err(BodyError::TooLarge) => Err(refuse(alloc, 413, TOO_LONG)),
+        Err(BodyError::CutOff) => Err(Refused::bare(alloc, StatusCode::BAD_REQUEST)),
+        Err(BodyError::OutOfMemory) => Err(no_memory(alloc)),
+    }
+}
+
+impl<A: Drop> Acts<A> {
+    /// He may act by this, if he may at all.
+    pub(crate) fn by(
+        alloc: Global,
+        acts: bool,
+        acting: A,
+    ) -> Result<Option<Acts<A>>, AllocError> {
+        if !acts {
+            return Ok(None);
+        }
+        let acting = Arc::new(alloc, acting)?;
+        Ok(Some(Acts { alloc, acting }))
+    }
+
+    /// How many bytes of a body are read.
+    pub(crate) fn most(&self) -> usize {
+        MOST_LIST
+    }
+
+    // The records of a list are collected.
+    fn collect<R, L, T>(&self, rt: R, list: &[u8]) -> Result<Collecting<R, L, T, A>, Refused>
+    where
+        R: Wait + Drop + Copy,
+        L: Ledger,
+        T: Trace,
+        A: Acting<R, L, T>,
+        ensures { IfOk result (λ collecting. map (λ entry. entry.id) collecting.entries.items ≡ ids_in list.now) }
+    {
+        let ids = match read_list(self.alloc, list) {
+            Ok(ids) => ids,
+            Err(why) => return Err(refuse_list(self.alloc, why)),
+        };
+        let Ok(acting) = Arc::try_clone(&self.acting) else {
+            return Err(no_memory(self.alloc));
+        };
+        match Collecting::new(rt, self.alloc, acting, &ids) {
+            Ok(collecting) => Ok(collecting),
+            Err(_) => Err(no_memory(self.alloc)),
+        }
+    }
+
+    /// A request brings a list of records, which are collected, unless it may not act.
+    pub(crate) fn take_list<R, L, T>(
+        &self,
+        rt: R,
+        head: &Parts,
+        body: Result<Vec<u8>, BodyError>,
+    ) -> Result<Collecting<R, L, T, A>, Refused>
+    where
+        R: Wait + Drop + Copy,
+        L: Ledger,
+        T: Trace,
+        A: Acting<R, L, T>,
+    {
+        may_act(self.alloc, head)?;
+        let list = whole(self.alloc, body)?;
+        self.collect(rt, &list)
+    }
+}
