@@ -85,8 +85,8 @@ impl<L: Ledger, T: Trace> FrontState<L, T> {
         settings: Settings,
         discard: Discard,
     ) -> Result<FrontState<L, T>, AllocError>
-        // claim: A front has the office, settings and dialect that it was given: those of its hall. [: office, settings,
-        // dialect; open: dialect, settings]
+        // claim: A front has the office, settings and dialect that it was given: settings and dialect are its hall's. [: office,
+        // settings, dialect; open: dialect, settings]
         ensures office { IfOk result (λ front. front.office ≡ office) }
         ensures settings { IfOk result (λ front. front.settings ≡ settings) }
         ensures dialect { IfOk result (λ front. front.dialect ≡ dialect) }
