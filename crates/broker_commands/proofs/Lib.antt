@@ -1,2 +1,2 @@
-pub mod Configured
+pub mod BroughtInForce
 pub mod ReadBack

@@ -16,6 +16,7 @@ use Rattle.group_commit.specs.History.{IsLegalStop}
 use Rattle.group_commit.specs.declared.broker.Broker.{Broker}
 use Rattle.group_commit.specs.declared.error.CommitError.TheVariants as commit_error
 use Rattle.group_commit.specs.Broker.{settings_of, IsReason, Stands}
+use Rattle.group_commit.specs.Promises.{ForEachHistoryOn}
 use Rattle.broker_commands.specs.Opening.{is_disk_fault}
 use Rattle.broker_commands.specs.declared.configuring.ConfiguringError.{ConfiguringError}
 use Rattle.broker_commands.specs.declared.configuring.ConfiguringError.TheVariants as error
@@ -68,6 +69,11 @@ HoldsConfigured s history durable new now disk =
     (size : ℕ) × (durable ≤ size) × (size ≤ length history)
     × ((image : List ℕ) → disk.may_leave image
     → IsLegalStop s (with_configure s (take size history) new now) (length (with_configure s (take size history) new now)) image)
+
+-- if the disk was honest, each image holds that behind each history of which all images of the first disk were legal stops
+abbrev pub WasConfigured : DiskView → NewPolicy → ℕ → DiskView → Type 0
+WasConfigured old new now disk =
+    old.honest → ForEachHistoryOn old (λ s history durable. HoldsConfigured s history durable new now disk)
 
 -- it was not configured since the broker did not issue that command, for this reason, or did not commit it
 abbrev pub IsRefusal : {D : Type 0} {g : Ghosts D} → Broker D g → Command → ConfiguringError → Type 0

@@ -5,4 +5,5 @@ pub mod Copying
 pub mod Formatting
 pub mod Migrating
 pub mod Opening
-pub mod Trial
+pub mod Status
+pub mod laws

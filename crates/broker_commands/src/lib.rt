@@ -1,7 +1,7 @@
 //! The commands of the program that wait for nobody, `serve` and `stop` aside: their words, what they do to a disk, and what is printed.
 //!
 //! It stands below the program and not above the front, which it need not wait for. The crate above reads a `Task` of the
-//! command line, and uses that what is printed of a job ends with a status of 0 to 3.
+//! command line, and uses that what is printed of a job ends with the status of what came of it.
 #![tactic(auto)]
 
 mod address;
@@ -9,6 +9,7 @@ mod argument;
 mod auditing;
 mod clock;
 mod commands;
+mod configured;
 mod configuring;
 mod contents;
 mod copying;
@@ -23,6 +24,7 @@ mod words;
 pub use address::Address;
 pub use auditing::{Audit, AuditError, AuditOutput, AuditRequest, More, OldDisk, audit_disk};
 pub use clock::now;
+pub use configured::Configured;
 pub use configuring::{ConfiguringError, NewPolicy, configure_disk};
 pub use contents::ContentsError;
 pub use copying::{Copied, CopyingError, NewCopy, NewLimits, copy_disk};

@@ -1,19 +1,26 @@
 // What is printed for a command, and with which status it ends.
 ghost use Rattle.std.specs.Prelude.{◌≡◌, ◌≤◌, IfOk, if◌then◌else◌};
 ghost use Rattle.broker_commands.specs.Auditing.{status_for};
-ghost use Rattle.broker_commands.specs.Trial.{status_of};
+ghost use Rattle.broker_commands.specs.Formatting as formatting;
+ghost use Rattle.broker_commands.specs.Configuring as configuring;
+ghost use Rattle.broker_commands.specs.Migrating as migrating;
+ghost use Rattle.broker_commands.specs.Copying as copying;
+ghost use Rattle.broker_commands.specs.Status.{status_after, status_of_audit, IsJobStatus};
+ghost use Rattle.broker_trial.specs.Trial as trial;
 
-use crate::auditing::{Audit, AuditOutput, OldDisk, audit_disk};
-use crate::configuring::{NewPolicy, configure_disk};
-use crate::copying::{Copied, NewCopy, copy_disk};
-use crate::formatting::{Function, NewDisk, make_disk};
-use crate::migrating::{Migrated, OldVersion, migrate_file};
+use crate::auditing::{Audit, AuditError, AuditOutput, audit_disk};
+use crate::configured::Configured;
+use crate::configuring::{ConfiguringError, configure_disk};
+use crate::copying::{Copied, CopyingError, copy_disk};
+use crate::formatting::{Function, NewDiskError, make_disk};
+use crate::migrating::{Migrated, MigratingError, migrate_file};
 use crate::probing::{Volume, probe_volume};
 use crate::words::Job;
 use audit_report::Older;
 use broker_trial::{Trial, TrialError, run_trial};
 use clap::Error;
 use clap::error::ErrorKind;
+use sector_disk::Disk;
 use std::alloc::AllocGlobal;
 use std::fmt::Display;
 use std::fs::File;
@@ -37,17 +44,22 @@ pub fn print_job<R, W>(rt: &R, job: &Job<'_>, out: &mut W) -> io::Result<u8>
 where
     R: Files<File = File> + Clock + Eprint + AllocGlobal + Copy + Drop,
     W: Write,
-    // claim: A command that waits for nobody ends with status 0 to 3, where its printing does not fail. [print_usage;
-    // print_fault]
-    ensures { IfOk result (λ status. status ≤ 3) }
+    // claim: A command that waits for nobody ends with status 0, 1 or 3, where its printing does not fail: done, refused, or
+    // the device. Of each but `probe` it is that of what came of it. [: job; print_fault; print_usage; print_trial; print_format; print_audit;
+    // print_configure; print_migrate; print_copy]
+    ensures job { IfOk result IsJobStatus }
+    ensures small { IfOk result (λ status. status ≤ 3) }
 {
     match job {
         Job::Trial => print_trial(run_trial(rt.alloc()), out),
-        Job::Format(new) => print_format(rt, new, out),
-        Job::Audit(old) => print_audit(rt, old, out),
-        Job::Configure(new) => print_configure(rt, new, out),
-        Job::Migrate(old) => print_migrate(rt, old, out),
-        Job::Copy(new) => print_copy(rt, new, out),
+        Job::Format(new) => {
+            warn_of_arn(rt, &new.function);
+            print_format(new.sectors, make_disk(rt, new), out)
+        }
+        Job::Audit(old) => print_audit(audit_disk(rt, old), out),
+        Job::Configure(new) => print_configure(told_by(configure_disk(rt, new)), out),
+        Job::Migrate(old) => print_migrate(migrate_file(rt, old), out),
+        Job::Copy(new) => print_copy(copy_disk(rt, new), out),
         Job::Probe(volume) => print_probe(rt, volume, out),
     }
 }
@@ -64,7 +76,7 @@ pub fn print_usage<W: Write>(fault: &Error, out: &mut W) -> io::Result<u8>
 }
 
 fn print_trial<W: Write>(outcome: Result<Trial, TrialError>, out: &mut W) -> io::Result<u8>
-    ensures { IfOk result (λ status. status ≡ status_of outcome) }
+    ensures { IfOk result (λ status. status ≡ status_after trial.is_device_fault outcome) }
 {
     match outcome {
         Ok(done) => {
@@ -83,17 +95,16 @@ fn warn_of_arn<R: Eprint>(rt: &R, function: &Function<'_>) {
     }
 }
 
-// Formats a disk, and prints its size.
-fn print_format<R, W>(rt: &R, new: &NewDisk<'_>, out: &mut W) -> io::Result<u8>
-where
-    R: Files<File = File> + Eprint + AllocGlobal + Copy + Drop,
-    W: Write,
-    ensures { IfOk result (λ status. status ≤ 3) }
+// Prints the size of a disk that was formatted.
+fn print_format<W: Write>(
+    sectors: u64,
+    outcome: Result<(), NewDiskError>,
+    out: &mut W,
+) -> io::Result<u8>
+    ensures { IfOk result (λ status. status ≡ status_after formatting.is_device_fault outcome) }
 {
-    warn_of_arn(rt, &new.function);
-    match make_disk(rt, new) {
+    match outcome {
         Ok(()) => {
-            let sectors = new.sectors;
             writeln!(out, "formatted {sectors} sectors")?;
             Ok(DONE)
         }
@@ -101,27 +112,34 @@ where
     }
 }
 
-// Reads what a disk holds, and prints it.
-fn print_audit<R, W>(rt: &R, old: &OldDisk<'_>, out: &mut W) -> io::Result<u8>
-where
-    R: Files<File = File> + Eprint + AllocGlobal + Copy + Drop,
-    W: Write,
-    ensures { IfOk result (λ status. status ≤ 3) }
+// Prints what a disk holds.
+fn print_audit<W: Write>(outcome: Result<Audit, AuditError>, out: &mut W) -> io::Result<u8>
+    ensures { IfOk result (λ status. status ≡ status_of_audit outcome) }
 {
-    match audit_disk(rt, old) {
+    match outcome {
         Ok(audit) => print_lines(&audit, out),
         Err(fault) => print_fault(&fault, fault.is_device_fault(), out),
     }
 }
 
-// Brings a retry policy in force on a disk, and prints what is in force then.
-fn print_configure<R, W>(rt: &R, new: &NewPolicy<'_>, out: &mut W) -> io::Result<u8>
-where
-    R: Files<File = File> + Clock + Eprint + AllocGlobal + Copy + Drop,
-    W: Write,
-    ensures { IfOk result (λ status. status ≤ 3) }
+// What is in force on a disk that was configured, or why it was not.
+fn told_by<D: Disk>(
+    outcome: Result<Configured<'_, D>, ConfiguringError>,
+) -> Result<(u8, u32), ConfiguringError> {
+    match outcome {
+        Ok(configured) => Ok(configured.told()),
+        Err(why) => Err(why),
+    }
+}
+
+// Prints what is in force on a disk that was configured.
+fn print_configure<W: Write>(
+    outcome: Result<(u8, u32), ConfiguringError>,
+    out: &mut W,
+) -> io::Result<u8>
+    ensures { IfOk result (λ status. status ≡ status_after configuring.is_device_fault outcome) }
 {
-    match configure_disk(rt, new) {
+    match outcome {
         Ok((retries, age)) => {
             writeln!(out, "configured retries {retries} age {age}")?;
             Ok(DONE)
@@ -130,14 +148,14 @@ where
     }
 }
 
-// Migrates a disk, and prints what it then holds.
-fn print_migrate<R, W>(rt: &R, old: &OldVersion<'_>, out: &mut W) -> io::Result<u8>
-where
-    R: Files<File = File> + Eprint + AllocGlobal + Copy + Drop,
-    W: Write,
-    ensures { IfOk result (λ status. status ≤ 3) }
+// Prints what a disk holds that was migrated.
+fn print_migrate<W: Write>(
+    outcome: Result<Migrated, MigratingError>,
+    out: &mut W,
+) -> io::Result<u8>
+    ensures { IfOk result (λ status. status ≡ status_after migrating.is_device_fault outcome) }
 {
-    match migrate_file(rt, old) {
+    match outcome {
         Ok(Migrated { generation, number }) => {
             writeln!(out, "migrated generation {generation} number {number}")?;
             Ok(DONE)
@@ -146,14 +164,11 @@ where
     }
 }
 
-// Copies a disk, and prints how many events that are, and the size of the new one.
-fn print_copy<R, W>(rt: &R, new: &NewCopy<'_>, out: &mut W) -> io::Result<u8>
-where
-    R: Files<File = File> + Eprint + AllocGlobal + Copy + Drop,
-    W: Write,
-    ensures { IfOk result (λ status. status ≤ 3) }
+// Prints how many events were copied, and the size of the new disk.
+fn print_copy<W: Write>(outcome: Result<Copied, CopyingError>, out: &mut W) -> io::Result<u8>
+    ensures { IfOk result (λ status. status ≡ status_after copying.is_device_fault outcome) }
 {
-    match copy_disk(rt, new) {
+    match outcome {
         Ok(Copied { events, sectors }) => {
             writeln!(out, "copied {events} events to {sectors} sectors")?;
             Ok(DONE)
@@ -167,7 +182,7 @@ fn print_probe<R, W>(rt: &R, volume: &Volume<'_>, out: &mut W) -> io::Result<u8>
 where
     R: Files<File = File> + Clock + Eprint + AllocGlobal + Copy + Drop,
     W: Write,
-    ensures { IfOk result (λ status. status ≤ 3) }
+    ensures { IfOk result IsJobStatus }
 {
     match probe_volume(rt, volume) {
         Ok(told) => {

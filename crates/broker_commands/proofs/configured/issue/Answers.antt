@@ -1,7 +1,7 @@
 -- The command is that of the table, and so that of the history.
 use Rattle.std.proofs.Common.{rules}
-use Rattle.broker_commands.proofs.Configured.{configured, refused_at, in_force_behind}
-use Rattle.broker_commands.proofs.configuring.issue.Goals as goal
+use Rattle.broker_commands.proofs.BroughtInForce.{configured, refused_at, in_force_behind}
+use Rattle.broker_commands.proofs.configured.issue.Goals as goal
 
 pub returns-in-Ok-clause-policy : goal.returns-in-Ok-clause-policy
 returns-in-Ok-clause-policy g c =

@@ -1,0 +1,2 @@
+-- Laws that the proofs cite.
+pub mod Statuses
