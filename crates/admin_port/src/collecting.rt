@@ -209,6 +209,6 @@ where
                 Poll::Ready(false) => return Poll::Ready(unavailable(self.alloc)),
             }
         }
-        Poll::Ready(response_to(self.alloc, &self.entries))
+        Poll::Ready(response_to(self.alloc, self.entries.as_slice()))
     }
 }
