@@ -1,6 +1,6 @@
 -- Interrupts after interrupts, until nothing runs.
-use Rattle.std.proofs.Common.{◌≡◌, ℕ, Bool, true, false, List, [], ◌∷◌, ◌++◌, Option, Some, None, Result, Ok, refl, sym, ◌∙◌, ap, subst, append_assoc}
-use Rattle.std.specs.Prelude.{is_some, not}
+use Rattle.std.proofs.Common.{◌≡◌, ℕ, Bool, true, false, List, [], ◌∷◌, ◌++◌, Option, Some, None, Result, Ok, Err, refl, sym, ◌∙◌, ap, subst, append_assoc}
+use Rattle.std.specs.Prelude.{is_some, not, IfOk}
 use Rattle.std.proofs.lemmas.List.{append-nil}
 use Rattle.std.proofs.lemmas.Bool.{true≢false}
 use Rattle.std.proofs.lemmas.List.Elements.{All-append, All-cons, All-nil}
@@ -12,7 +12,9 @@ use Rattle.group_commit.specs.declared.broker.Broker.{Broker}
 use Rattle.group_commit.specs.declared.error.IssueError.{IssueError}
 use Rattle.group_commit.specs.Broker.{settings_of, Stands}
 use Rattle.group_commit.specs.Resume.{interrupt_of, Resumes, TellsRest, AllAtRest}
-use Rattle.lambda_broker.specs.Serving.{IsInterrupt, IsInterrupted, ComesToRest}
+use Rattle.hall_core.specs.Hall.{HallView, StandsFor}
+use Rattle.hall_core.specs.Past.{opening}
+use Rattle.lambda_broker.specs.Serving.{IsInterrupt, IsInterrupted, ComesToRest, OpensAtRest}
 
 -- before the first interrupt
 pub uninterrupted : {D : Type 0} {g : Ghosts D} (view : D → DiskView) (history : List Command) (broker : Broker D g)
@@ -80,3 +82,15 @@ rest_kept view history old new same kept rest = record {
   };
   rests = subst (λ (s : Settings). AllAtRest s (history ++ rest.interrupted.interrupts)) (sym same) rest.rests;
 }
+
+-- two facts of what is Ok
+pub if_ok_both : {T E : Type 0} (P Q R : T → Type 0) (r : Result T E) → ((x : T) → P x → Q x → R x) → IfOk r P → IfOk r Q → IfOk r R
+if_ok_both P Q R (Ok x) step p q = step x p q
+if_ok_both P Q R (Err e) step p q = tt
+
+-- a hall over the broker that came to rest
+pub opens_at_rest : {D : Type 0} {g : Ghosts D} (view : D → DiskView) (extensions : ℕ) (history : List Command) (broker issuer : Broker D g) (hall : HallView)
+    (rest : ComesToRest view history broker) → issuer ≡ broker → StandsFor hall (opening extensions (history ++ rest.interrupted.interrupts))
+    → OpensAtRest view extensions history issuer hall
+opens_at_rest view extensions history broker issuer hall rest same stands =
+    subst (λ (b : Broker _ _). OpensAtRest view extensions history b hall) (sym same) (record { rest = rest; stands = stands })

@@ -1,5 +1,5 @@
 -- What is done before callers are served: for each attempt that the last stop cut off an Interrupt is issued.
-use Rattle.std.specs.Prelude.{◌≡◌, List, ◌++◌, All}
+use Rattle.std.specs.Prelude.{◌≡◌, ℕ, List, ◌++◌, All}
 use Rattle.sector_disk.specs.Disk.{DiskView}
 use Rattle.sector_disk.specs.declared.disk.Disk.{Ghosts}
 use Rattle.invoke_records.specs.declared.command.Command.{Command}
@@ -7,6 +7,8 @@ use Rattle.invoke_records.specs.declared.command.Kind.TheVariants.{Interrupt}
 use Rattle.group_commit.specs.declared.broker.Broker.{Broker}
 use Rattle.group_commit.specs.Broker.{settings_of, Stands}
 use Rattle.group_commit.specs.Resume.{AllAtRest}
+use Rattle.hall_core.specs.Hall.{HallView, StandsFor}
+use Rattle.hall_core.specs.Past.{opening}
 
 -- it pushes back an attempt that was cut off
 abbrev pub IsInterrupt : Command → Type 0
@@ -22,3 +24,9 @@ pub record IsInterrupted {D : Type 0} {g : Ghosts D} (view : D → DiskView) (hi
 pub record ComesToRest {D : Type 0} {g : Ghosts D} (view : D → DiskView) (history : List Command) (new : Broker D g) : Type 0 where
   pub interrupted : IsInterrupted view history new
   pub rests : AllAtRest (settings_of new) (history ++ interrupted.interrupts)
+
+-- a hall to which nothing has come, over a broker that came to rest behind this history
+pub record OpensAtRest {D : Type 0} {g : Ghosts D} (view : D → DiskView) (extensions : ℕ) (history : List Command)
+    (broker : Broker D g) (hall : HallView) : Type 0 where
+  pub rest : ComesToRest view history broker
+  pub stands : StandsFor hall (opening extensions (history ++ rest.interrupted.interrupts))

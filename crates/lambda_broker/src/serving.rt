@@ -2,7 +2,10 @@
 ghost use Rattle.std.specs.Prelude.{◌≡◌, [], IfOk, IfSome, OnOk, is_some};
 ghost use Rattle.group_commit.specs.Broker.{pending_of, settings_of};
 ghost use Rattle.group_commit.specs.Promises.{ForEachHistory};
-ghost use Rattle.lambda_broker.specs.Serving.{ComesToRest};
+ghost use Rattle.group_commit.specs.IssuerBroker.{issuer_of};
+ghost use Rattle.lambda_broker.specs.Serving.{ComesToRest, OpensAtRest};
+ghost use Rattle.hall_core.specs.Hall.{view_of, StandsFor};
+ghost use Rattle.hall_core.specs.Past.{opening};
 ghost use Rattle.hall_core.specs.Fresh.{IsFresh};
 ghost use Rattle.receipts.specs.Desks.{desk_count};
 
@@ -190,6 +193,10 @@ fn hall_over<D: Disk + Drop>(
     requires { pending_of broker ≡ [] }
     ensures nothing { IfOk result (λ hall. pending_of hall.issuer ≡ []) }
     ensures fresh { IfOk result (λ hall. IsFresh (settings_of hall.issuer) hall) }
+    ensures same { IfOk result (λ hall. hall.issuer ≡ broker) }
+    ensures dialect { IfOk result (λ hall. (view_of (issuer_of D.view) hall).dialect ≡ at.now.dialect) }
+    ensures stands { ForEachHistory D.view broker (λ history.
+        IfOk result (λ hall. StandsFor (view_of (issuer_of D.view) hall) (opening at.now.extensions history))) }
 {
     if broker.is_broken() {
         return Err(ServingError::Broken);
@@ -211,8 +218,13 @@ fn hall_at_rest<R, D>(
 where
     R: Clock + Wait + Eprint + AllocGlobal,
     D: Disk + Drop,
+    // claim: The hall that is served stands for the history with those interrupts, in its dialect and for its extensions.
+    // [: rest, dialect]
     ensures nothing { IfOk result (λ hall. pending_of hall.issuer ≡ []) }
     ensures fresh { IfOk result (λ hall. IsFresh (settings_of hall.issuer) hall) }
+    ensures dialect { IfOk result (λ hall. (view_of (issuer_of D.view) hall).dialect ≡ at.now.dialect) }
+    ensures rest { ForEachHistory D.view broker (λ history.
+        IfOk result (λ hall. OpensAtRest D.view at.now.extensions history hall.issuer (view_of (issuer_of D.view) hall))) }
 {
     let mut broker = broker;
     let held = broker.table().snapshot()?.rows.as_slice().len();

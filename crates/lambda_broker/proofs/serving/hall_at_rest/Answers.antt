@@ -1,0 +1,13 @@
+use Rattle.std.proofs.Common.{◌++◌}
+use Rattle.group_commit.specs.IssuerBroker.{issuer_of}
+use Rattle.hall_core.specs.Hall.{view_of}
+use Rattle.lambda_broker.proofs.Resting.{if_ok_both, opens_at_rest}
+use Rattle.lambda_broker.proofs.serving.hall_at_rest.Goals as goal
+
+pub returns-clause-rest : goal.returns-clause-rest
+returns-clause-rest g c = λ history stands.
+    let rest = c.in_ok-resume.ensures.rest history stands in
+    if_ok_both _ _ _ c.hall_over.result
+    (λ hall same opens. opens_at_rest g.D.Disk.view c.args.at.now.extensions history c.resume.new.broker hall.issuer (view_of (issuer_of g.D.Disk.view) hall) rest same opens)
+    c.hall_over.ensures.same
+    (c.hall_over.ensures.stands (history ++ rest.interrupted.interrupts) rest.interrupted.stands)
