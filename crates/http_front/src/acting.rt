@@ -66,7 +66,10 @@ where
     T: Trace,
 {
     fn act(&self, rt: R, call: Call) -> Option<Waiting<R, L, T>> {
-        ask(rt, self.port.as_ref()?, call).ok()
+        match ask(rt, self.port.as_ref()?, call) {
+            Ok(waiting) => Some(waiting),
+            Err(_) => None,
+        }
     }
 
     fn commit(&self, rt: R) {
