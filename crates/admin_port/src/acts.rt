@@ -57,11 +57,7 @@ fn whole(alloc: Global, body: Result<Vec<u8>, BodyError>) -> Result<Vec<u8>, Ref
 
 impl<A: Drop> Acts<A> {
     /// He may act by this, if he may at all.
-    pub(crate) fn by(
-        alloc: Global,
-        acts: bool,
-        acting: A,
-    ) -> Result<Option<Acts<A>>, AllocError> {
+    pub(crate) fn by(alloc: Global, acts: bool, acting: A) -> Result<Option<Acts<A>>, AllocError> {
         if !acts {
             return Ok(None);
         }

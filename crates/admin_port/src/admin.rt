@@ -119,11 +119,7 @@ where
         let history = History::new(alloc)?;
         let (context, listening) = context_of(alloc, self, reader, meters, history, started_at);
         let context = Arc::new(alloc, context)?;
-        let application = AdminApplication {
-            rt,
-            context,
-            acts,
-        };
+        let application = AdminApplication { rt, context, acts };
         http_port::serve(rt, application, listening, HttpLimits::default(), ending)?;
         Ok(AdminServed { served: () })
     }

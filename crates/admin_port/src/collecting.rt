@@ -79,12 +79,7 @@ fn response_to<R: Wait + Drop, L: Ledger, T: Trace>(
 }
 
 // Has the record of a line judged: whether that was not refused.
-fn judge_at<R, L, T, A>(
-    rt: R,
-    acting: &A,
-    entries: &mut Vec<Entry<R, L, T>>,
-    place: usize,
-) -> bool
+fn judge_at<R, L, T, A>(rt: R, acting: &A, entries: &mut Vec<Entry<R, L, T>>, place: usize) -> bool
 where
     R: Wait + Drop + Copy,
     L: Ledger,

@@ -42,11 +42,7 @@ impl<L: Ledger, T: Trace> CallersPort<L, T> {
 }
 
 // A call comes to a port now, as from a caller.
-fn ask<R, L, T>(
-    rt: R,
-    port: &Arc<Port<L, T>>,
-    call: Call,
-) -> Result<Waiting<R, L, T>, ArrivalError>
+fn ask<R, L, T>(rt: R, port: &Arc<Port<L, T>>, call: Call) -> Result<Waiting<R, L, T>, ArrivalError>
 where
     R: Wait + Clock + RandomSource + Eprint + Drop + Copy,
     L: Ledger,
