@@ -153,7 +153,8 @@ pub(crate) fn serve_command<'a>(alloc: Global) -> Result<Command<'a>, AllocError
 /// `stop`.
 pub(crate) fn stop_command<'a>(alloc: Global) -> Result<Command<'a>, AllocError> {
     let port = "Port of the broker's callers";
-    let about = "Stop a broker that serves, as POST /broker/stop does, and wait until nobody listens there";
+    let about =
+        "Stop a broker that serves, as POST /broker/stop does, and wait until nobody listens there";
     let told = [
         Argument::needed("port", port).of(value_parser!(u16).range(1..65536)),
         reach("IP address of the callers' port"),

@@ -149,10 +149,7 @@ fn print_configure<W: Write>(
 }
 
 // Prints what a disk holds that was migrated.
-fn print_migrate<W: Write>(
-    outcome: Result<Migrated, MigratingError>,
-    out: &mut W,
-) -> io::Result<u8>
+fn print_migrate<W: Write>(outcome: Result<Migrated, MigratingError>, out: &mut W) -> io::Result<u8>
     ensures { IfOk result (λ status. status ≡ status_after migrating.is_device_fault outcome) }
 {
     match outcome {

@@ -113,12 +113,7 @@ impl<L: Ledger, T: Trace> Begun<L, T> {
     }
 
     // After it, with its answer.
-    fn end<A: Drop>(
-        self,
-        answer: A,
-        locked: &Locked<L, T>,
-        desk: &Desk<L, T>,
-    ) -> Witnessed<A, L, T>
+    fn end<A: Drop>(self, answer: A, locked: &Locked<L, T>, desk: &Desk<L, T>) -> Witnessed<A, L, T>
         ensures answer { result.answer ≡ answer }
         ensures seen { IsOfStep result self.before.value locked.now self.from.value desk.now.steps }
     {
@@ -213,11 +208,7 @@ impl<L: Ledger, T: Trace> Locked<L, T> {
     }
 
     /// `forget`, and what was seen around it.
-    pub(crate) fn forget_seen(
-        &mut self,
-        desk: &mut Desk<L, T>,
-        slot: u64,
-    ) -> Witnessed<(), L, T>
+    pub(crate) fn forget_seen(&mut self, desk: &mut Desk<L, T>, slot: u64) -> Witnessed<(), L, T>
         ensures desk { MakesStep result.from.value result.to.value desk.old desk.new }
         ensures forgets { Forgets result.before.value result.after.value slot }
         ensures seen { IsOfStep result self.old self.new desk.old.steps desk.new.steps }
