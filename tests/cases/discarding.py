@@ -36,6 +36,11 @@ def held(broker):
     return sum(count for name, count in broker.numbers().items() if name.startswith("events{"))
 
 
+def waiting(broker):
+    numbers = broker.numbers()
+    return sum(numbers[f'events{{standing="{standing}"}}'] for standing in ("waiting", "due_again"))
+
+
 def collected(broker, count):
     broker.until_number("records_collected_total", count)
     same(broker.number("open_slots"), 0)
@@ -135,7 +140,7 @@ def a_kill_in_the_midst_loses_no_event_that_has_not_ended(broker):
     broker.serve("--discard", "both")
     # An answer whose 202 a kill cut off may count, or its event comes again.
     unsure = sent - answered
-    while accepted - answered - unsure or broker.number('events{standing="waiting"}'):
+    while accepted - answered - unsure or waiting(broker):
         event = broker.next()
         same(event.status, 200)
         assert event.id not in answered, event.id
