@@ -121,7 +121,7 @@ pub(crate) fn serve_command<'a>(alloc: Global) -> Result<Command<'a>, AllocError
     let standby = "Wait for a disk that another program has open";
     let discard =
         "Whose records are collected as soon as they are durable, so that nobody reads them";
-    let admin = "Port of the operator, who only looks, 1024 to 65535, on the loopback address";
+    let admin = "Port of the operator, 1024 to 65535, on the loopback address";
     let acts = "Let the operator act, too";
     let dialects = ValueParser::Names(&["profile", "aws"]);
     let sides = ValueParser::Names(&["success", "failure", "both"]);
