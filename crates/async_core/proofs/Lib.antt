@@ -11,3 +11,4 @@ pub mod KeptRows
 pub mod Ranks
 pub mod Walks
 pub mod Expiries
+pub mod NextMoments

@@ -12,6 +12,7 @@ pub mod Ids
 pub mod Keys
 pub mod Kept
 pub mod Choice
+pub mod NextMoment
 pub mod Equality
 pub mod Steps
 pub mod Examples

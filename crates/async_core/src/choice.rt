@@ -91,7 +91,7 @@ pub(crate) fn lesser(a: u64, b: u128) -> u128
     if a < b { a } else { b }
 }
 
-fn ripe_by(too_old: u128, standing: Standing) -> u128
+pub(crate) fn ripe_by(too_old: u128, standing: Standing) -> u128
     ensures { result ≡ meant.ripe_by too_old standing }
 {
     match standing {

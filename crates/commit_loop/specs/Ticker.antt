@@ -1,5 +1,5 @@
 -- What a ticker does, step by step and turn by turn.
-use Rattle.std.specs.Prelude.{◌≡◌, ℕ, Bool, true, false, List, [], ◌∷◌, ◌++◌, All, replicate}
+use Rattle.std.specs.Prelude.{◌≡◌, ℕ, Bool, true, false, List, [], ◌∷◌, ◌++◌, All, replicate, nat_lt}
 use Rattle.std.specs.List.{flat_map}
 use Rattle.commit_loop.specs.declared.gate.Turn.{Turn}
 use Rattle.commit_loop.specs.declared.gate.Turn.TheVariants as turn
@@ -20,6 +20,11 @@ pub data Step : Type 0 where
 abbrev pub steps_of_moves : ℕ → List Step
 steps_of_moves made = replicate made (ticked true) ++ ticked false ∷ []
 
+-- the committer is called where this holds
+abbrev pub steps_of_call : Bool → List Step
+steps_of_call true = called ∷ []
+steps_of_call false = []
+
 -- what is done in a turn that does not end the loop
 pub data Deed : Type 0 where
   moves : (made : ℕ) → Deed
@@ -30,9 +35,9 @@ abbrev pub said_at : Deed → Turn
 said_at (moves made) = turn.Commit
 said_at skips = turn.Skip
 
--- its steps
+-- its steps: nobody is called where no move was made
 abbrev pub steps_of_deed : Deed → List Step
-steps_of_deed (moves made) = steps_of_moves made ++ called ∷ slept ∷ []
+steps_of_deed (moves made) = steps_of_moves made ++ (steps_of_call (nat_lt 0 made) ++ slept ∷ [])
 steps_of_deed skips = slept ∷ []
 
 -- a turn that did not end the loop

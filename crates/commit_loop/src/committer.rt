@@ -80,7 +80,8 @@ pub trait Committing {
     fn ring_all(&mut self) -> Self::RungForAll
         ensures { leads self.old (rang_all ∷ []) self.new };
 
-    /// Sleeps until it is called, or has been since the last time.
+    /// Sleeps until it is called, or has been since the last time. Where something is left to do that nobody calls for, it
+    /// sleeps for a while at most.
     fn sleep(&mut self) -> Self::Slept
         ensures { leads self.old (slept ∷ []) self.new };
 

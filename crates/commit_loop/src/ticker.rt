@@ -1,8 +1,8 @@
 // The ticker's loop.
-ghost use Rattle.std.specs.Prelude.{◌≡◌, ℕ, Bool, List, [], ◌∷◌, ◌++◌};
+ghost use Rattle.std.specs.Prelude.{◌≡◌, ℕ, Bool, List, [], ◌∷◌, ◌++◌, nat_lt};
 ghost use Rattle.std.specs.Bool.{OnTrue, OnFalse};
 ghost use Rattle.commit_loop.specs.Ticker.{Step, counted, ticked, called, slept};
-ghost use Rattle.commit_loop.specs.Ticker.{steps_of_moves, Acts, IsTurn, IsEnd, IsRun};
+ghost use Rattle.commit_loop.specs.Ticker.{steps_of_moves, steps_of_call, Acts, IsTurn, IsEnd, IsRun};
 ghost use Rattle.commit_loop.specs.declared.gate.Turn.TheVariants.{End};
 
 use crate::gate::{Gate, Turn};
@@ -46,7 +46,7 @@ pub trait Ticking {
     fn call(&mut self) -> Self::Called
         ensures { leads self.old (called ∷ []) self.new };
 
-    /// Sleeps until the next turn.
+    /// Sleeps until the next turn: as long as no move is due, or less.
     fn sleep(&mut self) -> Self::Slept
         ensures { leads self.old (slept ∷ []) self.new };
 
@@ -57,15 +57,27 @@ pub trait Ticking {
     ghost goes_on: { (first second third : Self) (before after : List Step) → leads first before second → leads second after third → leads first (before ++ after) third };
 }
 
-// Makes the moves that are due.
-fn make_moves<R: Wait, T: Ticking>(rt: &R, ticker: &mut T)
-    ensures { (made : ℕ) × T.leads ticker.old (steps_of_moves made) ticker.new }
+// Makes the moves that are due: whether it made one.
+fn make_moves<R: Wait, T: Ticking>(rt: &R, ticker: &mut T) -> bool
+    ensures { (made : ℕ) × (result ≡ nat_lt 0 made) × T.leads ticker.old (steps_of_moves made) ticker.new }
 {
+    let mut any = false;
     for _ in rt.forever() {
         let (moved, _looked) = ticker.tick();
         if !moved {
             break;
         }
+        any = true;
+    }
+    any
+}
+
+// Calls the committer, where a move was made.
+fn call<T: Ticking>(ticker: &mut T, moved: bool)
+    ensures { T.leads ticker.old (steps_of_call moved) ticker.new }
+{
+    if moved {
+        ticker.call();
     }
 }
 
@@ -76,8 +88,8 @@ fn act<R: Wait, T: Ticking>(rt: &R, ticker: &mut T, said: Turn) -> bool
 {
     match said {
         Turn::Commit => {
-            make_moves(rt, ticker);
-            ticker.call();
+            let moved = make_moves(rt, ticker);
+            call(ticker, moved);
             ticker.sleep();
             true
         }
@@ -99,11 +111,11 @@ fn turn<R: Wait, G: Gate, T: Ticking>(rt: &R, gate: &G, ticker: &mut T) -> bool
     act(rt, ticker, said)
 }
 
-/// At each turn makes all moves that are due and calls the committer, where the gate says `Commit`, and sleeps; at `Skip` it
-/// only sleeps. It goes on until the gate ends the loop.
+/// At each turn makes all moves that are due, where the gate says `Commit`, calls the committer if there was one, and sleeps; at
+/// `Skip` it only sleeps. It goes on until the gate ends the loop.
 pub fn tick_all<R: Wait, G: Gate, T: Ticking>(rt: &R, gate: &G, ticker: &mut T)
-    // claim: Where its gate says `Commit`, a turn makes moves until one is not made, calls the committer and sleeps. Else
-    // it sleeps.
+    // claim: Where its gate says `Commit`, a turn makes moves until one is not made, calls the committer if one was, and
+    // sleeps. Else it sleeps.
     ensures { IsRun T.leads (G.says gate.now) ticker.old ticker.new }
 {
     for _ in rt.forever() {

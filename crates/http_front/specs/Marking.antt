@@ -1,10 +1,16 @@
 -- What a ticker has marked, beside the steps that it made.
-use Rattle.std.specs.Prelude.{◌≡◌, ◌⊎◌, ℕ, ◌+◌, true, false, List, sum_by, None}
+use Rattle.std.specs.Prelude.{◌≡◌, ◌⊎◌, ℕ, ◌+◌, Bool, true, false, List, sum_by, None}
 use Rattle.hall_core.specs.declared.error.HallError.{HallError}
 use Rattle.hall_core.specs.Hall.{HallView}
 use Rattle.hall_core.specs.Past.{tick}
 use Rattle.receipts.specs.UnderLock.{AnswersItsNumber, IsNotMoved}
 use Rattle.commit_loop.specs.Ticker.{Step, counted, ticked, called, slept}
+use Rattle.http_front.specs.declared.tried.Tried.{Tried}
+use Rattle.http_front.specs.declared.tried.Tried.TheVariants.{Made}
+
+abbrev pub is_made : Tried → Bool
+is_made Made = true
+is_made other = false
 
 -- how many moves a step made
 abbrev pub moves_in : Step → ℕ

@@ -8,6 +8,7 @@ ghost use Rattle.http_front.specs.Refusals.{IsArrivalError};
 use crate::drawing::words;
 use crate::error::ArrivalError;
 use crate::resets::{ResetReport, note_timeout};
+use crate::tried::Tried;
 use api_core::Call;
 use hall_core::HallError;
 use long_poll::{Arrived, Port};
@@ -53,21 +54,70 @@ pub(crate) struct Handed<L: Ledger, T: Trace> {
     pub(crate) arrived: Arrived<L, T>,
     /// Whether there is something to commit.
     pub(crate) has_command: bool,
+    /// Whether a move behind it was refused, which may be due still.
+    pub(crate) is_move_left: bool,
 }
 
-// Makes the moves that are due: whether there was one.
-fn make_moves<R: Wait + Eprint, L: Ledger, T: Trace>(rt: &R, port: &Port<L, T>, now: u64) -> bool
+// What came of the moves behind a call.
+#[derive(Clone, Copy)]
+struct Moves {
+    /// Whether there was one.
+    any: bool,
+    /// Whether the last was refused.
+    is_one_left: bool,
+}
+
+impl Moves {
+    const NONE: Moves = Moves {
+        any: false,
+        is_one_left: false,
+    };
+}
+
+// Makes one move that is due.
+fn make_move<R: Wait + Eprint, L: Ledger, T: Trace>(rt: &R, port: &Port<L, T>, now: u64) -> Tried
     requires { now ≤ greatest_moment }
 {
-    let mut moved = false;
-    for _ in rt.forever() {
-        let Ok(Some(issued)) = port.tick(rt, now).answer else {
-            break;
-        };
-        note_timeout(rt, Some(issued));
-        moved = true;
+    match port.tick(rt, now).answer {
+        Ok(Some(issued)) => {
+            note_timeout(rt, Some(issued));
+            Tried::Made
+        }
+        Ok(None) => Tried::NothingDue,
+        Err(_) => Tried::Refused,
     }
-    moved
+}
+
+// Makes the moves that are due.
+fn make_moves<R: Wait + Eprint, L: Ledger, T: Trace>(rt: &R, port: &Port<L, T>, now: u64) -> Moves
+    requires { now ≤ greatest_moment }
+{
+    let mut moves = Moves::NONE;
+    for _ in rt.forever() {
+        let tried = make_move(rt, port, now);
+        if !tried.is_made() {
+            moves.is_one_left = tried.is_refused();
+            break;
+        }
+        moves.any = true;
+    }
+    moves
+}
+
+// Makes the moves behind a call, where one may be possible.
+fn follow<R: Wait + Eprint, L: Ledger, T: Trace>(
+    rt: &R,
+    port: &Port<L, T>,
+    now: u64,
+    can_move: bool,
+) -> Moves
+    requires { now ≤ greatest_moment }
+{
+    if can_move {
+        make_moves(rt, port, now)
+    } else {
+        Moves::NONE
+    }
 }
 
 /// A call comes to the port's office, as `Port::arrive` says.
@@ -105,7 +155,7 @@ pub(crate) fn arrive<R: Wait + Clock + RandomSource + Eprint, L: Ledger, T: Trac
         (hall_in handed.arrived.seen.after.value.hall) handed.arrived.slot) }
     ensures refused { IfErr result IsArrivalError }
 {
-    let moves = may_move(&call);
+    let can_move = may_move(&call);
     let words = words_for(rt, &call)?;
     let now = Moment::now(rt)?.millis();
     let reports = ResetReport::of(&call).is_some();
@@ -113,10 +163,11 @@ pub(crate) fn arrive<R: Wait + Clock + RandomSource + Eprint, L: Ledger, T: Trac
     if !reports {
         note_timeout(rt, arrived.issued());
     }
-    let moved = moves && make_moves(rt, port, now);
-    let has_command = moved || arrived.issued().is_some();
+    let moves = follow(rt, port, now, can_move);
+    let has_command = moves.any || arrived.issued().is_some();
     Ok(Handed {
         arrived,
         has_command,
+        is_move_left: moves.is_one_left,
     })
 }

@@ -25,6 +25,9 @@ use std::sync::Wait;
 use std::sync::ledger::Ledger;
 use std::time::{Clock, Instant};
 
+/// How long the committer sleeps at most where something is left to do that nobody calls for, in milliseconds.
+const PAUSE: u64 = 100;
+
 /// What the committer works with: a desk, the half of the broker over the disk, and a seat of the board.
 #[derive(Drop)]
 pub struct Committer<L: Ledger, T: Trace, D: Disk> {
@@ -39,6 +42,15 @@ pub(crate) fn state_of<D: Disk>(half: &DiskHalf<D>) -> DiskState {
         generation: half.generation(),
         sectors: half.sectors(),
         free_sectors: half.free_sectors(),
+    }
+}
+
+// Sleeps until the committer is called. Where something is left to do that nobody calls for, not for long.
+fn sleep<R: Wait + Clock, L: Ledger, T: Trace>(rt: &R, front: &FrontState<L, T>) -> Slept {
+    if front.is_unfinished(rt) {
+        front.wake.wait_at_most(rt, PAUSE)
+    } else {
+        front.wake.wait(rt)
     }
 }
 
@@ -120,7 +132,7 @@ impl<R: Wait + Clock, L: Ledger, T: Trace, D: Disk> Committing for AtFront<'_, R
     }
 
     fn sleep(&mut self) -> Slept {
-        self.front.wake.wait(self.rt)
+        sleep(self.rt, self.front)
     }
 
     ghost stays = { λ value. (
@@ -150,8 +162,8 @@ impl<L: Ledger, T: Trace, D: Disk + Drop> Committer<L, T, D> {
     }
 
     /// Commits as the gate says, until it ends the loop, and gives the committer back: all that is pending at a turn
-    /// becomes durable by one commit. Where nothing is pending, or a commit was refused, it sleeps until the next request
-    /// or the ticker's next turn; where the gate skips what is pending, it is asked again.
+    /// becomes durable by one commit. Where nothing is pending, or a commit was refused, it sleeps until the next command, or
+    /// for a while, where something is left to do; where the gate skips what is pending, it is asked again.
     ///
     /// On an honest disk a stop at any moment leaves a legal stop of the half's list with what it took: a beginning of that with
     /// all that was durable at the call.

@@ -124,6 +124,13 @@ impl<L: Ledger, T: Trace> FrontState<L, T> {
         }
     }
 
+    /// Whether something is left to do that nobody calls for: what is pending where no commit is under way, or the end of a front
+    /// that is stopped or broken, once the last of its replies was told.
+    pub(crate) fn is_unfinished<R: Wait>(&self, rt: &R) -> bool {
+        let (rest, _seen) = self.office.rest(rt).split();
+        rest.stops || rest.pending > 0 || self.bell.has_broken()
+    }
+
     /// That the committer's loop ends now, if it does: the threads were told to end, or all is done.
     pub(crate) fn ended<R: Wait>(&self, rt: &R) -> Option<FrontEnded> {
         match self.told_to_end() {

@@ -54,13 +54,17 @@ impl Signals {
     }
 }
 
-/// What the threads of a front share: the office and the bell, what the committer sleeps on, and whether the front ends.
+/// What the threads of a front share: the office and the bell, what the committer and the ticker sleep on, and whether the front
+/// ends.
 #[derive(Drop)]
 pub struct FrontState<L: Ledger, T: Trace> {
     pub(crate) alloc: Global,
     pub(crate) office: Arc<Office<L, T>>,
     pub(crate) bell: Arc<Bell>,
+    /// What the committer sleeps on.
     pub(crate) wake: Wake,
+    /// What the ticker sleeps on.
+    pub(crate) ticker_wake: Wake,
     pub(crate) ending: CancellationToken,
     /// What is counted for an operator.
     pub(crate) meters: Arc<Meters>,
@@ -102,6 +106,7 @@ impl<L: Ledger, T: Trace> FrontState<L, T> {
             office,
             bell,
             wake: Wake::new(),
+            ticker_wake: Wake::new(),
             ending,
             meters,
             settings,
@@ -111,7 +116,8 @@ impl<L: Ledger, T: Trace> FrontState<L, T> {
         })
     }
 
-    /// A call comes to a port. Where there is something to commit, or the broker is to stop, the committer is called.
+    /// A call comes to a port. Where there is something to commit, or the broker is to stop, the committer is called; where a move
+    /// was refused that may be due still, the ticker.
     ///
     /// It is refused: `System` (the clock or the source of random words failed), and as `Port::arrive` refuses it.
     pub(crate) fn arrive<R: Wait + Clock + RandomSource + Eprint>(
@@ -134,9 +140,13 @@ impl<L: Ledger, T: Trace> FrontState<L, T> {
         let Handed {
             arrived,
             has_command,
+            is_move_left,
         } = arrive(rt, port, call)?;
         if stops || has_command {
             self.wake.call(rt);
+        }
+        if is_move_left {
+            self.ticker_wake.call(rt);
         }
         Ok(arrived)
     }

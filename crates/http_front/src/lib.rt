@@ -23,6 +23,7 @@ mod resets;
 mod serving;
 mod starting;
 mod ticking;
+mod tried;
 mod wake;
 
 pub use acting::CallersPort;

@@ -92,6 +92,7 @@ where
     };
     let (_desk, half) = committer.run(&rt, front, &until).into_parts();
     front.ending.cancel();
+    front.ticker_wake.call(&rt);
     let _desk = ticking.join(&rt);
     Ok(half)
 }

@@ -3,12 +3,14 @@ ghost use Rattle.std.specs.Prelude.{◌≡◌, ◌≤◌, ◌+◌, [], ◌∷◌
 ghost use Rattle.hall_core.specs.Hall.{pending_in};
 ghost use Rattle.commit_loop.specs.Ticker.{Step, ticked, IsRun};
 ghost use Rattle.receipts.specs.Locked.{hall_in, issuer_in};
-ghost use Rattle.http_front.specs.Marking.{HasMarked, FindsNothing, FindsNothingFor};
+ghost use Rattle.http_front.specs.Marking.{is_made, HasMarked, FindsNothing, FindsNothingFor};
+ghost use Rattle.http_front.specs.Resting.{pause_until, IsPauseAt};
 ghost use Rattle.port_meters.specs.Moments.{millis_in};
 ghost use Rattle.http_front.specs.laws.Marked.{marked_nothing, marked_more};
 
 use crate::front_state::FrontState;
 use crate::resets::note_timeout;
+use crate::tried::Tried;
 use crate::wake::{Called, Slept, pause};
 use commit_loop::{Gate, Ticking};
 use port_meters::{Moment, NoClock};
@@ -18,8 +20,12 @@ use std::sync::Wait;
 use std::sync::ledger::Ledger;
 use std::time::Clock;
 
-/// How long the ticker sleeps between its turns, in milliseconds.
-const PAUSE: u64 = 100;
+/// How long the ticker sleeps at most, in milliseconds. A command makes nothing due sooner than so long after it, but for what is
+/// due at once.
+const MOST_PAUSE: u64 = 1000;
+
+/// How long it sleeps at most where a move was refused, or the clock cannot be read, in milliseconds.
+const RETRY_PAUSE: u64 = 100;
 
 // A ticker at a front.
 #[derive(Drop)]
@@ -27,28 +33,86 @@ struct AtFront<'a, R, L: Ledger, T: Trace> {
     rt: &'a R,
     front: &'a FrontState<L, T>,
     desk: Desk<L, T>,
+    /// The moment at which it was found last that no move is due. None where that is not known.
+    quiet_at: Option<Moment>,
 }
 
-/// What the office held when a move was looked for, at a moment that the clock showed.
+/// What the office held when a move was looked for, at a moment that the clock showed, and what came of it.
 #[derive(Drop)]
 struct Looked<L: Ledger, T: Trace> {
     seen: Witnessed<(), L, T>,
     at: Moment,
+    tried: Tried,
 }
 
-// Makes a move that is due at this moment: whether it made one. The bell is told which parked polls it answered, and who keeps
+// The moment of a look, where no move was due.
+fn quiet_at<L: Ledger, T: Trace>(looked: &Result<Looked<L, T>, NoClock>) -> Option<Moment> {
+    match looked {
+        Ok(looked) => match looked.tried {
+            Tried::NothingDue => Some(looked.at),
+            _ => None,
+        },
+        Err(_) => None,
+    }
+}
+
+// From now until a moment, in milliseconds, where there is one, and a second at most.
+fn pause_until(next: Option<u128>, now: u64) -> u64
+    ensures { result ≡ pause_until next now }
+{
+    match next {
+        Some(next) => {
+            let left = next.saturating_sub(u128::from(now));
+            left.min(u128::from(MOST_PAUSE)) as u64
+        }
+        None => MOST_PAUSE,
+    }
+}
+
+// How long the ticker sleeps from now on, where no move was due at an earlier moment.
+fn pause_at<R: Wait, L: Ledger, T: Trace>(
+    rt: &R,
+    front: &FrontState<L, T>,
+    quiet: Moment,
+    now: u64,
+) -> Witnessed<u64, L, T>
+    ensures { IsPauseAt (hall_in result.before.value.hall) (millis_in quiet.shown) now result.answer }
+{
+    let (next, seen) = front.office.next_moment(rt, quiet.millis()).split();
+    seen.with(pause_until(next, now))
+}
+
+// Sleeps until the next moment, or until it is called, where no move was due at an earlier one; else not for long.
+fn sleep<R: Wait + Clock, L: Ledger, T: Trace>(
+    rt: &R,
+    front: &FrontState<L, T>,
+    quiet: Option<Moment>,
+) -> Slept {
+    let Some(quiet) = quiet else {
+        return pause(rt, RETRY_PAUSE);
+    };
+    match Moment::now(rt) {
+        Ok(now) => {
+            let (millis, _seen) = pause_at(rt, front, quiet, now.millis()).split();
+            front.ticker_wake.wait_at_most(rt, millis)
+        }
+        Err(_) => pause(rt, RETRY_PAUSE),
+    }
+}
+
+// Makes a move that is due at this moment: what came of that. The bell is told which parked polls it answered, and who keeps
 // a log, which environment was reset.
 fn make_move<R: Wait + Eprint, L: Ledger, T: Trace>(
     rt: &R,
     front: &FrontState<L, T>,
     desk: &mut Desk<L, T>,
     at: Moment,
-) -> Witnessed<bool, L, T>
+) -> Witnessed<Tried, L, T>
     // claim: Where it makes no move though the clock told a moment, none was due before it, or there is a reason
-    // there. [: marked, nothing; tick]
-    ensures marked { HasMarked (length (map T.mark desk.old.own.items)) (ticked result.answer ∷ [])
+    // there. It then sleeps until the next moment, a second at most. [: marked, nothing; tick; pause_at]
+    ensures marked { HasMarked (length (map T.mark desk.old.own.items)) (ticked (is_made result.answer) ∷ [])
         (length (map T.mark desk.new.own.items)) }
-    ensures nothing { result.answer ≡ false → FindsNothing (hall_in result.before.value.hall) desk.old.told (millis_in at.shown) }
+    ensures nothing { is_made result.answer ≡ false → FindsNothing (hall_in result.before.value.hall) desk.old.told (millis_in at.shown) }
 {
     let (answer, seen) = front.office.tick(rt, desk, at.millis()).split();
     match answer {
@@ -56,10 +120,10 @@ fn make_move<R: Wait + Eprint, L: Ledger, T: Trace>(
             let answered = desk.take_answered();
             front.bell.answer(rt, &answered, number);
             note_timeout(rt, desk.issued());
-            seen.with(true)
+            seen.with(Tried::Made)
         }
-        Ok(None) => seen.with(false),
-        Err(_) => seen.with(false),
+        Ok(None) => seen.with(Tried::NothingDue),
+        Err(_) => seen.with(Tried::Refused),
     }
 }
 
@@ -76,8 +140,8 @@ fn tick<R: Wait + Clock + Eprint, L: Ledger, T: Trace>(
 {
     match Moment::now(rt) {
         Ok(at) => {
-            let (moved, seen) = make_move(rt, front, desk, at).split();
-            (moved, Ok(Looked { seen, at }))
+            let (tried, seen) = make_move(rt, front, desk, at).split();
+            (tried.is_made(), Ok(Looked { seen, at, tried }))
         }
         Err(none) => (false, Err(none)),
     }
@@ -105,7 +169,9 @@ impl<R: Wait + Clock + Eprint, L: Ledger, T: Trace> Ticking for AtFront<'_, R, L
     }
 
     fn tick(&mut self) -> (bool, Result<Looked<L, T>, NoClock>) {
-        tick(self.rt, self.front, &mut self.desk)
+        let (moved, looked) = tick(self.rt, self.front, &mut self.desk);
+        self.quiet_at = quiet_at(&looked);
+        (moved, looked)
     }
 
     fn call(&mut self) -> Called {
@@ -113,7 +179,7 @@ impl<R: Wait + Clock + Eprint, L: Ledger, T: Trace> Ticking for AtFront<'_, R, L
     }
 
     fn sleep(&mut self) -> Slept {
-        pause(self.rt, PAUSE)
+        sleep(self.rt, self.front, self.quiet_at)
     }
 
     ghost stays = { λ value. marked_nothing (length (map T.mark value.desk.own.items)) };
@@ -126,9 +192,9 @@ impl<R: Wait + Clock + Eprint, L: Ledger, T: Trace> Ticking for AtFront<'_, R, L
         before after };
 }
 
-/// Makes the moves that are due, about every 100 milliseconds, where the gate says `Commit`, and calls the committer; at
-/// `Skip` it only sleeps. At `End` it gives its desk back, with a mark of each move that it made. An environment that a move
-/// resets is told on standard error.
+/// Makes the moves that are due, where the gate says `Commit`, calls the committer if there was one, and sleeps until the next
+/// moment at which one may be due, for a second at most; at `Skip` it only sleeps. At `End` it gives its desk back, with a mark of
+/// each move that it made. An environment that a move resets is told on standard error.
 pub fn tick_all<R: Wait + Clock + Eprint, L: Ledger, T: Trace, G: Gate>(
     rt: &R,
     front: &FrontState<L, T>,
@@ -138,7 +204,12 @@ pub fn tick_all<R: Wait + Clock + Eprint, L: Ledger, T: Trace, G: Gate>(
     // claim: A ticker did at each turn what its gate said. Its desk has a mark more for each move, and no other.
     ensures { IsRun HasMarked (G.says gate.now) (length (map T.mark desk.own.items)) (length (map T.mark result.own.items)) }
 {
-    let mut at = AtFront { rt, front, desk };
+    let mut at = AtFront {
+        rt,
+        front,
+        desk,
+        quiet_at: None,
+    };
     commit_loop::tick_all(rt, gate, &mut at);
     let AtFront { desk, .. } = at;
     desk

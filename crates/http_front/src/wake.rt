@@ -61,7 +61,7 @@ impl Wake {
     }
 }
 
-/// Sleeps for so many milliseconds.
+/// Sleeps for so many milliseconds, whoever calls.
 pub(crate) fn pause<R: Clock>(rt: &R, millis: u64) -> Slept {
     thread::sleep(rt, Duration::from_millis(millis));
     Slept { slept: () }

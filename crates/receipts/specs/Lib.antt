@@ -9,6 +9,7 @@ pub mod Running
 pub mod Serving
 pub mod Counters
 pub mod Views
+pub mod NextMoment
 pub mod laws
 pub mod Told
 pub mod Witness

@@ -106,6 +106,7 @@ impl<L: Ledger, T: Trace> Locked<L, T> {
     ghost use Rattle.receipts.specs.Told.{Arrives, Moves, LendsTo, Settles, Takes, TellsPoint, Forgets, MakesStep};
     ghost use Rattle.receipts.specs.Answers.{IsSlotOf, IsMismatch};
     ghost use Rattle.receipts.specs.UnderLock.{next_slot};
+    ghost use Rattle.receipts.specs.NextMoment.{IsNextMomentOf};
     ghost use Rattle.receipts.specs.Views.{IsViewOf};
     ghost use Rattle.invoke_records.specs.Spelling.{greatest_moment};
     ghost use Rattle.group_commit.specs.Batch.{last_in};
@@ -303,6 +304,13 @@ impl<L: Ledger, T: Trace> Locked<L, T> {
         ensures by_past { ForEachPast (hall_in self.now.hall) (λ past. result ≡ length (open_slots (issuer_in self.now.hall).broken past)) }
     {
         self.hall.open_slots()
+    }
+
+    /// The first moment after this one at which some event of the table would do something else than now.
+    pub(crate) fn next_moment(&self, now: u64) -> Option<u128>
+        ensures { IsNextMomentOf (hall_in self.now.hall) now result }
+    {
+        self.hall.table().next_moment(now)
     }
 
     /// What an operator is shown of the hall and of the marks, unreleased until all of it is durable.

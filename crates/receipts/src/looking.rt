@@ -4,6 +4,7 @@ ghost use Rattle.group_commit.specs.Issuer.{issued_in};
 ghost use Rattle.hall_core.specs.Hall.{ForEachPast, pending_in, open_slot_count};
 ghost use Rattle.hall_core.specs.Slots.{open_slots};
 ghost use Rattle.receipts.specs.Locked.{hall_in, issuer_in};
+ghost use Rattle.receipts.specs.NextMoment.{IsNextMomentOf};
 ghost use Rattle.receipts.specs.Views.{IsViewOf};
 
 use crate::mark::Trace;
@@ -39,9 +40,9 @@ impl<L: Ledger, T: Trace> Office<L, T> {
 
     /// How many slots are open.
     pub fn open_slots<R: Wait>(&self, rt: &R) -> Witnessed<usize, L, T>
-        // claim: Open slots, pending commands, a reply's point, and whether the hall is broken or stops are those of the
-        // hall before, which stays so. [Office::pending: is, few, same; Office::is_broken: is, same; Office::rest: stops,
-        // pending, open, same; Office::point: by_past, by_events, same]
+        // claim: Open slots, pending commands, a reply's point, the next moment, and whether the hall is broken or stops are
+        // those of the hall before, which stays so. [Office::pending: is, few, same; Office::is_broken: is, same;
+        // Office::rest: stops, pending, open, same; Office::point: by_past, by_events, same; Office::next_moment: is, same]
         ensures by_parts { result.answer ≡ open_slot_count (hall_in result.before.value.hall) }
         ensures by_past { ForEachPast (hall_in result.before.value.hall)
             (λ past. result.answer ≡ length (open_slots (issuer_in result.before.value.hall).broken past)) }
@@ -79,6 +80,17 @@ impl<L: Ledger, T: Trace> Office<L, T> {
             open_slots: locked.open_slots(),
         };
         Witnessed::of_look(rest, &locked)
+    }
+
+    /// The first moment after this one at which some event would do something else than now, as `Table::next_moment` says. It
+    /// takes no memory.
+    pub fn next_moment<R: Wait>(&self, rt: &R, now: u64) -> Witnessed<Option<u128>, L, T>
+        ensures is { IsNextMomentOf (hall_in result.before.value.hall) now result.answer }
+        ensures same { result.after.value ≡ result.before.value }
+    {
+        let locked = self.locked.lock(rt);
+        let before = Seen::of(&*locked);
+        Witnessed::new(locked.next_moment(now), before, &locked)
     }
 
     /// Whether the device failed: the disk has to be opened again.

@@ -1,0 +1,29 @@
+// What came of a try to make a move.
+ghost use Rattle.std.specs.Prelude.{◌≡◌};
+
+/// What came of a try to make a move.
+#[derive(Clone, Copy)]
+pub(crate) enum Tried {
+    /// It was made.
+    Made,
+    /// None is due.
+    NothingDue,
+    /// It was refused: it may be due still.
+    Refused,
+}
+
+impl Tried {
+    ghost use Rattle.http_front.specs.Marking.{is_made};
+
+    /// Whether one was made.
+    pub(crate) fn is_made(self) -> bool
+        ensures { result ≡ is_made self }
+    {
+        matches!(self, Tried::Made)
+    }
+
+    /// Whether it was refused.
+    pub(crate) fn is_refused(self) -> bool {
+        matches!(self, Tried::Refused)
+    }
+}
