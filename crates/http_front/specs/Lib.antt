@@ -3,4 +3,5 @@ pub mod Discarding
 pub mod Learning
 pub mod Marking
 pub mod Refusals
+pub mod Telling
 pub mod laws
