@@ -1,2 +1,3 @@
 pub mod Listed
+pub mod Added
 pub mod Told

@@ -1,13 +1,13 @@
 // What an operator may do.
-ghost use Rattle.std.specs.Prelude.{◌≡◌, map, IfOk};
-ghost use Rattle.admin_replies.specs.Collecting.{ids_in};
+ghost use Rattle.std.specs.Prelude.{◌≡◌, Ok, IfOk, IfErr};
+ghost use Rattle.admin_port.specs.Replying.{CollectsBody, CollectsIds, RefusesList};
 
 use crate::collecting::Collecting;
 use crate::local::{NOT_LOCAL, is_local};
-use crate::refusing::{refuse, refuse_list};
+use crate::refusing::{refuse_act, refuse_list};
 use admin_replies::{MOST_LIST, read_list};
 use http::request::Parts;
-use http_port::{BodyError, Refused};
+use http_port::{BodyError, ReadBody, Refused};
 use hyper::StatusCode;
 use long_poll::Acting;
 use receipts::Trace;
@@ -30,26 +30,33 @@ pub(crate) struct Acts<A> {
 }
 
 // Whether a request may do something.
-fn may_act(alloc: Global, head: &Parts) -> Result<(), Refused> {
+fn may_act(alloc: Global, head: &Parts) -> Result<(), Refused>
+    ensures { IfErr result RefusesList }
+{
     if !is_local(head) {
-        return Err(refuse(alloc, 403, NOT_LOCAL));
+        return Err(refuse_act(alloc, 403, NOT_LOCAL));
     }
     if head.headers.get(ACT).is_none() {
-        return Err(refuse(alloc, 403, NO_ACT));
+        return Err(refuse_act(alloc, 403, NO_ACT));
     }
     Ok(())
 }
 
 // That there is no memory.
-fn no_memory(alloc: Global) -> Refused {
+fn no_memory(alloc: Global) -> Refused
+    ensures { RefusesList result }
+{
     Refused::bare(alloc, StatusCode::SERVICE_UNAVAILABLE)
 }
 
 // The body of a request that does something.
-fn whole(alloc: Global, body: Result<Vec<u8>, BodyError>) -> Result<Vec<u8>, Refused> {
-    match body {
-        Ok(body) => Ok(body),
-        Err(BodyError::TooLarge) => Err(refuse(alloc, 413, TOO_LONG)),
+fn whole(alloc: Global, body: ReadBody) -> Result<Vec<u8>, Refused>
+    ensures bytes { IfOk result (λ list. body ≡ Ok list.items) }
+    ensures refused { IfErr result RefusesList }
+{
+    match body.into_result() {
+        Ok(list) => Ok(list),
+        Err(BodyError::TooLarge) => Err(refuse_act(alloc, 413, TOO_LONG)),
         Err(BodyError::CutOff) => Err(Refused::bare(alloc, StatusCode::BAD_REQUEST)),
         Err(BodyError::OutOfMemory) => Err(no_memory(alloc)),
     }
@@ -77,7 +84,8 @@ impl<A: Drop> Acts<A> {
         L: Ledger,
         T: Trace,
         A: Acting<R, L, T>,
-        ensures { IfOk result (λ collecting. map (λ entry. entry.id) collecting.entries.items ≡ ids_in list.now) }
+        ensures ids { IfOk result (λ collecting. CollectsIds (λ entry. entry.id) list.now collecting.entries.items) }
+        ensures refused { IfErr result RefusesList }
     {
         let ids = match read_list(self.alloc, list) {
             Ok(ids) => ids,
@@ -97,13 +105,15 @@ impl<A: Drop> Acts<A> {
         &self,
         rt: R,
         head: &Parts,
-        body: Result<Vec<u8>, BodyError>,
+        body: ReadBody,
     ) -> Result<Collecting<R, L, T, A>, Refused>
     where
         R: Wait + Drop + Copy,
         L: Ledger,
         T: Trace,
         A: Acting<R, L, T>,
+        ensures ids { IfOk result (λ collecting. CollectsBody (λ entry. entry.id) body collecting.entries.items) }
+        ensures refused { IfErr result RefusesList }
     {
         may_act(self.alloc, head)?;
         let list = whole(self.alloc, body)?;

@@ -1,30 +1,49 @@
 // What an operator is told, as a response.
-ghost use Rattle.std.specs.Prelude.{◌≡◌, IfSome};
-ghost use Rattle.http.specs.Response.{head_of};
-ghost use Rattle.admin_port.specs.Replying.{TellsOfFault};
+ghost use Rattle.std.specs.Prelude.{◌≡◌, IfSome, OnSome};
+ghost use Rattle.http_port.specs.Answering.{message_of, with_more};
+ghost use Rattle.admin_port.specs.Replying.{TellsOfFault, head_told, message_told, next_told};
 
 use admin_replies::AdminReply;
 use bytes::Bytes;
 use destination_json::id_text;
-use http_body_util::Full;
-use http_port::{HttpResponse, IntoResponse};
-use hyper::Response;
+use http_port::{Draft, HttpResponse, IntoResponse};
 use std::alloc::Global;
+
+// Tells the id to go on after, where a list has more. None where memory is wanting.
+fn add_next(alloc: Global, draft: &mut Draft, next: &Option<[u8; 16]>) -> Option<()>
+    ensures { OnSome result (draft.new ≡ with_more draft.old (next_told next.now)) }
+{
+    let Some(id) = next else {
+        return Some(());
+    };
+    let Ok(text) = id_text(alloc, id) else {
+        return None;
+    };
+    draft.add("next-after", text.as_bytes())
+}
+
+// A reply but for its body. None where memory is wanting.
+fn draft_of(alloc: Global, reply: &AdminReply) -> Option<Draft>
+    ensures { IfSome result (λ draft. draft ≡ head_told reply.now) }
+{
+    let mut draft = Draft::new(alloc, reply.status)?;
+    draft.add("content-type", reply.media.content_type().as_bytes())?;
+    draft.add("cache-control", b"no-store")?;
+    add_next(alloc, &mut draft, &reply.next)?;
+    Some(draft)
+}
 
 /// A reply as a response. None where memory is wanting.
 pub(crate) fn response_of(alloc: Global, reply: AdminReply) -> Option<HttpResponse>
-    ensures { IfSome result (λ r. (head_of r).status ≡ reply.status) }
+    // claim: A reply to an operator is told with its own status, headers and bytes. [add_next; draft_of; AdminResponse: tells]
+    ensures { IfSome result (λ response. message_of response ≡ message_told reply) }
 {
-    let mut builder = Response::builder(alloc)
-        .header("content-type", reply.media.content_type())
-        .header("cache-control", "no-store");
-    if let Some(id) = &reply.next {
-        let text = id_text(alloc, id).ok()?;
-        builder = builder.header("next-after", text.as_str());
-    }
-    let AdminReply { status, body, .. } = reply;
-    let body = Bytes::from_vec(body).ok()?;
-    builder.status(status).body(Full::new(body)).ok()
+    let draft = draft_of(alloc, &reply)?;
+    let AdminReply { body, .. } = reply;
+    let Ok(body) = Bytes::from_vec(body) else {
+        return None;
+    };
+    Some(draft.with_body(body))
 }
 
 /// What an operator is told. None where memory is wanting.
@@ -34,9 +53,9 @@ pub(crate) struct AdminResponse {
 }
 
 impl IntoResponse for AdminResponse {
-    ghost use Rattle.admin_port.specs.Replying.{status_told};
+    ghost use Rattle.admin_port.specs.Replying.{IsMessageOf};
 
-    ghost status = { λ shown. status_told shown.reply };
+    ghost tells = { λ shown. IsMessageOf shown.reply };
 
     fn into_response(self, alloc: Global) -> Option<HttpResponse> {
         let AdminResponse { reply } = self;

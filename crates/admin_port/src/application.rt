@@ -1,4 +1,7 @@
 // What the operator's port serves.
+ghost use Rattle.std.specs.Prelude.{◌≡◌, IfOk, IfErr, OnSome};
+ghost use Rattle.admin_port.specs.Replying.{BringsList, CollectsBody, IsAsked, Refuses, RefusesRequest, ShowsOrActs};
+
 use crate::acts::Acts;
 use crate::admin_context::AdminContext;
 use crate::admin_response::AdminResponse;
@@ -9,7 +12,7 @@ use crate::refusing::{refuse, refuse_words};
 use admin_replies::{AdminRequest, brings_list, read};
 use futures::future::Either;
 use http::request::Parts;
-use http_port::{Application, BodyError, Refused};
+use http_port::{Application, ReadBody, Refused, target_of};
 use hyper::StatusCode;
 use long_poll::{Acting, PendingView};
 use receipts::Trace;
@@ -30,23 +33,20 @@ pub(crate) struct AdminApplication<R, L: Ledger, T: Trace, A> {
     pub(crate) acts: Option<Acts<A>>,
 }
 
-// The target of a request.
-fn target_of(head: &Parts) -> &str {
-    match head.uri.path_and_query() {
-        Some(target) => target.as_str(),
-        None => "/",
-    }
-}
-
 impl<R: Wait + Clock + Drop + Copy, L: Ledger, T: Trace, A> AdminApplication<R, L, T, A> {
     // What an operator may do, where a request brings a list of records.
-    fn list_brought(&self, head: &Parts) -> Option<&Acts<A>> {
+    fn list_brought(&self, head: &Parts) -> Option<&Acts<A>>
+        ensures { OnSome result (BringsList head.now) }
+    {
         let acts = self.acts.as_ref()?;
         brings_list(head.method.as_str(), target_of(head)).then_some(acts)
     }
 
     // What is asked for is seen now, and is told once it is durable.
-    fn reply_to(&self, request: AdminRequest) -> Result<PendingReply<R, L, T>, AllocError> {
+    fn reply_to(&self, request: AdminRequest) -> Result<PendingReply<R, L, T>, AllocError>
+        ensures request { IfOk result (λ pending. pending.request ≡ request) }
+        ensures context { IfOk result (λ pending. pending.context.value ≡ self.now.context.value) }
+    {
         let view = self.context.reader.look(&self.rt).answer?;
         let reader = Arc::try_clone(&self.context.reader)?;
         let context = Arc::try_clone(&self.context)?;
@@ -59,7 +59,11 @@ impl<R: Wait + Clock + Drop + Copy, L: Ledger, T: Trace, A> AdminApplication<R, 
     }
 
     // What a request asks for is told.
-    fn show(&self, head: &Parts) -> Result<PendingReply<R, L, T>, Refused> {
+    fn show(&self, head: &Parts) -> Result<PendingReply<R, L, T>, Refused>
+        ensures request { IfOk result (λ pending. IsAsked head.now pending.request) }
+        ensures context { IfOk result (λ pending. pending.context.value ≡ self.now.context.value) }
+        ensures refused { IfErr result (RefusesRequest head.now) }
+    {
         let alloc = self.context.alloc;
         let request = match read(head.method.as_str(), target_of(head)) {
             Ok(request) => request,
@@ -86,6 +90,15 @@ where
 
     type Future = Either<PendingReply<R, L, T>, Collecting<R, L, T, A>>;
 
+    // claim: An operator's request is what its head asks for, or brings just the ids of its body's lines, or is refused by the
+    // first check that fails. [: answers; refuse_words; refuse_list; AdminApplication::show: request, context, refused;
+    // Acts::take_list; AdminApplication::reply_to: request, context]
+    ghost answers = { λ application head body answered.
+        IfOk answered (ShowsOrActs
+            (λ pending. IsAsked head pending.request × (pending.context.value ≡ application.context.value))
+            (λ collecting. BringsList head × CollectsBody (λ entry. entry.id) body collecting.entries.items))
+        × IfErr answered (Refuses head) };
+
     fn most(&self) -> usize {
         match &self.acts {
             Some(acts) => acts.most(),
@@ -100,7 +113,7 @@ where
     fn answer(
         &self,
         head: &Parts,
-        body: Result<Vec<u8>, BodyError>,
+        body: ReadBody,
     ) -> Result<Either<PendingReply<R, L, T>, Collecting<R, L, T, A>>, Refused> {
         match self.list_brought(head) {
             Some(acts) => Ok(Either::Right(acts.take_list(self.rt, head, body)?)),

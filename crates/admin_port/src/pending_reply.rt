@@ -26,7 +26,7 @@ impl<R: Wait + Clock + Drop, L: Ledger, T: Trace> Future for PendingReply<R, L, 
     ghost use Rattle.admin_port.specs.Replying.{TellsOfUnreleased};
 
     // claim: A reply tells of what its own future held back, for what was asked, or is 503 where the hall broke before. [:
-    // gives; AdminContext::tell; AdminResponse: status]
+    // gives; AdminContext::tell; AdminResponse: tells]
     ghost gives = { λ pending shown. TellsOfUnreleased pending.context.value.baseline pending.request
         (unreleased_in pending.view.view) shown.reply };
 

@@ -1,38 +1,61 @@
 // What an operator may not ask.
-ghost use Rattle.std.specs.Prelude.{◌≤◌};
+ghost use Rattle.std.specs.Prelude.{◌≡◌, ◌≤◌, ◌⊎◌, ℕ, List, IfSome};
+ghost use Rattle.http_port.specs.Answering.{message_of, status_alone};
+ghost use Rattle.admin_replies.specs.Requests.{status_of};
+ghost use Rattle.admin_port.specs.Replying.{TellsLine, RefusesList};
 
 use crate::admin_response::response_of;
 use admin_replies::{AdminRefusal, AdminReply, ListError};
-use http_port::Refused;
+use http_port::{HttpResponse, Refused};
 use hyper::StatusCode;
 use std::alloc::Global;
+
+// A line of text as a response. None where memory is wanting.
+fn line_of(alloc: Global, status: u16, words: &str) -> Option<HttpResponse>
+    ensures line { IfSome result (λ response. TellsLine status words.now (message_of response)) }
+    ensures status { IfSome result (λ response. (message_of response).status ≡ status) }
+{
+    let Ok(reply) = AdminReply::line(alloc, status, words) else {
+        return None;
+    };
+    response_of(alloc, reply)
+}
 
 /// A refusal with a line of text. Where memory is wanting, 503 alone.
 pub(crate) fn refuse(alloc: Global, status: u16, words: &str) -> Refused
     requires { 400 ≤ status }
+    ensures { (result ≡ status_alone 503) ⊎ TellsLine status words.now result }
 {
-    let response = match AdminReply::line(alloc, status, words) {
-        Ok(reply) => response_of(alloc, reply),
-        Err(_) => None,
-    };
-    match response {
+    match line_of(alloc, status, words) {
         Some(response) => Refused::new(response),
         None => Refused::bare(alloc, StatusCode::SERVICE_UNAVAILABLE),
     }
 }
 
 /// Why a request is refused, in words.
-pub(crate) fn refuse_words(alloc: Global, why: AdminRefusal) -> Refused {
+pub(crate) fn refuse_words(alloc: Global, why: AdminRefusal) -> Refused
+    ensures { (result ≡ status_alone 503) ⊎ ((words : List ℕ) × TellsLine (status_of why) words result) }
+{
     match format!(in alloc; "{why}") {
         Ok(words) => refuse(alloc, why.status(), words.as_str()),
         Err(_) => Refused::bare(alloc, StatusCode::SERVICE_UNAVAILABLE),
     }
 }
 
+/// What a list is refused with: a line of text.
+pub(crate) fn refuse_act(alloc: Global, status: u16, words: &str) -> Refused
+    requires { 400 ≤ status }
+    ensures { RefusesList result }
+{
+    refuse(alloc, status, words)
+}
+
 /// Why a list is refused, in words.
-pub(crate) fn refuse_list(alloc: Global, why: ListError) -> Refused {
+pub(crate) fn refuse_list(alloc: Global, why: ListError) -> Refused
+    ensures { RefusesList result }
+{
     match format!(in alloc; "{why}") {
-        Ok(words) => refuse(alloc, why.status(), words.as_str()),
+        Ok(words) => refuse_act(alloc, why.status(), words.as_str()),
         Err(_) => Refused::bare(alloc, StatusCode::SERVICE_UNAVAILABLE),
     }
 }

@@ -4,4 +4,5 @@ pub mod Learning
 pub mod Marking
 pub mod Refusals
 pub mod Resting
+pub mod Telling
 pub mod laws

@@ -1,9 +1,12 @@
 // A port of the front, whose requests become calls.
-ghost use Rattle.std.specs.Prelude.{◌≡◌, IfOk};
+ghost use Rattle.std.specs.Prelude.{◌≡◌, ◌⊎◌, Ok, Err, IfOk, IfErr};
+ghost use Rattle.api_core.specs.declared.refusal.Refusal.TheVariants.{Unavailable};
 ghost use Rattle.receipts.specs.Locked.{hall_in};
 ghost use Rattle.long_poll.specs.Port.{IsDoneFor};
 ghost use Rattle.long_poll.specs.Waiting.{IsTaken};
-ghost use Rattle.http_front.specs.Calls.{IsCallOf, target_in};
+ghost use Rattle.http_port.specs.Answering.{status_alone};
+ghost use Rattle.http_front.specs.Calls.{audience_at, read_as, IsBodyOf, IsCallOf, IsCallFor, RefusesRequest};
+ghost use Rattle.http_front.specs.Telling.{TellsRefusal};
 
 use crate::drawing::new_id;
 use crate::front_state::FrontState;
@@ -13,7 +16,7 @@ use api_core::{Audience, Body, Call, Dialect, Refusal, RequestError, read_reques
 use futures::Future;
 use futures::task::{Context, Poll};
 use http::request::Parts;
-use http_port::{Application, BodyError, Refused};
+use http_port::{Application, BodyError, ReadBody, Refused, target_of};
 use hyper::StatusCode;
 use invoke_records::Bytes;
 use long_poll::{Arrived, Port, Waiting};
@@ -44,7 +47,7 @@ pub(crate) struct Replying<R: Wait, L: Ledger, T: Trace> {
 impl<R: Wait + Eprint + Drop, L: Ledger, T: Trace> Future for Replying<R, L, T> {
     type Output = Telling<L, T>;
 
-    ghost gives = { λ replying telling. IsTaken replying.waiting.slot telling.released };
+    ghost gives = { λ replying telling. IsTaken replying.waiting.slot telling.released × (telling.id ≡ replying.id) };
 
     fn poll(&mut self, cx: &mut Context<'_>) -> Poll<Telling<L, T>> {
         match self.waiting.poll(cx) {
@@ -59,31 +62,36 @@ impl<R: Wait + Eprint + Drop, L: Ledger, T: Trace> Future for Replying<R, L, T> 
     }
 }
 
-// The target of a request.
-fn target_of(head: &Parts) -> &str
-    ensures { result.now ≡ target_in head.now }
+// A body that was read. An empty one takes no memory.
+fn whole(bytes: Vec<u8>) -> Result<Body, BodyError>
+    ensures value { IfOk result (λ body. body ≡ Body.Whole bytes.items) }
+    ensures err { IfErr result (λ why. why ≡ BodyError.OutOfMemory) }
 {
-    match head.uri.path_and_query() {
-        Some(target) => target.as_str(),
-        None => "/",
+    if bytes.is_empty() {
+        return Ok(Body::Whole(Bytes::empty()));
+    }
+    match Bytes::from_vec(bytes) {
+        Ok(bytes) => Ok(Body::Whole(bytes)),
+        Err(_) => Err(BodyError::OutOfMemory),
     }
 }
 
-// A body as requests have it, or why it is refused. An empty one takes no memory.
-fn body_of(body: Result<Vec<u8>, BodyError>) -> Result<Body, BodyError> {
-    match body {
-        Ok(bytes) if bytes.is_empty() => Ok(Body::Whole(Bytes::empty())),
-        Ok(bytes) => match Bytes::from_vec(bytes) {
-            Ok(bytes) => Ok(Body::Whole(bytes)),
-            Err(_) => Err(BodyError::OutOfMemory),
-        },
+// A body as requests have it, or why it is refused.
+fn body_of(body: ReadBody) -> Result<Body, BodyError>
+    ensures value { IfOk result (IsBodyOf body) }
+    ensures err { IfErr result (λ why. (why ≡ BodyError.OutOfMemory) ⊎ (body ≡ Err why)) }
+{
+    match body.into_result() {
+        Ok(bytes) => whole(bytes),
         Err(BodyError::TooLarge) => Ok(Body::TooLarge),
         Err(why) => Err(why),
     }
 }
 
 // That a body was cut off: there is mostly nobody to read it.
-fn cut_off(alloc: Global) -> Refused {
+fn cut_off(alloc: Global) -> Refused
+    ensures { result ≡ status_alone 400 }
+{
     Refused::bare(alloc, StatusCode::BAD_REQUEST)
 }
 
@@ -98,7 +106,9 @@ pub(crate) struct PortApplication<R, L: Ledger, T: Trace> {
 
 impl<R: Wait + Clock + RandomSource + Eprint + Copy, L: Ledger, T: Trace> PortApplication<R, L, T> {
     // Whom this port answers.
-    fn audience(&self) -> Audience {
+    fn audience(&self) -> Audience
+        ensures { result ≡ audience_at self.now.number }
+    {
         if self.number == 0 {
             Audience::Caller
         } else {
@@ -115,7 +125,9 @@ impl<R: Wait + Clock + RandomSource + Eprint + Copy, L: Ledger, T: Trace> PortAp
     }
 
     // How a request with this id is refused here.
-    fn manner(&self, id: Option<[u8; 16]>) -> Manner {
+    fn manner(&self, id: Option<[u8; 16]>) -> Manner
+        ensures { result ≡ record { dialect = self.now.front.value.dialect; audience = audience_at self.now.number; id = id } }
+    {
         Manner {
             dialect: self.front.dialect,
             audience: self.audience(),
@@ -124,7 +136,9 @@ impl<R: Wait + Clock + RandomSource + Eprint + Copy, L: Ledger, T: Trace> PortAp
     }
 
     // A refusal, which is counted.
-    fn refuse(&self, why: Refusal, id: Option<[u8; 16]>) -> Refused {
+    fn refuse(&self, why: Refusal, id: Option<[u8; 16]>) -> Refused
+        ensures { TellsRefusal self.now.front.value.dialect self.now.front.value.settings (audience_at self.now.number) why result }
+    {
         let front = &self.front;
         front.meters.note_status(&self.rt, why.status());
         refuse(front.alloc, &front.settings, self.manner(id), why)
@@ -132,8 +146,10 @@ impl<R: Wait + Clock + RandomSource + Eprint + Copy, L: Ledger, T: Trace> PortAp
 
     // The call of a request.
     fn read(&self, head: &Parts, body: Body) -> Result<Call, Refusal>
-        ensures { IfOk result
+        ensures call { IfOk result
             (IsCallOf self.now.front.value.dialect self.now.front.value.settings self.now.number head.now body) }
+        ensures err { IfErr result (λ why. (why ≡ Unavailable)
+            ⊎ (read_as self.now.front.value.dialect self.now.front.value.settings self.now.number head.now body ≡ Err why)) }
     {
         let front = &self.front;
         match read_request(
@@ -154,8 +170,9 @@ impl<R: Wait + Clock + RandomSource + Eprint + Copy, L: Ledger, T: Trace> PortAp
 
     // A call comes. What is refused is answered at once.
     fn hand_over(&self, call: Call) -> Result<Arrived<L, T>, Refusal>
-        ensures { IfOk result (λ arrived.
+        ensures done { IfOk result (λ arrived.
             IsDoneFor call (hall_in arrived.seen.before.value.hall) (hall_in arrived.seen.after.value.hall) arrived.slot) }
+        ensures err { IfErr result (λ why. why ≡ Unavailable) }
     {
         match self.front.arrive(&self.rt, &self.port, call) {
             Ok(arrived) => Ok(arrived),
@@ -165,8 +182,9 @@ impl<R: Wait + Clock + RandomSource + Eprint + Copy, L: Ledger, T: Trace> PortAp
 
     // A call comes; its reply then waits.
     fn arrive(&self, call: Call) -> Result<Waiting<R, L, T>, Refusal>
-        ensures { IfOk result (λ waiting.
+        ensures done { IfOk result (λ waiting.
             IsDoneFor call (hall_in waiting.seen.before.value.hall) (hall_in waiting.seen.after.value.hall) waiting.slot) }
+        ensures err { IfErr result (λ why. why ≡ Unavailable) }
     {
         let Ok(port) = Arc::try_clone(&self.port) else {
             return Err(Refusal::Unavailable);
@@ -187,6 +205,9 @@ impl<R: Wait + Clock + RandomSource + Eprint + Copy, L: Ledger, T: Trace> PortAp
             × IsCallOf self.now.front.value.dialect self.now.front.value.settings self.now.number head.now body call
             × IsDoneFor call (hall_in replying.waiting.seen.before.value.hall) (hall_in replying.waiting.seen.after.value.hall)
             replying.waiting.slot) }
+        ensures id { IfOk result (λ replying. replying.id ≡ id) }
+        ensures err { IfErr result (λ why. (why ≡ Unavailable)
+            ⊎ (read_as self.now.front.value.dialect self.now.front.value.settings self.now.number head.now body ≡ Err why)) }
     {
         let Ok(front) = Arc::try_clone(&self.front) else {
             return Err(Refusal::Unavailable);
@@ -211,6 +232,16 @@ impl<R: Wait + Clock + RandomSource + Eprint + Drop + Copy, L: Ledger, T: Trace>
 
     type Future = Replying<R, L, T>;
 
+    // claim: A request is the call that its head and its body are, and its future waits for the slot with which just that was
+    // done. Or it is refused as its body was cut off, by the first check that fails, or as the broker is not available. [:
+    // answers; PortApplication::refuse; body_of: value, err]
+    ghost answers = { λ application head read answered.
+        IfOk answered (λ replying. (call : _)
+        × IsCallFor application.front.value.dialect application.front.value.settings application.number head read call
+        × IsDoneFor call (hall_in replying.waiting.seen.before.value.hall) (hall_in replying.waiting.seen.after.value.hall)
+        replying.waiting.slot)
+        × IfErr answered (RefusesRequest application.front.value.dialect application.front.value.settings application.number head read) };
+
     fn most(&self) -> usize {
         self.front.most
     }
@@ -219,11 +250,7 @@ impl<R: Wait + Clock + RandomSource + Eprint + Drop + Copy, L: Ledger, T: Trace>
         if self.number == 0 { None } else { Some(CAUSE) }
     }
 
-    fn answer(
-        &self,
-        head: &Parts,
-        body: Result<Vec<u8>, BodyError>,
-    ) -> Result<Replying<R, L, T>, Refused> {
+    fn answer(&self, head: &Parts, body: ReadBody) -> Result<Replying<R, L, T>, Refused> {
         let id = self.request_id();
         match body_of(body) {
             Ok(body) => match self.reply_to(head, body, id) {

@@ -1,44 +1,53 @@
 // Replies and refusals as HTTP responses.
-ghost use Rattle.std.specs.Prelude.{◌≡◌, ◌==◌, ◌⊎◌, length, None, Some, IfSome, if◌then◌else◌};
-ghost use Rattle.http.specs.Response.{head_of, body_of};
+ghost use Rattle.std.specs.Prelude.{◌≡◌, ◌⊎◌, ◌∷◌, [], ℕ, List, Some, IfSome, OnSome, slice_get};
 ghost use Rattle.api_core.specs.Refusals.{fault_of};
+ghost use Rattle.api_core.specs.Replies.{refusing};
+ghost use Rattle.http_port.specs.Answering.{message_of, status_alone, with_more};
+ghost use Rattle.http_front.specs.Telling.{message_told, IsWithId, TellsReply};
 
 use api_core::{Answer, Audience, Dialect, Refusal, Reply, reply_text, with_request_id};
-use bytes::Bytes;
 use hall_core::Released;
-use http::response::Builder;
-use http_body_util::Full;
-use http_port::{HttpResponse, IntoResponse, Refused};
-use hyper::{Response, StatusCode};
+use http_port::{Draft, HttpResponse, IntoResponse, Refused};
+use hyper::StatusCode;
 use receipts::{Trace, Witnessed};
 use retry_rules::Settings;
 use std::alloc::Global;
 use std::sync::ledger::Ledger;
 
-// The headers of a reply.
-fn with_headers(builder: Builder, reply: &Reply) -> Builder {
-    let mut builder = builder;
+// Adds the header of a reply at a place. None where memory is wanting.
+fn add_header(draft: &mut Draft, reply: &Reply, place: usize) -> Option<()>
+    ensures { OnSome result ((header : List ℕ × List ℕ) × (slice_get reply.now.headers place ≡ Some header)
+        × (draft.new ≡ with_more draft.old (header ∷ []))) }
+{
+    let Some((name, value)) = reply.headers.get(place) else {
+        return None;
+    };
+    draft.add(name, value)
+}
+
+// A reply but for its body. None where memory is wanting.
+fn draft_of(alloc: Global, reply: &Reply) -> Option<Draft>
+    ensures { IfSome result (λ draft. draft ≡ with_more (status_alone reply.now.status) reply.now.headers) }
+{
+    let mut draft = Draft::new(alloc, reply.status)?;
     for place in 0..reply.headers.len() {
-        if let Some((name, value)) = reply.headers.get(place) {
-            builder = builder.header(name, value);
-        }
+        add_header(&mut draft, reply, place)?;
     }
-    builder
+    Some(draft)
 }
 
 fn response_of(alloc: Global, reply: Reply) -> Option<HttpResponse>
-    ensures status { IfSome result (λ r. (head_of r).status ≡ reply.status) }
-    ensures body { IfSome result (λ r. (body_of r).buf ≡ (if length reply.body == 0 then None else Some reply.body)) }
+    ensures { IfSome result (λ response. message_of response ≡ message_told reply) }
 {
-    let builder = with_headers(Response::builder(alloc), &reply);
-    let Reply { status, body, .. } = reply;
-    builder.status(status).body(Full::new(body)).ok()
+    let draft = draft_of(alloc, &reply)?;
+    let Reply { body, .. } = reply;
+    Some(draft.with_body(body))
 }
 
 // A reply with the id of its request, where it is to tell one.
 fn with_id(alloc: Global, reply: Reply, id: Option<[u8; 16]>) -> Reply
     ensures status { result.status ≡ reply.status }
-    ensures body { result.body ≡ reply.body }
+    ensures told { IsWithId id reply result }
 {
     match id {
         Some(id) => with_request_id(alloc, reply, &id),
@@ -56,16 +65,19 @@ pub(crate) struct Telling<L: Ledger, T: Trace> {
 
 impl<L: Ledger, T: Trace> Telling<L, T> {
     pub(crate) fn new(released: Witnessed<Released, L, T>, id: Option<[u8; 16]>) -> Telling<L, T>
-        ensures { result.released ≡ released }
+        ensures released { result.released ≡ released }
+        ensures id { result.id ≡ id }
     {
         Telling { released, id }
     }
 }
 
 impl<L: Ledger, T: Trace> IntoResponse for Telling<L, T> {
-    // claim: A reply is told with its own status and bytes, to the slot that asked, as the hall gave it, or not at all. [:
-    // status; response_of: status, body; Replying: gives]
-    ghost status = { λ telling. telling.released.answer.reply.status };
+    ghost use Rattle.http_front.specs.Telling.{TellsReply};
+
+    // claim: A reply is told with its own status, headers and bytes, to the slot that asked, as the hall gave it, or not at
+    // all. It may tell the id of its request too. [: tells; response_of; with_id: told; Replying: gives]
+    ghost tells = { λ telling. TellsReply telling.id telling.released.answer.reply };
 
     fn into_response(self, alloc: Global) -> Option<HttpResponse> {
         let Telling { released, id } = self;
@@ -90,18 +102,23 @@ fn refusal_of(
     manner: Manner,
     why: Refusal,
 ) -> Option<HttpResponse>
-    ensures { IfSome result (λ r. (head_of r).status ≡ (fault_of why).status) }
+    ensures status { IfSome result (λ response. (message_of response).status ≡ (fault_of why).status) }
+    ensures told { IfSome result (λ response.
+        TellsReply manner.id (refusing manner.dialect settings.now manner.audience why) (message_of response)) }
 {
     let answer = Answer::Refusal(manner.audience, why);
-    let reply = reply_text(alloc, manner.dialect, &answer, settings).ok()?;
+    let Ok(reply) = reply_text(alloc, manner.dialect, &answer, settings) else {
+        return None;
+    };
     response_of(alloc, with_id(alloc, reply, manner.id))
 }
 
 /// A refusal. Where memory is wanting, 503 alone.
 #[tactic(auto, using(crate::proofs::Refusing::refuses))]
 pub(crate) fn refuse(alloc: Global, settings: &Settings, manner: Manner, why: Refusal) -> Refused
-    // claim: A refusal is told with its own status, or 503.
-    ensures { (result ≡ (fault_of why).status) ⊎ (result ≡ 503) }
+    // claim: A refusal is told with its own status, headers and bytes, or 503. It may tell the id of its request too.
+    ensures { (result ≡ status_alone 503)
+        ⊎ TellsReply manner.id (refusing manner.dialect settings.now manner.audience why) result }
 {
     match refusal_of(alloc, settings, manner, why) {
         Some(response) => Refused::new(response),

@@ -1,24 +1,50 @@
--- The status of what a port answers with.
-use Rattle.std.specs.Prelude.{◌≡◌, ◌⊎◌, ◌≤◌, ℕ, Result, IfOk}
+-- What a port answers with: a status, headers in their order, and the bytes of a body.
+use Rattle.std.specs.Prelude.{◌≡◌, ◌⊎◌, ℕ, List, [], codes, unwrap_or}
 use Rattle.http.specs.declared.response.Response.{Response}
-use Rattle.http.specs.Response.{head_of}
+use Rattle.http.specs.Response.{head_of, body_of}
+use Rattle.http_body_util.specs.declared.full.Full.{Full}
+use Rattle.http_header.specs.FieldValue.{plain_value}
+use Rattle.http_header.specs.HeaderMap.{insert}
+use Rattle.http_port.specs.Headers.{Headers, with_headers}
 
--- the status that a client is sent
-abbrev pub status_of : {B : Type 0} → Response B → ℕ
-status_of response = (head_of response).status
+pub record Message : Type 0 where
+  pub status : ℕ
+  pub headers : Headers
+  pub body : List ℕ
 
--- the status of what is told, or 503 where there is no memory to tell it
-abbrev pub IsStatusOf : {T : Type 0} → (T → ℕ) → T → ℕ → Type 0
-IsStatusOf status told sent = (sent ≡ status told) ⊎ (sent ≡ 503)
+abbrev pub message : ℕ → Headers → List ℕ → Message
+message status headers body = record { status = status; headers = headers; body = body }
 
--- the status of something that was told, or of a refusal
-abbrev pub IsAnswer : {T : Type 0} → (T → ℕ) → ℕ → Type 0
-IsAnswer {T} status sent = ((told : T) × (sent ≡ status told)) ⊎ (400 ≤ sent)
+-- a status alone
+abbrev pub status_alone : ℕ → Message
+status_alone status = message status [] []
 
--- what is sent has such a status
-abbrev pub SendsAnswer : {T B E : Type 0} → (T → ℕ) → Result (Response B) E → Type 0
-SendsAnswer status sent = IfOk sent (λ response. IsAnswer status (status_of response))
+-- the message with more headers, behind its own
+abbrev pub with_more : Message → List (List ℕ × List ℕ) → Message
+with_more told more = message told.status (with_headers told.headers more) told.body
 
--- what is sent has the status of one of those that are given, or is 503
-abbrev pub SendsGiven : {T B E : Type 0} → (T → Type 0) → (T → ℕ) → Result (Response B) E → Type 0
-SendsGiven {T} given status sent = IfOk sent (λ response. (told : T) × given told × IsStatusOf status told (status_of response))
+-- the message with this body
+abbrev pub with_bytes : Message → List ℕ → Message
+with_bytes told body = message told.status told.headers body
+
+-- all that a response tells
+abbrev pub message_of : Response (Full (List ℕ)) → Message
+message_of response = message (head_of response).status (head_of response).headers (unwrap_or (body_of response).buf [])
+
+-- a text of JSON. Where there is no memory to say that it is that, the text comes all the same
+abbrev pub IsJson : ℕ → List ℕ → Message → Type 0
+IsJson status text told =
+    (told ≡ message status (insert [] (codes "content-type") (plain_value (codes "application/json"))) text)
+    ⊎ (told ≡ message status [] text)
+
+-- what is told, or 503 alone where there is no memory to tell it
+abbrev pub IsTold : {T : Type 0} → (T → Message → Type 0) → T → Message → Type 0
+IsTold tells it told = tells it told ⊎ (told ≡ status_alone 503)
+
+-- the message, as the last of its connection
+abbrev pub closing : Message → Message
+closing told = message told.status (insert told.headers (codes "connection") (plain_value (codes "close"))) told.body
+
+-- the message is sent as it is, or as the last of its connection
+abbrev pub IsSent : Message → Message → Type 0
+IsSent told sent = (sent ≡ told) ⊎ (sent ≡ closing told)

@@ -1,19 +1,15 @@
 -- Which requests a port refuses by their heads alone: those that a browser makes for a web page, and those for another host.
-use Rattle.std.specs.Prelude.{ℕ, ◌≡◌, Bool, ◌&&◌, ◌||◌, not, List, codes, bytes_eq, Option, Some, None, is_some, IfSome, Result, IfOk, if◌then◌else◌}
+use Rattle.std.specs.Prelude.{ℕ, Bool, ◌&&◌, ◌||◌, not, List, codes, bytes_eq, Option, Some, None, is_some, if◌then◌else◌}
 use Rattle.std.specs.List.{list_any}
 use Prim.Native.String.{String}
-use Rattle.http.specs.declared.response.Response.{Response}
-use Rattle.http_header.specs.HeaderMap.{Entries, get, get_all}
+use Rattle.http_header.specs.HeaderMap.{get, get_all}
 use Rattle.http_header.specs.FieldValue.{FieldValue}
-use Rattle.http_port.specs.Answering.{status_of}
+use Rattle.http_port.specs.Answering.{Message, IsJson}
+use Rattle.http_port.specs.Headers.{Headers}
 use Rattle.http_port.specs.Hosts.{is_foreign_host}
 use Rattle.http_port.specs.declared.hosts.Hosts.{Hosts}
 use Rattle.http_port.specs.declared.forbidden.Forbidden.{Forbidden}
 use Rattle.http_port.specs.declared.forbidden.Forbidden.TheVariants.{CrossOrigin, UnknownHost}
-
--- the headers of a request: each name once, in small letters, with its values in order
-abbrev pub Headers : Type 0
-Headers = Entries FieldValue
 
 -- one of the values under a name, which is given in small letters, passes a test
 abbrev pub any_value : (List ℕ → Bool) → String → Headers → Bool
@@ -34,6 +30,10 @@ forbidden_of hosts headers =
     else if any_value (is_foreign_host hosts) "host" headers then Some UnknownHost
     else None
 
--- where a request is refused so, what is sent has the status 403
-abbrev pub SendsForbidden : {B E : Type 0} → Option Forbidden → Result (Response B) E → Type 0
-SendsForbidden forbidden sent = IfSome forbidden (λ _. IfOk sent (λ response. status_of response ≡ 403))
+-- what its client is told
+abbrev pub forbidden_text : Forbidden → List ℕ
+forbidden_text CrossOrigin = codes "{\"errorMessage\":\"requests of web pages are refused\",\"errorType\":\"CrossOrigin\"}"
+forbidden_text UnknownHost = codes "{\"errorMessage\":\"this host is not served here, see serve --host\",\"errorType\":\"UnknownHost\"}"
+
+abbrev pub IsForbidden : Forbidden → Message → Type 0
+IsForbidden why told = IsJson 403 (forbidden_text why) told

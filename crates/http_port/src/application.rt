@@ -1,8 +1,11 @@
 // What a port serves.
-ghost use Rattle.std.specs.Prelude.{IfOk};
+ghost use Rattle.std.specs.Prelude.{List, ℕ, Result, IfOk};
+ghost use Rattle.http.specs.declared.request.Parts.{Parts};
+ghost use Rattle.http_port.specs.declared.reading.BodyError.{BodyError};
+ghost use Rattle.http_port.specs.Answering.{Message};
 
 use crate::answering::{IntoResponse, Refused};
-use crate::reading::BodyError;
+use crate::reading::ReadBody;
 use futures::Future;
 use http::request::Parts;
 
@@ -15,6 +18,10 @@ pub trait Application: Drop {
     /// The reply of a request, which may be waited for.
     type Future: Future<Output = Self::Response>;
 
+    // Holds of a request's head, its body as it was read or was not, and each answer that such a request may have: its reply,
+    // which may be waited for, or what its refusal tells.
+    ghost answers: { Self → Parts → Result (List ℕ) BodyError → Result Self.Future Message → Type 0 };
+
     /// How many bytes of a body are read. Of one that is larger by its head nothing is asked for.
     fn most(&self) -> usize;
 
@@ -25,10 +32,8 @@ pub trait Application: Drop {
     }
 
     /// The reply of a request with this head, whose body was read or was not; or its refusal, which is told at once.
-    fn answer(
-        &self,
-        head: &Parts,
-        body: Result<Vec<u8>, BodyError>,
-    ) -> Result<Self::Future, Refused>
-        ensures { IfOk result Self.Future.can_poll };
+    fn answer(&self, head: &Parts, body: ReadBody) -> Result<Self::Future, Refused>
+        ensures can_poll { IfOk result Self.Future.can_poll }
+        // claim: An application answers a request by its head and its body. [: answered]
+        ensures answered { answers self.now head.now body result };
 }

@@ -67,7 +67,9 @@ impl Forbidden {
     }
 
     // What its client is told.
-    fn text(self) -> &'static str {
+    fn text(self) -> &'static str
+        ensures { result.now ≡ meant.forbidden_text self }
+    {
         match self {
             Forbidden::CrossOrigin => {
                 r#"{"errorMessage":"requests of web pages are refused","errorType":"CrossOrigin"}"#
@@ -80,7 +82,7 @@ impl Forbidden {
 
     /// The refusal that tells of it.
     pub(crate) fn refused(self, alloc: Global) -> Refused
-        ensures { result ≡ 403 }
+        ensures { meant.IsForbidden self result }
     {
         Refused::json(alloc, StatusCode::FORBIDDEN, self.text())
     }

@@ -1,17 +1,18 @@
 // The future of one request: its body is read, then its reply waits.
-ghost use Rattle.std.specs.Prelude.{◌≡◌, IfOk, IfSome, IsSome, None, Err};
+ghost use Rattle.std.specs.Prelude.{◌≡◌, Ok, Err, None, IfOk, IfSome, IsSome, IsSomeAnd, option_map};
+ghost use Rattle.std.specs.Arc.{arc_value};
 ghost use Rattle.futures.specs.Task.{IsArmed, Keeps};
 ghost use Rattle.futures.specs.Poll.{IfReady, OnPending};
-ghost use Rattle.http.specs.Request.{head_of};
-ghost use Rattle.http_port.specs.Answering.{status_of, SendsAnswer, SendsGiven};
-ghost use Rattle.http_port.specs.Browsers.{SendsForbidden, forbidden_of};
+ghost use Rattle.http_port.specs.Answering.{message_of, IsSent};
+ghost use Rattle.http_port.specs.Reading.{Reads};
+ghost use Rattle.http_port.specs.Serving.{Answers, AnswersFor, IsAsked, Sends};
 
 use crate::answering::{HttpResponse, Refused, say_last, tell};
 use crate::application::Application;
 use crate::connection_phase::{ConnectionPhase, PhaseCell};
 use crate::forbidden::Forbidden;
 use crate::hosts::Hosts;
-use crate::reading::{BodyError, Reading, State};
+use crate::reading::{ReadBody, Reading, State};
 use futures::Future;
 use futures::task::{Context, Poll};
 use http::request::Parts;
@@ -53,8 +54,12 @@ impl<A: Application, I: Drop> Serving<A, I> {
     }
 
     // A body was read, or was not. From now on its connection waits for the reply.
-    fn answer(&mut self, body: Result<Vec<u8>, BodyError>) -> Result<A::Future, Refused>
+    fn answer(&mut self, body: ReadBody) -> Result<A::Future, Refused>
         ensures value { IfOk result A.Future.can_poll }
+        // claim: The application is asked with the head of the request and the body that was read of it, and is gone then.
+        // What it answers is answered. [: asked, once]
+        ensures asked { IsAsked A.answers (option_map arc_value self.old.application) self.old.head body result }
+        ensures once { self.new.application ≡ None }
         ensures same { self.new.forbidden ≡ self.old.forbidden }
     {
         self.enter(ConnectionPhase::Reply);
@@ -67,7 +72,7 @@ impl<A: Application, I: Drop> Serving<A, I> {
     // A response, as it is sent. Where the body of its request was not read to its end, it is the last of its connection. It
     // says so, where `hyper` does not.
     fn send(&self, answered: HttpResponse) -> HttpResponse
-        ensures { status_of result ≡ status_of answered }
+        ensures { IsSent (message_of answered) (message_of result) }
     {
         match self.reading.state() {
             State::Ended => {
@@ -89,9 +94,18 @@ impl<A: Application, I: Drop> Serving<A, I> {
     fn poll_body(&mut self, cx: &mut Context<'_>) -> Poll<Result<A::Future, Refused>>
         requires { IfSome self.old.reply A.Future.can_poll }
         ensures value { IfReady result (λ answered. IfOk answered A.Future.can_poll) }
-        // claim: What is forbidden by its head is answered 403, its body unread, the application unasked. [: forbidden,
-        // unasked; Serving: gives; Requests: calls]
-        ensures forbidden { IsSome self.old.forbidden → result ≡ Poll.Ready (Err 403) }
+        // claim: A request is answered by its head alone where that is forbidden, and else by the application, asked with its
+        // head and its body, or 408. [: answers, later]
+        ensures answers { IfReady result (Answers A.answers self.old.forbidden self.old.reply
+            (option_map arc_value self.old.application) self.old.head (Reads self.old.reading)) }
+        ensures later { OnPending result ((answered : _)
+            → Answers A.answers self.new.forbidden self.new.reply
+            (option_map arc_value self.new.application) self.new.head (Reads self.new.reading) answered
+            → Answers A.answers self.old.forbidden self.old.reply
+            (option_map arc_value self.old.application) self.old.head (Reads self.old.reading) answered) }
+
+        // claim: What is forbidden by its head is answered 403, its body unread, the application unasked. [: answers,
+        // unasked; Serving: gives; Requests: calls; Forbidden::refused]
         ensures unasked { IsSome self.old.forbidden → (self.new.reading ≡ self.old.reading) × (self.new.application ≡ self.old.application) }
         ensures same { self.new.forbidden ≡ self.old.forbidden }
         ensures reads { OnPending result (self.new.reply ≡ None) }
@@ -119,10 +133,11 @@ impl<A: Application, I: Drop> Serving<A, I> {
         cx: &mut Context<'_>,
     ) -> Poll<Result<HttpResponse, Infallible>>
         requires { A.Future.can_poll reply }
-        // claim: A reply that waited is sent with the status of what it gave, or as 503.
-        ensures given { IfReady result (SendsGiven (A.Future.gives reply) A.Response.status) }
-        ensures status { IfReady result (SendsAnswer A.Response.status) }
-        ensures waits { OnPending result (IfSome self.new.reply A.Future.can_poll) }
+        // claim: A reply that waited is sent as what it gave tells it, or as 503.
+        ensures given { IfReady result (λ sent. IfOk sent (Sends A.Future.gives A.Response.tells (λ answered. answered ≡ Ok reply))) }
+        ensures waits { OnPending result (IsSomeAnd self.new.reply (λ later.
+            A.Future.can_poll later × ((it : _) → A.Future.gives later it → A.Future.gives reply it))) }
+        ensures same { self.new.forbidden ≡ self.old.forbidden }
         ensures armed { OnPending result (IsArmed cx.new) }
         ensures kept { Keeps cx.old cx.new }
     {
@@ -143,8 +158,10 @@ impl<A: Application, I: Drop> Future for Serving<A, I> {
     // Application::answer]
     ghost can_poll = { λ s. IfSome s.reply A.Future.can_poll };
 
-    // claim: What is sent has the status of something that the application told, or one of 400 or above.
-    ghost gives = { λ s sent. SendsAnswer A.Response.status sent × SendsForbidden s.forbidden sent };
+    // claim: What is sent for a request tells all that its answer does, status, headers and bytes, and at most that its
+    // connection ends.
+    ghost gives = { λ s sent. IfOk sent (Sends A.Future.gives A.Response.tells (Answers A.answers s.forbidden s.reply
+        (option_map arc_value s.application) s.head (Reads s.reading))) };
 
     fn poll(&mut self, cx: &mut Context<'_>) -> Poll<Result<HttpResponse, Infallible>> {
         match self.poll_body(cx) {
@@ -171,7 +188,12 @@ impl<A: Application, I: Drop> Service<Request<Incoming<I>>> for Requests<A> {
 
     type Future = Serving<A, I>;
 
-    ghost calls = { λ requests req serving. serving.forbidden ≡ forbidden_of requests.hosts.value (head_of req).headers };
+    // claim: What its future may send for a request is what is sent for that very request, by its head and its body.
+    ghost calls = { λ requests req serving. (response : _)
+        → Sends A.Future.gives A.Response.tells (Answers A.answers serving.forbidden serving.reply
+        (option_map arc_value serving.application) serving.head (Reads serving.reading)) response
+        → Sends A.Future.gives A.Response.tells
+        (AnswersFor A.answers requests.hosts.value (arc_value requests.application) req) response };
 
     fn call(&self, req: Request<Incoming<I>>) -> Serving<A, I> {
         let (head, body) = req.into_parts();
