@@ -89,8 +89,7 @@ impl<L: Ledger, T: Trace> Office<L, T> {
         ensures same { result.after.value ≡ result.before.value }
     {
         let locked = self.locked.lock(rt);
-        let before = Seen::of(&*locked);
-        Witnessed::new(locked.next_moment(now), before, &locked)
+        Witnessed::of_look(locked.next_moment(now), &locked)
     }
 
     /// Whether the device failed: the disk has to be opened again.
