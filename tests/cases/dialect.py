@@ -232,9 +232,8 @@ def a_consumer_of_awss_sample_reads_what_grew_too_old(broker):
         same(broker.delete(record["requestContext"]["requestId"]).status, 204)
     told = unanswered(tried, "1.00 seconds, or the broker ended")
     same(read_as_sample(records[tried]), (tried, "EventAgeExceeded", 1, told))
-    # No version of the other was executed.
-    same(records[never]["requestContext"]["approximateInvokeCount"], 0)
-    same([*records[never]], ["version", "timestamp", "requestContext", "requestPayload"])
+    waited = f"RequestId: {never} Event expired before its first attempt"
+    same(read_as_sample(records[never]), (never, "EventAgeExceeded", 0, waited))
 
 
 @case({"concurrency": 10})

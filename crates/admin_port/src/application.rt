@@ -95,8 +95,8 @@ where
     // Acts::take_list; AdminApplication::reply_to: request, context]
     ghost answers = { λ application head body answered.
         IfOk answered (ShowsOrActs
-            (λ pending. IsAsked head pending.request × (pending.context.value ≡ application.context.value))
-            (λ collecting. BringsList head × CollectsBody (λ entry. entry.id) body collecting.entries.items))
+        (λ pending. IsAsked head pending.request × (pending.context.value ≡ application.context.value))
+        (λ collecting. BringsList head × CollectsBody (λ entry. entry.id) body collecting.entries.items))
         × IfErr answered (Refuses head) };
 
     fn most(&self) -> usize {

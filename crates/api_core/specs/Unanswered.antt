@@ -18,11 +18,18 @@ after_seconds EventAgeExceeded = codes ".00 seconds, or the broker ended"
 after_seconds outcome = codes ".00 seconds"
 
 -- AWS's words for an exit, and those for a timeout
-abbrev pub unanswered_message : Settings → Ending → List ℕ
-unanswered_message s e =
+abbrev pub ended_message : Settings → Ending → List ℕ
+ended_message s e =
     codes "RequestId: "
     ++ (id_text e.id ++ (codes " Process exited before completing request, or Task timed out after "
     ++ (decimal s.timeout ++ after_seconds e.outcome)))
+
+-- an event that was never started grew too old
+abbrev pub waited_message : Ending → List ℕ
+waited_message e = codes "RequestId: " ++ (id_text e.id ++ codes " Event expired before its first attempt")
+
+abbrev pub unanswered_message : Settings → Ending → List ℕ
+unanswered_message s e = if nat_lt 0 e.starts then ended_message s e else waited_message e
 
 -- the error in place of an answer
 abbrev pub unanswered_text : Settings → Ending → List ℕ
@@ -32,9 +39,9 @@ unanswered_text s e = object (member "errorMessage" (in_quotes (unanswered_messa
 abbrev pub with_error : Settings → Ending → Ending
 with_error s e = record e { answer = answer.Error (unanswered_text s e) }
 
--- an event that was started has that error where it has no answer
+-- an event has that error where it has no answer
 abbrev pub where_unanswered : Settings → Ending → Answer → Ending
-where_unanswered s e answer.None = if nat_lt 0 e.starts then with_error s e else e
+where_unanswered s e answer.None = with_error s e
 where_unanswered s e other = e
 
 -- what its record tells of an event

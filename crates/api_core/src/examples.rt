@@ -231,7 +231,7 @@ pub fn replies_aws()
 pub fn unanswered()
     ensures timed_out { ending_told Aws usual timed_out ≡ with_answer timed_out "{\"errorMessage\":\"RequestId: 00000000-0000-4000-8000-000000000001 Process exited before completing request, or Task timed out after 3.00 seconds\"}" }
     ensures tried_then_old { ending_told Aws usual tried_then_old ≡ with_answer tried_then_old "{\"errorMessage\":\"RequestId: 00000000-0000-4000-8000-000000000001 Process exited before completing request, or Task timed out after 3.00 seconds, or the broker ended\"}" }
-    ensures never_started { ending_told Aws usual grown_old ≡ grown_old }
+    ensures never_started { ending_told Aws usual grown_old ≡ with_answer grown_old "{\"errorMessage\":\"RequestId: 00000000-0000-4000-8000-000000000001 Event expired before its first attempt\"}" }
     ensures answered { ending_told Aws usual exhausted ≡ exhausted }
     ensures in_profile { ending_told Profile usual timed_out ≡ timed_out }
 {}

@@ -3,7 +3,7 @@ ghost use Rattle.std.specs.Prelude.{◌≡◌, ◌≤◌, IfOk};
 ghost use Rattle.invoke_records.specs.Spelling.{greatest_moment};
 ghost use Rattle.async_core.specs.Readers.{told};
 ghost use Rattle.destination_json.specs.Record.{record_text};
-ghost use Rattle.api_core.specs.Unanswered.{after_seconds, unanswered_message, unanswered_text, with_error, ending_told};
+ghost use Rattle.api_core.specs.Unanswered.{after_seconds, ended_message, waited_message, unanswered_message, unanswered_text, with_error, ending_told};
 
 use crate::Dialect;
 use crate::object::Object;
@@ -23,12 +23,13 @@ fn after_seconds(outcome: Outcome) -> &'static str
     }
 }
 
-fn unanswered_message(
+// The words for an event whose attempts had no answer.
+fn ended_message(
     alloc: Global,
     settings: &Settings,
     ended: &Ended<'_>,
 ) -> Result<Vec<u8>, AllocError>
-    ensures { IfOk result (λ text. text.items ≡ unanswered_message settings.now (told ended.now)) }
+    ensures { IfOk result (λ text. text.items ≡ ended_message settings.now (told ended.now)) }
 {
     let id = id_text(alloc, ended.id)?;
     let timeout = digits(alloc, settings.timeout as u64)?;
@@ -39,6 +40,29 @@ fn unanswered_message(
         after_seconds(ended.outcome).as_bytes(),
     )?;
     naming(alloc, "RequestId: ", id.as_bytes(), &causes)
+}
+
+// The words for an event that was never started.
+fn waited_message(alloc: Global, ended: &Ended<'_>) -> Result<Vec<u8>, AllocError>
+    ensures { IfOk result (λ text. text.items ≡ waited_message (told ended.now)) }
+{
+    let id = id_text(alloc, ended.id)?;
+    let cause = " Event expired before its first attempt";
+    naming(alloc, "RequestId: ", id.as_bytes(), cause.as_bytes())
+}
+
+fn unanswered_message(
+    alloc: Global,
+    settings: &Settings,
+    ended: &Ended<'_>,
+) -> Result<Vec<u8>, AllocError>
+    ensures { IfOk result (λ text. text.items ≡ unanswered_message settings.now (told ended.now)) }
+{
+    if ended.starts > 0 {
+        ended_message(alloc, settings, ended)
+    } else {
+        waited_message(alloc, ended)
+    }
 }
 
 // The error in place of the answer that an event has not.
@@ -53,7 +77,7 @@ fn unanswered_text(
     Object::of_text(alloc, "errorMessage", &message).end()
 }
 
-// The record of an event that was started and has no answer, with an error in its place.
+// The record of an event that has no answer, with an error in its place.
 fn unanswered_record(
     alloc: Global,
     settings: &Settings,
@@ -86,9 +110,7 @@ pub(crate) fn record_told(
     ensures { IfOk result (λ text. text.items ≡ record_text settings.now (ending_told dialect settings.now (told ended.now))) }
 {
     match (dialect, ended.answer) {
-        (Dialect::Aws, Answer::None) if ended.starts > 0 => {
-            unanswered_record(alloc, settings, ended)
-        }
+        (Dialect::Aws, Answer::None) => unanswered_record(alloc, settings, ended),
         _ => record(alloc, ended, settings),
     }
 }

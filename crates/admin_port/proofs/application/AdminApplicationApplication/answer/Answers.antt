@@ -6,8 +6,8 @@ use Rattle.admin_port.proofs.application.AdminApplicationApplication.answer.Goal
 pub returns-in-Err-clause-answered : goal.returns-in-Err-clause-answered
 returns-in-Err-clause-answered g c =
     let asked : asked_of c.args.head.now.method (target_in c.args.head.now) ≡ Err c.in-Err.why =
-        ap (λ (m : List ℕ). asked_of m (target_in c.args.head.now)) (sym c.as_str.ensures.value)
-        ∙ ap (λ (t : List ℕ). asked_of c.as_str.result.now t) (sym c.target_of.ensures) ∙ sym c.in-Err.ensures in
+    ap (λ (m : List ℕ). asked_of m (target_in c.args.head.now)) (sym c.as_str.ensures.value)
+    ∙ ap (λ (t : List ℕ). asked_of c.as_str.result.now t) (sym c.target_of.ensures) ∙ sym c.in-Err.ensures in
     (tt, elim c.refuse_words.ensures [ inl alone ↦ inl alone | inr said ↦ inr (status_of c.in-Err.why, said.0, said.1, inr (c.in-Err.why, asked, refl)) ])
 
 pub returns-then-not-is_local-clause-answered : goal.returns-then-not-is_local-clause-answered

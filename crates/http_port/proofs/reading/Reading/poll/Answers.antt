@@ -47,7 +47,7 @@ returns-in-Ready-Failed-clause-value g c =
     let now = frames_of c.loop-frame.self.body in
     let next = frames_of c.step.new.self.body in
     let follows = follows_at now next c.loop-frame.self.bytes.items c.step.new.self.bytes.items c.in-Ready-Failed.field-0 (Failed c.in-Ready-Failed.why) c.in-Ready-Failed.field-0-is
-        c.in-Ready-Failed.ensures.follows in
+    c.in-Ready-Failed.ensures.follows in
     inr (c.loop-frame.invariant.reads (Err c.in-Ready-Failed.why) (failed_reads now next c.loop-frame.frame c.loop-frame.self.bytes.items c.step.new.self.bytes.items c.in-Ready-Failed.why follows))
 
 pub returns-clause-value : goal.returns-clause-value

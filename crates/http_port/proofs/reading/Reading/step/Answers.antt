@@ -17,6 +17,8 @@ returns-in-Ready-Some-Err-LengthLimit-clause-follows g c =
 
 pub returns-clause-follows : goal.returns-clause-follows
 returns-clause-follows g c =
-    let at = c.in-Ready-Some-Err-Body in
-    (at.field-0-0-0-0, polled_error (frames_of c.args.self.now.body) (frames_of c.poll_frame.new.self) at.field-0 at.field-0-0 at.field-0-0-0 _ at.field-0-is at.field-0-0-is at.field-0-0-0-is
-    at.ensures.value)
+    let at = c.in-Ready-Some-Err-Body in (
+      at.field-0-0-0-0,
+      polled_error (frames_of c.args.self.now.body) (frames_of c.poll_frame.new.self) at.field-0 at.field-0-0 at.field-0-0-0 _ at.field-0-is at.field-0-0-is at.field-0-0-0-is
+          at.ensures.value,
+    )

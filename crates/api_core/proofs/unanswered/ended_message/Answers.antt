@@ -1,4 +1,4 @@
-use Rattle.api_core.proofs.unanswered.unanswered_message.Goals as goal
+use Rattle.api_core.proofs.unanswered.ended_message.Goals as goal
 
 pub returns : goal.returns
 returns c =
