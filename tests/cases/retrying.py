@@ -206,15 +206,13 @@ def a_kill_at_any_flush_or_write_loses_nothing(broker):
     for power in False, True:
         for word in "kill_flush", "kill_write":
             for number in range(1, CALLS + 1):
-                payload = f'"{power} {word} {number}"'
+                payload, watch.keep = f'"{power} {word} {number}"', 1
                 event = failed(broker, payload)
-                watch.keep = 1
                 setattr(watch, word, (watch.flushes if word == "kill_flush" else watch.writes) + number)
-                same(broker.look("/healthz").status, 200)
                 asked = send(broker, event)
                 assert statuses([asked]) != [200], "it was told"
                 broker.ended()
-                if power and watch.flushed:
+                if power:
                     broker.lose_what_was_not_flushed()
                 watch.clear()
                 broker.serve("--acts")

@@ -1,6 +1,7 @@
 // What the operator's port serves.
-ghost use Rattle.std.specs.Prelude.{◌≡◌, IfOk, IfErr, OnSome};
-ghost use Rattle.admin_port.specs.Replying.{BringsList, CollectsBody, IsAsked, Refuses, RefusesRequest, ShowsOrActs};
+ghost use Rattle.std.specs.Prelude.{◌≡◌, Some, IfOk, IfErr, IfSome, OnSome};
+ghost use Rattle.admin_port.specs.Replying.{BringsList, CollectsBody, IsAsked, RefusesList, RefusesRequest, ShowsOrActs};
+ghost use Rattle.admin_port.specs.Retrying.{NamesRecord, Refuses};
 
 use crate::acts::Acts;
 use crate::admin_context::AdminContext;
@@ -66,7 +67,9 @@ impl<R: Wait + Clock + Drop + Copy, L: Ledger, T: Trace, A> AdminApplication<R, 
     }
 
     // What an operator may do, and the event, where a request names a record that is to be tried again.
-    fn record_named(&self, head: &Parts) -> Option<(&Acts<A>, Option<[u8; 16]>)> {
+    fn record_named(&self, head: &Parts) -> Option<(&Acts<A>, Option<[u8; 16]>)>
+        ensures { IfSome result (λ named. NamesRecord head.now named.1) }
+    {
         let acts = self.acts.as_ref()?;
         let id = record_named(head.method.as_str(), target_of(head))?;
         Some((acts, id))
@@ -106,7 +109,10 @@ where
         acts: &Acts<A>,
         head: &Parts,
         id: Option<[u8; 16]>,
-    ) -> Result<Retrying<R, L, T, A>, Refused> {
+    ) -> Result<Retrying<R, L, T, A>, Refused>
+        ensures id { IfOk result (λ retrying. id ≡ Some retrying.id) }
+        ensures refused { IfErr result RefusesList }
+    {
         let id = acts.named(head, id)?;
         match self.look() {
             Ok(view) => acts.retry(self.rt, id, view),
@@ -129,13 +135,16 @@ where
         Either<Collecting<R, L, T, A>, Retrying<R, L, T, A>>,
     >;
 
-    // claim: An operator's request is what its head asks for, or brings just the ids of its body's lines, or is refused by the
-    // first check that fails. [: answers; refuse_words; refuse_list; AdminApplication::show: request, context, refused;
-    // Acts::take_list; AdminApplication::reply_to: request, context]
+    // claim: An operator's request is what its head asks for, brings just the ids of its body's lines, or names the record that
+    // is tried again, or is refused by the first check that fails. [: answers; refuse_words; refuse_list;
+    // AdminApplication::show: request, context, refused; Acts::take_list: ids, refused; Acts::named: id, refused;
+    // AdminApplication::reply_to: request, context]
     ghost answers = { λ application head body answered.
         IfOk answered (ShowsOrActs
         (λ pending. IsAsked head pending.request × (pending.context.value ≡ application.context.value))
-        (λ collecting. BringsList head × CollectsBody (λ entry. entry.id) body collecting.entries.items))
+        (ShowsOrActs
+        (λ collecting. BringsList head × CollectsBody (λ entry. entry.id) body collecting.entries.items)
+        (λ retrying. NamesRecord head (Some retrying.id))))
         × IfErr answered (Refuses head) };
 
     fn most(&self) -> usize {

@@ -1,8 +1,11 @@
 // The reply to a request that names a record to be tried again.
-ghost use Rattle.std.specs.Prelude.{◌≡◌, Some};
+ghost use Rattle.std.specs.Prelude.{◌≡◌, Some, Ok, IfSome};
 ghost use Rattle.futures.specs.Task.{Keeps};
+ghost use Rattle.api_core.specs.declared.call.Call.TheVariants.{Delete};
+ghost use Rattle.long_poll.specs.PendingView.{unreleased_in};
+ghost use Rattle.admin_replies.specs.Retrying.{failed_payload, status_by, status_of};
 ghost use Rattle.admin_port.specs.Asking.{accepted_by};
-ghost use Rattle.admin_port.specs.Retrying.{IsArmedIn, LeadsToRow, LeadsToPayload, LeadsToReply, LeadsToNew, LeadsToStep};
+ghost use Rattle.admin_port.specs.Retrying.{IsArmedIn, LeadsToDelete, LeadsToInvoke, LeadsToLook, LeadsToPayload, LeadsToStep, TellsOfReply, TellsOfStep};
 
 use crate::admin_response::{AdminResponse, device_fault, told};
 use crate::asked::{Answered, Asked};
@@ -35,13 +38,17 @@ pub(crate) struct Retrying<R: Wait, L: Ledger, T: Trace, A> {
 }
 
 // Why the payload of a record was not accepted, by the hall's status.
-fn unaccepted<R: Wait + Drop, L: Ledger, T: Trace>(alloc: Global, status: u16) -> Turn<R, L, T> {
-    Turn::Tells(told(unaccepted_reply(alloc, status)))
+fn unaccepted(alloc: Global, status: u16) -> AdminResponse
+    ensures { IfSome result.reply (λ reply. reply.status ≡ status_by status) }
+{
+    told(unaccepted_reply(alloc, status))
 }
 
 // Why a record is not tried again.
-fn refused<R: Wait + Drop, L: Ledger, T: Trace>(alloc: Global, why: RetryRefusal) -> Turn<R, L, T> {
-    Turn::Tells(told(refusal_reply(alloc, why)))
+fn refused(alloc: Global, why: RetryRefusal) -> AdminResponse
+    ensures { IfSome result.reply (λ reply. reply.status ≡ status_of why) }
+{
+    told(refusal_reply(alloc, why))
 }
 
 impl<R: Wait + Drop + Copy, L: Ledger, T: Trace, A: Acting<R, L, T>> Retrying<R, L, T, A> {
@@ -66,7 +73,9 @@ impl<R: Wait + Drop + Copy, L: Ledger, T: Trace, A: Acting<R, L, T>> Retrying<R,
     }
 
     // What became of the record, once its payload was accepted as this event: by the hall's reply to its DELETE.
-    fn collected(&self, new: &[u8; 16], answered: &Answered<L, T>) -> AdminResponse {
+    fn collected(&self, new: &[u8; 16], answered: &Answered<L, T>) -> AdminResponse
+        ensures { IfSome result.reply (TellsOfReply self.now.id new.now answered.now.told.answer.status) }
+    {
         match Verdict::of(answered.status()) {
             Some(verdict) => told(again_reply(self.alloc, new, ToldLine::Of(self.id, verdict))),
             None => told(left_reply(self.alloc, new)),
@@ -80,7 +89,11 @@ impl<R: Wait + Drop + Copy, L: Ledger, T: Trace, A: Acting<R, L, T>> Retrying<R,
         new: [u8; 16],
         asked: Asked<R, L, T>,
         cx: &mut Context<'_>,
-    ) -> Turn<R, L, T> {
+    ) -> Turn<R, L, T>
+        ensures leads { LeadsToDelete asked.call.value self.now.id new result }
+        ensures armed { IsArmedIn cx.new result }
+        ensures kept { Keeps cx.old cx.new }
+    {
         match asked.wait(cx) {
             Ok(answered) => Turn::Tells(self.collected(&new, &answered)),
             Err(asked) => Turn::Waits(Step::Collecting(accepted, new, asked)),
@@ -93,7 +106,12 @@ impl<R: Wait + Drop + Copy, L: Ledger, T: Trace, A: Acting<R, L, T>> Retrying<R,
         accepted: Answered<L, T>,
         new: [u8; 16],
         cx: &mut Context<'_>,
-    ) -> Turn<R, L, T> {
+    ) -> Turn<R, L, T>
+        requires { accepted_by accepted.told.answer ≡ Some new }
+        ensures leads { LeadsToDelete (Delete (Some self.now.id)) self.now.id new result }
+        ensures armed { IsArmedIn cx.new result }
+        ensures kept { Keeps cx.old cx.new }
+    {
         match Asked::ask(self.rt, &*self.acting, Call::Delete(Some(self.id))) {
             Some(asked) => self.wait_collected(accepted, new, asked, cx),
             None => Turn::Tells(told(left_reply(self.alloc, &new))),
@@ -101,35 +119,51 @@ impl<R: Wait + Drop + Copy, L: Ledger, T: Trace, A: Acting<R, L, T>> Retrying<R,
     }
 
     // Waits for the reply to the Invoke of the payload.
-    fn wait_accepted(&self, asked: Asked<R, L, T>, cx: &mut Context<'_>) -> Turn<R, L, T> {
+    fn wait_accepted(&self, asked: Asked<R, L, T>, cx: &mut Context<'_>) -> Turn<R, L, T>
+        ensures leads { LeadsToInvoke asked.call.value self.now.id result }
+        ensures armed { IsArmedIn cx.new result }
+        ensures kept { Keeps cx.old cx.new }
+    {
         let answered = match asked.wait(cx) {
             Ok(answered) => answered,
             Err(asked) => return Turn::Waits(Step::Accepting(asked)),
         };
         match answered.accepted() {
             Some(new) => self.collect(answered, new, cx),
-            None => unaccepted(self.alloc, answered.status()),
+            None => Turn::Tells(unaccepted(self.alloc, answered.status())),
         }
     }
 
     // The payload comes as an event.
-    fn accept(&self, payload: Bytes, cx: &mut Context<'_>) -> Turn<R, L, T> {
+    fn accept(&self, payload: Bytes, cx: &mut Context<'_>) -> Turn<R, L, T>
+        ensures leads { LeadsToPayload self.now.id (Ok payload) result }
+        ensures armed { IsArmedIn cx.new result }
+        ensures kept { Keeps cx.old cx.new }
+    {
         match Asked::ask(self.rt, &*self.acting, Call::Invoke { payload }) {
             Some(asked) => self.wait_accepted(asked, cx),
-            None => unaccepted(self.alloc, 503),
+            None => Turn::Tells(unaccepted(self.alloc, 503)),
         }
     }
 
     // The record is judged by what was seen of its event.
-    fn judge(&self, view: &View, cx: &mut Context<'_>) -> Turn<R, L, T> {
+    fn judge(&self, view: &View, cx: &mut Context<'_>) -> Turn<R, L, T>
+        ensures leads { LeadsToPayload self.now.id (failed_payload self.now.id view.now.hall.table.rows) result }
+        ensures armed { IsArmedIn cx.new result }
+        ensures kept { Keeps cx.old cx.new }
+    {
         match failed_payload(view.hall.table.rows.as_slice(), &self.id) {
             Ok(payload) => self.accept(payload, cx),
-            Err(why) => refused(self.alloc, why),
+            Err(why) => Turn::Tells(refused(self.alloc, why)),
         }
     }
 
     // Waits until what was seen of the event is durable.
-    fn look(&self, mut view: PendingView<R, L, T>, cx: &mut Context<'_>) -> Turn<R, L, T> {
+    fn look(&self, mut view: PendingView<R, L, T>, cx: &mut Context<'_>) -> Turn<R, L, T>
+        ensures leads { LeadsToLook self.now.id (unreleased_in view.view) result }
+        ensures armed { IsArmedIn cx.new result }
+        ensures kept { Keeps cx.old cx.new }
+    {
         match view.poll(cx) {
             Poll::Pending => Turn::Waits(Step::Looking(view)),
             Poll::Ready(Ok(told)) => self.judge(&told.view, cx),
@@ -138,14 +172,18 @@ impl<R: Wait + Drop + Copy, L: Ledger, T: Trace, A: Acting<R, L, T>> Retrying<R,
     }
 
     // Goes on from a step.
-    fn go_on(&self, step: Step<R, L, T>, cx: &mut Context<'_>) -> Turn<R, L, T> {
+    fn go_on(&self, step: Step<R, L, T>, cx: &mut Context<'_>) -> Turn<R, L, T>
+        ensures leads { LeadsToStep self.now.id step result }
+        ensures armed { IsArmedIn cx.new result }
+        ensures kept { Keeps cx.old cx.new }
+    {
         match step {
             Step::Looking(view) => self.look(view, cx),
             Step::Accepting(asked) => self.wait_accepted(asked, cx),
             Step::Collecting(accepted, new, asked) => {
                 self.wait_collected(accepted, new, asked, cx)
             }
-            Step::Told => unaccepted(self.alloc, 503),
+            Step::Told => Turn::Tells(unaccepted(self.alloc, 503)),
         }
     }
 }
@@ -158,6 +196,11 @@ where
     A: Acting<R, L, T>,
 {
     type Output = AdminResponse;
+
+    // claim: Of a failed record that is tried again it is told what the hall replied to one Invoke of its payload, and only where
+    // that was accepted, to one DELETE of it; or it is told 503. [: gives; Retrying::new: id, step; Retrying::collect: leads;
+    // Retrying::wait_accepted: leads; Answered: tells]
+    ghost gives = { λ retrying shown. IfSome shown.reply (TellsOfStep retrying.id retrying.step) };
 
     fn poll(&mut self, cx: &mut Context<'_>) -> Poll<AdminResponse> {
         let step = mem::replace(&mut self.step, Step::Told);
