@@ -197,9 +197,8 @@ where
 {
     type Output = AdminResponse;
 
-    // claim: Of a failed record that is tried again it is told what the hall replied to one Invoke of its payload, and only where
-    // that was accepted, to one DELETE of it; or it is told 503. [: gives; Retrying::new: id, step; Retrying::collect: leads;
-    // Retrying::wait_accepted: leads; Answered: tells]
+    // claim: A failed record that is tried again is told the hall's reply to one Invoke of its payload and, only behind a 202, to
+    // one DELETE; or 503. [: gives; Retrying::collect: leads; Answered: tells]
     ghost gives = { λ retrying shown. IfSome shown.reply (TellsOfStep retrying.id retrying.step) };
 
     fn poll(&mut self, cx: &mut Context<'_>) -> Poll<AdminResponse> {

@@ -26,7 +26,6 @@ fn put_accepted(alloc: Global, out: &mut Vec<u8>, new: &[u8; 16]) -> Result<(), 
 
 /// That the payload of a record was accepted as this event, and what became of the record then. Only want of memory is refused.
 pub fn again_reply(alloc: Global, new: &[u8; 16], line: ToldLine) -> Result<AdminReply, AllocError>
-    // claim: What is told of a record that is tried again names the new event and what became of the record. [left_reply]
     ensures { IfOk result (TellsAgain new.now line) }
 {
     let mut out = Vec::new(alloc);
