@@ -3,14 +3,14 @@ import re
 import socket
 import time
 
-from cases.collecting import told
+from cases.collecting import told as told_of_list
 from cases.limits import INVOKES, statuses_in, told_to_the_end
 from harness import DEADLINE, EXTENSION, INVOKE, OPENING, RUNTIME, case, matches, same, statuses, until
 
 SECTOR = 512
 
-# The parts of a sector: the head of a frame's body, that of a command, and that of a snapshot without rows.
-FRAME, COMMAND, SNAPSHOT = 32, 31, 25
+# The head of a frame's body, and that of a command in it, in bytes.
+FRAME, COMMAND = 32, 31
 
 ACCEPTED, STARTED, COLLECTED = "events_accepted_total", "attempts_started_total", "records_collected_total"
 FAILED, THROTTLED, INTERRUPTED = "attempts_failed_total", "attempts_throttled_total", "attempts_interrupted_total"
@@ -98,9 +98,9 @@ def each_step_of_an_event_moves_its_counters_alone(broker):
 @case({"payload": 2048, "response": 2048})
 def what_is_written_follows_the_size_of_what_is_kept(broker):
     broker.serve()
-    # The body of 449 bytes fills a sector.
-    for size in 1, 448, 449, 450, 2048:
-        payload = size * "1"
+    # The frame of a payload of 449 bytes fills a sector.
+    for size in 2, 448, 449, 450, 2048:
+        payload = f'"{(size - 2) * "x"}"'
         same((size, moved_by(broker, lambda: broker.invoke(payload))), (size, committed(size) | {ACCEPTED: 1}))
         event = broker.next().id
         same((size, moved_by(broker, lambda: broker.respond(event, payload))), (size, committed(size) | {SUCCESS: 1}))
@@ -157,6 +157,7 @@ def an_event_is_throttled_as_often_as_it_is_put_back(broker):
         before, pushbacks, after = broker.number(THROTTLED), put_back(), broker.number(THROTTLED)
         return before == after and (pushbacks, after)
 
+    same(polls[0].done().id, first)
     until("a throttle", put_back)
     pushbacks, throttled = until("a moment between two", between_two)
     same(throttled, pushbacks)
@@ -188,8 +189,8 @@ def a_broker_that_is_served_anew_counts_anew_but_for_its_commands(broker):
         before = counters(broker)
         end()
         broker.serve()
-        # What the end cut off was put back, by one command, before the broker serves.
-        wanted = dict.fromkeys(ALL, 0) | {name: before[name] + 1 for name in (ISSUED, DURABLE)}
+        # Before it serves, what the end cut off was put back by one command, of which nothing but its bytes is counted anew.
+        wanted = dict.fromkeys(ALL, 0) | {name: before[name] + 1 for name in (ISSUED, DURABLE)} | {WRITTEN: committed(0)[WRITTEN]}
         same(counters(broker), wanted)
         broker.end()
 
@@ -216,8 +217,8 @@ def what_changes_no_event_moves_no_counter(broker):
 def a_list_that_is_collected_moves_what_was_collected_alone(broker):
     broker.serve("--acts")
     ended, waits = broker.live("{}", "1"), broker.invoke("{}").id
-    same(moved_by(broker, lambda: same(told(broker, [waits, "x", UNKNOWN])[0], 200)), {})
-    same(moved_by(broker, lambda: same(told(broker, [ended])[0], 200)), committed(0) | {COLLECTED: 1})
+    same(moved_by(broker, lambda: same(told_of_list(broker, [waits, "x", UNKNOWN])[0], 200)), {})
+    same(moved_by(broker, lambda: same(told_of_list(broker, [ended])[0], 200)), committed(0) | {COLLECTED: 1})
 
 
 def each_refusal_is_counted(broker, *words):
@@ -368,22 +369,18 @@ def a_command_is_durable_behind_its_commit_and_not_before(broker):
     watch = broker.watches_disk()
     broker.serve()
     watch.hold_flush = OPENING + 1
-    first = broker.send_invoke("1")
+    invokes = [broker.send_invoke("1") for _ in range(3)]
     until("a flush", lambda: watch.flushes == OPENING + 1)
+    broker.until_read()
+    # It is of the moment at which it was asked for, and told once all that was issued then is durable.
     scrape = broker.send_look("/metrics")
     broker.until_looked()
-    second = broker.send_invoke("2")
-    broker.until_read()
-    same([one.is_answered() for one in (first, second, scrape)], 3 * [False])
-    # The scrape waits for the first command, of which its commit makes two flushes, and not for the second.
-    watch.release = OPENING + 2
-    told = dict(re.findall("^lambda_broker_(\\S+) (\\S+)$", scrape.done().body.decode(), re.M))
-    names = ISSUED, DURABLE, ACCEPTED, COMMITS, WRITTEN, "pending_commands", "open_slots"
-    same([int(told[name]) for name in names], [2, 1, 2, 1, 3 * SECTOR, 1, 1])
-    same(second.is_answered(), False)
+    same([one.is_answered() for one in (*invokes, scrape)], 4 * [False])
     watch.let_go()
-    same(statuses((first, second)), [202, 202])
-    same([counters(broker)[name] for name in names[:5]], [2, 2, 2, 2, 6 * SECTOR])
+    told = dict(re.findall(r"^lambda_broker_(\S+) (\S+)$", scrape.done().body.decode(), re.M))
+    same([int(told[name]) for name in (ISSUED, ACCEPTED, DURABLE)], [3, 3, 0])
+    same(statuses(invokes), 3 * [202])
+    same([counters(broker)[name] for name in (ISSUED, ACCEPTED, DURABLE)], [3, 3, 3])
 
 
 @case({"sectors": 64, "events": 2, "payload": 64, "response": 64})
@@ -396,7 +393,7 @@ def each_switch_is_counted_with_what_it_writes(broker):
     def accept():
         events.append(broker.invoke("{}").id)
 
-    for _ in range(20):
+    for _ in range(8):
         for name, act, size, moved in (
             ("accept", accept, 2, {ACCEPTED: 1}),
             ("start", lambda: same(broker.next().id, events[-1]), 0, {STARTED: 1}),
@@ -411,5 +408,6 @@ def each_switch_is_counted_with_what_it_writes(broker):
             else:
                 free -= 2
             same((name, switched, moved_by(broker, act)), (name, switched, wanted))
-            same([broker.number(name) for name in ("segment_free_bytes", "generation")], [free * SECTOR, 1 + switched])
-    same(switched, 5)
+            numbers = broker.numbers()
+            same([numbers[name] for name in ("segment_free_bytes", "generation")], [free * SECTOR, 1 + switched])
+    same(switched, 2)
