@@ -5,9 +5,8 @@ import time
 
 from cases.collecting import told as told_of_list
 from cases.limits import INVOKES, statuses_in, told_to_the_end
+from disks import SECTOR, sectors_of
 from harness import DEADLINE, EXTENSION, INVOKE, OPENING, RUNTIME, case, matches, same, statuses, until
-
-SECTOR = 512
 
 # The head of a frame's body, and that of a command in it, in bytes.
 FRAME, COMMAND = 32, 31
@@ -56,10 +55,6 @@ def moved_by(broker, act):
     after = counters(broker)
     same(list(after), list(before))
     return {name: after[name] - before[name] for name in after if after[name] != before[name]}
-
-
-def sectors_of(size):
-    return -(-size // SECTOR)
 
 
 def committed(*contents):
@@ -286,8 +281,9 @@ def who_is_told_503_is_counted_and_nothing_of_his(broker):
 
     def crowd():
         watch.hold_flush = OPENING + 1
-        asked = [broker.send_invoke("{}") for _ in range(260)]
+        asked = [broker.send_invoke("{}")]
         until("a flush", lambda: watch.flushes == OPENING + 1)
+        asked += [broker.send_invoke("{}") for _ in range(259)]
         until("the refusals", lambda: sum(one.is_answered() for one in asked) == 4)
         watch.let_go()
         same(sorted(statuses(asked)), 256 * [202] + 4 * [503])
