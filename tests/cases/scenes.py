@@ -148,20 +148,33 @@ def a_runtime_in_a_restart_loop(broker):
     waits.leave()
 
 
+def restarts(broker, seen):
+    """The scrapes of a broker that ends and is served anew four times, once a minute: what is seen of each."""
+    scrapes = []
+    for _ in range(4):
+        broker.kill()
+        broker.serve()
+        scrapes.append((seen(), 1))
+        until("another second", lambda: time.time() > scrapes[-1][0]["process_start_time_seconds"] + 1)
+    return scrapes
+
+
 @case()
 def a_broker_in_a_restart_loop(broker):
     broker.serve()
     well, _ = works(broker)
     broker.invoke('{"order":7}')
-    scrapes = [(well, WELL)]
-    for _ in range(4):
-        broker.kill()
-        broker.serve()
-        # Its runtimes have not come back yet, and the event was put back.
-        scrapes.append((is_seen(broker, "nobody_polls"), 1))
-        until("another second", lambda: time.time() > scrapes[-1][0]["process_start_time_seconds"] + 1)
+    # Its runtimes have not come back yet, and the event was put back.
+    scrapes = restarts(broker, lambda: is_seen(broker, "nobody_polls"))
     pictures(broker, "broker_restart_loop")
-    fire(broker, scrapes, "RestartLoop")
+    fire(broker, [(well, WELL), *scrapes], "RestartLoop")
+
+    def given():
+        same(broker.next().status, 200)
+        return broker.numbers()
+
+    # It ends of the event that a runtime is given at once: the verdict remembers no earlier start, and the alert does.
+    fire(broker, [(well, WELL), *restarts(broker, given)], "RestartLoop")
 
 
 @case(slow=True)
