@@ -131,8 +131,6 @@ impl<L: Ledger, T: Trace> FrontState<L, T> {
         ensures slot { IfOk result (λ arrived. IsSlot arrived.slot) }
         ensures refused { IfErr result IsArrivalError }
 
-        // claim: What arrived has the slot with which just this call was done. [: done;
-        // PortApplication::arrive]
         ensures done { IfOk result (λ arrived.
             IsDoneFor call (hall_in arrived.seen.before.value.hall) (hall_in arrived.seen.after.value.hall) arrived.slot) }
     {
