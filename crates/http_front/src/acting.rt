@@ -58,10 +58,10 @@ where
     let theirs = Arc::try_clone(port)?;
     let Handed {
         arrived,
-        is_move_left,
+        is_move_near,
         ..
     } = arrive(&rt, port, call)?;
-    if is_move_left {
+    if is_move_near {
         front.ticker_wake.call(&rt);
     }
     Ok(Waiting::new(rt, theirs, arrived))

@@ -21,7 +21,7 @@ use std::sync::ledger::Ledger;
 use std::time::Clock;
 
 /// How long the ticker sleeps at most, in milliseconds. A command makes nothing due sooner than so long after it, but for what is
-/// due at once, and for what then grows too old: that may be given up so much late.
+/// due at once, and for what then grows too old: for that the ticker is called.
 const MOST_PAUSE: u64 = 1000;
 
 /// How long it sleeps at most where a move was refused, or the clock cannot be read, in milliseconds.
