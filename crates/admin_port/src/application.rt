@@ -92,7 +92,7 @@ where
 
     // claim: An operator's request is what its head asks for, or brings just the ids of its body's lines, or is refused by the
     // first check that fails. [: answers; refuse_words; refuse_list; AdminApplication::show: request, context, refused;
-    // Acts::take_list; AdminApplication::reply_to: request, context]
+    // Acts::take_list: ids, refused; AdminApplication::reply_to: request, context]
     ghost answers = { λ application head body answered.
         IfOk answered (ShowsOrActs
         (λ pending. IsAsked head pending.request × (pending.context.value ≡ application.context.value))
