@@ -108,8 +108,8 @@ fn make_move<R: Wait + Eprint, L: Ledger, T: Trace>(
     desk: &mut Desk<L, T>,
     at: Moment,
 ) -> Witnessed<Tried, L, T>
-    // claim: Where it makes no move though the clock told a moment, none was due before it, or there is a reason
-    // there. Where none was due, the pause is until the next moment, a second at most. [: marked, nothing; tick; pause_at]
+    // claim: Where it makes no move though the clock told a moment, none was due in the hall that it met, or there is
+    // a reason there. Where none was due, the pause is until the next moment, a second at most. [: marked, nothing; tick; pause_at]
     ensures marked { HasMarked (length (map T.mark desk.old.own.items)) (ticked (is_made result.answer) ∷ [])
         (length (map T.mark desk.new.own.items)) }
     ensures nothing { is_made result.answer ≡ false → FindsNothing (hall_in result.before.value.hall) desk.old.told (millis_in at.shown) }
