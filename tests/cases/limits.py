@@ -257,6 +257,19 @@ def a_head_that_is_too_long_is_told_so(broker):
 
 
 @case()
+def what_fills_a_target_does_not_change_how_it_is_judged(broker):
+    broker.serve()
+    for part in ("/", "/a", "%61", "/%61", "a&", ":"):
+        target = "/a" + 60000 // len(part) * part
+        same([(part, broker.ask("GET", target, environment=environment).status) for environment in (0, 1)], 2 * [(part, 404)])
+    for part in ("&", "a&", "%61&", "Qualifier=$LATEST&"):
+        many = 60000 // len(part) * part
+        same((part, broker.ask("POST", f"{INVOKE}?{many}", "{}", EVENT).status), (part, 202))
+        same((part, broker.ask("POST", f"{INVOKE}?{many}Qualifier=1", "{}", EVENT).status), (part, 404))
+        same((part, broker.ask("GET", f"{RUNTIME}/invocation/none?{many}", environment=1).status), (part, 404))
+
+
+@case()
 def an_early_refusal_behind_a_large_body_arrives(broker):
     broker.serve()
     for environment, path in (0, "/x"), (1, "/x"), (1, f"{RUNTIME}/invocation/x/response"):

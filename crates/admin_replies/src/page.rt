@@ -6,7 +6,7 @@ pub const PAGE: &str = r##"<!doctype html>
 <head>
 <meta charset="utf-8">
 <meta name="viewport" content="width=device-width, initial-scale=1">
-<meta http-equiv="Content-Security-Policy" content="default-src 'none'; connect-src 'self'; frame-src 'self'; img-src data:; base-uri 'none'; form-action 'none'; style-src 'sha256-Eipr057BhPRKufHSfKTUAaBt9rzMJfGtjNjbFfNYLBw='; script-src 'sha256-IUp32Fw3i7rFQyoI6NiDZ+ntEUHTl8u84vzCth1J7bk=' 'sha256-CyDWxjQ/FMGv68FM93Uah8Q3WNqocdwvRILIzrGfxEQ='">
+<meta http-equiv="Content-Security-Policy" content="default-src 'none'; connect-src 'self'; frame-src 'self'; img-src data:; base-uri 'none'; form-action 'none'; style-src 'sha256-bw1yV4ByBa9q66WphivbkTr/p+LLuW//C61/VbnIXWI='; script-src 'sha256-IUp32Fw3i7rFQyoI6NiDZ+ntEUHTl8u84vzCth1J7bk=' 'sha256-wv1vKIkUn8hlx1MrdU9RUvR908GvTq7yHLY3TaX5ouc='">
 <link rel="icon" href="data:,">
 <title>Lambda broker</title>
 <style>
@@ -63,7 +63,8 @@ td:not(.error, .wrap) { white-space: nowrap; }
   table { font-size: .9375rem; }
   th, td { padding-right: .4rem; }
   .far { display: none; }
-  .id a { display: inline-block; max-width: 4.4rem; overflow: hidden; text-overflow: ellipsis; vertical-align: bottom; }
+  #runs :nth-child(2) { padding-right: .9rem; }
+  .id a { display: block; max-width: 4.4rem; overflow: hidden; text-overflow: ellipsis; }
 }
 </style>
 </head>
@@ -278,7 +279,7 @@ function draw(plot, samples) {
   const most = Math.max(0, ...values), now = rate(points.at(-1)?.value ?? null), end = samples.at(-1).at, wide = Math.max(end - samples[0].at, 1);
   let line = "", open = false;
   for (const { at, value } of points) {
-    if (value !== null) line += `${open ? "L" : "M"}${298 - (end - at) * 297 / wide} ${48 - (most ? value / most * 45 : 0)}${open ? "" : "h1"}`;
+    if (value !== null) line += `${open ? "L" : "M"}${298 - (end - at) * 297 / wide} ${48 - (most ? value / most * 45 : 0)}${open ? "" : "h4"}`;
     open = value !== null;
   }
   plot.path.setAttribute("d", line);

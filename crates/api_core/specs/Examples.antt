@@ -209,3 +209,15 @@ tried_then_old = record grown_old { starts = 1 }
 -- the event with this error as its answer
 abbrev pub with_answer : Ending → String → Ending
 with_answer e text = record e { answer = answer.Error (codes text) }
+
+-- the record of the event that was never started, in the dialect of AWS
+abbrev pub waited_text : List ℕ
+waited_text =
+    codes "{\"version\":\"1.0\",\"timestamp\":\"2019-11-14T18:17:05.568Z\","
+    ++ (codes "\"requestContext\":{\"requestId\":\"00000000-0000-4000-8000-000000000001\","
+    ++ (codes "\"functionArn\":\"arn:aws:lambda:us-east-2:123456789012:function:my-function:$LATEST\","
+    ++ (codes "\"condition\":\"EventAgeExceeded\",\"approximateInvokeCount\":0},"
+    ++ (codes "\"requestPayload\":{},"
+    ++ (codes "\"responseContext\":{\"statusCode\":200,\"executedVersion\":\"$LATEST\",\"functionError\":\"Unhandled\"},"
+    ++ (codes "\"responsePayload\":{\"errorMessage\":\"RequestId: 00000000-0000-4000-8000-000000000001"
+    ++ codes " Event expired before its first attempt\"}}"))))))

@@ -1,5 +1,5 @@
 -- What the headers of a reply are seen as.
-use Rattle.std.specs.Prelude.{ℕ, List, map, ◌++◌}
+use Rattle.std.specs.Prelude.{ℕ, List, map}
 use Rattle.api_core.specs.declared.reply.Header.{Header}
 use Rattle.api_core.specs.declared.reply.FixedHeader.{FixedHeader}
 

@@ -40,7 +40,7 @@ fn bad_function(
         | Route::GetFunction
         | Route::GetConfiguration => {
             let is_named = is_function(alloc, dialect, settings, part)?;
-            let is_qualified = has_good_qualifier(alloc, target)?;
+            let is_qualified = has_good_qualifier(target);
             Ok(unless(is_named && is_qualified, Refusal::NotFound))
         }
         _ => Ok(None),

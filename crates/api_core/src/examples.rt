@@ -5,7 +5,7 @@ ghost use Rattle.api_core.specs.Unanswered.{ending_told};
 ghost use Rattle.api_core.specs.Examples.{with_header, of_type, event, identified, third, named, small, caller_asks_aws, tells_too_much, too_large_text};
 ghost use Rattle.api_core.specs.Examples.{on, asks, invoke_as, invoke_with, invoke, tells_in, tells, register, nested};
 ghost use Rattle.api_core.specs.Examples.{empty_reply, json_reply, accepted_headers, registered_headers, next_headers};
-ghost use Rattle.api_core.specs.Examples.{refusal, error_reply, invoke_aws, asks_aws, accepting, refusal_aws, service_reply, account_text, configuration_shown, function_shown, not_ended_headers, tried_then_old, with_answer};
+ghost use Rattle.api_core.specs.Examples.{refusal, error_reply, invoke_aws, asks_aws, accepting, refusal_aws, service_reply, account_text, configuration_shown, function_shown, not_ended_headers, tried_then_old, with_answer, waited_text};
 ghost use Rattle.api_core.specs.declared.dialect.Dialect.TheVariants.{Profile, Aws};
 ghost use Rattle.api_core.specs.Examples.{registered_text, invoked_text, spindown_text, timeout_text, failure_text, not_found_text};
 ghost use Rattle.api_core.specs.Replies.{reply_of_told, accepted, accepted_async, record_of, no_record, deleted, not_ended, table_full, described, taken, registered};
@@ -213,7 +213,7 @@ pub fn replies_aws()
     ensures timeout { reply_of_told Aws usual (shutdown_event ShutdownReason.Timeout 2000) ≡ json_reply 200 [] (codes "{\"eventType\":\"SHUTDOWN\",\"shutdownReason\":\"timeout\",\"deadlineMs\":2000}") }
     ensures failure { reply_of_told Aws usual (shutdown_event ShutdownReason.Failure 2000) ≡ json_reply 200 [] (codes "{\"eventType\":\"SHUTDOWN\",\"shutdownReason\":\"failure\",\"deadlineMs\":2000}") }
     ensures accepted_async { reply_of_told Aws usual (accepted_async (id 1)) ≡ json_reply 202 accepted_headers (codes "{\"Status\":202}") }
-    ensures oldest { reply_of_told Aws usual (record_of grown_old) ≡ with_request_id grown_old.id (json_reply 200 [] grown_old_text) }
+    ensures oldest { reply_of_told Aws usual (record_of grown_old) ≡ with_request_id grown_old.id (json_reply 200 [] waited_text) }
     ensures deleted { reply_of_told Aws usual (deleted (id 1)) ≡ empty_reply 204 accepted_headers }
     ensures not_ended { (reply_of_told Aws usual (not_ended (id 1))).headers ≡ not_ended_headers }
     ensures not_ended_in_profile { reply_of_told Profile usual (not_ended (id 1)) ≡ error_reply 409 "NotEnded" "event has not ended" }

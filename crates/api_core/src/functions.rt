@@ -9,27 +9,27 @@ ghost use Rattle.api_core.specs.Requests.{is_good_pair};
 ghost use Rattle.api_core.specs.Steps.{texts};
 
 use crate::Dialect;
-use crate::paths::{is_word, query_of};
-use percent_encoding::percent_decode;
+use crate::paths::{decodes_to, is_word, query_of};
 use retry_rules::Settings;
 use std::alloc::{AllocError, Global};
 
-fn is_versioned(alloc: Global, name: &[u8], plain: &[u8]) -> Result<bool, AllocError>
-    ensures { IfOk result (λ answer. answer ≡ bytes_eq name.now (with_version plain.now)) }
+// Whether a part decodes to this name with the only version.
+fn is_versioned(alloc: Global, part: &str, plain: &[u8]) -> Result<bool, AllocError>
+    ensures { IfOk result (λ answer. answer ≡ bytes_eq (percent_decode part.now) (with_version plain.now)) }
 {
     let mut versioned = Vec::from_slice(alloc, plain)?;
     versioned.extend_from_slice(b":$LATEST")?;
-    Ok(name == versioned.as_slice())
+    Ok(decodes_to(part, &versioned))
 }
 
-// Whether a name is this one, with or without the only version.
-fn is_either(alloc: Global, name: &[u8], plain: &[u8]) -> Result<bool, AllocError>
-    ensures { IfOk result (λ answer. answer ≡ list_any (bytes_eq name.now) (both plain.now)) }
+// Whether a part decodes to this name, with or without the only version.
+fn is_either(alloc: Global, part: &str, plain: &[u8]) -> Result<bool, AllocError>
+    ensures { IfOk result (λ answer. answer ≡ list_any (bytes_eq (percent_decode part.now)) (both plain.now)) }
 {
-    if name == plain {
+    if decodes_to(part, plain) {
         Ok(true)
     } else {
-        is_versioned(alloc, name, plain)
+        is_versioned(alloc, part, plain)
     }
 }
 
@@ -83,14 +83,14 @@ fn short_arn(alloc: Global, settings: &Settings) -> Result<Vec<u8>, AllocError>
     Ok(text)
 }
 
-// Whether a name is this one behind an account, where there is one.
+// Whether a part decodes to this name behind an account, where there is one.
 fn is_of_account(
     alloc: Global,
     account: &[u8],
     short: &[u8],
-    name: &[u8],
+    part: &str,
 ) -> Result<bool, AllocError>
-    ensures { IfOk result (λ answer. answer ≡ list_any (bytes_eq name.now) (of_account account.now short.now)) }
+    ensures { IfOk result (λ answer. answer ≡ list_any (bytes_eq (percent_decode part.now)) (of_account account.now short.now)) }
 {
     if account.is_empty() {
         return Ok(false);
@@ -98,49 +98,32 @@ fn is_of_account(
     let mut plain = Vec::from_slice(alloc, account)?;
     plain.push(b':')?;
     plain.extend_from_slice(short)?;
-    is_either(alloc, name, &plain)
+    is_either(alloc, part, &plain)
 }
 
-// Whether a name is a partial ARN of the function, in a dialect that has such.
+// Whether a part decodes to a partial ARN of the function, in a dialect that has such.
 fn is_partial(
     alloc: Global,
     dialect: Dialect,
     settings: &Settings,
-    name: &[u8],
+    part: &str,
 ) -> Result<bool, AllocError>
-    ensures { IfOk result (λ answer. answer ≡ list_any (bytes_eq name.now) (partial_names dialect settings.now)) }
+    ensures { IfOk result (λ answer. answer ≡ list_any (bytes_eq (percent_decode part.now)) (partial_names dialect settings.now)) }
 {
     match dialect {
         Dialect::Profile => Ok(false),
         Dialect::Aws => {
             let short = short_arn(alloc, settings)?;
-            if is_either(alloc, name, &short)? {
+            if is_either(alloc, part, &short)? {
                 return Ok(true);
             }
             let account = account_of(settings.arn.as_bytes());
-            if is_of_account(alloc, account, &short, name)? {
+            if is_of_account(alloc, account, &short, part)? {
                 return Ok(true);
             }
-            is_of_account(alloc, account, settings.name.as_bytes(), name)
+            is_of_account(alloc, account, settings.name.as_bytes(), part)
         }
     }
-}
-
-fn is_named(
-    alloc: Global,
-    dialect: Dialect,
-    settings: &Settings,
-    name: &[u8],
-) -> Result<bool, AllocError>
-    ensures { IfOk result (λ answer. answer ≡ is_function dialect settings.now name.now) }
-{
-    if is_either(alloc, name, settings.name.as_bytes())? {
-        return Ok(true);
-    }
-    if is_either(alloc, name, settings.arn.as_bytes())? {
-        return Ok(true);
-    }
-    is_partial(alloc, dialect, settings, name)
 }
 
 /// Whether a part of a path is the function's name or ARN, with or without its version, or in a dialect that has such, a
@@ -153,8 +136,13 @@ pub(crate) fn is_function(
 ) -> Result<bool, AllocError>
     ensures { IfOk result (λ answer. answer ≡ is_function dialect settings.now (percent_decode part.now)) }
 {
-    let name = percent_decode(part.as_bytes()).into_cow(alloc)?;
-    is_named(alloc, dialect, settings, &name)
+    if is_either(alloc, part, settings.name.as_bytes())? {
+        return Ok(true);
+    }
+    if is_either(alloc, part, settings.arn.as_bytes())? {
+        return Ok(true);
+    }
+    is_partial(alloc, dialect, settings, part)
 }
 
 fn name_of(pair: &str) -> &str
@@ -175,41 +163,15 @@ fn value_of(pair: &str) -> &str
     }
 }
 
-fn is_good(alloc: Global, pair: &str) -> Result<bool, AllocError>
-    ensures { IfOk result (λ answer. answer ≡ is_good_pair (pair_of pair.now)) }
+fn is_good(pair: &str) -> bool
+    ensures { result ≡ is_good_pair (pair_of pair.now) }
 {
-    if is_word(alloc, name_of(pair), "Qualifier")? {
-        is_word(alloc, value_of(pair), "$LATEST")
-    } else {
-        Ok(true)
-    }
-}
-
-fn all_good(alloc: Global, pairs: &[&str]) -> Result<bool, AllocError>
-    ensures { IfOk result (λ answer. answer ≡ list_all is_good_pair (map pair_of (texts pairs.now))) }
-{
-    match pairs {
-        [] => Ok(true),
-        [pair, more @ ..] => {
-            if is_good(alloc, pair)? {
-                all_good(alloc, more)
-            } else {
-                Ok(false)
-            }
-        }
-    }
-}
-
-fn between_ands(alloc: Global, query: &str) -> Result<Vec<&str>, AllocError>
-    ensures { IfOk result (λ pairs. texts pairs.items ≡ between_ands query.now) }
-{
-    query.split('&').collect(alloc)
+    !is_word(name_of(pair), "Qualifier") || is_word(value_of(pair), "$LATEST")
 }
 
 /// Whether each qualifier of a target is the only version.
-pub(crate) fn has_good_qualifier(alloc: Global, target: &str) -> Result<bool, AllocError>
-    ensures { IfOk result (λ answer. answer ≡ list_all is_good_pair (query_pairs target.now)) }
+pub(crate) fn has_good_qualifier(target: &str) -> bool
+    ensures { result ≡ list_all is_good_pair (query_pairs target.now) }
 {
-    let pairs = between_ands(alloc, query_of(target))?;
-    all_good(alloc, &pairs)
+    query_of(target).split('&').all(is_good)
 }

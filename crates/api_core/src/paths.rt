@@ -1,8 +1,8 @@
 // The parts of a request's target.
-ghost use Rattle.std.specs.Prelude.{◌≡◌, IfOk, bytes_eq};
+ghost use Rattle.std.specs.Prelude.{◌≡◌, take, IfOk, bytes_eq};
 ghost use Rattle.percent_encoding.specs.Percent.{percent_decode};
-ghost use Rattle.api_core.specs.Paths.{path_of, query_of, between_slashes, segments_of};
-ghost use Rattle.api_core.specs.Steps.{texts, decoded};
+ghost use Rattle.api_core.specs.Paths.{path_of, query_of, between_slashes};
+ghost use Rattle.api_core.specs.Steps.{texts};
 
 use percent_encoding::percent_decode;
 use std::alloc::{AllocError, Global};
@@ -34,18 +34,28 @@ pub(crate) fn between_slashes(alloc: Global, path: &str) -> Result<Vec<&str>, Al
     path.split('/').collect(alloc)
 }
 
-/// Whether a part decodes to a word. It takes memory only where the part has a `%`.
-pub(crate) fn is_word(alloc: Global, part: &str, word: &str) -> Result<bool, AllocError>
-    ensures { IfOk result (λ answer. answer ≡ bytes_eq word.now (percent_decode part.now)) }
+/// Whether a part decodes to these bytes. No more of it is decoded than tells that.
+pub(crate) fn decodes_to(part: &str, bytes: &[u8]) -> bool
+    ensures { result ≡ bytes_eq (percent_decode part.now) bytes.now }
 {
-    let decoded = percent_decode(part.as_bytes()).into_cow(alloc)?;
-    let bytes: &[u8] = &decoded;
-    Ok(word.as_bytes() == bytes)
+    percent_decode(part.as_bytes())
+        .cmp(bytes.iter().copied())
+        .is_eq()
 }
 
-/// The parts of a target's path, not yet decoded.
-pub(crate) fn parts_of(alloc: Global, target: &str) -> Result<Vec<&str>, AllocError>
-    ensures { IfOk result (λ parts. decoded parts.items ≡ segments_of target.now) }
+/// Whether a part decodes to this word. No more of it is decoded than tells that.
+pub(crate) fn is_word(part: &str, word: &str) -> bool
+    ensures { result ≡ bytes_eq word.now (percent_decode part.now) }
 {
-    between_slashes(alloc, path_of(target))
+    word.bytes().cmp(percent_decode(part.as_bytes())).is_eq()
+}
+
+/// How many parts of a path are read at most: more than a path of the table has.
+const MOST_PARTS: usize = 7;
+
+/// The first parts of a target's path, not yet decoded: as many as tell that there are too many.
+pub(crate) fn first_parts(alloc: Global, target: &str) -> Result<Vec<&str>, AllocError>
+    ensures { IfOk result (λ parts. texts parts.items ≡ take 7 (between_slashes (path_of target.now))) }
+{
+    path_of(target).split('/').take(MOST_PARTS).collect(alloc)
 }

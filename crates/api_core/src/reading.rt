@@ -6,7 +6,7 @@ ghost use Rattle.api_core.specs.Requests.{call_of};
 
 use crate::calls::call_by;
 use crate::checks::first_failed;
-use crate::paths::parts_of;
+use crate::paths::first_parts;
 use crate::routing::{in_hole, read_route};
 use crate::{Body, Call, Dialect, RequestError};
 use http::Method;
@@ -26,7 +26,7 @@ fn read_call(
 ) -> Result<Call, RequestError>
     ensures { Says (call_of dialect settings.now port method.now target.now headers.now body) result }
 {
-    let parts = parts_of(alloc, target)?;
+    let parts = first_parts(alloc, target)?;
     let route = match read_route(alloc, dialect, settings, port, method.as_str(), &parts) {
         Ok(route) => route,
         Err(error) => return Err(error),

@@ -21,30 +21,24 @@ fn is_hole(piece: &str) -> bool
     }
 }
 
-fn takes(alloc: Global, piece: &str, part: &str) -> Result<bool, AllocError>
-    ensures { IfOk result (λ answer. answer ≡ takes piece.now (percent_decode part.now)) }
+fn takes(piece: &str, part: &str) -> bool
+    ensures { result ≡ takes piece.now (percent_decode part.now) }
 {
     if is_hole(piece) {
-        Ok(!is_word(alloc, part, "")?)
+        !is_word(part, "")
     } else {
-        is_word(alloc, part, piece)
+        is_word(part, piece)
     }
 }
 
-fn all_taken(alloc: Global, pieces: &[&str], parts: &[&str]) -> Result<bool, AllocError>
-    ensures { IfOk result (λ answer. answer ≡ pointwise takes (texts pieces.now) (decoded parts.now)) }
+fn all_taken(pieces: &[&str], parts: &[&str]) -> bool
+    ensures { result ≡ pointwise takes (texts pieces.now) (decoded parts.now) }
 {
     match pieces {
-        [] => Ok(parts.is_empty()),
+        [] => parts.is_empty(),
         [piece, more @ ..] => match parts {
-            [] => Ok(false),
-            [part, rest @ ..] => {
-                if takes(alloc, piece, part)? {
-                    all_taken(alloc, more, rest)
-                } else {
-                    Ok(false)
-                }
-            }
+            [] => false,
+            [part, rest @ ..] => takes(piece, part) && all_taken(more, rest),
         },
     }
 }
@@ -132,7 +126,7 @@ fn fits(alloc: Global, route: Route, parts: &[&str]) -> Result<bool, AllocError>
 {
     let (_, path) = route.line();
     let pieces = between_slashes(alloc, path)?;
-    all_taken(alloc, &pieces, parts)
+    Ok(all_taken(&pieces, parts))
 }
 
 fn has_method(method: &str, route: Route) -> bool

@@ -20,7 +20,7 @@ IsNextMoment rows now (Some next) =
     (now < next) × ((later : ℕ) → now ≤ later → later < next → All (MovesAlike now later) rows)
     × ((row : EventRow) × Contains rows row × (MovesAlike now next row → ⊥))
 
--- what came to stand there at this moment has something to do at once, or a second later at the earliest
+-- what came to stand there at this moment is due at once, or a second later at the earliest. It may grow too old sooner
 abbrev pub WaitsASecond : ℕ → Standing → Type 0
 WaitsASecond time (standing.Waiting due) = due ≡ time
 WaitsASecond time (standing.DueAgain due) = time + 1000 ≤ due

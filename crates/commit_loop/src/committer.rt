@@ -176,8 +176,8 @@ fn turn<G: Gate, C: Committing>(gate: &G, committer: &mut C) -> bool
 
 /// Commits as the gate says, until the gate ends the loop. What a commit made durable is shown on the board before the bell
 /// rings for those that wait for it; where it failed and the hall is broken, that is said before the bell rings for all.
-/// Where nothing is pending, or a commit failed, the committer sleeps until it is called; where the gate skips what is
-/// pending, it is asked again.
+/// Where nothing is pending, or a commit failed, the committer sleeps, as `Committing::sleep` says; where the gate skips what
+/// is pending, it is asked again.
 pub fn commit_all<R: Wait, G: Gate, C: Committing>(rt: &R, gate: &G, committer: &mut C)
     // claim: Each turn counts what is pending and does what its gate says of that. A commit's number is raised on the
     // board, then rung. A failure that broke the hall is said, then rung for all; then it sleeps.

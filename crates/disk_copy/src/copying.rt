@@ -66,7 +66,7 @@ pub fn copy<D: Disk, E: Disk>(
     ensures copied { (E.view disk.old).honest
         → OnOk result (IsSeeded (E.view disk.new) (settings_for broker.now change.now) (table_in broker.now)) }
 
-    // claim: It goes on with each history of the broker, with all of it durable. A history's table is never refused.
+    // claim: It goes on with each history of the broker, with all of it durable. A history's table is never bad.
     ensures goes_on { (E.view disk.old).honest → ForEachHistory D.view broker.now (λ history.
         OnOk result (GoesOnWith (E.view disk.new) (settings_for broker.now change.now) history)) }
     ensures sound { ForEachHistory D.view broker.now (λ history. result ≡ Err copy_error.BadTable → ⊥) }

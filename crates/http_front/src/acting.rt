@@ -41,8 +41,13 @@ impl<L: Ledger, T: Trace> CallersPort<L, T> {
     }
 }
 
-// A call comes to a port now, as from a caller.
-fn ask<R, L, T>(rt: R, port: &Arc<Port<L, T>>, call: Call) -> Result<Waiting<R, L, T>, ArrivalError>
+// A call comes to a port of a front now, as from a caller.
+fn ask<R, L, T>(
+    rt: R,
+    front: &FrontState<L, T>,
+    port: &Arc<Port<L, T>>,
+    call: Call,
+) -> Result<Waiting<R, L, T>, ArrivalError>
 where
     R: Wait + Clock + RandomSource + Eprint + Drop + Copy,
     L: Ledger,
@@ -51,7 +56,14 @@ where
         (hall_in waiting.seen.after.value.hall) waiting.slot) }
 {
     let theirs = Arc::try_clone(port)?;
-    let Handed { arrived, .. } = arrive(&rt, port, call)?;
+    let Handed {
+        arrived,
+        is_move_near,
+        ..
+    } = arrive(&rt, port, call)?;
+    if is_move_near {
+        front.ticker_wake.call(&rt);
+    }
     Ok(Waiting::new(rt, theirs, arrived))
 }
 
@@ -62,7 +74,7 @@ where
     T: Trace,
 {
     fn act(&self, rt: R, call: Call) -> Option<Waiting<R, L, T>> {
-        match ask(rt, self.port.as_ref()?, call) {
+        match ask(rt, &self.front, self.port.as_ref()?, call) {
             Ok(waiting) => Some(waiting),
             Err(_) => None,
         }

@@ -8,9 +8,9 @@ ghost use Rattle.http_front.specs.Refusals.{IsArrivalError};
 use crate::drawing::words;
 use crate::error::ArrivalError;
 use crate::resets::{ResetReport, note_timeout};
-use crate::tried::Tried;
 use api_core::Call;
-use hall_core::HallError;
+use hall_core::{HallError, Issued};
+use invoke_records::Kind;
 use long_poll::{Arrived, Port};
 use port_meters::Moment;
 use receipts::Trace;
@@ -54,8 +54,8 @@ pub(crate) struct Handed<L: Ledger, T: Trace> {
     pub(crate) arrived: Arrived<L, T>,
     /// Whether there is something to commit.
     pub(crate) has_command: bool,
-    /// Whether a move behind it was refused, which may be due still.
-    pub(crate) is_move_left: bool,
+    /// Whether a move may be due sooner than the ticker knows.
+    pub(crate) is_move_near: bool,
 }
 
 // What came of the moves behind a call.
@@ -63,28 +63,43 @@ pub(crate) struct Handed<L: Ledger, T: Trace> {
 struct Moves {
     /// Whether there was one.
     any: bool,
-    /// Whether the last was refused.
-    is_one_left: bool,
+    /// Whether one more may be due sooner than was known: one was refused, or put its event off.
+    is_one_near: bool,
 }
 
 impl Moves {
     const NONE: Moves = Moves {
         any: false,
-        is_one_left: false,
+        is_one_near: false,
     };
 }
 
-// Makes one move that is due.
-fn make_move<R: Wait + Eprint, L: Ledger, T: Trace>(rt: &R, port: &Port<L, T>, now: u64) -> Tried
+// Whether an event waits since this was issued. It may grow too old before all else that is due.
+fn puts_off(issued: Issued) -> bool {
+    matches!(issued.kind, Kind::Fail(_) | Kind::Throttle)
+}
+
+// Makes one move that is due: whether it made one.
+fn make_move<R: Wait + Eprint, L: Ledger, T: Trace>(
+    rt: &R,
+    port: &Port<L, T>,
+    now: u64,
+    moves: &mut Moves,
+) -> bool
     requires { now ≤ greatest_moment }
 {
     match port.tick(rt, now).answer {
         Ok(Some(issued)) => {
             note_timeout(rt, Some(issued));
-            Tried::Made
+            moves.any = true;
+            moves.is_one_near |= puts_off(issued);
+            true
         }
-        Ok(None) => Tried::NothingDue,
-        Err(_) => Tried::Refused,
+        Ok(None) => false,
+        Err(_) => {
+            moves.is_one_near = true;
+            false
+        }
     }
 }
 
@@ -94,12 +109,9 @@ fn make_moves<R: Wait + Eprint, L: Ledger, T: Trace>(rt: &R, port: &Port<L, T>, 
 {
     let mut moves = Moves::NONE;
     for _ in rt.forever() {
-        let tried = make_move(rt, port, now);
-        if !tried.is_made() {
-            moves.is_one_left = tried.is_refused();
+        if !make_move(rt, port, now, &mut moves) {
             break;
         }
-        moves.any = true;
     }
     moves
 }
@@ -164,10 +176,15 @@ pub(crate) fn arrive<R: Wait + Clock + RandomSource + Eprint, L: Ledger, T: Trac
         note_timeout(rt, arrived.issued());
     }
     let moves = follow(rt, port, now, can_move);
-    let has_command = moves.any || arrived.issued().is_some();
+    let issued = arrived.issued();
+    let has_command = moves.any || issued.is_some();
+    let is_put_off = match issued {
+        Some(issued) => puts_off(issued),
+        None => false,
+    };
     Ok(Handed {
         arrived,
         has_command,
-        is_move_left: moves.is_one_left,
+        is_move_near: moves.is_one_near || is_put_off,
     })
 }

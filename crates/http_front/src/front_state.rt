@@ -117,7 +117,7 @@ impl<L: Ledger, T: Trace> FrontState<L, T> {
     }
 
     /// A call comes to a port. Where there is something to commit, or the broker is to stop, the committer is called; where a move
-    /// was refused that may be due still, the ticker.
+    /// may be due sooner than the ticker knows, the ticker.
     ///
     /// It is refused: `System` (the clock or the source of random words failed), and as `Port::arrive` refuses it.
     pub(crate) fn arrive<R: Wait + Clock + RandomSource + Eprint>(
@@ -131,8 +131,6 @@ impl<L: Ledger, T: Trace> FrontState<L, T> {
         ensures slot { IfOk result (λ arrived. IsSlot arrived.slot) }
         ensures refused { IfErr result IsArrivalError }
 
-        // claim: What arrived has the slot with which just this call was done. [: done;
-        // PortApplication::arrive]
         ensures done { IfOk result (λ arrived.
             IsDoneFor call (hall_in arrived.seen.before.value.hall) (hall_in arrived.seen.after.value.hall) arrived.slot) }
     {
@@ -140,12 +138,12 @@ impl<L: Ledger, T: Trace> FrontState<L, T> {
         let Handed {
             arrived,
             has_command,
-            is_move_left,
+            is_move_near,
         } = arrive(rt, port, call)?;
         if stops || has_command {
             self.wake.call(rt);
         }
-        if is_move_left {
+        if is_move_near {
             self.ticker_wake.call(rt);
         }
         Ok(arrived)

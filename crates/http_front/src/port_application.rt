@@ -200,7 +200,6 @@ impl<R: Wait + Clock + RandomSource + Eprint + Copy, L: Ledger, T: Trace> PortAp
         body: Body,
         id: Option<[u8; 16]>,
     ) -> Result<Replying<R, L, T>, Refusal>
-        // claim: The future of a request waits for the slot of the call that its head and body are. [: call; PortApplication::read]
         ensures call { IfOk result (λ replying. (call : _)
             × IsCallOf self.now.front.value.dialect self.now.front.value.settings self.now.number head.now body call
             × IsDoneFor call (hall_in replying.waiting.seen.before.value.hall) (hall_in replying.waiting.seen.after.value.hall)
@@ -232,9 +231,10 @@ impl<R: Wait + Clock + RandomSource + Eprint + Drop + Copy, L: Ledger, T: Trace>
 
     type Future = Replying<R, L, T>;
 
-    // claim: A request is the call that its head and its body are, and its future waits for the slot with which just that was
-    // done. Or it is refused as its body was cut off, by the first check that fails, or as the broker is not available. [:
-    // answers; PortApplication::refuse; body_of: value, err]
+    // claim: A request is the call that its head and body are, and its future waits for the slot with which just that was done.
+    // Or it is refused as cut off, by the first check that fails, or as 503. [: answers; FrontState::arrive: done;
+    // PortApplication::arrive: done; PortApplication::reply_to: call; PortApplication::read: call; PortApplication::refuse;
+    // body_of: value, err]
     ghost answers = { λ application head read answered.
         IfOk answered (λ replying. (call : _)
         × IsCallFor application.front.value.dialect application.front.value.settings application.number head read call

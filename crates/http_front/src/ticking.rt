@@ -21,7 +21,7 @@ use std::sync::ledger::Ledger;
 use std::time::Clock;
 
 /// How long the ticker sleeps at most, in milliseconds. A command makes nothing due sooner than so long after it, but for what is
-/// due at once.
+/// due at once, and for what then grows too old: for that the ticker is called.
 const MOST_PAUSE: u64 = 1000;
 
 /// How long it sleeps at most where a move was refused, or the clock cannot be read, in milliseconds.
@@ -108,8 +108,8 @@ fn make_move<R: Wait + Eprint, L: Ledger, T: Trace>(
     desk: &mut Desk<L, T>,
     at: Moment,
 ) -> Witnessed<Tried, L, T>
-    // claim: Where it makes no move though the clock told a moment, none was due before it, or there is a reason
-    // there. It then sleeps until the next moment, a second at most. [: marked, nothing; tick; pause_at]
+    // claim: Where it makes no move though the clock told a moment, none was due in the hall that it met, or there is
+    // a reason there. Where none was due, the pause is until the next moment, a second at most. [: marked, nothing; tick; pause_at]
     ensures marked { HasMarked (length (map T.mark desk.old.own.items)) (ticked (is_made result.answer) ∷ [])
         (length (map T.mark desk.new.own.items)) }
     ensures nothing { is_made result.answer ≡ false → FindsNothing (hall_in result.before.value.hall) desk.old.told (millis_in at.shown) }

@@ -21,9 +21,4 @@ impl Tried {
     {
         matches!(self, Tried::Made)
     }
-
-    /// Whether it was refused.
-    pub(crate) fn is_refused(self) -> bool {
-        matches!(self, Tried::Refused)
-    }
 }

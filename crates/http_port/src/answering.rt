@@ -26,7 +26,7 @@ pub trait IntoResponse: Drop {
 
     /// The response that tells it. None where memory is wanting.
     fn into_response(self, alloc: Global) -> Option<HttpResponse>
-        // claim: What is told is a message that tells it, status, headers and bytes, or 503 alone. [: told; tell]
+        // claim: What is told is a message that tells it, or 503 alone. [: told; tell]
         ensures told { IfSome result (λ response. tells self (message_of response)) };
 }
 
@@ -51,8 +51,8 @@ impl Refused {
     /// A refusal with this response, whose status is one that refuses.
     pub fn new(response: HttpResponse) -> Refused
         requires { 400 ≤ (message_of response).status }
-        // claim: A refusal has a status of 400 or above, and is sent as it was made, or as the last of its connection.
-        // [Refused::bare; Refused::into_response: same, refuses; Refused: invariant; Refused::late; say_last]
+        // claim: A refusal has a status of 400 or above, and is sent as it was made. [Refused::bare; Refused::into_response:
+        // same, refuses; Refused: invariant; Refused::late]
         ensures { result ≡ message_of response }
     {
         Refused { response }

@@ -34,6 +34,5 @@ pub trait Application: Drop {
     /// The reply of a request with this head, whose body was read or was not; or its refusal, which is told at once.
     fn answer(&self, head: &Parts, body: ReadBody) -> Result<Self::Future, Refused>
         ensures can_poll { IfOk result Self.Future.can_poll }
-        // claim: An application answers a request by its head and its body. [: answered]
         ensures answered { answers self.now head.now body result };
 }

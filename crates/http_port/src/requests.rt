@@ -56,8 +56,8 @@ impl<A: Application, I: Drop> Serving<A, I> {
     // A body was read, or was not. From now on its connection waits for the reply.
     fn answer(&mut self, body: ReadBody) -> Result<A::Future, Refused>
         ensures value { IfOk result A.Future.can_poll }
-        // claim: The application is asked with the head of the request and the body that was read of it, and is gone then.
-        // What it answers is answered. [: asked, once]
+        // claim: The application is asked with the head of the request and the body that was read of it, is gone then, and
+        // what it answers is answered. [: asked, once; Application::answer: answered]
         ensures asked { IsAsked A.answers (option_map arc_value self.old.application) self.old.head body result }
         ensures once { self.new.application ≡ None }
         ensures same { self.new.forbidden ≡ self.old.forbidden }
@@ -94,8 +94,8 @@ impl<A: Application, I: Drop> Serving<A, I> {
     fn poll_body(&mut self, cx: &mut Context<'_>) -> Poll<Result<A::Future, Refused>>
         requires { IfSome self.old.reply A.Future.can_poll }
         ensures value { IfReady result (λ answered. IfOk answered A.Future.can_poll) }
-        // claim: A request is answered by its head alone where that is forbidden, and else by the application, asked with its
-        // head and its body, or 408. [: answers, later]
+        // claim: What is forbidden by its head is answered 403, its body unread, the application unasked. All else the
+        // application answers, or 408. [: answers, later, unasked; Serving: gives; Requests: calls; Forbidden::refused]
         ensures answers { IfReady result (Answers A.answers self.old.forbidden self.old.reply
             (option_map arc_value self.old.application) self.old.head (Reads self.old.reading)) }
         ensures later { OnPending result ((answered : _)
@@ -103,9 +103,6 @@ impl<A: Application, I: Drop> Serving<A, I> {
             (option_map arc_value self.new.application) self.new.head (Reads self.new.reading) answered
             → Answers A.answers self.old.forbidden self.old.reply
             (option_map arc_value self.old.application) self.old.head (Reads self.old.reading) answered) }
-
-        // claim: What is forbidden by its head is answered 403, its body unread, the application unasked. [: answers,
-        // unasked; Serving: gives; Requests: calls; Forbidden::refused]
         ensures unasked { IsSome self.old.forbidden → (self.new.reading ≡ self.old.reading) × (self.new.application ≡ self.old.application) }
         ensures same { self.new.forbidden ≡ self.old.forbidden }
         ensures reads { OnPending result (self.new.reply ≡ None) }
@@ -158,8 +155,8 @@ impl<A: Application, I: Drop> Future for Serving<A, I> {
     // Application::answer]
     ghost can_poll = { λ s. IfSome s.reply A.Future.can_poll };
 
-    // claim: What is sent for a request tells all that its answer does, status, headers and bytes, and at most that its
-    // connection ends.
+    // claim: What is sent for a request is all that an answer to its head and its body tells, and at most that its connection
+    // ends. [: gives; Requests: calls]
     ghost gives = { λ s sent. IfOk sent (Sends A.Future.gives A.Response.tells (Answers A.answers s.forbidden s.reply
         (option_map arc_value s.application) s.head (Reads s.reading))) };
 
@@ -188,7 +185,7 @@ impl<A: Application, I: Drop> Service<Request<Incoming<I>>> for Requests<A> {
 
     type Future = Serving<A, I>;
 
-    // claim: What its future may send for a request is what is sent for that very request, by its head and its body.
+    // What its future may send for a request is what is sent for that very request, by its head and its body.
     ghost calls = { λ requests req serving. (response : _)
         → Sends A.Future.gives A.Response.tells (Answers A.answers serving.forbidden serving.reply
         (option_map arc_value serving.application) serving.head (Reads serving.reading)) response

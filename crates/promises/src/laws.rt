@@ -27,7 +27,7 @@ use sector_disk::Disk;
 /// What was answered 202 is kept: the event is in the table of each later history, with the payload that came with the
 /// request, until a Collect of it. A stop leaves a later history, and so does each command.
 pub fn what_was_answered_202_is_kept()
-    // claim: A 202 says that the slot's request was accepted, durably. Each later history's table has the event with its
+    // claim: A 202 of an invocation says that its event was accepted, durably. Each later history's table has the event with its
     // payload, until its Collect. [: answered, kept, stopped; calls_and_stops_go_on: at_first, issued, stopped;
     // a_202_without_a_body_accepts; a_202_that_says_so_accepts; what_is_given_was_told]
     ensures answered { (s : Settings) (t : Telling s) (id : List ℕ) → (t.told ≡ accepted id) ⊎ (t.told ≡ accepted_async id)
