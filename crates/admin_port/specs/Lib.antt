@@ -1,2 +1,4 @@
+pub mod Asking
 pub mod Collecting
 pub mod Replying
+pub mod Retrying

@@ -69,10 +69,6 @@ RefusesList told = (told ≡ status_alone 503) ⊎ (told ≡ status_alone 400) �
 abbrev pub BringsList : Parts → Type 0
 BringsList head = IsTrue (brings_list head.method (target_in head))
 
--- it is refused as what it is
-abbrev pub Refuses : Parts → Message → Type 0
-Refuses head told = RefusesRequest head told ⊎ (BringsList head × RefusesList told)
-
 -- lines with just these ids are collected. Of an E it is known which id its line has
 abbrev pub CollectsIds : {E : Type 0} → (E → Option (List ℕ)) → List ℕ → List E → Type 0
 CollectsIds id list entries = map id entries ≡ ids_in list

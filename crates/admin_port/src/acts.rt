@@ -1,15 +1,16 @@
 // What an operator may do.
-ghost use Rattle.std.specs.Prelude.{◌≡◌, Ok, IfOk, IfErr};
+ghost use Rattle.std.specs.Prelude.{◌≡◌, Some, Ok, IfOk, IfErr};
 ghost use Rattle.admin_port.specs.Replying.{CollectsBody, CollectsIds, RefusesList};
 
 use crate::collecting::Collecting;
 use crate::local::{NOT_LOCAL, is_local};
-use crate::refusing::{refuse_act, refuse_list};
-use admin_replies::{MOST_LIST, read_list};
+use crate::refusing::{refuse_act, refuse_list, refuse_retry};
+use crate::retrying::Retrying;
+use admin_replies::{MOST_LIST, RetryRefusal, read_list};
 use http::request::Parts;
 use http_port::{BodyError, ReadBody, Refused};
 use hyper::StatusCode;
-use long_poll::Acting;
+use long_poll::{Acting, PendingView};
 use receipts::Trace;
 use std::alloc::{AllocError, Global};
 use std::sync::ledger::Ledger;
@@ -118,5 +119,39 @@ impl<A: Drop> Acts<A> {
         may_act(self.alloc, head)?;
         let list = whole(self.alloc, body)?;
         self.collect(rt, &list)
+    }
+
+    /// The event whose record a request names, unless it may not act, or names none.
+    pub(crate) fn named(&self, head: &Parts, id: Option<[u8; 16]>) -> Result<[u8; 16], Refused>
+        ensures id { IfOk result (λ named. id ≡ Some named) }
+        ensures refused { IfErr result RefusesList }
+    {
+        may_act(self.alloc, head)?;
+        match id {
+            Some(id) => Ok(id),
+            None => Err(refuse_retry(self.alloc, RetryRefusal::Id)),
+        }
+    }
+
+    /// The record of this event, of which something was seen, is tried again.
+    pub(crate) fn retry<R, L, T>(
+        &self,
+        rt: R,
+        id: [u8; 16],
+        view: PendingView<R, L, T>,
+    ) -> Result<Retrying<R, L, T, A>, Refused>
+    where
+        R: Wait + Drop + Copy,
+        L: Ledger,
+        T: Trace,
+        A: Acting<R, L, T>,
+        ensures id { IfOk result (λ retrying. retrying.id ≡ id) }
+        ensures step { IfOk result (λ retrying. retrying.step ≡ Step.Looking view) }
+        ensures refused { IfErr result RefusesList }
+    {
+        match Arc::try_clone(&self.acting) {
+            Ok(acting) => Ok(Retrying::new(rt, self.alloc, acting, id, view)),
+            Err(_) => Err(no_memory(self.alloc)),
+        }
     }
 }

@@ -1,5 +1,6 @@
 // What an operator is told, as a response.
 ghost use Rattle.std.specs.Prelude.{◌≡◌, IfSome, OnSome};
+ghost use Rattle.std.specs.Result.{result_ok};
 ghost use Rattle.http_port.specs.Answering.{message_of, with_more};
 ghost use Rattle.admin_port.specs.Replying.{TellsOfFault, head_told, message_told, next_told};
 
@@ -7,7 +8,7 @@ use admin_replies::AdminReply;
 use bytes::Bytes;
 use destination_json::id_text;
 use http_port::{Draft, HttpResponse, IntoResponse};
-use std::alloc::Global;
+use std::alloc::{AllocError, Global};
 
 // Tells the id to go on after, where a list has more. None where memory is wanting.
 fn add_next(alloc: Global, draft: &mut Draft, next: &Option<[u8; 16]>) -> Option<()>
@@ -61,6 +62,13 @@ impl IntoResponse for AdminResponse {
         let AdminResponse { reply } = self;
         response_of(alloc, reply?)
     }
+}
+
+/// This reply, or none where memory was wanting.
+pub(crate) fn told(reply: Result<AdminReply, AllocError>) -> AdminResponse
+    ensures { result.reply ≡ result_ok reply }
+{
+    AdminResponse { reply: reply.ok() }
 }
 
 /// That the hall broke.

@@ -1,6 +1,7 @@
 // What the operator's port serves.
-ghost use Rattle.std.specs.Prelude.{◌≡◌, IfOk, IfErr, OnSome};
-ghost use Rattle.admin_port.specs.Replying.{BringsList, CollectsBody, IsAsked, Refuses, RefusesRequest, ShowsOrActs};
+ghost use Rattle.std.specs.Prelude.{◌≡◌, Some, IfOk, IfErr, IfSome, OnSome};
+ghost use Rattle.admin_port.specs.Replying.{BringsList, CollectsBody, IsAsked, RefusesList, RefusesRequest, ShowsOrActs};
+ghost use Rattle.admin_port.specs.Retrying.{NamesRecord, Refuses};
 
 use crate::acts::Acts;
 use crate::admin_context::AdminContext;
@@ -9,7 +10,8 @@ use crate::collecting::Collecting;
 use crate::local::{NOT_LOCAL, is_local};
 use crate::pending_reply::PendingReply;
 use crate::refusing::{refuse, refuse_words};
-use admin_replies::{AdminRequest, brings_list, read};
+use crate::retrying::Retrying;
+use admin_replies::{AdminRequest, brings_list, read, record_named};
 use futures::future::Either;
 use http::request::Parts;
 use http_port::{Application, ReadBody, Refused, target_of};
@@ -42,20 +44,35 @@ impl<R: Wait + Clock + Drop + Copy, L: Ledger, T: Trace, A> AdminApplication<R, 
         brings_list(head.method.as_str(), target_of(head)).then_some(acts)
     }
 
+    // What is there to be seen now.
+    fn look(&self) -> Result<PendingView<R, L, T>, AllocError> {
+        let view = self.context.reader.look(&self.rt).answer?;
+        let reader = Arc::try_clone(&self.context.reader)?;
+        Ok(PendingView::new(self.rt, reader, view))
+    }
+
     // What is asked for is seen now, and is told once it is durable.
     fn reply_to(&self, request: AdminRequest) -> Result<PendingReply<R, L, T>, AllocError>
         ensures request { IfOk result (λ pending. pending.request ≡ request) }
         ensures context { IfOk result (λ pending. pending.context.value ≡ self.now.context.value) }
     {
-        let view = self.context.reader.look(&self.rt).answer?;
-        let reader = Arc::try_clone(&self.context.reader)?;
+        let view = self.look()?;
         let context = Arc::try_clone(&self.context)?;
         Ok(PendingReply {
             rt: self.rt,
             context,
             request,
-            view: PendingView::new(self.rt, reader, view),
+            view,
         })
+    }
+
+    // What an operator may do, and the event, where a request names a record that is to be tried again.
+    fn record_named(&self, head: &Parts) -> Option<(&Acts<A>, Option<[u8; 16]>)>
+        ensures { IfSome result (λ named. NamesRecord head.now named.1) }
+    {
+        let acts = self.acts.as_ref()?;
+        let id = record_named(head.method.as_str(), target_of(head))?;
+        Some((acts, id))
     }
 
     // What a request asks for is told.
@@ -79,6 +96,31 @@ impl<R: Wait + Clock + Drop + Copy, L: Ledger, T: Trace, A> AdminApplication<R, 
     }
 }
 
+impl<R, L, T, A> AdminApplication<R, L, T, A>
+where
+    R: Wait + Clock + Drop + Copy,
+    L: Ledger,
+    T: Trace,
+    A: Acting<R, L, T>,
+{
+    // The record that a request names is tried again.
+    fn retry(
+        &self,
+        acts: &Acts<A>,
+        head: &Parts,
+        id: Option<[u8; 16]>,
+    ) -> Result<Retrying<R, L, T, A>, Refused>
+        ensures id { IfOk result (λ retrying. id ≡ Some retrying.id) }
+        ensures refused { IfErr result RefusesList }
+    {
+        let id = acts.named(head, id)?;
+        match self.look() {
+            Ok(view) => acts.retry(self.rt, id, view),
+            Err(_) => Err(Refused::bare(self.context.alloc, StatusCode::SERVICE_UNAVAILABLE)),
+        }
+    }
+}
+
 impl<R, L, T, A> Application for AdminApplication<R, L, T, A>
 where
     R: Wait + Clock + Drop + Copy,
@@ -88,15 +130,21 @@ where
 {
     type Response = AdminResponse;
 
-    type Future = Either<PendingReply<R, L, T>, Collecting<R, L, T, A>>;
+    type Future = Either<
+        PendingReply<R, L, T>,
+        Either<Collecting<R, L, T, A>, Retrying<R, L, T, A>>,
+    >;
 
-    // claim: An operator's request is what its head asks for, or brings just the ids of its body's lines, or is refused by the
-    // first check that fails. [: answers; refuse_words; refuse_list; AdminApplication::show: request, context, refused;
-    // Acts::take_list: ids, refused; AdminApplication::reply_to: request, context]
+    // claim: An operator's request is what its head asks for, brings just the ids of its body's lines, or names the record that
+    // is tried again, or is refused by the first check that fails. [: answers; refuse_words; refuse_list;
+    // AdminApplication::show: request, context, refused; Acts::take_list: ids, refused; Acts::named: id, refused;
+    // AdminApplication::reply_to: request, context]
     ghost answers = { λ application head body answered.
         IfOk answered (ShowsOrActs
         (λ pending. IsAsked head pending.request × (pending.context.value ≡ application.context.value))
-        (λ collecting. BringsList head × CollectsBody (λ entry. entry.id) body collecting.entries.items))
+        (ShowsOrActs
+        (λ collecting. BringsList head × CollectsBody (λ entry. entry.id) body collecting.entries.items)
+        (λ retrying. NamesRecord head (Some retrying.id))))
         × IfErr answered (Refuses head) };
 
     fn most(&self) -> usize {
@@ -110,17 +158,15 @@ where
         None
     }
 
-    fn answer(
-        &self,
-        head: &Parts,
-        body: ReadBody,
-    ) -> Result<Either<PendingReply<R, L, T>, Collecting<R, L, T, A>>, Refused> {
-        match self.list_brought(head) {
-            Some(acts) => Ok(Either::Right(acts.take_list(self.rt, head, body)?)),
-            None => {
-                drop(body);
-                Ok(Either::Left(self.show(head)?))
-            }
+    fn answer(&self, head: &Parts, body: ReadBody) -> Result<Self::Future, Refused> {
+        if let Some(acts) = self.list_brought(head) {
+            let collecting = acts.take_list(self.rt, head, body)?;
+            return Ok(Either::Right(Either::Left(collecting)));
+        }
+        drop(body);
+        match self.record_named(head) {
+            Some((acts, id)) => Ok(Either::Right(Either::Right(self.retry(acts, head, id)?))),
+            None => Ok(Either::Left(self.show(head)?)),
         }
     }
 }

@@ -12,11 +12,14 @@ mod admin;
 mod admin_context;
 mod admin_response;
 mod application;
+mod asked;
 mod collecting;
 mod entry;
 mod local;
 mod memory;
 mod pending_reply;
 mod refusing;
+mod retrying;
+mod step;
 
 pub use admin::{Admin, AdminPort, AdminServed};

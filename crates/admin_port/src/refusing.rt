@@ -5,7 +5,7 @@ ghost use Rattle.admin_replies.specs.Requests.{status_of};
 ghost use Rattle.admin_port.specs.Replying.{TellsLine, RefusesList};
 
 use crate::admin_response::response_of;
-use admin_replies::{AdminRefusal, AdminReply, ListError};
+use admin_replies::{AdminRefusal, AdminReply, ListError, RetryRefusal};
 use http_port::{HttpResponse, Refused};
 use hyper::StatusCode;
 use std::alloc::Global;
@@ -48,6 +48,16 @@ pub(crate) fn refuse_act(alloc: Global, status: u16, words: &str) -> Refused
     ensures { RefusesList result }
 {
     refuse(alloc, status, words)
+}
+
+/// Why the record that a request names is not tried again, in words, where nothing was looked at.
+pub(crate) fn refuse_retry(alloc: Global, why: RetryRefusal) -> Refused
+    ensures { RefusesList result }
+{
+    match format!(in alloc; "{why}") {
+        Ok(words) => refuse_act(alloc, why.status(), words.as_str()),
+        Err(_) => Refused::bare(alloc, StatusCode::SERVICE_UNAVAILABLE),
+    }
 }
 
 /// Why a list is refused, in words.

@@ -1,5 +1,5 @@
 -- Worked examples: requests, and numbers with some of the lines that tell them.
-use Rattle.std.specs.Prelude.{ℕ, Bool, List, [], ◌∷◌, ◌++◌, false, true, Option, Result, Some, None, codes}
+use Rattle.std.specs.Prelude.{ℕ, Bool, List, [], ◌∷◌, ◌++◌, false, true, Option, Result, Some, None, option_map, codes}
 use Prim.Native.String.{String}
 use Rattle.retry_rules.specs.declared.settings.Settings.{Settings}
 use Rattle.operator_view.specs.declared.verdict.Problem.TheVariants as problem
@@ -8,13 +8,17 @@ use Rattle.admin_replies.specs.declared.admin_refusal.AdminRefusal.{AdminRefusal
 use Rattle.admin_replies.specs.declared.metrics.Metrics.{Metrics}
 use Rattle.admin_replies.specs.declared.sample.Sample.{Sample}
 use Rattle.admin_replies.specs.Collecting.{brings_list, ids_in}
-use Rattle.admin_replies.specs.Requests.{asked_of}
+use Rattle.admin_replies.specs.Requests.{asked_of, id_of}
+use Rattle.admin_replies.specs.Retrying.{record_named}
 
 abbrev pub asks : String → String → Result AdminRequest AdminRefusal
 asks method target = asked_of (codes method) (codes target)
 
 abbrev pub brings : String → String → Bool
 brings method target = brings_list (codes method) (codes target)
+
+abbrev pub names : String → String → Option (Option (List ℕ))
+names method target = option_map id_of (record_named (codes method) (codes target))
 
 abbrev pub listed : String → List (Option (List ℕ))
 listed text = ids_in (codes text)

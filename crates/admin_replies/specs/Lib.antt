@@ -7,6 +7,7 @@ pub mod Media
 pub mod MetricsText
 pub mod Numbers
 pub mod Requests
+pub mod Retrying
 pub mod Table
 pub mod Telling
 pub mod Values

@@ -7,7 +7,7 @@ ghost use Rattle.admin_replies.specs.declared.admin_refusal.AdminRefusal.TheVari
 ghost use Rattle.admin_replies.specs.declared.table.Section.TheVariants as section;
 ghost use Rattle.admin_replies.specs.MetricsText.{section_text, info_text};
 ghost use Rattle.admin_replies.specs.History as kept;
-ghost use Rattle.admin_replies.specs.Examples.{asks, brings, listed, gets, third, numbers, usual, held_text, waits_text, commits_text, usual_text, problems_text, sample, history_text};
+ghost use Rattle.admin_replies.specs.Examples.{asks, brings, names, listed, gets, third, numbers, usual, held_text, waits_text, commits_text, usual_text, problems_text, sample, history_text};
 
 /// Requests that are understood.
 pub fn requests()
@@ -52,6 +52,17 @@ pub fn lists()
     ensures query { brings "POST" "/records/collect?" ≡ false }
     ensures ids { listed "00000000-0000-4000-8000-000000000003\r\n\nx" ≡ Some third ∷ None ∷ None ∷ [] }
     ensures ended { listed "00000000-0000-4000-8000-000000000003\n" ≡ Some third ∷ [] }
+{}
+
+/// Records that are named to be tried again.
+pub fn named_records()
+    ensures named { names "POST" "/records/00000000-0000-4000-8000-000000000003/retry" ≡ Some (Some third) }
+    ensures plain { names "POST" "/records/00000000000040008000000000000003/retry" ≡ Some (Some third) }
+    ensures no_id { names "POST" "/records/collect/retry" ≡ Some None }
+    ensures empty { names "POST" "/records//retry" ≡ Some None }
+    ensures short { names "POST" "/records/retry" ≡ None }
+    ensures query { names "POST" "/records/00000000-0000-4000-8000-000000000003/retry?" ≡ None }
+    ensures got { names "GET" "/records/00000000-0000-4000-8000-000000000003/retry" ≡ None }
 {}
 
 /// Numbers as they are told.

@@ -17,7 +17,7 @@ pub(crate) fn read_text(text: &str) -> Option<[u8; 16]>
 }
 
 /// The same of bytes, which may be no text.
-pub(crate) fn read_id(bytes: &[u8]) -> Option<[u8; 16]>
+pub fn read_id(bytes: &[u8]) -> Option<[u8; 16]>
     ensures { result ≡ id_of bytes.now }
 {
     match str::from_utf8(bytes) {

@@ -64,7 +64,8 @@ impl ToldLine {
     }
 }
 
-fn put_line(alloc: Global, out: &mut Vec<u8>, line: ToldLine) -> Result<(), AllocError>
+/// Puts a line's text.
+pub(crate) fn put_line(alloc: Global, out: &mut Vec<u8>, line: ToldLine) -> Result<(), AllocError>
     ensures { OnOk result (out.new.items ≡ out.old.items ++ line_text line) }
 {
     match line {
