@@ -1,3 +1,4 @@
 pub mod Listed
 pub mod Added
 pub mod Told
+pub mod Tried

@@ -50,7 +50,7 @@ abbrev pub TellsOfReply : (id new : List ℕ) → ℕ → AdminReply → Type 0
 TellsOfReply id new status reply =
     TellsLeft new reply ⊎ ((verdict : Verdict) × (verdict_of status ≡ Some verdict) × TellsAgain new (Of id verdict) reply)
 
-module _ {L T O : Type 0} {l : LedgerGhosts L} {g : TraceGhosts T O} {o : OpeningGhosts O} where
+module _ {L T O : Type 0} (l : LedgerGhosts L) (g : TraceGhosts T O) (o : OpeningGhosts O) where
   -- by what the hall replied to this call; or that the record may be left
   abbrev pub TellsOfDelete : Call → (id new : List ℕ) → AdminReply → Type 0
   TellsOfDelete call id new reply =
@@ -87,9 +87,9 @@ module _ {L T O : Type 0} {l : LedgerGhosts L} {g : TraceGhosts T O} {o : Openin
 module _ {R L T O : Type 0} {l : LedgerGhosts L} {g : TraceGhosts T O} {o : OpeningGhosts O} where
   -- what is told in the end, as far as it is
   abbrev pub TellsOfStep : List ℕ → Step R L T O l g o → AdminReply → Type 0
-  TellsOfStep id (Looking view) reply = TellsOfLook {L} {T} {O} {l} {g} {o} id (unreleased_in view.view) reply
-  TellsOfStep id (Accepting asked) reply = TellsOfInvoke {L} {T} {O} {l} {g} {o} asked.call.value id reply
-  TellsOfStep id (Collecting accepted new asked) reply = TellsOfDelete {L} {T} {O} {l} {g} {o} asked.call.value id new reply
+  TellsOfStep id (Looking view) reply = TellsOfLook l g o id (unreleased_in view.view) reply
+  TellsOfStep id (Accepting asked) reply = TellsOfInvoke l g o asked.call.value id reply
+  TellsOfStep id (Collecting accepted new asked) reply = TellsOfDelete l g o asked.call.value id new reply
   TellsOfStep id Told reply = reply.status ≡ 503
 
   -- this is told, or is told in the end
@@ -98,16 +98,16 @@ module _ {R L T O : Type 0} {l : LedgerGhosts L} {g : TraceGhosts T O} {o : Open
   Leads id holds (Tells response) = IfSome response.reply holds
 
   abbrev pub LeadsToDelete : Call → (id new : List ℕ) → Turn R L T O l g o → Type 0
-  LeadsToDelete call id new turn = Leads id (TellsOfDelete {L} {T} {O} {l} {g} {o} call id new) turn
+  LeadsToDelete call id new turn = Leads id (TellsOfDelete l g o call id new) turn
 
   abbrev pub LeadsToInvoke : Call → List ℕ → Turn R L T O l g o → Type 0
-  LeadsToInvoke call id turn = Leads id (TellsOfInvoke {L} {T} {O} {l} {g} {o} call id) turn
+  LeadsToInvoke call id turn = Leads id (TellsOfInvoke l g o call id) turn
 
   abbrev pub LeadsToPayload : List ℕ → Result (List ℕ) RetryRefusal → Turn R L T O l g o → Type 0
-  LeadsToPayload id found turn = Leads id (TellsOfPayload {L} {T} {O} {l} {g} {o} id found) turn
+  LeadsToPayload id found turn = Leads id (TellsOfPayload l g o id found) turn
 
   abbrev pub LeadsToLook : List ℕ → Option Unreleased → Turn R L T O l g o → Type 0
-  LeadsToLook id unreleased turn = Leads id (TellsOfLook {L} {T} {O} {l} {g} {o} id unreleased) turn
+  LeadsToLook id unreleased turn = Leads id (TellsOfLook l g o id unreleased) turn
 
   abbrev pub LeadsToStep : List ℕ → Step R L T O l g o → Turn R L T O l g o → Type 0
   LeadsToStep id step turn = Leads id (TellsOfStep id step) turn
