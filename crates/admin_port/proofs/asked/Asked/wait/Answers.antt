@@ -11,8 +11,8 @@ invariant_of-result g c = record {
 pub invariant_of-result-in-Ready : goal.invariant_of-result-in-Ready
 invariant_of-result-in-Ready g c = record {
   tells = ∥∥₁_map c.args.self.waits (λ gives. (
-        c.in-Ready.told,
-        gives c.in-Ready.told c.in-Ready.ensures.value,
-        c.with.ensures.answer ∙ c.into_reply.ensures ∙ ap (λ (r : Released). r.reply) c.split.ensures.answer,
-      ));
+    c.in-Ready.told,
+    gives c.in-Ready.told c.in-Ready.ensures.value,
+    c.with.ensures.answer ∙ c.into_reply.ensures ∙ ap (λ (r : Released). r.reply) c.split.ensures.answer,
+  ));
 }
