@@ -287,7 +287,8 @@ def a_record_that_was_collected_meanwhile_is_told(broker):
 def run_kills(broker, kills, seed):
     """So many kills at any moment, while failed records are tried again: what was seen of them. None of their payloads is lost."""
     moments, tally = random.Random(seed), {"kills": 0, "asked": 0, "told": 0, "twice": 0}
-    payloads, number = {}, 0
+    # Within how many seconds a kill comes: less where all was told before it, else more, so that it comes at any step of the way.
+    payloads, number, most = {}, 0, 0.02
     for _ in range(kills):
         broker.serve("--acts")
         while len(payloads) < 4:
@@ -296,10 +297,12 @@ def run_kills(broker, kills, seed):
             payloads[payload] = failed(broker, payload)
         asked = [send(broker, event) for event in payloads.values()]
         tally["asked"] += len(asked)
-        time.sleep(moments.uniform(0, 0.02))
+        time.sleep(moments.uniform(0, most))
         broker.kill()
+        told_all = statuses(asked).count(200)
+        most *= 0.9 if told_all == len(asked) else 1.05
         tally["kills"] += 1
-        tally["told"] += statuses(asked).count(200)
+        tally["told"] += told_all
         broker.serve("--acts")
         left = held(broker)
         lost = set(payloads) - set(left.values())

@@ -21,7 +21,6 @@ fn named_in(path: &[u8]) -> Option<&[u8]>
 
 /// The id of the event whose record a request names to be tried again: POST `/records/ID/retry`. None in it where that is no id.
 pub fn record_named(method: &str, target: &str) -> Option<Option<[u8; 16]>>
-    // claim: A request names the failed record to be tried again whose id stands in its path.
     ensures { result ≡ option_map id_of (record_named method.now target.now) }
 {
     if method != "POST" {
@@ -49,8 +48,7 @@ fn refusal_in(standing: Standing) -> Option<RetryRefusal>
 ///
 /// It is refused: `Unknown`, `NotEnded`, `Succeeded`, and `OutOfMemory` where its copies are too many to count.
 pub fn failed_payload(rows: &[EventRow], id: &[u8; 16]) -> Result<Bytes, RetryRefusal>
-    // claim: Only a failed record is tried again, by just its payload, and the reply names the new event. [: payload, refused;
-    // again_reply; left_reply]
+    // claim: Only a failed record is tried again, by just its payload. [: payload, refused; record_named; again_reply]
     ensures payload { IfOk result (λ payload. failed_payload id.now rows.now ≡ Ok payload) }
     ensures refused { IfErr result (λ why. (why ≡ refusal.OutOfMemory) ⊎ (failed_payload id.now rows.now ≡ Err why)) }
 {

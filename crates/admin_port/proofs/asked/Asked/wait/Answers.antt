@@ -13,6 +13,6 @@ invariant_of-result-in-Ready g c = record {
   tells = ∥∥₁_map c.args.self.waits (λ gives. (
     c.in-Ready.told,
     gives c.in-Ready.told c.in-Ready.ensures.value,
-    c.with.ensures.answer ∙ c.into_reply.ensures ∙ ap (λ (r : Released). r.reply) c.split.ensures.answer,
+    c.with.ensures.answer ∙ c.into_reply.ensures ∙ ap (λ (r : Released). r.reply) c.split-released.ensures.answer,
   ));
 }
