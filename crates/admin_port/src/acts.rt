@@ -1,7 +1,7 @@
 // What an operator may do.
 ghost use Rattle.std.specs.Prelude.{◌≡◌, Some, Ok, IfOk, IfErr};
+ghost use Rattle.admin_port.specs.declared.step.Step.TheVariants as in_step;
 ghost use Rattle.admin_port.specs.Replying.{CollectsBody, CollectsIds, RefusesList};
-ghost use Rattle.admin_port.specs.declared.step.Step.TheVariants.{Looking};
 
 use crate::collecting::Collecting;
 use crate::local::{NOT_LOCAL, is_local};
@@ -147,7 +147,7 @@ impl<A: Drop> Acts<A> {
         T: Trace,
         A: Acting<R, L, T>,
         ensures id { IfOk result (λ retrying. retrying.id ≡ id) }
-        ensures step { IfOk result (λ retrying. retrying.step ≡ Looking view) }
+        ensures step { IfOk result (λ retrying. retrying.step ≡ in_step.Looking view) }
         ensures refused { IfErr result RefusesList }
     {
         match Arc::try_clone(&self.acting) {
