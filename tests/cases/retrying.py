@@ -288,7 +288,7 @@ def run_kills(broker, kills, seed):
     """So many kills at any moment, while failed records are tried again: what was seen of them. None of their payloads is lost."""
     moments, tally = random.Random(seed), {"kills": 0, "asked": 0, "told": 0, "twice": 0}
     # Within how many seconds a kill comes: less where all was told before it, else more, so that it comes at any step of the way.
-    payloads, number, most = {}, 0, 0.02
+    payloads, number, most = {}, 0, 0.2
     for _ in range(kills):
         broker.serve("--acts")
         while len(payloads) < 4:
