@@ -103,8 +103,25 @@ where
     T: Trace,
     A: Acting<R, L, T>,
 {
-    // The record that a request names is tried again.
-    fn retry(
+    // The records of the list that a request brings are collected.
+    fn collect(
+        &self,
+        acts: &Acts<A>,
+        head: &Parts,
+        body: ReadBody,
+    ) -> Result<Collecting<R, L, T, A>, Refused>
+        requires { BringsList head.now }
+        ensures ids { IfOk result (λ collecting. CollectsBody (λ entry. entry.id) body collecting.entries.items) }
+        ensures refused { IfErr result (Refuses head.now) }
+    {
+        match acts.take_list(self.rt, head, body) {
+            Ok(collecting) => Ok(collecting),
+            Err(refused) => Err(refused),
+        }
+    }
+
+    // A record is tried again, where it has an id.
+    fn try_again(
         &self,
         acts: &Acts<A>,
         head: &Parts,
@@ -117,6 +134,23 @@ where
         match self.look() {
             Ok(view) => acts.retry(self.rt, id, view),
             Err(_) => Err(Refused::bare(self.context.alloc, StatusCode::SERVICE_UNAVAILABLE)),
+        }
+    }
+
+    // The record that a request names is tried again.
+    fn retry(
+        &self,
+        acts: &Acts<A>,
+        head: &Parts,
+        id: Option<[u8; 16]>,
+    ) -> Result<Retrying<R, L, T, A>, Refused>
+        requires { NamesRecord head.now id }
+        ensures id { IfOk result (λ retrying. id ≡ Some retrying.id) }
+        ensures refused { IfErr result (Refuses head.now) }
+    {
+        match self.try_again(acts, head, id) {
+            Ok(retrying) => Ok(retrying),
+            Err(refused) => Err(refused),
         }
     }
 }
@@ -160,7 +194,7 @@ where
 
     fn answer(&self, head: &Parts, body: ReadBody) -> Result<Self::Future, Refused> {
         if let Some(acts) = self.list_brought(head) {
-            let collecting = acts.take_list(self.rt, head, body)?;
+            let collecting = self.collect(acts, head, body)?;
             return Ok(Either::Right(Either::Left(collecting)));
         }
         drop(body);
