@@ -37,7 +37,7 @@ impl History {
     /// Keeps one more, unless the last one is of less than five seconds before. Where there are sixty, the first is kept no
     /// longer. It takes no memory.
     pub fn note(&mut self, sample: Sample)
-        // claim: The last sixty samples are kept, five seconds apart or more, in the order in which they came, and told as the
+        // claim: The last sixty samples are kept, none of less than five seconds after the last, in order, and told as the
         // definition has them. [History::text]
         ensures { self.new.samples.items ≡ noted self.old.samples.items sample }
     {

@@ -55,8 +55,8 @@ impl Table {
     /// environments are ready: it comes due, its deadline passes, or it grows too old. Until then a table that does not change
     /// has no other move than now. None where time alone changes nothing.
     pub fn next_moment(&self, now: u64) -> Option<u128>
-        // claim: Until the next moment each event moves as now, and then one does not. An accepted event is due at once; any
-        // other wait and each attempt that a command begins take a second or more, as the timeout does. [a_wait_takes_a_second]
+        // claim: Until the next moment each event moves as now, and then one does not. An accepted event is due at once; else
+        // one is due, or its attempt late, a second or more after, if the timeout is as long. [a_wait_takes_a_second]
         ensures { IsNextMoment self.now.table.rows now result }
     {
         next_moment_in(&self.held, now)

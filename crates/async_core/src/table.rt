@@ -165,7 +165,7 @@ impl Table {
     /// Why a command is refused now, if it is: the first check that fails.
     #[tactic(auto, unfolding(crate::specs::Rules::refusal_at))]
     pub fn judge(&self, command: &Command) -> Result<(), Illegal>
-        // claim: Judging a command gives that same check, and applies nothing.
+        // claim: Judging gives a command's first failing check, and applies nothing.
         ensures exact { result_err result ≡ refusal_by self.now command.now }
         ensures legal { OnOk result (refusal_by self.now command.now ≡ None) }
         ensures refused { IfErr result (λ why. refusal_by self.now command.now ≡ Some why) }

@@ -154,7 +154,7 @@ fn told_of(
 
 // What a disk holds, and what else is asked for.
 fn with_more<D: Disk>(alloc: Global, disk: &mut D, asked: AuditRequest) -> Result<Audit, AuditError>
-    // claim: An audit tells what is asked for: report and event, numbers, or records. [told_of]
+    // claim: An audit tells what is asked for: report, what is in force and event, numbers, or records. [told_of]
     ensures { (D.view disk.old).honest → IfOk result (Answers (D.view disk.old).content asked) }
 {
     let (table, report) = inspect(alloc, disk)?;

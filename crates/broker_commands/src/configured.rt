@@ -105,7 +105,7 @@ fn configure_on<D: Disk + Drop>(
     now: u64,
 ) -> Result<((u8, u32), D), ConfiguringError>
     // claim: Behind an Ok each image of the disk holds the Configure that was asked for, behind a prefix with all that was
-    // durable. Just its values are told. [: asked, configured; configure_disk: asked]
+    // durable. Of a value that was asked for, just that is told. [: asked, configured; configure_disk: asked]
     ensures asked { IfOk result (λ done. IsAsked new.now done.0) }
     ensures configured { (D.view disk).honest → ForEachHistoryOn (D.view disk) (λ s history durable.
         IfOk result (λ done. HoldsConfigured s history durable new.now now (D.view done.1))) }

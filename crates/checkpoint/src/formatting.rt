@@ -56,7 +56,7 @@ pub fn format<D: Disk>(alloc: Global, disk: &mut D, settings: &Settings) -> Resu
     // claim: A crash meanwhile leaves what was there but for the gates, no formatted disk, or the empty table.
     ensures any_moment { LeavesFormatting (D.view disk.old) (D.view disk.new) settings.now }
 
-    // claim: After Ok the disk recovers to the empty table.
+    // claim: After Ok the disk recovers to the empty table, in generation 1.
     ensures generation { (D.view disk.old).honest → OnOk result (HasGeneration 1 (D.view disk.new).content) }
     ensures formatted { (D.view disk.old).honest → OnOk result (IsFormatted (D.view disk.new) settings.now) }
 {

@@ -85,11 +85,11 @@ impl Opened {
         ensures end { end_of self.new ≡ end_of self.old }
         ensures number { OnOk result (number_of self.new ≡ number_of self.old + length commands.now) }
 
-        // claim: After Ok a live disk has the whole batch. A frame that does not fit, and want of memory, come before any
-        // call. [: acknowledged, no_room, no_call, no_call_either]
+        // claim: After Ok a live disk has the whole legal batch. A frame that does not fit, and want of memory, come before
+        // any call. [: acknowledged, no_room, no_call, no_call_either]
         ensures acknowledged { Acknowledges (D.view disk.old) (D.view disk.new) self.old self.new commands.now result }
 
-        // claim: A crash meanwhile leaves a live disk with the table from before, or after the whole batch.
+        // claim: A crash meanwhile leaves a live disk with the table from before, or after the whole legal batch.
         ensures any_moment { LeavesBeforeOrAfter (D.view disk.old) (D.view disk.new) self.old commands.now }
     {
         self.journal.append(alloc, disk, commands)

@@ -138,7 +138,7 @@ pub fn switch<D: Disk>(
     ensures generation { OnOk result (generation_of opened.new ≡ generation_of opened.old + 1) }
     ensures number { OnOk result (number_of opened.new ≡ snapshot.now.number + 1) }
 
-    // claim: After Ok a live disk recovers to the snapshot, in the next generation.
+    // claim: After Ok a live disk recovers to the snapshot, in the next generation. [: generation, switched]
     ensures switched { Switches (D.view disk.old) (D.view disk.new) opened.old opened.new snapshot.now result }
 
     // claim: A crash meanwhile leaves it with the table from before, or the snapshot.

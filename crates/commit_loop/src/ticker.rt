@@ -115,7 +115,7 @@ fn turn<R: Wait, G: Gate, T: Ticking>(rt: &R, gate: &G, ticker: &mut T) -> bool
 /// `Skip` it only sleeps. It goes on until the gate ends the loop.
 pub fn tick_all<R: Wait, G: Gate, T: Ticking>(rt: &R, gate: &G, ticker: &mut T)
     // claim: Where its gate says `Commit`, a turn makes moves until one is not made, calls the committer if one was, and
-    // sleeps. Else it sleeps.
+    // sleeps. At `Skip` it sleeps.
     ensures { IsRun T.leads (G.says gate.now) ticker.old ticker.new }
 {
     for _ in rt.forever() {

@@ -7,7 +7,7 @@ ghost use Rattle.destination_json.specs.Laws.{IsEnded, HasRecordOfHistory, Ended
 
 /// The dates of stamps are those of the public calendar, on each day up to the end of the year 9999.
 pub fn dates_are_those_of_the_calendar()
-    // claim: A moment's date is that of the public calendar.
+    // claim: Up to the year 9999 a moment's date is that of the public calendar.
     ensures { (day : ℕ) → day ≤ last_day → IsDateOf day (year_of day) (month_of day) (day_of_month day) }
 {}
 

@@ -126,7 +126,7 @@ impl Env {
     /// waits for, and the runtime and each of them wait.
     #[tactic(auto, using(crate::specs::laws::States::is_ready_kept))]
     pub fn ready(&self) -> bool
-        // claim: Its readiness, running event, phase and parked parties are those of its calls. A copy is equal. [:
+        // claim: Readiness, running event, phase and number of parked parties follow from its calls. A copy is equal. [:
         // by_state, by_calls; Env::running; Env::phase; Env::parked; Env::copy]
         ensures by_state { result ≡ is_ready_in self.now }
         ensures by_calls { ForEachList self.now (λ calls. result ≡ is_ready self.now.wanted calls) }

@@ -23,7 +23,7 @@ pub fn each_poll_is_answered_once_or_waits()
 /// of them wait.
 #[tactic(auto, using(crate::specs::laws::Running::ready_runs_nothing, crate::specs::laws::Running::ready_all_wait, crate::specs::laws::Waiting::ready_enough))]
 pub fn all_wait_where_one_is_ready()
-    // claim: A ready environment runs nothing, has as many extensions as it waits for, and all its parties wait.
+    // claim: A ready environment runs nothing, has no fewer extensions than it waits for, and all its parties wait.
     ensures runs_nothing { (wanted : ℕ) (calls : List EnvCall) → IsReady wanted calls → unanswered calls ≡ None }
     ensures enough { (wanted : ℕ) (calls : List EnvCall) → IsReady wanted calls → wanted ≤ length (registered calls) }
     ensures all_wait { (wanted : ℕ) (calls : List EnvCall) → IsReady wanted calls
@@ -35,8 +35,8 @@ pub fn all_wait_where_one_is_ready()
 /// is never ready.
 #[tactic(auto, using(crate::specs::laws::Waiting::waiting_is_in_init, crate::specs::laws::Waiting::waiting_registers, crate::specs::laws::Waiting::is_met_zero, crate::specs::laws::Waiting::more_are_never_ready,))]
 pub fn it_waits_for_its_extensions()
-    // claim: With fewer it is in Init until it is shut down. Where it waits for ten at most it takes registrations; where for
-    // more, it is never ready.
+    // claim: With fewer it is in Init until it is shut down. Waiting for ten at most, it registers whoever is not; for more, it
+    // is never ready. [: in_init, open, for_too_many]
     ensures in_init { (wanted : ℕ) (calls : List EnvCall) → IsWaiting wanted calls → phase_of wanted calls ≡ init }
     ensures open { (wanted : ℕ) (calls : List EnvCall) (identifier : List ℕ) (events end : Bool) → IsWaiting wanted calls → wanted ≤ 10
         → is_known identifier (registered calls) ≡ false → refusal_of wanted calls (Register identifier events end) ≡ None }

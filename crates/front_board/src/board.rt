@@ -75,7 +75,7 @@ impl<N: Numbers> Board<N> {
         requires sits { SitsAt self.now seat.old }
         requires given { N.given durable }
         ensures sits { SitsAt self.now seat.new }
-        // claim: From the seat that raised it, it is not seen below that.
+        // claim: From the seat that raised it, it is not seen below that. [: raised, rises]
         ensures raised { durable ≤ seen_from seat.new }
         ensures rises { seen_from seat.old ≤ seen_from seat.new }
         ensures shown { N.given (seen_from seat.new) }
@@ -113,8 +113,7 @@ impl<N: Numbers> Board<N> {
         ensures sits { SitsAt self.now seat.new }
         ensures shown { N.given (seen_from seat.new) }
         ensures rises { seen_from seat.old ≤ seen_from seat.new }
-        // claim: A ticket becomes a receipt exactly where that number is at least its own. By its type the call waits for
-        // nobody.
+        // claim: A ticket becomes a receipt exactly where that number is at least its own.
         ensures receipt { IfOk result (λ receipt. (receipt ≡ ticket) × (ticket ≤ seen_from seat.new)) }
         ensures waits { IfErr result (λ kept. (kept ≡ ticket) × (seen_from seat.new < ticket)) }
         ensures known { ticket ≤ seen_from seat.old → IsOk result }

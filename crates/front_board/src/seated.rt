@@ -47,8 +47,8 @@ impl Seated {
     /// Looks at the number: what shows the ticket's receipt exactly where it is at least the ticket's, else the ticket is handed
     /// back. The number is at least each that was raised or seen from the seat.
     pub fn look(&mut self, ticket: Ticket) -> Result<Shown, Ticket>
-        // claim: A seat that stands beside its board says the same. [: rises, receipt, waits, known; Seated::raise: raised,
-        // rises; Seated::open: count, seen]
+        // claim: A seat beside its board says the same, but for `shown`. [: rises, receipt, waits, known; Seated::raise:
+        // raised, rises; Seated::open: count, seen]
         ensures rises { seen_by self.old ≤ seen_by self.new }
         ensures receipt { IfOk result (λ shown. (shown.receipt ≡ ticket) × (ticket ≤ seen_by self.new)) }
         ensures waits { IfErr result (λ kept. (kept ≡ ticket) × (seen_by self.new < ticket)) }

@@ -103,8 +103,8 @@ impl<D: Disk> Broker<D> {
     pub fn commit(&mut self) -> Result<Durable, CommitError>
         ensures same { IsSameDisk (D.view (disk_of self.old)) (D.view (disk_of self.new)) }
         ensures later { D.fault_count (disk_of self.old) ≤ D.fault_count (disk_of self.new) }
-        // claim: A fault is told only where the count of faults rose. `Broken`, `WornOut` and `BadKind` have their reason.
-        // [Broker::switch: fault, broken, worn_out, worn, bad]
+        // claim: Faults are told only where their count rose, or is greatest. `Broken`, `WornOut` and `BadKind` have their
+        // reason. [: fault, broken, worn_out, worn, bad; Broker::switch]
         ensures fault { IsErrOf result CommitError.Fault → FaultsHaveRisen D.fault_count self.old self.new }
         ensures broken { (result ≡ Err commit_error.Broken) ↔ (is_broken self.old ≡ true) }
         ensures nothing { is_broken self.old ≡ false → pending_of self.old ≡ [] → AnswersAtOnce self.old self.new result }
@@ -112,8 +112,8 @@ impl<D: Disk> Broker<D> {
         ensures worn { is_broken self.old ≡ false → IsWornOut self.old → NeedsSwitch self.old → result ≡ Err commit_error.WornOut }
         ensures bad { result ≡ Err commit_error.BadKind → HasBadTable self.old × NeedsSwitch self.old }
 
-        // claim: After Ok all that was pending is durable. A fault breaks the broker, another refusal changes nothing. It
-        // switches segments just where its frame does not fit. [Broker::switch: ok, switches, breaks, kept]
+        // claim: After Ok all that was pending is durable. A fault breaks the broker, another refusal changes nothing. A commit
+        // switches segments just where its frame does not fit. [Broker::switch: ok, breaks, kept]
         ensures ok { IfOk result (λ durable. Commits self.old self.new durable) }
         ensures stays { NeedsNoSwitch self.old → HasSwitched 0 self.old self.new }
         ensures switches { NeedsSwitch self.old → OnOk result (HasSwitched 1 self.old self.new) }

@@ -10,7 +10,7 @@ use sector_disk::Disk;
 impl<D: Disk> DiskHalf<D> {
     /// How many sectors the disk has, which never changes.
     pub fn sectors(&self) -> u64
-        // claim: The disk's sectors, the generation and the free sectors are told exactly. [DiskHalf::generation;
+        // claim: Sectors, generation and free sectors are told as the half has them. [DiskHalf::generation;
         // DiskHalf::free_sectors]
         ensures { result ≡ (D.view (disk_of (broker_of self.now))).sectors }
     {

@@ -141,7 +141,7 @@ impl IssueHalf {
     /// batch was not written; after `Fault` or `Broken` the half is broken, else the commands are pending and not lent.
     pub fn settle(&mut self, outcome: Result<Written, Failed>) -> Result<Durable, SettleError>
         // claim: The durable number moves only where a written batch is settled, to its last number. What came since stays
-        // pending.
+        // pending. [: ok, err]
         ensures ok { IfOk result (SettlesBy self.old self.new outcome) }
         // claim: A fault breaks the half, as does a broken disk half. After another failure the commands are pending again.
         ensures err { IfErr result (IsNotSettled self.old self.new outcome) }

@@ -137,8 +137,8 @@ pub fn migrate<D: Disk>(alloc: Global, disk: D) -> Result<D, MigrateFailure<D>>
     ensures later { IfErr result (λ e. D.fault_count disk ≤ D.fault_count e.disk) }
     ensures fault { IfErr result (λ e. e.cause ≡ migrate_error.Fault → HasRisen (D.fault_count disk) (D.fault_count e.disk)) }
 
-    // claim: After Ok each image recovers, as version 2, to the table held as version 1, in the next generation. Else a
-    // reason that holds is told. What histories leave is never unformatted, damaged or bad. [: migrated, reason, sound]
+    // claim: After Ok each image recovers, as version 2, to version 1's table; a read is of the next generation. Else there is
+    // a reason, memory aside. What histories leave is never unformatted, damaged or bad. [: migrated, reason, fault, sound]
     ensures migrated { (D.view disk).honest → IfOk result (λ d. Migrates (D.view disk) (D.view d)) }
     ensures reason { (D.view disk).honest → IfErr result (λ e. IsMigrateReason (D.view disk) e.cause) }
 

@@ -246,8 +246,8 @@ where
     requires name { blank.name ≡ L.name }
     requires parts { blank.parts ≡ L.parts }
     requires count { L.parts ≡ desk_count (settings_of hall.issuer) }
-    // claim: A front is served only where there is a desk for each listener, beside two. It is refused for its ports only
-    // where there is none.
+    // claim: A front is served only where there is a desk for each listener, beside two, and refused for its ports only
+    // where not.
     ensures ports { OnOk result (vec_len listeners + 2 ≤ desk_count (settings_of hall.issuer)) }
     ensures many { IsErrOf result ServeError.TooManyPorts → desk_count (settings_of hall.issuer) < vec_len listeners + 2 }
     // claim: It then hands the disk half back: its hall's broker, after any number of commits. What was beside it was

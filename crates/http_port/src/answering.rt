@@ -51,8 +51,8 @@ impl Refused {
     /// A refusal with this response, whose status is one that refuses.
     pub fn new(response: HttpResponse) -> Refused
         requires { 400 ≤ (message_of response).status }
-        // claim: A refusal has a status of 400 or above, and is sent as it was made. [Refused::bare; Refused::into_response:
-        // same, refuses; Refused: invariant; Refused::late]
+        // claim: A refusal has a status of 400 or above, and its response is as it was made. [Refused::bare;
+        // Refused::into_response: same, refuses; Refused: invariant; Refused::late]
         ensures { result ≡ message_of response }
     {
         Refused { response }

@@ -95,7 +95,7 @@ impl<A: Application, I: Drop> Serving<A, I> {
         requires { IfSome self.old.reply A.Future.can_poll }
         ensures value { IfReady result (λ answered. IfOk answered A.Future.can_poll) }
         // claim: What is forbidden by its head is answered 403, its body unread, the application unasked. All else the
-        // application answers, or 408. [: answers, later, unasked; Serving: gives; Requests: calls; Forbidden::refused]
+        // application answers, or 408 or 503. [: answers, later, unasked; Serving: gives; Requests: calls; Forbidden::refused]
         ensures answers { IfReady result (Answers A.answers self.old.forbidden self.old.reply
             (option_map arc_value self.old.application) self.old.head (Reads self.old.reading)) }
         ensures later { OnPending result ((answered : _)

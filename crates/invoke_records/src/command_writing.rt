@@ -165,7 +165,7 @@ impl Command {
 
     /// The one spelling of the command, refused as by `encode_into`.
     pub fn encode(&self, alloc: Global) -> Result<Vec<u8>, RecordError>
-        // claim: What has a spelling is encoded as that. Else the first thing wrong with it is told, or memory is wanting.
+        // claim: What has a spelling is encoded as that, memory aside. Of all else the first thing wrong is told.
         // [EventRow::encode, Snapshot::encode; SettingsRecord::encode: ok, good, refused]
         ensures ok { IfOk result (λ text. text.items ≡ command_text self.now) }
         ensures spelled { OnOk result (IsCommand self.now) }

@@ -89,7 +89,7 @@ impl Snapshot {
         version: Version,
         bytes: &[u8],
     ) -> Result<Snapshot, RecordError>
-        // claim: A snapshot that is all of the bytes is read by the rules of its version.
+        // claim: A snapshot that is all of the bytes is read by the rules of its version, memory aside.
         ensures exact { Gives (λ snapshot. snapshot) result (whole_at version bytes.now) }
         ensures number { IfOk result (λ snapshot. snapshot.number ≤ 2 ^ 62) }
     {

@@ -91,8 +91,8 @@ fn interrupt_attempts<R: Clock + Wait, D: Disk>(
 
 // Issues an Interrupt for each attempt that the last stop cut off, and makes that durable: nothing runs then.
 fn resume<R: Clock + Wait, D: Disk>(rt: &R, broker: &mut Broker<D>) -> Result<(), ServingError>
-    // claim: After it nothing runs, and all is durable. What was issued is an Interrupt for each attempt
-    // that the crash cut off. [: durable, rest; interrupt_attempts: rest]
+    // claim: After Ok nothing runs, and all is durable. What was issued is an Interrupt for each attempt
+    // that the last stop cut off. [: durable, rest; interrupt_attempts: rest]
     ensures durable { OnOk result (pending_of broker.new ≡ []) }
     ensures rest { ForEachHistory D.view broker.old (λ history. OnOk result (ComesToRest D.view history broker.new)) }
 {

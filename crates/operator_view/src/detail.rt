@@ -77,7 +77,7 @@ fn opened(alloc: Global, row: &EventRow) -> Result<Vec<u8>, AllocError>
 /// strings, and its destination record where it has ended. Only want of memory is refused.
 #[tactic(auto, unfolding(crate::specs::EventText::detail_text))]
 pub fn event_json(alloc: Global, row: &EventRow, settings: &Settings) -> Result<Vec<u8>, AllocError>
-    // claim: The texts of a page and of one event are, byte for byte, those of the definitions. [events_json; find]
+    // claim: The texts of a page and of one event are, byte for byte, those of the definitions. [events_json]
     ensures { IfOk result (λ json. json.items ≡ detail_text settings.now row.now) }
 {
     let mut out = opened(alloc, row)?;

@@ -64,7 +64,7 @@ pub fn records_page(
     after: Option<&[u8; 16]>,
     limit: usize,
 ) -> Result<Page, PageError>
-    // claim: The same of records, in the order in which their events ended.
+    // claim: The same of a side's records, in the order of ending, behind one of them.
     ensures page { IfOk result (λ page. IfSome (number_behind side (option_copied after.entry) rows.now) (λ behind. IsFirstEnded rows.now (record_places side behind rows.now) limit page)) }
     ensures after { IsErrOf result PageError.After ↔ IsNone (number_behind side (option_copied after.entry) rows.now) }
 {

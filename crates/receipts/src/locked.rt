@@ -229,8 +229,8 @@ impl<L: Ledger, T: Trace> Locked<L, T> {
 
     /// What is there to write, which is then out; where nothing is, the desk is told how much is durable.
     pub(crate) fn lend(&mut self, desk: &mut Desk<L, T>) -> Result<Loan, HallError>
-        // claim: Nothing is lent where nothing is pending, else all that is. A settlement makes just the batch that is out
-        // durable, or says why not. [: lends, refused, same; Locked::settle: settles, stands, parts, refused]
+        // claim: An Ok lends all that is pending, a refusal nothing. A settlement makes just the batch that is out durable,
+        // or says why not. [: lends, refused, kept, same; Locked::settle: settles, stands, parts, refused]
         ensures { LendsTo self.old self.new desk.old.steps desk.new.steps desk.old desk.new result }
     {
         desk.steps.count();

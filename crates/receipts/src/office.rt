@@ -175,7 +175,8 @@ impl<L: Ledger, T: Trace> Office<L, T> {
         // claim: A request marks at most one command, which it may have by itself. A tick marks that whose number it
         // answers. [: marks, asked; Office::tick: marks]
         // claim: The slot is the desk's next. The desk gets the slots of just the polls answered, and hands them out once.
-        // [: slot, answered, kept_answered; Office::tick: answered, kept_answered; Desk::take_answered: slots, none_left]
+        // [: slot, counts, answered, kept_answered; Office::tick: answered, kept_answered; Desk::take_answered: slots,
+        // none_left]
         // claim: A desk is never told less than before. A refusal changes neither that nor its marks. [: told, err;
         // Office::tick: told, err; Office::commit: told, err, marks]
         // claim: A refusal is the first of these: fewer commands than the desk was told, no slot left, unfit, no memory for
@@ -258,8 +259,8 @@ impl<L: Ledger, T: Trace> Office<L, T> {
         ensures disk { CommitsTo D.view D.fault_count (broker_of disk.old) (broker_of disk.new) result.answer }
         ensures fault { result.answer ≡ Err HallError.Fault → FaultsHaveRisen D.fault_count (broker_of disk.old) (broker_of disk.new) }
 
-        // claim: It makes one step, which lent nothing, and tells why; or two: all that was pending was lent, and what the disk
-        // half answered of that batch was settled, and is told. [: steps, refused]
+        // claim: It makes one step, which lent nothing, and tells what is durable or why; or two: all that was pending was
+        // lent, and what the disk half answered of that batch was settled, and is told, or `OtherHalf`. [: steps, refused]
         ensures steps { CommitsBy D.view D.fault_count result desk.old desk.new (broker_of disk.old) (broker_of disk.new) }
     {
         let (lend, lent) = self.lend(rt, desk);

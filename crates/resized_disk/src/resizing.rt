@@ -91,7 +91,8 @@ pub fn resized<D: Disk>(alloc: Global, disk: &mut D) -> Result<Option<Resized>, 
     ensures no_call { IsErrOf result ResizedError.OutOfMemory → disk.new ≡ disk.old }
     // claim: A disk of fewer than 6 sectors is not called, and nothing told.
     ensures small { (D.view disk.old).sectors < 6 → (result ≡ Ok None) × (disk.new ≡ disk.old) }
-    // claim: That the newer segment stands displaced, or the open one was cut, is told exactly where the bytes say so.
+    // claim: That the newer segment stands displaced, or else that the open one was cut, is told exactly where the bytes say
+    // so.
     ensures exact { (D.view disk.old).honest → IfOk result (TellsResized (D.view disk.old).content) }
 {
     if disk.sectors() < 6 {

@@ -14,8 +14,8 @@ pub trait RandomAccessFile {
     /// How many bytes it has, which never changes.
     fn size(&mut self) -> Result<u64, Fault>
         ensures same { IsSameFile (view self.old) (view self.new) }
-        // claim: An honest file tells its size, reads what stands there and writes what it was given, as far as each went.
-        // [RandomAccessFile::read_at, RandomAccessFile::write_at]
+        // claim: An honest file tells its size, reads what stands there and writes within it what it was given, as far as each
+        // went. [RandomAccessFile::read_at, RandomAccessFile::write_at]
         ensures honest { SizesHonestly (view self.old) (view self.new) result };
 
     /// Reads from the place `at` on, in bytes, and tells how many bytes it read. The rest of `out` may be any, and all of

@@ -155,8 +155,8 @@ impl FileDisk<File> {
         path: &str,
         sectors: u64,
     ) -> Result<FileDisk<File>, FileError>
-        // claim: A new disk has as many sectors as were asked for. No fault is counted yet. [FileDisk::open,
-        // FileDisk::open_read_only]
+        // claim: A new disk has as many sectors as were asked for. Made or opened, it has counted no fault yet.
+        // [FileDisk::open, FileDisk::open_read_only]
         ensures sectors { IfOk result (λ disk. sectors_of disk ≡ sectors) }
         ensures faults { IfOk result (λ disk. faults_of disk ≡ 0) }
     {
