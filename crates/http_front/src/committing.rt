@@ -179,7 +179,7 @@ impl<L: Ledger, T: Trace, D: Disk + Drop> Committer<L, T, D> {
             (known self.desk.told (seen_by self.seated))
             (known result.desk.told (seen_by result.seated)) }
         // claim: It hands its disk half back, which goes on from each history that it stood for. At each moment a crash
-        // leaves a prefix of that and what was committed, with all that was durable before. [: served; ask]
+        // leaves a prefix of that and what it took, with all that was durable before. [: served; ask]
         ensures served { HasServed D.view D.fault_count (broker_of self.half) (broker_of result.half) }
     {
         let mut at = AtFront {
