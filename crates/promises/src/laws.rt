@@ -123,10 +123,10 @@ pub fn what_a_stop_leaves_follows_the_rules()
         → FollowsRules s stop.after (table_of s stop.after) }
 {}
 
-/// A disk that was migrated or copied goes on with all of it: its images recover to the same history, and records stay under
+/// A disk that was migrated or copied goes on with all of it: its images recover to a later history, and records stay under
 /// the larger limits of a copy.
 pub fn a_new_disk_goes_on<D: Disk, E: Disk>(old: &D, new: &E)
-    // claim: Each image of a migrated or copied disk recovers to the same later history.
+    // claim: Each image of a migrated or copied disk recovers to a later history, with the same commands up to the point.
     ensures migrated { (migration : Migrates (D.view old.now) (E.view new.now)) (point : ℕ) (history later : List Command) (image : List ℕ)
         → GoesOn migration.settings point history later → migration.table ≡ table_of migration.settings later
         → (E.view new.now).may_leave image → Leaves migration.settings point history image }
