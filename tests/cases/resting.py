@@ -105,6 +105,28 @@ def events_are_given_up_on_time_though_nobody_asks(broker):
     assert are_on_time([told(broker, event)["moment"] - moment for event, moment in too_old.items()]), too_old
 
 
+@case({"age": 60, "environments": 8, "timeout": 100}, slow=True)
+def events_that_fail_at_the_end_of_their_age_are_given_up_on_time(broker):
+    broker.serve()
+    runs = {}
+    for number in range(1, 9):
+        polled = broker.send_next(number)
+        broker.until_parked(1)
+        event = broker.invoke("{}").id
+        same(polled.done().id, event)
+        runs[event] = (number, told(broker, event)["accepted"] + 60_000)
+        time.sleep(0.7)
+    lateness = []
+    for event, (number, too_old) in runs.items():
+        # A tenth of a second before, when the ticker may have gone to sleep for a second.
+        time.sleep(max(0, too_old / 1000 - 0.1 - time.time()))
+        same(broker.respond(event, '{"errorMessage":"x"}', number, "error").status, 202)
+        answered = int(1000 * time.time())
+        broker.until_number('events{standing="due_again"}', 0)
+        lateness.append(told(broker, event)["moment"] - max(too_old, answered))
+    assert statistics.median(lateness) <= LATE, lateness
+
+
 @case({"events": 400, "environments": 2, "sectors": 8192})
 def a_move_that_found_no_room_is_made_though_nobody_asks(broker):
     watch = broker.watches_disk()
