@@ -246,14 +246,20 @@ def a_device_that_fails_loses_nothing(broker):
         watch.clear()
 
 
+def is_asked_at_a_flush(broker, watch, event):
+    """Has this event's record tried again, up to a flush that does not end before it is let go: the request."""
+    watch.hold_flush = watch.flushes + 1
+    asked = send(broker, event)
+    until("a flush", lambda: watch.flushes == watch.hold_flush)
+    return asked
+
+
 @case({"retries": 0})
 def a_client_that_goes_away_leaves_both_and_nothing_open(broker):
     watch = broker.watches_disk()
     broker.serve("--acts")
     event = failed(broker, "1")
-    watch.hold_flush = watch.flushes + 1
-    asked = send(broker, event)
-    until("a flush", lambda: watch.flushes == watch.hold_flush)
+    asked = is_asked_at_a_flush(broker, watch, event)
     without = broker.open_files()
     asked.leave()
     until("the end of the connection", lambda: broker.open_files() < without)
@@ -271,9 +277,7 @@ def a_record_that_was_collected_meanwhile_is_told(broker):
     watch = broker.watches_disk()
     broker.serve("--acts")
     event = failed(broker, "1")
-    watch.hold_flush = watch.flushes + 1
-    asked = send(broker, event)
-    until("a flush", lambda: watch.flushes == watch.hold_flush)
+    asked = is_asked_at_a_flush(broker, watch, event)
     delete = broker.send("DELETE", f"/broker/destinations/{event}")
     broker.until_read()
     watch.let_go()

@@ -70,6 +70,13 @@ def works(broker):
     return is_seen(broker), waits
 
 
+def is_told(broker, well, picture, alert, *reasons):
+    """Just this is wrong since all was well: it is looked at, pictured, and its alert fires within ten minutes."""
+    seen = is_seen(broker, *reasons)
+    pictures(broker, picture)
+    fire_within_ten_minutes(broker, well, seen, alert)
+
+
 @case()
 def a_broker_that_is_well(broker):
     broker.serve()
@@ -87,9 +94,7 @@ def no_runtime(broker):
     waits.leave()
     for _ in range(3):
         broker.invoke('{"order":7}')
-    seen = is_seen(broker, "nobody_polls", "nothing_ends")
-    pictures(broker, "no_runtime")
-    fire_within_ten_minutes(broker, well, seen, "NothingEnds")
+    is_told(broker, well, "no_runtime", "NothingEnds", "nobody_polls", "nothing_ends")
 
 
 @case({"timeout": 3})
@@ -101,9 +106,7 @@ def a_runtime_that_is_stuck(broker):
     # It has answered, and does not poll again.
     for _ in range(3):
         broker.invoke('{"order":8}')
-    seen = is_seen(broker, "nothing_ends")
-    pictures(broker, "stuck_runtime")
-    fire_within_ten_minutes(broker, well, seen, "NothingEnds")
+    is_told(broker, well, "stuck_runtime", "NothingEnds", "nothing_ends")
 
 
 @case({"events": 12})
@@ -112,9 +115,7 @@ def a_table_that_is_full(broker):
     well, waits = works(broker)
     same([broker.invoke('{"order":7}').status for _ in range(17)], 12 * [202] + 5 * [429])
     same(waits.done().status, 200)
-    seen = is_seen(broker, "callers_are_refused", "table_full")
-    pictures(broker, "full_table")
-    fire_within_ten_minutes(broker, well, seen, "TableFull")
+    is_told(broker, well, "full_table", "TableFull", "callers_are_refused", "table_full")
 
 
 @case({"retries": 0})
@@ -126,9 +127,7 @@ def attempts_that_all_fail(broker):
     for _ in range(5):
         broker.live('{"order":7}', ERROR, path="error")
     waits = poll(broker)
-    seen = is_seen(broker, "most_attempts_fail")
-    pictures(broker, "all_failing")
-    fire_within_ten_minutes(broker, well, seen, "AttemptsFail")
+    is_told(broker, well, "all_failing", "AttemptsFail", "most_attempts_fail")
     waits.leave()
 
 
@@ -142,9 +141,7 @@ def a_runtime_in_a_restart_loop(broker):
         # It dies of that, and is started again.
         until("the end of the attempt", lambda: broker.look(f"/events/{event}").json["standing"] == "ended RetriesExhausted")
         waits = poll(broker)
-    seen = is_seen(broker, "most_attempts_fail")
-    pictures(broker, "runtime_restart_loop")
-    fire_within_ten_minutes(broker, well, seen, "AttemptsFail")
+    is_told(broker, well, "runtime_restart_loop", "AttemptsFail", "most_attempts_fail")
     waits.leave()
 
 
@@ -192,9 +189,7 @@ def commits_that_take_two_seconds(broker):
         watch.let_go()
         same(invoke.done().status, 202)
     same(waits.done().status, 200)
-    seen = is_seen(broker, SLOW)
-    pictures(broker, "slow_commits")
-    fire_within_ten_minutes(broker, well, seen, "CommitsSlow")
+    is_told(broker, well, "slow_commits", "CommitsSlow", SLOW)
 
 
 @case({"events": 400, "payload": 16, "response": 16})
