@@ -43,7 +43,7 @@ pub struct AdminPort {
 impl Admin {
     /// The operator's port of a broker that is opened with this table. Only want of memory is refused.
     pub fn over(self, table: &Table) -> Result<AdminPort, AllocError>
-        // claim: The operator's port keeps the table's settings, and how many events had ended there.
+        // claim: An operator's port keeps the table's settings, and how many of its events had ended.
         ensures admin { IfOk result (λ port. port.admin ≡ self) }
         ensures settings { IfOk result (λ port. port.baseline.settings ≡ table.now.settings) }
         ensures ended { IfOk result (λ port. CountsEnded table.now.table.rows port.baseline.ended_before) }

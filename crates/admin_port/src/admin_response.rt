@@ -36,7 +36,8 @@ fn draft_of(alloc: Global, reply: &AdminReply) -> Option<Draft>
 
 /// A reply as a response. None where memory is wanting.
 pub(crate) fn response_of(alloc: Global, reply: AdminReply) -> Option<HttpResponse>
-    // claim: A reply to an operator is told with its own status, headers and bytes. [add_next; draft_of; AdminResponse: tells]
+    // claim: A reply is sent with its status and bytes, under the definition's headers. [add_next; draft_of; AdminResponse:
+    // tells]
     ensures { IfSome result (λ response. message_of response ≡ message_told reply) }
 {
     let draft = draft_of(alloc, &reply)?;

@@ -188,8 +188,8 @@ where
 {
     type Output = AdminResponse;
 
-    // claim: A list is told of each line, in order, what the hall replied to one DELETE of its id, or that it is none; or it is
-    // told 503. [: gives; Collecting::new; Acts::collect: ids; Entry: waits, tells]
+    // claim: A list's reply tells of each line, in order, what the hall's reply to a DELETE of its id says, or that it is no
+    // id; or it is 503. [: gives; Collecting::new; Acts::collect: ids; Entry: waits, tells]
     ghost gives = { λ collecting shown. IfSome shown.reply (TellsOfLines (λ entry. entry.id)
         (λ entry. line_in entry.id (option_map (λ told. told.answer) entry.told)) collecting.entries.items) };
 

@@ -159,8 +159,7 @@ fn limits_of(policy: &RetryPolicy, settings: &Settings) -> Limits
 
 /// The numbers of a broker that was seen so, of which so much was counted and measured, now, in milliseconds since 1970.
 pub(crate) fn metrics_of(baseline: &Baseline, view: &View, measures: &Measures, now: u64) -> Metrics
-    // claim: The numbers are of what was seen and measured: a census of rows, environments by phase, what ended since the
-    // opening.
+    // claim: Each number is the definition's, of what was seen, counted and measured.
     ensures { AreMetrics baseline.now view.now measures.now now result }
 {
     let hall = &view.hall;

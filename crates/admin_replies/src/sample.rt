@@ -29,7 +29,7 @@ pub fn sample_of(
     written_bytes: u64,
     now: u64,
 ) -> Sample
-    // claim: What is kept of a moment is counted by what was seen then.
+    // claim: A sample is the definition's, of what was seen and counted then.
     ensures { IsSample baseline.now view.now counters.now written_bytes now result }
 {
     let census = census(view.hall.table.rows.as_slice());

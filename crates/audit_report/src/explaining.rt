@@ -51,7 +51,7 @@ fn put_life(
 /// Where an event stands and what its life counts, in one line without an end: `ID STANDING accepted MS moment MS starts N
 /// failures N pushbacks N`, or `ID unknown` where it is not held. The moment is when it is due, times out, or ended.
 pub fn explain(alloc: Global, table: &Table, id: &[u8; 16]) -> Result<String, AllocError>
-    // claim: An event's line is that of the definitions, by the history; that of what is in force, by the report. [: by_row,
+    // claim: An event's line is the definition's, by its history; that of what is in force, by the report. [: by_row,
     // by_history; in_force_line]
     ensures by_row { IfOk result (λ text. string_bytes text ≡ explanation id.now (standing_at table.now.table id.now)
         (accepted_at (row_at table.now.table id.now)) (counts_at (row_at table.now.table id.now))) }

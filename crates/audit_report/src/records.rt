@@ -9,7 +9,7 @@ use std::alloc::{AllocError, Global};
 /// The destination records of a table's events that ended, with success or without, each on a line, in the order in which the
 /// events ended. Only want of memory is refused, and lines that are more bytes than an address counts.
 pub fn all_records(alloc: Global, table: &Table) -> Result<Vec<u8>, AllocError>
-    // claim: All records are told, each once, a line each, in the order of ending.
+    // claim: Each ended event's record is told once, on a line, in the order of ending.
     ensures { IfOk result (λ text. AreRecords table.now.settings table.now.table.rows text.items) }
 {
     let snapshot = table.snapshot()?;

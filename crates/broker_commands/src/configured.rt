@@ -79,8 +79,8 @@ fn bring_in_force<D: Disk>(
     new: &NewPolicy<'_>,
     now: u64,
 ) -> Result<(u8, u32), ConfiguringError>
-    // claim: Unless refused, one Configure was issued behind the history, with the values asked for, or those in force, and
-    // all is durable. Refused issuing has its reason, refused committing none.
+    // claim: After Ok one Configure stands behind the history, with the values asked for and else those in force, and nothing
+    // is pending. A refused issue has its reason.
     ensures told { IfOk result (λ pair. pair ≡ pair_of (policy_for (table_in broker.old).policy new.now)) }
     ensures reason { IfErr result (IsRefusal broker.old (configure_at (table_in broker.old) new.now now)) }
     ensures durable { OnOk result (pending_of broker.new ≡ []) }
@@ -104,8 +104,8 @@ fn configure_on<D: Disk + Drop>(
     new: &NewPolicy<'_>,
     now: u64,
 ) -> Result<((u8, u32), D), ConfiguringError>
-    // claim: Behind an Ok each image of the disk holds the Configure that was asked for, behind a prefix with all that was
-    // durable. Of a value that was asked for, just that is told. [: asked, configured; configure_disk: asked]
+    // claim: After Ok each image holds, all durable, a prefix with all that was durable, and behind it the Configure asked for.
+    // A value asked for is told as asked. [: asked, configured; configure_disk: asked]
     ensures asked { IfOk result (λ done. IsAsked new.now done.0) }
     ensures configured { (D.view disk).honest → ForEachHistoryOn (D.view disk) (λ s history durable.
         IfOk result (λ done. HoldsConfigured s history durable new.now now (D.view done.1))) }

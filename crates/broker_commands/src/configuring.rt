@@ -86,9 +86,8 @@ pub fn configure_disk<'a, R>(
 ) -> Result<Configured<'a, Device<R>>, ConfiguringError>
 where
     R: Files<File = File> + Clock + Eprint + AllocGlobal + Copy + Drop,
-    // claim: A value out of range is refused first, retries before age. Of one that was asked for, just that is told. What
-    // shows that a disk was configured is of just these values, and only configuring one gives it. [: bad, asked, wanted;
-    // Configured: holds]
+    // claim: A value out of range is refused first, retries before age. A value asked for is told as asked. What is returned
+    // shows that the disk was configured with just these. [: bad, asked, wanted; Configured: holds]
     ensures asked { IfOk result (λ done. IsAsked new.now done.told) }
     ensures wanted { IfOk result (λ done. done.wanted.value ≡ new.now) }
     ensures bad { (field : Field) → bad_option new.now ≡ Some field → result ≡ Err (refused_for field) }

@@ -10,8 +10,8 @@ ghost use Rattle.disk_copy.specs.Limits.{AllowsAll};
 /// A history that is legal under settings is legal under those that allow all that they do, and it stands for the same
 /// table. It does nothing.
 pub fn larger_limits_keep_histories()
-    // claim: A history legal under settings is legal, with the same table, under those that allow all that they do.
-    // [larger_limits_keep_tables]
+    // claim: A history legal under settings is so, with the same table, under those that allow all that they do. A table that
+    // may stand on a disk still may. [larger_limits_keep_tables]
     ensures legal { (old new : Settings) (history : List Command) → AllowsAll old new → IsLegal old history → IsLegal new history }
     ensures table { (old new : Settings) (history : List Command) → AllowsAll old new → table_of new history ≡ table_of old history }
 {}

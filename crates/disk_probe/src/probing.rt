@@ -54,7 +54,7 @@ where
     R: Files<File = File> + Clock,
     D: Disk,
     requires { sector < (D.view disk.old).sectors }
-    // claim: A disk that is not all zeros is only read by a probe.
+    // claim: A disk that is not all zeros is only read by a probe's trial of writes.
     ensures { (D.view disk.old).honest → is_blank (D.view disk.old).content ≡ false → OnlyReads (D.view disk.old) (D.view disk.new) }
 {
     if is_blank(alloc, disk)? {

@@ -11,7 +11,7 @@ use std::snapshot::Snapshot as Seen;
 pub struct Shown {
     receipt: Receipt,
     seat: Seen<Seat>,
-    // claim: What a board showed was seen from a seat: no less than the receipt's number.
+    // claim: The seat that showed a receipt has seen at least its number.
     ghost seen: { receipt ≤ seen_from seat.value },
 }
 

@@ -112,16 +112,16 @@ impl<D: Disk> Broker<D> {
         ensures worn { is_broken self.old ≡ false → IsWornOut self.old → NeedsSwitch self.old → result ≡ Err commit_error.WornOut }
         ensures bad { result ≡ Err commit_error.BadKind → HasBadTable self.old × NeedsSwitch self.old }
 
-        // claim: After Ok all that was pending is durable. A fault breaks the broker, another refusal changes nothing. A commit
-        // switches segments just where its frame does not fit. [Broker::switch: ok, breaks, kept]
+        // claim: After Ok all that was pending is durable, and a commit has switched segments just where its frame did not fit.
+        // A fault breaks the broker, another refusal changes nothing. [Broker::switch: ok, breaks, kept]
         ensures ok { IfOk result (λ durable. Commits self.old self.new durable) }
         ensures stays { NeedsNoSwitch self.old → HasSwitched 0 self.old self.new }
         ensures switches { NeedsSwitch self.old → OnOk result (HasSwitched 1 self.old self.new) }
         ensures breaks { result ≡ Err commit_error.Fault → Breaks self.old self.new }
         ensures kept { OnErr result (result ≡ Err commit_error.Fault ⊎ IsSameBroker self.old self.new) }
 
-        // claim: It stands for the same history after any answer, all of it durable after Ok. A history's table is never
-        // bad. [Broker::switch]
+        // claim: The broker stands for the same history after any answer, all of it durable after Ok. A history's table is
+        // never refused as bad. [Broker::switch]
         ensures stands { ForEachHistory D.view self.old (λ history. Stands D.view self.new history) }
         ensures acknowledged { ForEachHistory D.view self.old (λ history. IfOk result (HasAllDurable self.new history)) }
         ensures sound { ForEachHistory D.view self.old (λ history. result ≡ Err commit_error.BadKind → ⊥) }

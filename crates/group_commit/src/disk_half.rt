@@ -92,14 +92,14 @@ impl<D: Disk> DiskHalf<D> {
         ensures settings { settings_of (broker_of self.new) ≡ settings_of (broker_of self.old) }
         ensures longer { issued_of (broker_of self.old) ≤ issued_of (broker_of self.new) }
 
-        // claim: The half stands for its history with what it took. A front of a history that ends with the batch stays
-        // one.
+        // claim: The half stands for its history with what it took. Where its history began one that ends with the batch, it
+        // still does.
         ensures stands { ForEachHistory D.view (broker_of self.old) (λ history.
             Stands D.view (broker_of self.new) (history ++ taken_from (broker_of self.old) (broker_of self.new) batch)) }
         ensures sound { ForEachHistory D.view (broker_of self.old) (λ history. IsRefusedAs result write_error.BadKind → ⊥) }
         ensures front { StaysInFront D.view (broker_of self.old) (broker_of self.new) batch }
 
-        // claim: A crash at any moment leaves a legal stop of that.
+        // claim: A crash at any moment leaves a legal stop of the half's history with what it took.
         ensures any_moment { LeavesStopsWith D.view (broker_of self.old) (broker_of self.new) batch }
     {
         let (first, last) = (batch.first, batch.last);

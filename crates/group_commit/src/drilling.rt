@@ -137,15 +137,15 @@ fn run_step(
 /// Of any other disk it says this: the first opening fails for the causes of `Broker::open`, and only a disk that recovers
 /// comes to a step.
 pub fn drill(alloc: Global, disk: MemDisk, steps: &[Step]) -> Result<Drill, DrillFailure>
-    // claim: Any script of issues, commits, switches, resumptions and crashes, on a memory disk of legal stops, has the
-    // answers of one history.
+    // claim: A script of issues, commits, switches, resumptions and crashes, run to its end on a memory disk of legal stops,
+    // has the answers of one history, from which crashes cut only what was not durable.
     ensures run { ForEachHistoryOn (memory_view disk) (λ s history durable. IfOk result (IsDrillOf s history durable steps.now)) }
-    // claim: Only the device or want of memory cuts it off. It tells where, and the steps before have such answers. [:
-    // refused, failed, place; drill_split]
+    // claim: On legal stops only the device or want of memory cuts a script off. The place is told, and the steps before have a
+    // history's answers. [: refused, failed, place; drill_split]
     ensures refused { ForEachHistoryOn (memory_view disk) (λ s history durable. IfErr result (λ failure. IsCutOff (cause_in failure))) }
     ensures failed { ForEachHistoryOn (memory_view disk) (λ s history durable. IfErr result (IsDrillFailure s history durable steps.now)) }
     ensures place { IfErr result (IsAtOneOf (length steps.now)) }
-    // claim: Whatever the disk, the first opening says not formatted, or damaged, only where it is so. [drill_split]
+    // claim: Whatever the disk, the first opening says not formatted, damaged or old only where it is so. [drill_split]
     ensures opened { OnOk result (Recovers (memory_view disk).content) }
     ensures opening { IfErr result (TellsOpening (memory_view disk).content) }
 {

@@ -143,7 +143,8 @@ impl IssueHalf {
         // claim: The durable number moves only where a written batch is settled, to its last number. What came since stays
         // pending. [: ok, err]
         ensures ok { IfOk result (SettlesBy self.old self.new outcome) }
-        // claim: A fault breaks the half, as does a broken disk half. After another failure the commands are pending again.
+        // claim: A settled fault breaks the half, as does a broken disk half. After another failed write all stays pending, and
+        // can be lent again.
         ensures err { IfErr result (IsNotSettled self.old self.new outcome) }
     {
         let (first, last) = match &outcome {

@@ -54,10 +54,10 @@ pub trait Issuer {
         ensures ok { IfOk result (λ ticket. Issues (view self.old) (view self.new) command ticket) }
         ensures err { OnErr result (IsSameIssuer (view self.old) (view self.new)) }
 
-        // claim: Whatever issues, a broker or an issue half, promises what `Broker::issue` does, without a disk. [: broken,
+        // claim: Whatever issues, a broker or an issue half, promises what `Broker::issue` does, but for crashes. [: broken,
         // worn_out, illegal, backlog, accepted, reason, no_call, ok, err, stands, refused; Issuer::issued, Issuer::durable,
-        // Issuer::ticket, Issuer::table; Issuer: laws, goes_on; IssueHalf::issue: broken, worn_out, illegal, backlog,
-        // accepted, reason, lent, ok, err, stands, refused; Broker, IssueHalf: laws]
+        // Issuer::ticket, Issuer::table; Issuer: laws, goes_on; IssueHalf::issue: broken, worn_out, illegal, backlog, accepted,
+        // reason, lent, ok, err, stands, refused; Broker, IssueHalf: laws]
         ensures stands { ForEachHistory (view self.old) (λ history. IfOk result (Accepts (view self.old) history command (view self.new))) }
         ensures refused { ForEachHistory (view self.old) (λ history. TellsIllegal (view self.old).settings history command result) };
 

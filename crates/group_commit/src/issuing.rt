@@ -82,8 +82,7 @@ impl<D: Disk> Broker<D> {
     /// It is refused, and then changes nothing: `Broken`, `WornOut` (2^62 commands were issued), `Illegal` with the first
     /// check that fails, `Backlog` (256 commands are pending), `OutOfMemory`, in that order. The disk is not called.
     pub fn issue(&mut self, command: Command) -> Result<Ticket, IssueError>
-        // claim: Refusals come in this order: broken, worn out, not legal, 256 pending, no memory. None else refuses a
-        // legal command.
+        // claim: Refusals come in this order: broken, worn out, not legal, 256 pending, no memory. There is no other.
         ensures broken { IsTrue (is_broken self.old) → result ≡ Err issue_error.Broken }
         ensures worn_out { is_broken self.old ≡ false → 2 ^ 62 ≤ issued_of self.old → result ≡ Err issue_error.WornOut }
         ensures illegal { OnUsable self.old ((why : Illegal) → Fails self.old command why → result ≡ Err (issue_error.Illegal why)) }
@@ -97,7 +96,7 @@ impl<D: Disk> Broker<D> {
         ensures ok { IfOk result (λ ticket. Issues self.old self.new command ticket) }
         ensures err { OnErr result (IsSameBroker self.old self.new) }
 
-        // claim: A command that is issued was legal after the history. The broker then stands for both.
+        // claim: A command that is issued was legal after the history. The broker then stands for the history with it.
         ensures stands { ForEachHistory D.view self.old (λ history. IfOk result (Accepts D.view self.old history command self.new)) }
         ensures refused { ForEachHistory D.view self.old (λ history. TellsIllegal (settings_of self.old) history command result) }
         ensures stands_refused { ForEachHistory D.view self.old (λ history. OnErr result (Stands D.view self.new history)) }

@@ -137,17 +137,18 @@ pub fn migrate<D: Disk>(alloc: Global, disk: D) -> Result<D, MigrateFailure<D>>
     ensures later { IfErr result (λ e. D.fault_count disk ≤ D.fault_count e.disk) }
     ensures fault { IfErr result (λ e. e.cause ≡ migrate_error.Fault → HasRisen (D.fault_count disk) (D.fault_count e.disk)) }
 
-    // claim: After Ok each image recovers, as version 2, to version 1's table; a read is of the next generation. Else there is
-    // a reason, memory aside. What histories leave is never unformatted, damaged or bad. [: migrated, reason, fault, sound]
+    // claim: After Ok each image recovers, as version 2, to the table that was read as version 1, and a read is of the next
+    // generation. A refusal has its reason, memory aside. Where each image reads to a history's table, it is never refused as
+    // unformatted, damaged or bad. [: migrated, reason, fault, sound]
     ensures migrated { (D.view disk).honest → IfOk result (λ d. Migrates (D.view disk) (D.view d)) }
     ensures reason { (D.view disk).honest → IfErr result (λ e. IsMigrateReason (D.view disk) e.cause) }
 
     // Where each image reads, as version 1 or 2, to the table of a legal history, it is refused by nothing that it holds.
     ensures sound { (D.view disk).honest → HoldsHistories (D.view disk) → IfErr result (λ e. IsSoundRefusal e.cause) }
 
-    // claim: A refused disk is handed back. A crash meanwhile leaves an image from before, or one that reads, in its
-    // version, to the same table. Only where the device failed was anything written. Refused for its version, size,
-    // generation or table, all images read to one table. [: any_moment, nothing, one, same_failed]
+    // claim: A refused disk is handed back, written only where the device failed. A crash meanwhile leaves an image from
+    // before, or one that reads, in its version, to the same table. Refused for version, size, generation or table, all images
+    // read to one table. [: any_moment, migrated, nothing, one, same_failed]
     ensures any_moment { (D.view disk).honest → IfErr result (λ e. LeavesMigrating (D.view disk) (D.view e.disk)) }
     ensures nothing { (D.view disk).honest → IfErr result (λ e. WritesNothingBut (D.view disk) (D.view e.disk) e.cause) }
     ensures one { (D.view disk).honest → IfErr result (λ e. HoldsOneWhere (D.view e.disk) e.cause) }

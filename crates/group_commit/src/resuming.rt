@@ -31,9 +31,8 @@ impl<D: Disk> Broker<D> {
     /// It is refused as `issue` is, but never as `Illegal`, and then changes nothing.
     pub fn resume(&mut self, now: u64) -> Result<Option<Ticket>, IssueError>
         requires { now ≤ 253402300799999 }
-        // claim: It issues a legal Interrupt for the running event accepted first. At None each held event waits, is due
-        // again or ended. A refusal has a reason of the broker's own, and changes nothing. [: reason, err, no_call, resumes,
-        // rested]
+        // claim: Resuming issues a legal Interrupt for the running event accepted first. At None each held event waits, is due
+        // again or ended. A refusal is never `Illegal`, and changes nothing. [: reason, err, no_call, resumes, rested]
         ensures broken { IsTrue (is_broken self.old) → result ≡ Err issue_error.Broken }
         ensures reason { IfErr result (IsOwnReason self.old) }
         ensures err { OnErr result (IsSameBroker self.old self.new) }

@@ -35,8 +35,8 @@ impl Ticket {
     /// A receipt exactly where the ticket's number is at most this one, which is meant to be durable; else the ticket is
     /// handed back. It takes no memory.
     pub fn settled_by(self, number: u64) -> Result<Receipt, Ticket>
-        // claim: A new ticket has the number of all that was issued. It becomes a receipt exactly where that is at most the
-        // given one. [Broker::ticket]
+        // claim: A new ticket has the number of all that was issued. A ticket becomes a receipt exactly where its number is at
+        // most the given one. [Broker::ticket]
         ensures settled { IfOk result (λ receipt. (receipt ≡ self) × (self ≤ number)) }
         ensures waits { IfErr result (λ ticket. (ticket ≡ self) × (number < self)) }
     {
