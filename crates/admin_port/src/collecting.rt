@@ -189,7 +189,7 @@ where
     type Output = AdminResponse;
 
     // claim: A list's reply tells of each line, in order, what the hall's reply to a DELETE of its id says, or that it is no
-    // id; or it is 503. [: gives; Collecting::new; Acts::collect: ids; Entry: waits, tells]
+    // id; or is 503. [: gives; Collecting::new; Acts::collect: ids; Entry: waits, tells]
     ghost gives = { λ collecting shown. IfSome shown.reply (TellsOfLines (λ entry. entry.id)
         (λ entry. line_in entry.id (option_map (λ told. told.answer) entry.told)) collecting.entries.items) };
 

@@ -37,8 +37,8 @@ impl History {
     /// Keeps one more, unless the last one is of less than five seconds before. Where there are sixty, the first is kept no
     /// longer. It takes no memory.
     pub fn note(&mut self, sample: Sample)
-        // claim: The last sixty samples are kept as they came, but none from the five seconds behind the one before. Their text
-        // is the definition's. [History::text]
+        // claim: The last sixty samples are kept as they came, none from the five seconds behind the one before. Their text is
+        // the definition's. [History::text]
         ensures { self.new.samples.items ≡ noted self.old.samples.items sample }
     {
         if !is_recent(self.samples.back(), sample.counts.at) {

@@ -71,7 +71,6 @@ pub(crate) fn problems_of(
     memory: &Memory,
     counts: &Counts,
 ) -> [Option<Problem>; 9]
-    // claim: The verdict is the definition's, of what was seen, counted and remembered of earlier looks.
     ensures { AreProblems settings.now view.now census.now memory.now counts.now result }
 {
     let sight = sight_of(settings, view, census, memory, counts);

@@ -71,7 +71,6 @@ fn ids_in(alloc: Global, text: &str) -> Result<Vec<Option<[u8; 16]>>, AllocError
 ///
 /// It is refused: `NoText` (it is not UTF-8), `TooMany` (it has more than a thousand lines), `OutOfMemory`.
 pub fn read_list(alloc: Global, list: &[u8]) -> Result<Vec<Option<[u8; 16]>>, ListError>
-    // claim: A list that is read has the id of each line, or none, in order, of a thousand lines at most.
     ensures ids { IfOk result (λ ids. ids.items ≡ ids_in list.now) }
     ensures few { IfOk result (λ ids. vec_len ids ≤ 1000) }
     ensures many { IsErrOf result list_error.TooMany → 1000 < length (ids_in list.now) }

@@ -159,7 +159,7 @@ fn limits_of(policy: &RetryPolicy, settings: &Settings) -> Limits
 
 /// The numbers of a broker that was seen so, of which so much was counted and measured, now, in milliseconds since 1970.
 pub(crate) fn metrics_of(baseline: &Baseline, view: &View, measures: &Measures, now: u64) -> Metrics
-    // claim: Each number is the definition's, of what was seen, counted and measured.
+    // claim: Each number, and the verdict, is the definition's, of what was seen, counted and measured.
     ensures { AreMetrics baseline.now view.now measures.now now result }
 {
     let hall = &view.hall;

@@ -34,7 +34,6 @@ pub(crate) fn metrics_text(
     metrics: &Metrics,
     settings: &Settings,
 ) -> Result<Vec<u8>, AllocError>
-    // claim: The numbers' text is, byte for byte, that of the definitions.
     ensures { IfOk result (λ text. text.items ≡ metrics_text metrics.now settings.now) }
 {
     let mut out = Vec::new(alloc);

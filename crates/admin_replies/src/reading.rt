@@ -99,7 +99,7 @@ fn asked_at(resource: Resource, query: &str) -> Result<AdminRequest, AdminRefusa
 ///
 /// A query is `NAME=VALUE` with `&` between; a part without bytes says nothing. Nothing is decoded.
 pub fn read(method: &str, target: &str) -> Result<AdminRequest, AdminRefusal>
-    // claim: A request asks for what the definition reads in method and target, or is refused by the first failing check.
+    // claim: A request asks for what the definition reads in it, or is refused by the first failing check.
     // [AdminRefusal::status]
     ensures { result ≡ asked_of method.now target.now }
 {

@@ -48,7 +48,6 @@ fn refusal_in(standing: Standing) -> Option<RetryRefusal>
 ///
 /// It is refused: `Unknown`, `NotEnded`, `Succeeded`, and `OutOfMemory` where its copies are too many to count.
 pub fn failed_payload(rows: &[EventRow], id: &[u8; 16]) -> Result<Bytes, RetryRefusal>
-    // claim: Only of a failed record is a payload given to be tried again, and just its own. [: payload, refused]
     ensures payload { IfOk result (λ payload. failed_payload id.now rows.now ≡ Ok payload) }
     ensures refused { IfErr result (λ why. (why ≡ refusal.OutOfMemory) ⊎ (failed_payload id.now rows.now ≡ Err why)) }
 {

@@ -104,8 +104,8 @@ fn configure_on<D: Disk + Drop>(
     new: &NewPolicy<'_>,
     now: u64,
 ) -> Result<((u8, u32), D), ConfiguringError>
-    // claim: After Ok each image holds, all durable, a prefix with all that was durable, and behind it the Configure asked for.
-    // A value asked for is told as asked. [: asked, configured; configure_disk: asked]
+    // claim: After Ok each image holds, all durable, a prefix with all that was durable and the Configure asked for. [:
+    // configured]
     ensures asked { IfOk result (λ done. IsAsked new.now done.0) }
     ensures configured { (D.view disk).honest → ForEachHistoryOn (D.view disk) (λ s history durable.
         IfOk result (λ done. HoldsConfigured s history durable new.now now (D.view done.1))) }

@@ -87,7 +87,7 @@ pub fn configure_disk<'a, R>(
 where
     R: Files<File = File> + Clock + Eprint + AllocGlobal + Copy + Drop,
     // claim: A value out of range is refused first, retries before age. A value asked for is told as asked. What is returned
-    // shows that the disk was configured with just these. [: bad, asked, wanted; Configured: holds]
+    // shows that the disk was configured so. [: bad, asked, wanted; Configured: holds]
     ensures asked { IfOk result (λ done. IsAsked new.now done.told) }
     ensures wanted { IfOk result (λ done. done.wanted.value ≡ new.now) }
     ensures bad { (field : Field) → bad_option new.now ≡ Some field → result ≡ Err (refused_for field) }

@@ -73,8 +73,8 @@ fn check_events<D: Disk>(alloc: Global, disk: &mut D) -> Result<(), ContentsErro
 /// Refuses what may not be formatted over: a disk that holds events, one of another size or one that cannot be opened, and what is
 /// neither zeros nor a formatted disk. Beside a barrier it only reads.
 pub(crate) fn check_contents<D: Disk>(alloc: Global, disk: &mut D) -> Result<(), ContentsError>
-    // claim: The check before a format passes only where all is zeros, or a formatted disk holds no event. A refusal tells what
-    // is there, or that it could not be looked at.
+    // claim: The check before a format passes only zeros, or a formatted disk without events. A refusal tells what is there, or
+    // that it could not be looked at.
     ensures free { (D.view disk.old).honest → OnOk result (IsFree (D.view disk.old).content) }
     ensures occupied { (D.view disk.old).honest → IfErr result (IsOccupied (D.view disk.old).content) }
 {

@@ -55,8 +55,8 @@ impl MigratingError {
 
 // Migrates a disk, and reads back what it then holds.
 fn migrate_disk<D: Disk + Drop>(alloc: Global, disk: D) -> Result<Migrated, MigratingError>
-    // claim: Migrating tells the old disk's number and the next generation. It is refused for a migration's reasons, or where
-    // device or memory failed at reading back.
+    // claim: Migrating tells the old disk's number and the next generation, or is refused for a migration's reason, or since
+    // the disk could not be read back.
     ensures told { (D.view disk).honest → IfOk result (IsMigrated (D.view disk)) }
     ensures reason { (D.view disk).honest → IfErr result (IsMigratingReason (D.view disk)) }
 {

@@ -57,8 +57,8 @@ pub fn open<D: Disk + Drop>(alloc: Global, disk: D) -> Result<Broker<D>, OpenErr
 
 /// Refuses a disk that has another size than it was formatted with, as far as that can be seen. It only reads.
 pub fn check_size<D: Disk>(alloc: Global, disk: &mut D) -> Result<(), DiskError>
-    // claim: A disk is refused as resized or cut only where the definition finds that in its bytes, and passes only where it
-    // finds neither. It is only read.
+    // claim: A disk passes only where the definition finds it neither resized nor cut, and is refused as that only where it
+    // does. It is only read.
     ensures reads { OnlyReads (D.view disk.old) (D.view disk.new) }
     ensures later { D.fault_count disk.old ≤ D.fault_count disk.new }
     ensures fault { IfErr result (λ why. why ≡ disk_error.File file_error.Fault → HasRisen (D.fault_count disk.old) (D.fault_count disk.new)) }

@@ -163,8 +163,7 @@ fn recovered(alloc: Global, disk: MemDisk) -> Result<Standing, OpenError>
 /// Accepts one event, commits it, closes the disk and opens it again: it is the first command, which is durable after the
 /// commit, and it waits from its acceptance on.
 pub fn run_trial(alloc: Global) -> Result<Trial, TrialError>
-    // claim: A trial that is not refused tells that command 1 accepted the event, that one command is durable, and that the
-    // event waits.
+    // claim: After Ok a trial tells that command 1 accepted the event and is durable, and that the event waits.
     ensures { IfOk result (λ t. (t.accepted ≡ 1) × (t.durable ≡ 1) × (t.standing ≡ standing.Waiting 1573755365568)) }
 {
     let disk = formatted(alloc)?;

@@ -50,8 +50,6 @@ pub trait Committing {
 
     /// How many commands are issued and not durable.
     fn pending(&mut self) -> (usize, Self::Counted)
-        // claim: A count, a ring and a tick return a witness of what they counted, rang for or moved. [Committing::ring,
-        // Ticking::pending, Ticking::tick]
         ensures steps { leads self.old (counted result.0 ∷ []) self.new }
         ensures shown { result.0 ≡ count result.1 };
 
@@ -179,8 +177,8 @@ fn turn<G: Gate, C: Committing>(gate: &G, committer: &mut C) -> bool
 /// Where nothing is pending, or a commit failed, the committer sleeps, as `Committing::sleep` says; where the gate skips what
 /// is pending, it is asked again.
 pub fn commit_all<R: Wait, G: Gate, C: Committing>(rt: &R, gate: &G, committer: &mut C)
-    // claim: Each turn counts what is pending and does what its gate says of that. After a commit its number is raised on the
-    // board, then rung for. After a failure the committer sleeps; one that broke the hall is first said, then rung for all.
+    // claim: Each turn counts what is pending and does what its gate says. A commit's number is raised on the board, then rung
+    // for. After a failure the committer sleeps; where that broke the hall, it is first said, then rung for all.
     ensures { IsRun C.leads (G.says gate.now) committer.old committer.new }
 {
     for _ in rt.forever() {

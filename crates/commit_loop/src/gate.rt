@@ -27,8 +27,8 @@ pub trait Gate {
 
     /// What the loop does next, with so many commands issued and not durable.
     fn turn(&self, pending: usize) -> (Turn, Self::Seen)
-        // claim: A gate says what it may with so many commands pending, and what it saw leads to that. `WhenPending` says
-        // `Commit` exactly where something is pending. [: says, seen; WhenPending: says]
+        // claim: What a gate saw leads to what it says. `WhenPending` says `Commit` exactly where something is pending. [:
+        // says, seen; WhenPending: says]
         ensures says { says self.now pending result.0 }
         ensures seen { leads_to result.1 result.0 };
 }

@@ -66,8 +66,8 @@ pub fn copy<D: Disk, E: Disk>(
     ensures copied { (E.view disk.old).honest
         → OnOk result (IsSeeded (E.view disk.new) (settings_for broker.now change.now) (table_in broker.now)) }
 
-    // claim: After Ok it goes on with each history that the broker stands for, all of it durable. A history's table is never
-    // refused as bad.
+    // claim: After Ok it goes on with each history that the broker stands for, all durable. No history's table is refused as
+    // bad.
     ensures goes_on { (E.view disk.old).honest → ForEachHistory D.view broker.now (λ history.
         OnOk result (GoesOnWith (E.view disk.new) (settings_for broker.now change.now) history)) }
     ensures sound { ForEachHistory D.view broker.now (λ history. result ≡ Err copy_error.BadTable → ⊥) }
@@ -75,8 +75,8 @@ pub fn copy<D: Disk, E: Disk>(
     // claim: A crash meanwhile leaves the new disk as it was but for the gates, no formatted disk, or the whole copy.
     ensures any_moment { LeavesSeeding (E.view disk.old) (E.view disk.new) (settings_for broker.now change.now) (table_in broker.now) }
 
-    // claim: Of a disk without a formatted image a crash leaves no formatted disk, or the whole copy; of one that read as not
-    // formatted, these or an image from before.
+    // claim: Of a disk without a formatted image a crash leaves no formatted disk or the whole copy; of one that read as not
+    // formatted, also an image from before.
     ensures old_or_whole { LeavesOldOrWhole (E.view disk.old) (E.view disk.new) (settings_for broker.now change.now) (table_in broker.now) }
     ensures none_or_whole { LeavesNoneOrWhole (E.view disk.old) (E.view disk.new) (settings_for broker.now change.now) (table_in broker.now) }
 {

@@ -14,7 +14,6 @@ pub struct Figures {
 /// The figures of some times, which are put into order.
 pub(crate) fn figures_of(times: &mut [u64]) -> Figures
     requires { 0 < length times.old }
-    // claim: Of times put into order the one at half their number is told, and the last.
     ensures times { IsPermutation times.old times.new }
     ensures order { IsRising times.new }
     ensures median { result.median ≡ slice_index times.new (length times.old / 2) }

@@ -55,8 +55,8 @@ impl<D: Disk> Broker<D> {
         ensures same_failed { IfErr result (λ e. IsSameDisk (D.view disk) (D.view e.disk)) }
         ensures fault { IfErr result (λ e. TellsFault (D.fault_count disk) (D.fault_count e.disk) e.cause) }
 
-        // claim: A disk opens as what it recovers to, all of it durable, and is told not formatted, damaged or old only where
-        // its bytes say so.
+        // claim: A disk opens as what it recovers to, all durable. It is told not formatted, damaged or old only where its
+        // bytes say so.
         ensures fresh { IfOk result (λ b. (is_broken b ≡ false) × (pending_of b ≡ []) × (durable_of b ≡ issued_of b)) }
         ensures recovers { (D.view disk).honest → IfOk result (λ b. live.RecoversTo (settings_of b) (table_in b) (D.view disk).content) }
         ensures not_formatted { (D.view disk).honest → IfErr result (λ e. TellsNotFormatted (D.view disk).content e.cause) }

@@ -120,8 +120,8 @@ impl<D: Disk> Broker<D> {
         ensures breaks { result ≡ Err commit_error.Fault → Breaks self.old self.new }
         ensures kept { OnErr result (result ≡ Err commit_error.Fault ⊎ IsSameBroker self.old self.new) }
 
-        // claim: The broker stands for the same history after any answer, all of it durable after Ok. A history's table is
-        // never refused as bad. [Broker::switch]
+        // claim: The broker stands for the same history after any answer, all durable after Ok. No history's table is refused
+        // as bad. [Broker::switch]
         ensures stands { ForEachHistory D.view self.old (λ history. Stands D.view self.new history) }
         ensures acknowledged { ForEachHistory D.view self.old (λ history. IfOk result (HasAllDurable self.new history)) }
         ensures sound { ForEachHistory D.view self.old (λ history. result ≡ Err commit_error.BadKind → ⊥) }

@@ -99,7 +99,7 @@ impl<D: Disk> DiskHalf<D> {
         ensures sound { ForEachHistory D.view (broker_of self.old) (λ history. IsRefusedAs result write_error.BadKind → ⊥) }
         ensures front { StaysInFront D.view (broker_of self.old) (broker_of self.new) batch }
 
-        // claim: A crash at any moment leaves a legal stop of the half's history with what it took.
+        // claim: A crash at any moment leaves a legal stop of its history with what it took.
         ensures any_moment { LeavesStopsWith D.view (broker_of self.old) (broker_of self.new) batch }
     {
         let (first, last) = (batch.first, batch.last);

@@ -137,10 +137,10 @@ fn run_step(
 /// Of any other disk it says this: the first opening fails for the causes of `Broker::open`, and only a disk that recovers
 /// comes to a step.
 pub fn drill(alloc: Global, disk: MemDisk, steps: &[Step]) -> Result<Drill, DrillFailure>
-    // claim: A script of issues, commits, switches, resumptions and crashes, run to its end on a memory disk of legal stops,
-    // has the answers of one history, from which crashes cut only what was not durable.
+    // claim: A whole script of issues, commits, switches, resumptions and crashes on a memory disk of legal stops has the
+    // answers of one history, from which crashes cut only what was not durable.
     ensures run { ForEachHistoryOn (memory_view disk) (λ s history durable. IfOk result (IsDrillOf s history durable steps.now)) }
-    // claim: On legal stops only the device or want of memory cuts a script off. The place is told, and the steps before have a
+    // claim: On legal stops only the device or want of memory cuts a script off, at a place that is told, behind steps with a
     // history's answers. [: refused, failed, place; drill_split]
     ensures refused { ForEachHistoryOn (memory_view disk) (λ s history durable. IfErr result (λ failure. IsCutOff (cause_in failure))) }
     ensures failed { ForEachHistoryOn (memory_view disk) (λ s history durable. IfErr result (IsDrillFailure s history durable steps.now)) }

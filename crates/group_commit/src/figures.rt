@@ -10,8 +10,6 @@ use sector_disk::Disk;
 impl<D: Disk> DiskHalf<D> {
     /// How many sectors the disk has, which never changes.
     pub fn sectors(&self) -> u64
-        // claim: A disk half tells its disk's sectors, and its live segment's generation and free sectors.
-        // [DiskHalf::generation; DiskHalf::free_sectors]
         ensures { result ≡ (D.view (disk_of (broker_of self.now))).sectors }
     {
         self.broker.disk.sectors()

@@ -105,8 +105,7 @@ impl IssueHalf {
     ///
     /// It is refused, and then changes nothing: `Broken`, `Lent` (a batch is out), `OutOfMemory`, in that order.
     pub fn lend(&mut self) -> Result<Option<Batch>, LendError>
-        // claim: What is lent is all that is pending, with its numbers. While it is out nothing else is lent. Refusals have
-        // reasons.
+        // claim: All that is pending is lent, with its numbers, and nothing else while it is out. Refusals have their reason.
         ensures same { IsSameIssuer (half_view self.old) (half_view self.new) }
         ensures could { IfOk result (λ batch. CanLend self.old) }
         ensures ok { IfOk result (Lends self.old self.new) }
@@ -143,8 +142,8 @@ impl IssueHalf {
         // claim: The durable number moves only where a written batch is settled, to its last number. What came since stays
         // pending. [: ok, err]
         ensures ok { IfOk result (SettlesBy self.old self.new outcome) }
-        // claim: A settled fault breaks the half, as does a broken disk half. After another failed write all stays pending, and
-        // can be lent again.
+        // claim: A settled fault, or a broken disk half, breaks the half. After another failed write all stays pending, and may
+        // be lent again.
         ensures err { IfErr result (IsNotSettled self.old self.new outcome) }
     {
         let (first, last) = match &outcome {

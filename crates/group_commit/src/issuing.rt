@@ -96,7 +96,7 @@ impl<D: Disk> Broker<D> {
         ensures ok { IfOk result (λ ticket. Issues self.old self.new command ticket) }
         ensures err { OnErr result (IsSameBroker self.old self.new) }
 
-        // claim: A command that is issued was legal after the history. The broker then stands for the history with it.
+        // claim: An issued command was legal after the history. The broker then stands for the history with it.
         ensures stands { ForEachHistory D.view self.old (λ history. IfOk result (Accepts D.view self.old history command self.new)) }
         ensures refused { ForEachHistory D.view self.old (λ history. TellsIllegal (settings_of self.old) history command result) }
         ensures stands_refused { ForEachHistory D.view self.old (λ history. OnErr result (Stands D.view self.new history)) }

@@ -50,8 +50,8 @@ impl<D: Disk> Broker<D> {
     /// It is refused, and hands both halves back: `Lent` (a batch is out), `Backlog` (256 commands would be pending),
     /// `OutOfMemory`, `Mismatch` (the tables differ). What the disk half took stays pending in it.
     pub fn join(issue: IssueHalf, disk: DiskHalf<D>) -> Result<Broker<D>, JoinFailure<D>>
-        // claim: Halves are joined only with no batch out, and unbroken ones only where their tables agree. A broken one makes
-        // a broken broker.
+        // claim: Halves join only with no batch out, unbroken ones only where their tables agree. A broken one makes a broken
+        // broker.
         ensures ok { IfOk result (λ broker. Joins issue (broker_of disk) broker) }
         ensures err { IfErr result (λ failure. IsNotJoined issue failure.issue (broker_of disk) (broker_of failure.disk) failure.cause) }
 
@@ -61,8 +61,8 @@ impl<D: Disk> Broker<D> {
             IfOk result (StandsWithAhead D.view issue (broker_of disk) history)) }
         ensures stands_failed { ForEachHistory D.view (broker_of disk) (λ history.
             IfErr result (λ failure. StandsWithAhead D.view issue (broker_of disk) history (broker_of failure.disk))) }
-        // claim: An unbroken broker so joined stands for the issue half's history, where the disk half stood for a prefix of
-        // it. [: stands, stands_failed, headline]
+        // claim: An unbroken joined broker stands for the issue half's history, if the disk half stood for a prefix of it. [:
+        // stands, stands_failed, headline]
         ensures headline { ForEachSharedHistory D.view issue (broker_of disk) (λ history.
             IfOk result (λ broker. is_broken broker ≡ false → Stands D.view broker history)) }
     {

@@ -137,9 +137,9 @@ pub fn migrate<D: Disk>(alloc: Global, disk: D) -> Result<D, MigrateFailure<D>>
     ensures later { IfErr result (λ e. D.fault_count disk ≤ D.fault_count e.disk) }
     ensures fault { IfErr result (λ e. e.cause ≡ migrate_error.Fault → HasRisen (D.fault_count disk) (D.fault_count e.disk)) }
 
-    // claim: After Ok each image recovers, as version 2, to the table that was read as version 1, and a read is of the next
-    // generation. A refusal has its reason, memory aside. Where each image reads to a history's table, it is never refused as
-    // unformatted, damaged or bad. [: migrated, reason, fault, sound]
+    // claim: After Ok each image recovers, as version 2, to the table read as version 1, and a read is of the next generation.
+    // A refusal has its reason, memory aside. No disk whose images hold histories is called unformatted, damaged or bad. [:
+    // migrated, reason, fault, sound]
     ensures migrated { (D.view disk).honest → IfOk result (λ d. Migrates (D.view disk) (D.view d)) }
     ensures reason { (D.view disk).honest → IfErr result (λ e. IsMigrateReason (D.view disk) e.cause) }
 

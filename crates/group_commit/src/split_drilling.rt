@@ -212,9 +212,9 @@ pub fn drill_split(
     disk: MemDisk,
     steps: &[SplitStep],
 ) -> Result<SplitDrill, DrillFailure>
-    // claim: A script of issues, loans, writes, settlements and crashes, run to its end on a memory disk of legal stops, has
-    // the answers of one list and three numbers: durable, written, lent. From a settled fault to the next crash, issues and
-    // loans are refused as broken. [: run]
+    // claim: A whole script of issues, loans, writes, settlements and crashes on a memory disk of legal stops has the answers
+    // of one list and three numbers: durable, written, lent. From a settled fault to the next crash, issues and loans are
+    // refused as broken. [: run]
     ensures run { ForEachHistoryOn (memory_view disk) (λ s history durable. IfOk result (IsSplitDrillOf s history durable steps.now)) }
     ensures refused { ForEachHistoryOn (memory_view disk) (λ s history durable. IfErr result (λ failure. IsCutOff (cause_in failure))) }
     ensures failed { ForEachHistoryOn (memory_view disk) (λ s history durable.
