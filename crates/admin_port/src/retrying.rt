@@ -197,8 +197,8 @@ where
 {
     type Output = AdminResponse;
 
-    // claim: A retry is told the failing check, or by the hall's replies to an Invoke of the record's payload and, only behind
-    // a 202, to its DELETE; or 503. [: gives; Retrying::collect: leads; Answered: tells]
+    // claim: A retry is told the failing check's status, what comes of the hall's replies to an Invoke of the record's payload
+    // and, only behind a 202, to a DELETE of the record, or 503. [: gives; Retrying::collect: leads; Answered: tells]
     ghost gives = { λ retrying shown. IfSome shown.reply (TellsOfStep retrying.id retrying.step) };
 
     fn poll(&mut self, cx: &mut Context<'_>) -> Poll<AdminResponse> {

@@ -123,8 +123,8 @@ pub fn tell(
     history: &History,
     now: u64,
 ) -> Result<AdminReply, AllocError>
-    // claim: A reply is the definition's, of page and health only the status. Where the event named is not held, or not among
-    // the records asked for, it is 404. [events_reply; event_reply; records_reply]
+    // claim: Status and body are the definition's, of page and health only the status. Where the event named is not held, or
+    // not among the records asked for, it is 404. [events_reply; event_reply; records_reply]
     ensures { IfOk result (TellsOf baseline.now view.now measures.now history.now now request.now) }
 {
     let rows = view.hall.table.rows.as_slice();

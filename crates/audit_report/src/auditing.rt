@@ -78,8 +78,8 @@ pub fn inspect<D: Disk>(alloc: Global, disk: &mut D) -> Result<(Table, Report), 
     ensures later { D.fault_count disk.old ≤ D.fault_count disk.new }
     ensures fault { IsErrOf result OpenError.Fault → HasRisen (D.fault_count disk.old) (D.fault_count disk.new) }
     ensures content { (D.view disk.old).honest → (D.view disk.new).content ≡ (D.view disk.old).content }
-    // claim: The table and the report are what the bytes read to; none changes. An older segment leads to the live snapshot, is
-    // 1 to 256 commands behind it, or differs. [: exact, content; audit: exact]
+    // claim: The table and the report are what the bytes read to; no byte changes. An older segment is told to lead to the live
+    // snapshot, to be 1 to 256 commands behind it, or to differ. [: exact, content; audit: exact]
     ensures exact { (D.view disk.old).honest → IfOk result (λ r. IsAudit (D.view disk.old).content r.0 r.1) }
     // claim: A disk is told not formatted, damaged or old only where its bytes say so. [audit]
     ensures not_formatted { TellsNotFormatted (D.view disk.old) result }

@@ -11,8 +11,8 @@ use std::alloc::AllocError;
 /// The numbers of a table's events, with what a report tells of its disk: of the two that `inspect` answers, those of the
 /// disk. In memory for its rows.
 pub fn figures(table: &Table, report: &Report) -> Result<Figures, AllocError>
-    // claim: The figures are a census of the events, when the first that waits was accepted and the first ended, and the
-    // report's own. [json_line]
+    // claim: The figures are a census of the events, the moments when the first that waits was accepted and the first ended,
+    // and for the rest the report's. [json_line]
     ensures { IfOk result (AreFigures table.now.table.rows report.now) }
 {
     let snapshot = table.snapshot()?;

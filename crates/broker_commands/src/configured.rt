@@ -79,8 +79,6 @@ fn bring_in_force<D: Disk>(
     new: &NewPolicy<'_>,
     now: u64,
 ) -> Result<(u8, u32), ConfiguringError>
-    // claim: After Ok one Configure stands behind the history, with the values asked for and else those in force, and nothing
-    // is pending. A refused issue has its reason.
     ensures told { IfOk result (λ pair. pair ≡ pair_of (policy_for (table_in broker.old).policy new.now)) }
     ensures reason { IfErr result (IsRefusal broker.old (configure_at (table_in broker.old) new.now now)) }
     ensures durable { OnOk result (pending_of broker.new ≡ []) }
@@ -104,8 +102,8 @@ fn configure_on<D: Disk + Drop>(
     new: &NewPolicy<'_>,
     now: u64,
 ) -> Result<((u8, u32), D), ConfiguringError>
-    // claim: After Ok each image holds, all durable, a prefix with all that was durable and the Configure asked for. [:
-    // configured]
+    // claim: After Ok each image holds, all durable, a prefix with all that was durable, and behind it the Configure, with what
+    // was asked for and else what was in force. [: configured]
     ensures asked { IfOk result (λ done. IsAsked new.now done.0) }
     ensures configured { (D.view disk).honest → ForEachHistoryOn (D.view disk) (λ s history durable.
         IfOk result (λ done. HoldsConfigured s history durable new.now now (D.view done.1))) }

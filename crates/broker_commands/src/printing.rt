@@ -45,7 +45,7 @@ where
     R: Files<File = File> + Clock + Eprint + AllocGlobal + Copy + Drop,
     W: Write,
     // claim: A command that waits for nobody ends, where it can print, with status 0 (done), 1 (refused, or an audit's segments
-    // differ) or 3 (the device failed); but for `probe` by its outcome. [: job; print_fault; print_trial; print_format;
+    // differ) or 3 (the device failed); for all but `probe` by the outcome. [: job; print_fault; print_trial; print_format;
     // print_audit; print_configure; print_migrate; print_copy]
     ensures job { IfOk result IsJobStatus }
     ensures small { IfOk result (λ status. status ≤ 3) }

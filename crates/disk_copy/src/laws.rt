@@ -11,7 +11,7 @@ ghost use Rattle.disk_copy.specs.Limits.{AllowsAll};
 /// table. It does nothing.
 pub fn larger_limits_keep_histories()
     // claim: A history legal under settings is so, with the same table, under those that allow all that they do. A table that
-    // may stand still may. [larger_limits_keep_tables]
+    // may stand on a disk under the first may under the second. [larger_limits_keep_tables]
     ensures legal { (old new : Settings) (history : List Command) → AllowsAll old new → IsLegal old history → IsLegal new history }
     ensures table { (old new : Settings) (history : List Command) → AllowsAll old new → table_of new history ≡ table_of old history }
 {}

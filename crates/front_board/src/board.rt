@@ -31,7 +31,7 @@ impl<N: Numbers> Board<N> {
     ) -> Result<(Board<N>, Vec<Seat>), AllocError>
         requires given { N.given durable }
         // claim: A new board has as many seats as were asked for, which have seen its first number. [: count, seats;
-        // Seated::open: count, seen]
+        // Seated::open: count, seen, one_board]
         ensures count { IfOk result (λ made. vec_len made.1 ≡ seats) }
         ensures seats { IfOk result (λ made. All (IsNewSeat made.0 durable) made.1.items) }
     {
@@ -76,7 +76,8 @@ impl<N: Numbers> Board<N> {
         requires sits { SitsAt self.now seat.old }
         requires given { N.given durable }
         ensures sits { SitsAt self.now seat.new }
-        // claim: A seat that raised a number has seen no less. [: raised, rises; Seated::raise: raised, rises]
+        // claim: A seat never sees less than it has seen or raised. [: raised, rises; Board::look, Board::check, Seated::look:
+        // rises, known; Seated::raise: raised, rises]
         ensures raised { durable ≤ seen_from seat.new }
         ensures rises { seen_from seat.old ≤ seen_from seat.new }
         ensures shown { N.given (seen_from seat.new) }
@@ -91,11 +92,12 @@ impl<N: Numbers> Board<N> {
     pub fn look(&self, seat: &mut Seat, ticket: Ticket) -> Result<Shown, Ticket>
         requires sits { SitsAt self.now seat.old }
         ensures sits { SitsAt self.now seat.new }
-        // claim: What holds of each number given to a board holds of the number found. A seat never sees less than before. [:
-        // shown, rises, known; Board::raise: shown, rises; Board::check: shown, rises, known]
+        // claim: What holds of each number given to a board holds of the number found. [: shown; Board::raise, Board::check:
+        // shown]
         ensures shown { N.given (seen_from seat.new) }
         ensures rises { seen_from seat.old ≤ seen_from seat.new }
-        // claim: A look shows a ticket's receipt exactly where the number found is at least the ticket's.
+        // claim: A look or check gives a ticket's receipt exactly where the number found is at least the ticket's. [: receipt,
+        // seat, waits, known; Board::check, Seated::look: receipt, waits, known]
         ensures receipt { IfOk result (λ shown. (shown.receipt ≡ ticket) × (ticket ≤ seen_from seat.new)) }
         ensures seat { IfOk result (λ shown. shown.seat.value ≡ seat.new) }
         ensures waits { IfErr result (λ kept. (kept ≡ ticket) × (seen_from seat.new < ticket)) }
@@ -114,7 +116,6 @@ impl<N: Numbers> Board<N> {
         ensures sits { SitsAt self.now seat.new }
         ensures shown { N.given (seen_from seat.new) }
         ensures rises { seen_from seat.old ≤ seen_from seat.new }
-        // claim: A check makes a ticket a receipt exactly where the number found is at least its own.
         ensures receipt { IfOk result (λ receipt. (receipt ≡ ticket) × (ticket ≤ seen_from seat.new)) }
         ensures waits { IfErr result (λ kept. (kept ≡ ticket) × (seen_from seat.new < ticket)) }
         ensures known { ticket ≤ seen_from seat.old → IsOk result }

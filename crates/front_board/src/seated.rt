@@ -22,7 +22,6 @@ impl Seated {
     pub fn open(alloc: Global, durable: Durable, count: usize) -> Result<Vec<Seated>, AllocError>
         ensures count { IfOk result (λ all. vec_len all ≡ count) }
         ensures seen { IfOk result (λ all. All (λ seated. seen_by seated ≡ durable) all.items) }
-        // claim: Seats of one opening are at one board.
         ensures one_board { IfOk result (λ all. AreAtOneBoard all.items) }
     {
         let (board, seats) = Board::new(alloc, durable, count)?;
@@ -47,8 +46,6 @@ impl Seated {
     /// Looks at the number: what shows the ticket's receipt exactly where it is at least the ticket's, else the ticket is handed
     /// back. The number is at least each that was raised or seen from the seat.
     pub fn look(&mut self, ticket: Ticket) -> Result<Shown, Ticket>
-        // claim: A seat beside its board never sees less than before, and shows a receipt exactly where it sees the ticket's
-        // number or more. [: rises, receipt, waits, known]
         ensures rises { seen_by self.old ≤ seen_by self.new }
         ensures receipt { IfOk result (λ shown. (shown.receipt ≡ ticket) × (ticket ≤ seen_by self.new)) }
         ensures waits { IfErr result (λ kept. (kept ≡ ticket) × (seen_by self.new < ticket)) }

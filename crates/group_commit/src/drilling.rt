@@ -145,7 +145,6 @@ pub fn drill(alloc: Global, disk: MemDisk, steps: &[Step]) -> Result<Drill, Dril
     ensures refused { ForEachHistoryOn (memory_view disk) (λ s history durable. IfErr result (λ failure. IsCutOff (cause_in failure))) }
     ensures failed { ForEachHistoryOn (memory_view disk) (λ s history durable. IfErr result (IsDrillFailure s history durable steps.now)) }
     ensures place { IfErr result (IsAtOneOf (length steps.now)) }
-    // claim: Whatever the disk, the first opening says not formatted, damaged or old only where it is so. [drill_split]
     ensures opened { OnOk result (Recovers (memory_view disk).content) }
     ensures opening { IfErr result (TellsOpening (memory_view disk).content) }
 {

@@ -147,8 +147,8 @@ pub fn migrate<D: Disk>(alloc: Global, disk: D) -> Result<D, MigrateFailure<D>>
     ensures sound { (D.view disk).honest → HoldsHistories (D.view disk) → IfErr result (λ e. IsSoundRefusal e.cause) }
 
     // claim: A refused disk is handed back, written only where the device failed. A crash meanwhile leaves an image from
-    // before, or one that reads, in its version, to the same table. Refused for version, size, generation or table, all images
-    // read to one table. [: any_moment, migrated, nothing, one, same_failed]
+    // before, or one that reads, in either version, to the same table. Refused for version, size, generation or table, all
+    // images read to one table. [: any_moment, migrated, nothing, one, same_failed]
     ensures any_moment { (D.view disk).honest → IfErr result (λ e. LeavesMigrating (D.view disk) (D.view e.disk)) }
     ensures nothing { (D.view disk).honest → IfErr result (λ e. WritesNothingBut (D.view disk) (D.view e.disk) e.cause) }
     ensures one { (D.view disk).honest → IfErr result (λ e. HoldsOneWhere (D.view e.disk) e.cause) }
