@@ -250,8 +250,7 @@ where
     // only where not.
     ensures ports { OnOk result (vec_len listeners + 2 ≤ desk_count (settings_of hall.issuer)) }
     ensures many { IsErrOf result ServeError.TooManyPorts → desk_count (settings_of hall.issuer) < vec_len listeners + 2 }
-    // claim: An Ok hands the disk half back: the hall's broker, after any number of commits. It shows something served
-    // beside exactly where there was something.
+    // claim: An Ok hands the disk half back: the hall's broker, after any number of commits. [: served]
     ensures served { IfOk result (λ served. HasServed D.view D.fault_count hall.issuer (broker_of served.half)) }
     ensures beside { IfOk result (λ served. is_some served.beside ≡ is_some beside) }
 {

@@ -109,8 +109,8 @@ fn make_move<R: Wait + Eprint, L: Ledger, T: Trace>(
     at: Moment,
 ) -> Witnessed<Tried, L, T>
     // claim: Where the clock told a moment and no move is made, none was due in the hall that it met, or a reason is
-    // there. The pause behind such a moment ends when an event next moves otherwise, after a second at most. [:
-    // nothing; tick; pause_at]
+    // there. The pause after such a moment lasts until an event moves otherwise, a second at most. [: nothing; tick;
+    // pause_at]
     ensures marked { HasMarked (length (map T.mark desk.old.own.items)) (ticked (is_made result.answer) ∷ [])
         (length (map T.mark desk.new.own.items)) }
     ensures nothing { is_made result.answer ≡ false → FindsNothing (hall_in result.before.value.hall) desk.old.told (millis_in at.shown) }

@@ -249,8 +249,6 @@ impl HeaderFilter {
 
     // A byte comes: whether it is read. None is left out but one of the value.
     fn take(&mut self, byte: u8) -> bool
-        // claim: A byte is left out only where the filter is in the value that is not read. In a body or chunk none is.
-        // [HeaderFilter::take_all: body, chunk]
         ensures { IsFalse result → self.old.place ≡ Place.Unread }
     {
         match self.place {
