@@ -29,8 +29,8 @@ impl LookAtEnding {
 pub(crate) struct ToldToEnd {
     look: LookAtEnding,
     // claim: What shows why a front ends is a look that tells it to, one at a hall that stops, with nothing pending and
-    // no slot open, or one, once `Broken` was said, with none open. [: ends; Stopped: stops, nothing, none; Failed:
-    // none]
+    // no slot open, or one, after the hall was said to be broken, with none open. [: ends; Stopped: stops, nothing,
+    // none; Failed: none]
     ghost ends: { look.ends ≡ true },
 }
 

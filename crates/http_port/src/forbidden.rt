@@ -53,7 +53,7 @@ fn is_for_foreign_host(hosts: &Hosts, headers: &HeaderMap) -> bool
 impl Forbidden {
     /// Why a request with these headers is refused. None where it is not.
     pub(crate) fn of(hosts: &Hosts, headers: &HeaderMap) -> Option<Forbidden>
-        // claim: Forbidden is a request with `Origin`, or a `Sec-Fetch-Site` other than `none` and `same-origin`; at a
+        // claim: Forbidden is a request with `Origin`, or a `Sec-Fetch-Site` other than `none` and `same-origin`; on a
         // loopback address also one with a foreign `Host`. [Hosts::is_foreign; Hosts::of: here, elsewhere;
         // Listening::new: listener, hosts]
         ensures { result ≡ meant.forbidden_of hosts.now headers.now }

@@ -128,8 +128,8 @@ pub fn what_a_stop_leaves_follows_the_rules()
 /// A disk that was migrated or copied goes on with all of it: its images recover to a later history, and records stay under
 /// the larger limits of a copy.
 pub fn a_new_disk_goes_on<D: Disk, E: Disk>(old: &D, new: &E)
-    // claim: Where its history is a later one, each image of a migrated or copied disk recovers to one. Limits that
-    // allow as much keep the table.
+    // claim: Where its history is a later one, each image of a migrated or copied disk recovers to one. Wider limits,
+    // with timeout, concurrency and policy the same, keep the table.
     ensures migrated { (migration : Migrates (D.view old.now) (E.view new.now)) (point : ℕ) (history later : List Command) (image : List ℕ)
         → GoesOn migration.settings point history later → migration.table ≡ table_of migration.settings later
         → (E.view new.now).may_leave image → Leaves migration.settings point history image }

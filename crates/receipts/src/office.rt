@@ -168,10 +168,10 @@ impl<L: Ledger, T: Trace> Office<L, T> {
         now: u64,
         words: [u64; 2],
     ) -> Witnessed<Result<(Ticket, u64), HallError>, L, T>
-        // claim: An Ok did by one step just that request or tick to the hall under the lock. Its command alone is
-        // marked, there and at its desk; desks' marks stay their own. Nothing becomes durable or lent. [: steps, done,
-        // counts, both, histories, ticket, kept, no_call; Office::tick: steps, done, answer, both, histories, counted,
-        // kept, no_call]
+        // claim: An Ok did by one step just that request or tick to the hall under the lock. Just its command, if any,
+        // is marked, there and at its desk; desks' marks stay their own. Nothing becomes durable or lent. [: steps,
+        // done, counts, both, histories, ticket, kept, no_call; Office::tick: steps, done, answer, both, histories,
+        // counted, kept, no_call]
         // claim: A request marks at most one command, which it may have by itself. A tick marks that whose number it
         // answers. [: marks, asked; Office::tick: marks]
         // claim: The slot is the desk's next. The desk gets the slots of just the polls answered, and hands them out once.
