@@ -46,7 +46,6 @@ impl<I: Issuer> Hall<I> {
     /// Whether `arrive` can be asked this now: the slot is not open, the environment is there, the text of an answer is
     /// within the settings' limit, and the moment is at most the end of the year 9999.
     pub fn fits(&self, slot: u64, call: &Call, now: u64, words: &[u64; 2]) -> bool
-        // claim: Whether a request may arrive is answered exactly.
         ensures free { IsTrue result → is_slot_open (view_of I.view self.now) slot ≡ false }
         ensures environment { IsTrue result → IsToOneOf self.now.environments call.now }
         ensures fit { IsTrue result → IsFit (settings_in (view_of I.view self.now)) (request slot call.now now words.now) }

@@ -166,23 +166,23 @@ impl<I: Issuer> Hall<I> {
         requires free { is_slot_open (view_of I.view self.old) slot ≡ false }
         requires environment { IsToOneOf self.old.environments call }
         requires fit { IsFit (settings_in (view_of I.view self.old)) (request slot call now words) }
-        // claim: After Ok the definitions' command is issued, one or none; a request may have it by itself. The hall stands
-        // for its run with that call. [: ok, asked; Hall::tick: ok]
+        // claim: After Ok the hall stands for its run with that call, whose command, if any, is issued. A request has
+        // only one that it may have by itself. [: ok, asked; Hall::tick: ok]
         ensures ok { IfOk result (Does (view_of I.view self.old) (view_of I.view self.new) (request slot call now words)) }
         ensures asked { IfOk result (IsAsked (drawn_by words) call) }
-        // claim: Whether a run is known or not, at most one command is issued, a legal one, and told. Nothing becomes
-        // durable, and no disk is called. [Hall::tick]
+        // claim: Even without a run an Ok issues at most one command, legal and told, and makes nothing durable. No
+        // disk is called. [Hall::tick]
         ensures issues { IfOk result (IssuesAtMostOne (I.view self.old.issuer) (I.view self.new.issuer)) }
         ensures kept { OnOk result (IsAsDurable (view_of I.view self.old) (view_of I.view self.new)) }
         ensures no_call { I.is_untouched self.old.issuer self.new.issuer }
-        // claim: A call is refused wherever a check fails, by the first, or for want of memory. Each refusal has its reason
-        // in what the hall keeps, and changes nothing. [: passes, refused, reason, err; Hall::tick]
+        // claim: A call is refused wherever a check fails, by the first, else only for want of memory. The hall has the
+        // reason, and stays the same. [: passes, refused, reason, err; Hall::tick]
         ensures passes { IfOk result (Passes (view_of I.view self.old) (request slot call now words)) }
         ensures refused { IfErr result (Refuses (view_of I.view self.old) (request slot call now words)) }
         ensures reason { IfErr result (KeepsReason (view_of I.view self.old) (request slot call now words)) }
-        // claim: An Ok leaves the slots of just the polls that it answered, in order, to be handed out once. Other calls
-        // keep them. [: answered, kept_answered; Hall::tick; Hall::take_answered: slots, none_left, same; Hall::take,
-        // Hall::forget, Hall::commit, Hall::lend, Hall::settle: kept_answered]
+        // claim: An Ok leaves the slots of just the polls that it answered, in order, to be handed out once. Other
+        // calls keep them. [: answered, kept_answered; Hall::tick; Hall::take_answered: slots, none_left, same;
+        // Hall::take, Hall::forget, Hall::commit, Hall::lend, Hall::settle: kept_answered]
         ensures answered { OnOk result (AnswersPolls (view_of I.view self.old) (request slot call now words) (answered_slots self.new)) }
         ensures kept_answered { OnErr result (answered_slots self.new ≡ answered_slots self.old) }
         ensures err { OnErr result (IsSameHall (view_of I.view self.old) (view_of I.view self.new)) }
@@ -315,11 +315,11 @@ impl<I: Issuer> Hall<I> {
     ///
     /// So it tells also what was computed before two halves were joined, of which one was broken (`kept`).
     pub fn take(&mut self, slot: u64) -> Option<Released>
-        // claim: A reply is told exactly where it is wanted, computed and durable up to its point, byte for byte. In a
-        // broken hall every other wanted slot is told 503.
+        // claim: A reply is told, byte for byte, exactly where it is wanted, computed and durable to its point. A
+        // broken hall tells every other wanted slot 503.
         ensures gives { Gives (view_of I.view self.old) slot result }
         ensures kept { ForEachKept self.old.slots (GivesFor (view_of I.view self.old) slot result) }
-        // claim: It is told to the slot that asked, which is then closed. None changes nothing.
+        // claim: It is told to the slot that asked, which is then closed. Else nothing changes.
         ensures slot { IfSome result (λ released. slot_told released ≡ slot) }
         ensures some { OnSome result (IsDone (view_of I.view self.old) (view_of I.view self.new) (take_slot slot)) }
         ensures none { IfNone result (IsSameHall (view_of I.view self.old) (view_of I.view self.new)) }

@@ -54,8 +54,8 @@ pub fn an_event_runs_in_one_environment()
 /// calls, and what an environment runs runs there by the history. It holds with the facts that an induction needs, at
 /// the opening and after each call.
 pub fn every_run_is_sound()
-    // claim: After every run on a legal history, it is legal, each environment accepted its calls, and what it runs runs by
-    // the history. [: opened, step, kept, sound; what_a_call_does_is_accepted: command, environment]
+    // claim: After every run on a legal history the history is legal, each environment accepted its calls, and what it
+    // runs runs there by the history. [: opened, step, kept, sound; what_a_call_does_is_accepted: command, environment]
     ensures opened { (s : Settings) (wanted : ℕ) (history : List Command) → IsLegal s history → IsKept s (opening wanted history) }
     ensures step { (s : Settings) (past : Past) (call : HallCall) → IsMade s past call → IsKept s (past_after s past call) }
     ensures kept { (s : Settings) (past : Past) (run : List HallCall) → AreMade s past run → IsKept s (after s past run) }
@@ -74,7 +74,7 @@ pub fn what_a_call_does_is_accepted()
 /// the environment that is ready, if one is, runs nothing by the history, as the table asks of it.
 pub fn interrupts()
     // claim: An Interrupt is only for an event that runs by the history and in no environment. Unless the hall stops, a
-    // tick interrupts the first. No call leaves one behind. [: first, tick, no_other, none, then_all_run;
+    // tick interrupts the first. No call makes another such event. [: first, tick, no_other, none, then_all_run;
     // nothing_is_left_behind: step, run]
     ensures first { (s : Settings) (past : Past) (event : Event) → first_unheld s past ≡ Some event → IsUnheld s past event.1 }
     ensures tick { (s : Settings) (past : Past) (now : ℕ) → is_stopping past ≡ false → InterruptsFirst s past now }

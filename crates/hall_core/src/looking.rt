@@ -51,7 +51,8 @@ impl<I: Issuer> Hall<I> {
     /// slots and environments. It changes nothing, and the bytes of payloads are shared and not copied. It is refused by
     /// want of memory alone.
     pub fn look(&self) -> Result<HallStatus, AllocError>
-        // claim: An operator is shown its table, durable number, slots and stop, and each environment by its calls.
+        // claim: An operator is shown a hall's table, durable number, count of open slots, whether it stops, and each
+        // environment by its calls.
         ensures { IfOk result (Shows (view_of I.view self.now)) }
     {
         let table = self.issuer.table().snapshot()?;

@@ -44,8 +44,8 @@ impl<D: Disk> Hall<Broker<D>> {
     /// A hall over a broker, in which nothing has come yet, which tells its replies in this broker's own words, and whose
     /// environments wait for no extension; over a broken broker it is broken. Want of memory hands the broker back.
     pub fn new(alloc: Global, broker: Broker<D>) -> Result<Hall<Broker<D>>, HallFailure<D>>
-        // claim: A new hall stands for the empty run on its broker's history; nothing has come to it. A refusal hands the
-        // broker back. [Hall::in_dialect]
+        // claim: A new hall has the dialect and number of extensions that it is made with, and stands for the empty run
+        // on its broker's history. Nothing has come to it. A refusal hands the broker back. [Hall::in_dialect]
         ensures stands { (history : List Command) → Stands D.view broker history
             → IfOk result (λ hall. StandsFor (view_of (issuer_of D.view) hall) (opening 0 history)) }
         ensures wanted { IfOk result (λ hall. (view_of (issuer_of D.view) hall).wanted ≡ 0) }
@@ -68,8 +68,6 @@ impl<D: Disk> Hall<Broker<D>> {
         dialect: Dialect,
         extensions: u8,
     ) -> Result<Hall<Broker<D>>, HallFailure<D>>
-        // claim: A hall is made in its dialect, for its number of extensions. Splitting and joining keep both. [: wanted,
-        // dialect; Hall::new; Hall::dialect; Hall::split, Hall::join: parts; runs: wait]
         ensures stands { (history : List Command) → Stands D.view broker history
             → IfOk result (λ hall. StandsFor (view_of (issuer_of D.view) hall) (opening extensions history)) }
         ensures wanted { IfOk result (λ hall. (view_of (issuer_of D.view) hall).wanted ≡ extensions) }
@@ -106,18 +104,18 @@ impl<D: Disk> Hall<Broker<D>> {
     /// broker is not available, and every slot whose reply is not wanted is closed. What the disk may hold then is said by
     /// `any_moment`. A broken hall does not call the disk.
     pub fn commit(&mut self) -> Result<Durable, HallError>
-        // claim: A commit keeps the run. After Ok all that was issued is durable. Only a fault of its commit breaks the
-        // hall. [: durable, stands, sound, fault, cause]
+        // claim: A commit keeps the run. After Ok all that was issued is durable. It breaks the hall only where it
+        // tells `Fault`. [: durable, stands, sound, fault, cause]
         ensures durable { IfOk result (λ durable. IsAllDurable (view_of (issuer_of D.view) self.new) durable) }
         ensures stands { ForEachPast (view_of (issuer_of D.view) self.old) (λ past. StandsFor (view_of (issuer_of D.view) self.new) past) }
         ensures sound { OnOk result (is_broken self.new.issuer ≡ is_broken self.old.issuer) }
         ensures fault { is_broken self.old.issuer ≡ false → is_broken self.new.issuer ≡ true → result ≡ Err HallError.Fault }
-        // claim: A crash at any moment leaves a legal stop. [: any_moment; Hall::close]
+        // claim: A crash at any moment of a commit leaves a legal stop. [: any_moment; Hall::close]
         ensures any_moment { LeavesLegalStops D.view self.old.issuer (disk_of self.new.issuer) }
         ensures kept_answered { answered_slots self.new ≡ answered_slots self.old }
 
-        // claim: Whether a run is known or not, only the broker changes, after Ok only in what is durable. Refusals have
-        // reasons. `Broken` comes exactly of a broken hall, and calls no disk.
+        // claim: Even without a run only the broker changes. Refusals have reasons. `Broken` is told exactly of a
+        // broken hall, whose disk is not called.
         ensures parts { HasSameParts (view_of (issuer_of D.view) self.old) (view_of (issuer_of D.view) self.new) }
         ensures ok { IfOk result (λ durable. Commits self.old.issuer self.new.issuer durable) }
         ensures err { IfErr result (IsNotCommitted self.old.issuer self.new.issuer) }

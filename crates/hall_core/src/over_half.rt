@@ -81,7 +81,7 @@ impl<D: Disk> Hall<Broker<D>> {
     /// writes what is lent. It is refused, and handed back: `Broken`, `OutOfMemory`.
     pub fn split(self) -> Result<(Hall<IssueHalf>, DiskHalf<D>), HallSplitFailure<Hall<Broker<D>>>>
         requires { pending_of self.issuer ≡ [] }
-        // claim: A hall that is split goes on with its run, over the issue half. A refusal hands it back.
+        // claim: A split hall goes on with its run over the issue half. A refusal hands it back.
         ensures ok { IfOk result (λ halves. Splits self.issuer halves.0.issuer halves.1) }
         ensures parts { IfOk result (λ halves. HasSameParts (view_of (issuer_of D.view) self) (view_of half_view halves.0)) }
         ensures answered { IfOk result (λ halves. answered_slots halves.0 ≡ answered_slots self) }

@@ -13,8 +13,7 @@ impl<I: Issuer> Hall<I> {
     /// How many slots are open: a request came with them, and their reply was not taken. A slot whose reply is not wanted is
     /// open until that is computed, or until the hall breaks.
     pub fn open_slots(&self) -> usize
-        // claim: Which slots are open, and how many, is that of the definitions, for a whole and a broken hall.
-        // [Hall::is_open]
+        // claim: Which slots are open, and how many, is as defined, of a broken hall too. [Hall::is_open]
         ensures by_parts { result ≡ open_slot_count (view_of I.view self.now) }
         ensures by_past { ForEachPast (view_of I.view self.now) (λ past. result ≡ length (open_slots (I.view self.now.issuer).broken past)) }
     {

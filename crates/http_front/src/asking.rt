@@ -36,8 +36,6 @@ pub(crate) fn ask<D: Disk, L: Ledger, T: Trace, R: Wait>(
     desk: &mut Desk<L, T>,
     half: &mut DiskHalf<D>,
 ) -> (Result<Durable, NotCommitted>, Committed<L, T>)
-    // claim: A commit is the office's: its answer, its steps, and what its desk is told. `Fault` and `Broken` end a hall. [:
-    // told, err, refused, ok, why, steps; NotCommitted::is_last]
     ensures told { IfOk result.0 (IsToldMore desk.old.told desk.new.told) }
     ensures err { OnErr result.0 (desk.new.told ≡ desk.old.told) }
     ensures refused { IfErr result.0 (λ refused. IsCommitRefusal desk.old.told refused.why) }

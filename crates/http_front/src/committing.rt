@@ -173,13 +173,13 @@ impl<L: Ledger, T: Trace, D: Disk + Drop> Committer<L, T, D> {
         front: &FrontState<L, T>,
         gate: &G,
     ) -> Committer<L, T, D>
-        // claim: A committer did at each turn what its gate said. What was committed was told to its desk, and where it was
-        // raised its seat has seen no less.
+        // claim: A committer did at each turn what its gate said. Its desk was told no less than it committed, and its
+        // seat saw no less than it raised the board to.
         ensures learned { IsRun HasLearned (G.says gate.now)
             (known self.desk.told (seen_by self.seated))
             (known result.desk.told (seen_by result.seated)) }
-        // claim: It hands its disk half back, which goes on from each history that it stood for. At each moment a crash
-        // leaves a prefix of that and what it took, with all that was durable before. [: served; ask]
+        // claim: Its disk half goes on from each history that it stood for. At each moment a crash leaves a prefix of
+        // that and what it took, with all that was durable at first. [: served; ask]
         ensures served { HasServed D.view D.fault_count (broker_of self.half) (broker_of result.half) }
     {
         let mut at = AtFront {

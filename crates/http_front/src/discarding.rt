@@ -121,7 +121,7 @@ fn next_unwanted(
 struct Collected<R: Wait, L: Ledger, T: Trace> {
     id: [u8; 16],
     waiting: Waiting<R, L, T>,
-    // claim: A record is collected by one DELETE, as a caller sends it: just that was done to the hall before.
+    // claim: A record is collected by one DELETE: just that was done to the hall under the lock.
     ghost done: { ∥ IsDoneFor (Delete (Some id)) (hall_in waiting.seen.before.value.hall) (hall_in waiting.seen.after.value.hall)
         waiting.slot ∥₁ },
 }
@@ -215,8 +215,7 @@ impl<R: Wait + Clock + Drop + Copy, L: Ledger, T: Trace> Collector<R, L, T> {
 
     // Collects what a view shows that is discarded.
     fn collect(&self, view: &View) -> Result<Vec<Collected<R, L, T>>, ArrivalError>
-        // claim: At a turn, where none is refused, just the first 64 records that a view shows of sides that are discarded
-        // are collected, each once.
+        // claim: An Ok has just the first 64 records that the view shows on discarded sides, each collected so.
         ensures { IfOk result (λ all. map (λ collected. collected.id) all.items
             ≡ take 64 (unwanted_ids self.now.front.value.discarding.discard view.now.hall.table.rows)) }
     {

@@ -28,9 +28,9 @@ impl LookAtEnding {
 #[derive(Drop)]
 pub(crate) struct ToldToEnd {
     look: LookAtEnding,
-    // claim: A loop that its front ends has what shows why: it was told to, or one look at a stopped hall with nothing
-    // pending and no open slot, or at one said to be broken with none open. [: ends; Stopped: stops, nothing, none; Failed:
-    // none]
+    // claim: What shows why a front ends is a look that tells it to, one at a hall that stops, with nothing pending and
+    // no slot open, or one, after the hall was said to be broken, with none open. [: ends; Stopped: stops, nothing,
+    // none; Failed: none]
     ghost ends: { look.ends ≡ true },
 }
 

@@ -89,8 +89,6 @@ impl<L: Ledger, T: Trace> FrontState<L, T> {
         settings: Settings,
         discard: Discard,
     ) -> Result<FrontState<L, T>, AllocError>
-        // claim: A front has the office, settings and dialect that it was given: settings and dialect are its hall's. [: office,
-        // settings, dialect; open: dialect, settings]
         ensures office { IfOk result (λ front. front.office ≡ office) }
         ensures settings { IfOk result (λ front. front.settings ≡ settings) }
         ensures dialect { IfOk result (λ front. front.dialect ≡ dialect) }
@@ -126,8 +124,6 @@ impl<L: Ledger, T: Trace> FrontState<L, T> {
         port: &Port<L, T>,
         call: Call,
     ) -> Result<Arrived<L, T>, ArrivalError>
-        // claim: A request gets a slot of some desk, and is refused as an office refuses one, or since clock or random
-        // source failed.
         ensures slot { IfOk result (λ arrived. IsSlot arrived.slot) }
         ensures refused { IfErr result IsArrivalError }
 

@@ -231,10 +231,10 @@ impl<R: Wait + Clock + RandomSource + Eprint + Drop + Copy, L: Ledger, T: Trace>
 
     type Future = Replying<R, L, T>;
 
-    // claim: A request is the call that its head and body are, and its future waits for the slot with which just that was done.
-    // Or it is refused as cut off, by the first check that fails, or as 503. [: answers; FrontState::arrive: done;
-    // PortApplication::arrive: done; PortApplication::reply_to: call; PortApplication::read: call; PortApplication::refuse;
-    // body_of: value, err]
+    // claim: A request is the call that its head and body say, and its future waits for the slot with which just that
+    // was done. Or it is refused as cut off, by the first check that fails, or as 503. [: answers; FrontState::arrive:
+    // done; PortApplication::arrive: done; PortApplication::reply_to: call; PortApplication::read: call;
+    // PortApplication::refuse; body_of: value, err]
     ghost answers = { λ application head read answered.
         IfOk answered (λ replying. (call : _)
         × IsCallFor application.front.value.dialect application.front.value.settings application.number head read call

@@ -75,8 +75,8 @@ impl<L: Ledger, T: Trace> Telling<L, T> {
 impl<L: Ledger, T: Trace> IntoResponse for Telling<L, T> {
     ghost use Rattle.http_front.specs.Telling.{TellsReply};
 
-    // claim: A reply is told with its status, headers and bytes, as the hall gave it to the slot that asked, and at most with
-    // its request's id more; or not at all. [: tells; response_of; with_id: told; Replying: gives]
+    // claim: A reply is told with its status, headers and bytes, as the hall gave it to the slot that asked, and at
+    // most with its request's id more; or there is no response. [: tells; response_of; with_id: told; Replying: gives]
     ghost tells = { λ telling. TellsReply telling.id telling.released.answer.reply };
 
     fn into_response(self, alloc: Global) -> Option<HttpResponse> {
@@ -116,7 +116,7 @@ fn refusal_of(
 /// A refusal. Where memory is wanting, 503 alone.
 #[tactic(auto, using(crate::proofs::Refusing::refuses))]
 pub(crate) fn refuse(alloc: Global, settings: &Settings, manner: Manner, why: Refusal) -> Refused
-    // claim: A refusal is told with its status, headers and bytes, at most with its request's id more, or as 503.
+    // claim: A refusal is told with its status, headers and bytes, at most with its request's id more, or as 503 alone.
     ensures { (result ≡ status_alone 503)
         ⊎ TellsReply manner.id (refusing manner.dialect settings.now manner.audience why) result }
 {

@@ -246,12 +246,11 @@ where
     requires name { blank.name ≡ L.name }
     requires parts { blank.parts ≡ L.parts }
     requires count { L.parts ≡ desk_count (settings_of hall.issuer) }
-    // claim: A front is served only where there is a desk for each listener, beside two, and refused for its ports only
-    // where not.
+    // claim: A front is served only where desks are at least two more than listeners, and is refused as `TooManyPorts`
+    // only where not.
     ensures ports { OnOk result (vec_len listeners + 2 ≤ desk_count (settings_of hall.issuer)) }
     ensures many { IsErrOf result ServeError.TooManyPorts → desk_count (settings_of hall.issuer) < vec_len listeners + 2 }
-    // claim: It then hands the disk half back: its hall's broker, after any number of commits. What was beside it was
-    // served.
+    // claim: An Ok hands the disk half back: the hall's broker, after any number of commits. [: served]
     ensures served { IfOk result (λ served. HasServed D.view D.fault_count hall.issuer (broker_of served.half)) }
     ensures beside { IfOk result (λ served. is_some served.beside ≡ is_some beside) }
 {

@@ -108,8 +108,9 @@ fn make_move<R: Wait + Eprint, L: Ledger, T: Trace>(
     desk: &mut Desk<L, T>,
     at: Moment,
 ) -> Witnessed<Tried, L, T>
-    // claim: Where it makes no move though the clock told a moment, none was due in the hall that it met, or there is
-    // a reason there. Where none was due, the pause is until the next moment, a second at most. [: nothing; tick; pause_at]
+    // claim: Where the clock told a moment and no move is made, none was due in the hall that it met, or a reason is
+    // there. The pause after such a moment lasts until an event moves otherwise, a second at most. [: nothing; tick;
+    // pause_at]
     ensures marked { HasMarked (length (map T.mark desk.old.own.items)) (ticked (is_made result.answer) ∷ [])
         (length (map T.mark desk.new.own.items)) }
     ensures nothing { is_made result.answer ≡ false → FindsNothing (hall_in result.before.value.hall) desk.old.told (millis_in at.shown) }
@@ -201,7 +202,7 @@ pub fn tick_all<R: Wait + Clock + Eprint, L: Ledger, T: Trace, G: Gate>(
     desk: Desk<L, T>,
     gate: &G,
 ) -> Desk<L, T>
-    // claim: A ticker did at each turn what its gate said. Its desk has a mark more for each move, and no other.
+    // claim: A ticker did at each turn what its gate said. Its desk has as many marks more as it made moves.
     // [make_move, tick: marked]
     ensures { IsRun HasMarked (G.says gate.now) (length (map T.mark desk.own.items)) (length (map T.mark result.own.items)) }
 {

@@ -26,7 +26,7 @@ pub trait IntoResponse: Drop {
 
     /// The response that tells it. None where memory is wanting.
     fn into_response(self, alloc: Global) -> Option<HttpResponse>
-        // claim: What is told is a message that tells it, or 503 alone. [: told; tell]
+        // claim: The response to what is told tells it, or is 503 alone. [: told; tell]
         ensures told { IfSome result (λ response. tells self (message_of response)) };
 }
 

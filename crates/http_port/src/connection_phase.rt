@@ -29,9 +29,9 @@ pub(crate) enum ConnectionPhase {
 impl ConnectionPhase {
     /// How long it may take. None where there is no limit: that of a reply alone.
     pub(crate) fn limit(self, limits: &HttpLimits) -> Option<Duration>
-        // claim: The limits are by default 30 seconds for a head and a body, 120 idle, 1100 connections; an awaited reply
-        // has none. [: idle, first, head, body, late, reply, rest; Timer::deadline_of; Timer::poll: limited;
-        // HttpLimits::default: head, body, idle, connections]
+        // claim: The limits are by default 30 seconds each for a head and a body, 120 idle, 1100 connections; an
+        // awaited reply has none. [: idle, first, head, body, late, reply, rest; Timer::deadline_of; Timer::poll:
+        // limited; HttpLimits::default: head, body, idle, connections]
         ensures idle { self ≡ ConnectionPhase.Idle → result ≡ Some limits.now.idle }
         ensures first { self ≡ ConnectionPhase.First → result ≡ Some limits.now.head }
         ensures head { self ≡ ConnectionPhase.Head → result ≡ Some limits.now.head }

@@ -44,8 +44,6 @@ impl Draft {
 
     /// One more header, behind the others. None where it is none, or memory is wanting.
     pub fn add(&mut self, name: &str, value: &[u8]) -> Option<()>
-        // claim: A response is made with its status, its headers in their order, and its body. [: added; Draft::new;
-        // Draft::with_body]
         ensures added { OnSome result (self.new ≡ with_more self.old ((name.now, value.now) ∷ [])) }
     {
         let Ok(name) = HeaderName::from_bytes(self.alloc, name.as_bytes()) else {

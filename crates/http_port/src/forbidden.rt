@@ -53,8 +53,9 @@ fn is_for_foreign_host(hosts: &Hosts, headers: &HeaderMap) -> bool
 impl Forbidden {
     /// Why a request with these headers is refused. None where it is not.
     pub(crate) fn of(hosts: &Hosts, headers: &HeaderMap) -> Option<Forbidden>
-        // claim: Forbidden is what a browser says it sends for a web page, and, by hosts of a loopback address, a foreign
-        // `Host`. [Hosts::is_foreign; Hosts::of: here, elsewhere; Listening::new: listener, hosts]
+        // claim: Forbidden is a request with `Origin`, or a `Sec-Fetch-Site` other than `none` and `same-origin`; on a
+        // loopback address also one with a foreign `Host`. [Hosts::is_foreign; Hosts::of: here, elsewhere;
+        // Listening::new: listener, hosts]
         ensures { result ≡ meant.forbidden_of hosts.now headers.now }
     {
         if is_from_a_page(headers) {

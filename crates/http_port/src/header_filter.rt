@@ -249,8 +249,6 @@ impl HeaderFilter {
 
     // A byte comes: whether it is read. None is left out but one of the value.
     fn take(&mut self, byte: u8) -> bool
-        // claim: No byte is left out but of the one value that is not read, and of a body or chunk none. [HeaderFilter::take_all:
-        // body, chunk]
         ensures { IsFalse result → self.old.place ≡ Place.Unread }
     {
         match self.place {

@@ -56,8 +56,8 @@ impl<A: Application, I: Drop> Serving<A, I> {
     // A body was read, or was not. From now on its connection waits for the reply.
     fn answer(&mut self, body: ReadBody) -> Result<A::Future, Refused>
         ensures value { IfOk result A.Future.can_poll }
-        // claim: The application is asked with the head of the request and the body that was read of it, is gone then, and
-        // what it answers is answered. [: asked, once; Application::answer: answered]
+        // claim: The application is asked once at most, with the head and what was read of the body, and its answer is
+        // given, or 503. [: asked, once; Application::answer: answered]
         ensures asked { IsAsked A.answers (option_map arc_value self.old.application) self.old.head body result }
         ensures once { self.new.application ≡ None }
         ensures same { self.new.forbidden ≡ self.old.forbidden }
@@ -130,7 +130,6 @@ impl<A: Application, I: Drop> Serving<A, I> {
         cx: &mut Context<'_>,
     ) -> Poll<Result<HttpResponse, Infallible>>
         requires { A.Future.can_poll reply }
-        // claim: A reply that waited is sent as what it gave tells it, or as 503.
         ensures given { IfReady result (λ sent. IfOk sent (Sends A.Future.gives A.Response.tells (λ answered. answered ≡ Ok reply))) }
         ensures waits { OnPending result (IsSomeAnd self.new.reply (λ later.
             A.Future.can_poll later × ((it : _) → A.Future.gives later it → A.Future.gives reply it))) }
@@ -151,12 +150,10 @@ impl<A: Application, I: Drop> Serving<A, I> {
 impl<A: Application, I: Drop> Future for Serving<A, I> {
     type Output = Result<HttpResponse, Infallible>;
 
-    // claim: A future is polled only where it may be. [: can_poll; ConnectionFuture: can_poll; Connections: yields;
-    // Application::answer]
     ghost can_poll = { λ s. IfSome s.reply A.Future.can_poll };
 
-    // claim: What is sent for a request is all that an answer to its head and its body tells, and at most that its connection
-    // ends. [: gives; Requests: calls]
+    // claim: What is sent for a request is all that an answer to its head and its body tells, and at most `Connection:
+    // close` more. [: gives; Requests: calls]
     ghost gives = { λ s sent. IfOk sent (Sends A.Future.gives A.Response.tells (Answers A.answers s.forbidden s.reply
         (option_map arc_value s.application) s.head (Reads s.reading))) };
 

@@ -6,7 +6,6 @@ use http::request::Parts;
 
 /// The path and the query of a request, as its line has them.
 pub fn target_of(head: &Parts) -> &str
-    // claim: The target of a request is the path and query in its head.
     ensures { result.now ≡ target_in head.now }
 {
     match head.uri.path_and_query() {

@@ -31,7 +31,7 @@ where
         + Send
         + 'static,
     W: Write,
-    // claim: The program's status is 0 to 3, where its printing does not fail.
+    // claim: A status, where one is answered, is 0 to 3.
     ensures { IfOk result (λ status. status ≤ 3) }
 {
     match read_task(rt.alloc(), words) {

@@ -91,8 +91,8 @@ fn interrupt_attempts<R: Clock + Wait, D: Disk>(
 
 // Issues an Interrupt for each attempt that the last stop cut off, and makes that durable: nothing runs then.
 fn resume<R: Clock + Wait, D: Disk>(rt: &R, broker: &mut Broker<D>) -> Result<(), ServingError>
-    // claim: After Ok nothing runs, and all is durable. What was issued is an Interrupt for each attempt
-    // that the last stop cut off. [: durable, rest; interrupt_attempts: rest]
+    // claim: After Ok nothing runs, and all is durable. Interrupts alone were issued. [: durable, rest;
+    // interrupt_attempts: rest]
     ensures durable { OnOk result (pending_of broker.new ≡ []) }
     ensures rest { ForEachHistory D.view broker.old (λ history. OnOk result (ComesToRest D.view history broker.new)) }
 {
@@ -218,8 +218,8 @@ fn hall_at_rest<R, D>(
 where
     R: Clock + Wait + Eprint + AllocGlobal,
     D: Disk + Drop,
-    // claim: The hall that is served stands for the history with those interrupts, in its dialect and for its extensions.
-    // [: rest, dialect]
+    // claim: An Ok is a hall that stands for the history with such Interrupts, in the dialect and for the extensions
+    // asked for. [: rest, dialect]
     ensures nothing { IfOk result (λ hall. pending_of hall.issuer ≡ []) }
     ensures fresh { IfOk result (λ hall. IsFresh (settings_of hall.issuer) hall) }
     ensures dialect { IfOk result (λ hall. (view_of (issuer_of D.view) hall).dialect ≡ at.now.dialect) }

@@ -89,7 +89,6 @@ impl<L: Ledger, T: Trace> AdminReader<L, T> {
 
     /// What is to be seen of the office now, as `Office::look` says. It changes nothing, and is refused only for want of memory.
     pub fn look<R: Wait>(&self, rt: &R) -> Witnessed<Result<TicketedView, AllocError>, L, T>
-        // claim: What a reader sees is what the office shows there, unreleased. It changes nothing.
         ensures shows { IfOk result.answer (λ view.
             IsViewOf (hall_in result.before.value.hall) (map T.mark result.before.value.marks.all.items) view.unreleased) }
         ensures same { result.after.value ≡ result.before.value }

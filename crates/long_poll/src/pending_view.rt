@@ -120,8 +120,8 @@ impl<R: Wait + Drop, L: Ledger, T: Trace> Future for PendingView<R, L, T> {
 
     ghost needs = { λ pending source. source ≡ source_of pending.reader.value.bell.value };
 
-    // claim: The future of it gives just what was unreleased, with what shows that a board showed all of it to be durable, or
-    // the word that the hall broke before. [: gives]
+    // claim: The future gives just what was unreleased, with what shows that a board showed all of it durable; or
+    // `HallBroke`, or that it was given before. [: gives]
     ghost gives = { λ pending told. IsOf (unreleased_in pending.view) told };
 
     fn poll(&mut self, cx: &mut Context<'_>) -> Poll<Result<DurableView, ViewError>> {

@@ -119,14 +119,14 @@ impl<L: Ledger, T: Trace> Port<L, T> {
         now: u64,
         words: [u64; 2],
     ) -> Result<Arrived<L, T>, Witnessed<HallError, L, T>>
-        // claim: A request at a port gets a slot of some desk, and is refused as an office refuses it. So is a tick. [:
-        // slot, refused; Port::tick: refused]
+        // claim: A request at a port gets a slot of some desk, or is refused as an office refuses it. A tick is refused
+        // so too. [: slot, refused; Port::tick: refused]
         ensures slot { IfOk result (λ arrived. IsSlot arrived.slot) }
         ensures refused { IfErr result (λ refused. IsRequestRefusal refused.answer) }
 
-        // claim: Just that call was done to the hall before, with the slot of what arrived, or has its reason there; so of a
-        // take, a point, a forgetting. [: done, reason; Port::tick: done, answer, reason; Port::take; Port::point;
-        // Port::forget]
+        // claim: An Ok did just that request, with its slot, to the hall under the lock; a refusal has its reason
+        // there. So of a tick. Takes, points and forgettings are an office's. [: done, reason; Port::tick: done,
+        // answer, reason; Port::take; Port::point; Port::forget]
         ensures done { IfOk result (λ arrived.
             IsDone (hall_in arrived.seen.before.value.hall) (hall_in arrived.seen.after.value.hall) (request arrived.slot call now words)) }
         ensures issued { IfOk result (λ arrived.

@@ -62,8 +62,8 @@ impl Waiters {
         number: u64,
         cx: &mut Context<'_>,
     ) -> Registered
-        // claim: Who registers for a number, and a parked poll that was answered, waits for it, not rung, or is woken. [:
-        // under, waits; Waiters::answer: gone, goes_on]
+        // claim: Who registers for a number is polled again, or waits for it, and it was not rung. So a parked poll,
+        // once answered, is woken or waits. [: under, waits; Waiters::answer: gone, goes_on]
         ensures under { IsUnder result slot number }
         ensures armed { IsArmed cx.new }
         ensures heard { Hears cx.new source.now.id }

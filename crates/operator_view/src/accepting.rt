@@ -42,7 +42,7 @@ pub fn events_page(
     limit: usize,
 ) -> Result<Page, PageError>
     // claim: A page has the first events asked for behind the named one, up to its limit, and names its last where more
-    // come. It is refused so exactly where the named one is not held.
+    // come. `After` is told exactly where the named one is not held.
     ensures page { IfOk result (λ page. IfSome (start_behind (option_copied after.entry) rows.now) (λ start. IsFirst rows.now (event_places which start rows.now) limit page)) }
     ensures after { IsErrOf result PageError.After ↔ IsNone (start_behind (option_copied after.entry) rows.now) }
 {

@@ -36,7 +36,7 @@ fn count_ended(rows: &[EventRow], outcome: Outcome) -> usize
 
 /// How many events stand where. It takes no memory.
 pub fn census(rows: &[EventRow]) -> Census
-    // claim: A census counts how many of the rows stand where.
+    // claim: A census counts the rows by where they stand.
     ensures { IsCensus rows.now result }
 {
     Census {

@@ -64,7 +64,8 @@ pub fn records_page(
     after: Option<&[u8; 16]>,
     limit: usize,
 ) -> Result<Page, PageError>
-    // claim: The same of a side's records, in the order of ending, behind one of them.
+    // claim: A page of records has the first of a side behind the named one, in the order of ending, up to its limit,
+    // and names its last where more come. `After` is told exactly where the named one is not held, or not ended there.
     ensures page { IfOk result (λ page. IfSome (number_behind side (option_copied after.entry) rows.now) (λ behind. IsFirstEnded rows.now (record_places side behind rows.now) limit page)) }
     ensures after { IsErrOf result PageError.After ↔ IsNone (number_behind side (option_copied after.entry) rows.now) }
 {

@@ -19,8 +19,8 @@ ghost use Rattle.operator_view.specs.Examples.{event_row, rows, numbers, running
 
 /// Known numbers.
 pub fn numbers()
-    // claim: The prover computes worked numbers, places and texts, and verdicts at both sides of each bound. [: census; events:
-    // behind; records: behind; texts: page; verdicts: quiet; memories: kept]
+    // claim: The prover computes worked numbers, places, texts and verdicts. [: census; events: behind; records:
+    // behind; texts: page; verdicts: quiet; memories: kept]
     ensures census { IsCensus rows numbers }
     ensures waiting { oldest_waiting rows ≡ Some 3000 }
     ensures ends { ends rows ≡ 6500 ∷ 5500 ∷ 7000 ∷ [] }

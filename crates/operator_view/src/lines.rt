@@ -68,7 +68,8 @@ pub fn record_lines(
     settings: &Settings,
     most: usize,
 ) -> Result<(Vec<u8>, Option<[u8; 16]>), AllocError>
-    // claim: Records are told whole, a line each, as many as fit and at least one. Where more come, the last is named.
+    // claim: Of a page as many records are told as fit, at least the first, a line each, with spaces for line breaks.
+    // Where more come, the last is named.
     ensures { IfOk result (λ told. Tells settings.now rows.now page.now most told.0.items told.1) }
 {
     let places = page.places.as_slice();

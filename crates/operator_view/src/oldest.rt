@@ -7,8 +7,8 @@ use invoke_records::{EventRow, Standing};
 
 /// When the first event that waits, for its first attempt or for another, was accepted. Rows stand in the order of acceptance.
 pub fn oldest_waiting(rows: &[EventRow]) -> Option<u64>
-    // claim: The oldest event that waits is the first row that does. The oldest record is of the row that ended first.
-    // [oldest_record: none, one, least]
+    // claim: The oldest wait is told by the acceptance of the first row that waits, the oldest record by the least
+    // moment at which a row ended. [oldest_record: none, one, least]
     ensures { result ≡ oldest_waiting rows.now }
 {
     rows.iter()

@@ -197,7 +197,7 @@ fn records_not_collected(sight: &Sight) -> Option<Problem>
 /// What is wrong with a broker that is seen so, in the order in which it is told. It takes no memory.
 #[tactic(auto, unfolding(crate::specs::Verdict::problems))]
 pub fn problems(sight: &Sight) -> [Option<Problem>; 9]
-    // claim: What is wrong with a broker is what the definitions find, and nothing else.
+    // claim: What is told to be wrong is just what the definitions find in what was seen.
     ensures { result ≡ problems sight.now }
 {
     [

@@ -41,7 +41,7 @@ impl Moment {
 
     /// In milliseconds since 1970. A clock that shows a year after 9999 counts as its end.
     pub fn millis(self) -> u64
-        // claim: A moment is what the clock showed, in milliseconds, up to the year 9999. [Moment::now]
+        // claim: A moment in milliseconds is its time rounded down, to the end of the year 9999 at most.
         ensures is { result ≡ millis_in self.shown }
         ensures few { result ≤ 253402300799999 }
     {

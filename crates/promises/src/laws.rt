@@ -27,9 +27,10 @@ use sector_disk::Disk;
 /// What was answered 202 is kept: the event is in the table of each later history, with the payload that came with the
 /// request, until a Collect of it. A stop leaves a later history, and so does each command.
 pub fn what_was_answered_202_is_kept()
-    // claim: A 202 of an invocation says that its event was accepted, durably. Each later history's table has the event with its
-    // payload, until its Collect. [: answered, kept, stopped; calls_and_stops_go_on: at_first, issued, stopped;
-    // a_202_without_a_body_accepts; a_202_that_says_so_accepts; what_is_given_was_told]
+    // claim: A 202 of an invocation tells of an acceptance that is durable. A later history begins with the commands up
+    // to it, and its table has the event with its payload, until its Collect. [: answered, kept, stopped;
+    // calls_and_stops_go_on: at_first, issued, stopped; a_202_without_a_body_accepts; a_202_that_says_so_accepts;
+    // what_is_given_was_told]
     ensures answered { (s : Settings) (t : Telling s) (id : List ℕ) → (t.told ≡ accepted id) ⊎ (t.told ≡ accepted_async id)
         → (payload : List ℕ) × WasAnswered202 s t id payload }
     ensures kept { (s now : Settings) (t : Telling s) (id payload : List ℕ) (later : List Command) → WasAnswered202 s t id payload
@@ -63,8 +64,8 @@ pub fn calls_and_stops_go_on()
 
 /// The disk of a broker keeps what was answered 202, wherever it stops: each image recovers to the table of a later history.
 pub fn one_disk_keeps_it<D: Disk>(broker: &Broker<D>)
-    // claim: Each image of an honest disk keeps it, a broker's or a disk half's. [: leaves, keeps; the_halves_keep_it: leaves,
-    // keeps]
+    // claim: Where a broker stands for a later history with the acceptance durable, each image of its disk recovers to
+    // one, which keeps the event. So with halves. [: leaves, keeps; the_halves_keep_it: leaves, keeps]
     ensures leaves { (point : ℕ) (history later : List Command) (image : List ℕ) → GoesOn (settings_of broker.now) point history later
         → point ≤ durable_of broker.now → Stands D.view broker.now later → (D.view (disk_of broker.now)).honest
         → (D.view (disk_of broker.now)).may_leave image → Leaves (settings_of broker.now) point history image }
@@ -94,8 +95,8 @@ pub fn the_halves_keep_it<D: Disk>(issue: &IssueHalf, disk: &DiskHalf<D>)
 
 /// A record that was shown is that of the history, durable, and stays the record of its event until a Collect of it.
 pub fn a_record_that_was_shown_is_shown_again()
-    // claim: A record that was told is the history's oldest on its side, durable, and stays so in each later one, until its
-    // Collect. [: shown, again; it_is_shown_to_who_asks_for_the_oldest]
+    // claim: A record that was told was its side's oldest by durable commands. It stays so in each later history, until
+    // its Collect. [: shown, again; it_is_shown_to_who_asks_for_the_oldest]
     ensures shown { (s : Settings) (t : Telling s) (e : Ending) → t.told ≡ record_of e → (side : Side) × WasShown s t side e }
     ensures again { (s : Settings) (t : Telling s) (side : Side) (e : Ending) (later : List Command) → WasShown s t side e
         → GoesOn s t.point (issued s t) later → IsShown s t.point later e }
@@ -117,7 +118,8 @@ pub fn no_stop_takes_away_what_was_told()
 /// What a stop leaves follows the written rules: of each event where it stands, its acceptance, attempts and judge, its
 /// record, and which event moves next, are those of the history that was left.
 pub fn what_a_stop_leaves_follows_the_rules()
-    // claim: A later history's table follows the rules: standings, attempts, policies, records, the next move.
+    // claim: The table of a legal history, such as a stop leaves, follows the rules: standings, acceptances, attempts,
+    // policies, records, the next move.
     ensures rules { (s : Settings) (history : List Command) → IsLegal s history → FollowsRules s history (table_of s history) }
     ensures stopped { (s : Settings) (point : ℕ) (history : List Command) (image : List ℕ) (stop : Leaves s point history image)
         → FollowsRules s stop.after (table_of s stop.after) }
@@ -126,7 +128,8 @@ pub fn what_a_stop_leaves_follows_the_rules()
 /// A disk that was migrated or copied goes on with all of it: its images recover to a later history, and records stay under
 /// the larger limits of a copy.
 pub fn a_new_disk_goes_on<D: Disk, E: Disk>(old: &D, new: &E)
-    // claim: Each image of a migrated or copied disk recovers to a later history, with the same commands up to the point.
+    // claim: Where its history is a later one, each image of a migrated or copied disk recovers to one. Wider limits,
+    // with timeout, concurrency and policy the same, keep the table.
     ensures migrated { (migration : Migrates (D.view old.now) (E.view new.now)) (point : ℕ) (history later : List Command) (image : List ℕ)
         → GoesOn migration.settings point history later → migration.table ≡ table_of migration.settings later
         → (E.view new.now).may_leave image → Leaves migration.settings point history image }

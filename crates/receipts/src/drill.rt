@@ -55,7 +55,7 @@ impl<L: Ledger, T: Trace> Unlocked<L, T> {
     /// just opened has no marks, and the desk at each place has the number of the place.
     pub fn drill(&mut self, desks: &mut Vec<Desk<L, T>>, steps: Vec<DeskStep>)
         requires { AreHistories (λ d. d.number) (λ d. map T.mark d.own.items) (map T.mark self.old.locked.marks.all.items) desks.old.items }
-        // claim: Desks that ask in any order each keep their list.
+        // claim: In whatever order desks ask, the marks of each stay its own among all.
         ensures { AreHistories (λ d. d.number) (λ d. map T.mark d.own.items) (map T.mark self.new.locked.marks.all.items) desks.new.items }
     {
         for step in steps {

@@ -48,9 +48,9 @@ pub(crate) struct Locked<L: Ledger, T: Trace> {
     pub(crate) slots: u64,
     /// How many desks there are.
     pub(crate) desk_count: DeskCount<L>,
-    // claim: Whenever the lock is free, the marks are numbered without a gap up to all that was issued, as many as the
-    // desks have. By them the opening's table leads to the table, bytes and environments aside. [: numbered, reached,
-    // followed; Marks: counted; Desk: one, counted]
+    // claim: Whenever the lock is free, the marks are numbered without a gap up to all that was issued, and counted by
+    // a ledger, as each desk's are. By them the opening's table leads to the table, bytes and environments aside. [:
+    // numbered, reached, followed; Marks: counted; Desk: one, counted]
     ghost numbered: { AreNumbered (T.Opening.table opening).number (map T.mark marks.all.items) },
     ghost reached: { issued_in (issuer_in hall) ≡ (T.Opening.table opening).number + length (map T.mark marks.all.items) },
     ghost followed: { Follows (issuer_in hall).settings (T.Opening.table opening) (map T.mark marks.all.items)
@@ -229,8 +229,6 @@ impl<L: Ledger, T: Trace> Locked<L, T> {
 
     /// What is there to write, which is then out; where nothing is, the desk is told how much is durable.
     pub(crate) fn lend(&mut self, desk: &mut Desk<L, T>) -> Result<Loan, HallError>
-        // claim: An Ok lends all that is pending, a refusal nothing. A settlement makes just the batch that is out durable,
-        // or says why not. [: lends, refused, kept, same; Locked::settle: settles, stands, parts, refused]
         ensures { LendsTo self.old self.new desk.old.steps desk.new.steps desk.old desk.new result }
     {
         desk.steps.count();

@@ -40,9 +40,10 @@ impl<L: Ledger, T: Trace> Office<L, T> {
 
     /// How many slots are open.
     pub fn open_slots<R: Wait>(&self, rt: &R) -> Witnessed<usize, L, T>
-        // claim: Open slots, pending commands, a reply's point, the next moment, and whether the hall is broken or stops are
-        // those of the hall before, which stays so. [Office::pending: is, few, same; Office::is_broken: is, same;
-        // Office::rest: stops, pending, open, same; Office::point: by_past, by_events, same; Office::next_moment: is, same]
+        // claim: Open slots, pending commands, a reply's point, the next moment, and whether the hall is broken or
+        // stops are those of the hall under the lock, which stays so. [Office::pending: is, few, same;
+        // Office::is_broken: is, same; Office::rest: stops, pending, open, same; Office::point: by_past, by_events,
+        // same; Office::next_moment: is, same]
         ensures by_parts { result.answer ≡ open_slot_count (hall_in result.before.value.hall) }
         ensures by_past { ForEachPast (hall_in result.before.value.hall)
             (λ past. result.answer ≡ length (open_slots (issuer_in result.before.value.hall).broken past)) }
@@ -55,8 +56,8 @@ impl<L: Ledger, T: Trace> Office<L, T> {
     /// What an operator is shown of the office, unreleased until all of it is durable, with a ticket of that. It changes nothing,
     /// copies no byte of a payload, and is refused only for want of memory.
     pub fn look<R: Wait>(&self, rt: &R) -> Witnessed<Result<(Unreleased, Ticket), AllocError>, L, T>
-        // claim: An operator is shown the hall before and its marks by kind, unreleased by a ticket of all that was issued.
-        // Nothing changes.
+        // claim: An operator gets the hall under the lock and counts of its marks by kind, unreleased, with a ticket of
+        // all issued. Nothing changes.
         ensures shows { IfOk result.answer (λ r.
             IsViewOf (hall_in result.before.value.hall) (map T.mark result.before.value.marks.all.items) r.0) }
         ensures ticket { IfOk result.answer (λ r. r.1 ≡ issued_in (issuer_in result.before.value.hall)) }

@@ -121,7 +121,7 @@ impl<L: Ledger, T: Trace> Office<L, T> {
         ensures numbers { IfOk result (λ r. map (λ d. d.number) r.1.items ≡ range_with_len 0 L.parts) }
         ensures none { IfOk result (λ r. All (λ d. d.own.items ≡ []) r.1.items) }
         ensures untold { IfOk result (λ r. All (λ d. d.told ≡ 0) r.1.items) }
-        // claim: Its disk half is that of its hall. A refusal hands that back, with its reason.
+        // claim: Its disk half is the hall's broker. A refusal hands the hall back, with its reason.
         ensures half { IfOk result (λ r. broker_of r.2 ≡ hall.issuer) }
         ensures reason { IfErr result (λ failure. IsSplitReason hall.issuer failure.cause) }
         ensures same { IfErr result (λ failure. failure.hall.issuer ≡ hall.issuer) }
@@ -168,9 +168,9 @@ impl<L: Ledger, T: Trace> Office<L, T> {
         now: u64,
         words: [u64; 2],
     ) -> Witnessed<Result<(Ticket, u64), HallError>, L, T>
-        // claim: A request or a tick does by one step just that call to the hall that was under the lock. Its command, and no
-        // other, is marked at its desk and there. Each desk keeps its list. Nothing becomes durable, and no disk is called. [:
-        // steps, done, counts, both, histories, ticket, kept, no_call; Office::tick: steps, done, answer, both, histories,
+        // claim: An Ok did by one step just that request or tick to the hall under the lock. Just its command, if any,
+        // is marked, there and at its desk; desks' marks stay their own. Nothing becomes durable or lent. [: steps,
+        // done, counts, both, histories, ticket, kept, no_call; Office::tick: steps, done, answer, both, histories,
         // counted, kept, no_call]
         // claim: A request marks at most one command, which it may have by itself. A tick marks that whose number it
         // answers. [: marks, asked; Office::tick: marks]
@@ -179,9 +179,9 @@ impl<L: Ledger, T: Trace> Office<L, T> {
         // none_left]
         // claim: A desk is never told less than before. A refusal changes neither that nor its marks. [: told, err;
         // Office::tick: told, err; Office::commit: told, err, marks]
-        // claim: A refusal is the first of these: fewer commands than the desk was told, no slot left, unfit, no memory for
-        // a mark, the hall's own. A tick has the first and last two. Nothing under the lock changes. [: refused, reason,
-        // same; Office::tick: refused, reason, same]
+        // claim: A refusal is the first of these: fewer commands than the desk was told, no slot left, unfit; else want
+        // of memory or the hall's own. A tick has the first and last two. Nothing under the lock changes. [: refused,
+        // reason, same; Office::tick: refused, reason, same]
         ensures { Arrives result.before.value result.after.value result.from.value result.to.value
             desk.old desk.new call now words result.answer }
     {
@@ -259,8 +259,9 @@ impl<L: Ledger, T: Trace> Office<L, T> {
         ensures disk { CommitsTo D.view D.fault_count (broker_of disk.old) (broker_of disk.new) result.answer }
         ensures fault { result.answer ≡ Err HallError.Fault → FaultsHaveRisen D.fault_count (broker_of disk.old) (broker_of disk.new) }
 
-        // claim: It makes one step, which lent nothing, and tells what is durable or why; or two: all that was pending was
-        // lent, and what the disk half answered of that batch was settled, and is told, or `OtherHalf`. [: steps, refused]
+        // claim: It made one step, which lent nothing, and tells how much is durable or why not; or two: all that was
+        // pending was lent, and what the disk half answered was settled, and is told, or `OtherHalf`. [: steps,
+        // refused]
         ensures steps { CommitsBy D.view D.fault_count result desk.old desk.new (broker_of disk.old) (broker_of disk.new) }
     {
         let (lend, lent) = self.lend(rt, desk);
@@ -301,8 +302,9 @@ impl<L: Ledger, T: Trace> Office<L, T> {
         slot: u64,
     ) -> Witnessed<Option<Released>, L, T>
         ensures desk { MakesStep result.from.value result.to.value desk.old desk.new }
-        // claim: A take gives the reply that the hall before gives, to the slot that asked, and does by one step just that; so
-        // does a forgetting. [: steps, slot, gives, by_events, done, none; Office::forget: steps, done]
+        // claim: By one step a take or a forgetting does just that to the hall under the lock. A take gives the slot
+        // that asked what that hall gives it; where that is nothing, nothing changes. [: steps, slot, gives, by_events,
+        // done, none; Office::forget: steps, done]
         ensures takes { Takes result.before.value result.after.value slot result.answer }
     {
         self.locked.lock(rt).take_seen(desk, slot)

@@ -31,7 +31,7 @@ impl<L: Ledger, T: Trace> Office<L, T> {
     /// was issued, and the table's counts, standings and moments are those of the opening's table followed by the marks. For
     /// each history that leaves the opening's table there is a run, of which no call was refused, that the hall stands for.
     pub fn unlock(self) -> Unlocked<L, T>
-        // claim: Out of its lock it has such marks, such a table, and such runs.
+        // claim: Out of its lock an office has marks, table and runs as `Locked` has.
         ensures numbered { AreNumbered (T.Opening.table result.locked.opening).number (map T.mark result.locked.marks.all.items) }
         ensures issued { issued_in (issuer_in result.locked.hall)
             ≡ (T.Opening.table result.locked.opening).number + length (map T.mark result.locked.marks.all.items) }
@@ -87,8 +87,8 @@ impl<L: Ledger> Unlocked<L> {
         desks: Vec<Desk<L>>,
         disk: DiskHalf<D>,
     ) -> Result<(Hall<Broker<D>>, Vec<Mark>), UnlockedFailure<D, L>>
-        // claim: It is closed only where each desk is there once with its own marks and the halves join, and answers just
-        // its marks. A refusal tells why. [: all, marks, sum, joined, refused, not_joined; Unlocked::marks; Unlocked::hall;
+        // claim: An Ok has each desk once with its own marks, halves that join, and just the marks as answer. A refusal
+        // tells why. [: all, marks, sum, joined, refused, not_joined; Unlocked::marks; Unlocked::hall;
         // Unlocked::opening]
         ensures all { OnOk result (AreAll (λ d. d.number) (λ d. d.own.items) L.parts self.locked.marks.all.items desks.items) }
         ensures marks { IfOk result (λ r. r.1.items ≡ self.locked.marks.all.items) }

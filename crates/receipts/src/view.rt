@@ -24,7 +24,8 @@ pub struct Unreleased {
 impl Unreleased {
     /// What was unreleased, where a board showed the receipt of all that it shows. None where fewer commands are durable by it.
     pub fn release(self, shown: &Shown) -> Option<View>
-        // claim: It is opened exactly by a receipt of at least that number, which a board showed, and is then what was seen.
+        // claim: A view is released exactly by a receipt of at least its number, which a board showed, and is then what
+        // was seen.
         ensures some { IfSome result (λ view. (view ≡ self.view) × (self.number ≤ shown.now.receipt)) }
         ensures none { IfNone result (shown.now.receipt < self.number) }
     {

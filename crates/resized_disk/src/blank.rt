@@ -55,7 +55,7 @@ pub fn is_blank<D: Disk>(alloc: Global, disk: &mut D) -> Result<bool, ResizedErr
     ensures later { D.fault_count disk.old ≤ D.fault_count disk.new }
     ensures fault { IsErrOf result ResizedError.Fault → HasRisen (D.fault_count disk.old) (D.fault_count disk.new) }
     ensures no_call { IsErrOf result ResizedError.OutOfMemory → disk.new ≡ disk.old }
-    // claim: A disk is told to be blank exactly where all its bytes are zeros.
+    // claim: An Ok tells a disk blank exactly where all its bytes are zeros.
     ensures exact { (D.view disk.old).honest → IfOk result (λ blank. blank ≡ is_blank (D.view disk.old).content) }
 {
     let mut buffer = memory(alloc)?;

@@ -84,15 +84,16 @@ fn judge<D: Disk>(disk: &mut D, base: u64, buffer: &mut [u8]) -> Result<Option<R
 /// otherwise, and where both segments are open or neither is, or the disk has fewer than 6 sectors. The frames are passed
 /// over by their lengths, and what they hold is not looked at. It only reads. `OutOfMemory` comes before the first read.
 pub fn resized<D: Disk>(alloc: Global, disk: &mut D) -> Result<Option<Resized>, ResizedError>
-    // claim: It only reads. Want of memory comes first, and a fault only where the count of faults rose. [is_blank]
+    // claim: It only reads. Want of memory leaves the disk as it was. `Fault` is told only where the count of faults
+    // rose, or is greatest. [is_blank]
     ensures reads { OnlyReads (D.view disk.old) (D.view disk.new) }
     ensures later { D.fault_count disk.old ≤ D.fault_count disk.new }
     ensures fault { IsErrOf result ResizedError.Fault → HasRisen (D.fault_count disk.old) (D.fault_count disk.new) }
     ensures no_call { IsErrOf result ResizedError.OutOfMemory → disk.new ≡ disk.old }
-    // claim: A disk of fewer than 6 sectors is not called, and nothing told.
+    // claim: A disk of fewer than 6 sectors stays as it was, and nothing is told.
     ensures small { (D.view disk.old).sectors < 6 → (result ≡ Ok None) × (disk.new ≡ disk.old) }
-    // claim: That the newer segment stands displaced, or else that the open one was cut, is told exactly where the bytes say
-    // so.
+    // claim: An Ok tells that the newer segment stands displaced, or else that the open one is cut, exactly where the
+    // bytes say so.
     ensures exact { (D.view disk.old).honest → IfOk result (TellsResized (D.view disk.old).content) }
 {
     if disk.sectors() < 6 {
