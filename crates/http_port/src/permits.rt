@@ -89,7 +89,7 @@ impl Permits {
     /// Ready while a permit is free.
     pub(crate) fn poll_free(&mut self, cx: &mut Context<'_>) -> Poll<()>
         ensures most { self.new.most ≡ self.old.most }
-        // claim: A port counts at most as many connections as its limits allow, and permits one more only while one is
+        // claim: At most as many connections are counted as there are permits, and one more is permitted only while one is
         // free. [: free; Permits::take: taken, none; Permits: bounded; Connections::take: counted]
         ensures free { IfReady result (λ _. self.new.taken < self.new.most) }
         ensures armed { OnPending result (IsArmed cx.new) }
