@@ -8,22 +8,23 @@ use Rattle.retry_rules.specs.declared.settings.Settings.{Settings}
 use Rattle.invoke_records.specs.declared.snapshot.Snapshot.{Snapshot}
 use Rattle.invoke_records.specs.declared.command.Command.{Command}
 use Rattle.async_core.specs.laws.Tables.{number-table_of}
-use Rattle.group_commit.specs.declared.broker.Broker.{Broker}
-use Rattle.group_commit.specs.declared.error.IssueError.{IssueError}
-use Rattle.group_commit.specs.declared.error.IssueError.TheVariants as issue_error
-use Rattle.group_commit.specs.declared.error.CommitError.{CommitError}
-use Rattle.group_commit.specs.declared.error.CommitError.TheVariants as commit_error
+use Rattle.broker_core.specs.declared.broker.Broker.{Broker}
+use Rattle.broker_core.specs.declared.error.IssueError.{IssueError}
+use Rattle.broker_core.specs.declared.error.IssueError.TheVariants as issue_error
+use Rattle.broker_core.specs.declared.error.CommitError.{CommitError}
+use Rattle.broker_core.specs.declared.error.CommitError.TheVariants as commit_error
 use Rattle.group_commit.specs.declared.script.Step.{Step}
 use Rattle.group_commit.specs.declared.script.StepAnswer.{StepAnswer}
 use Rattle.group_commit.specs.declared.script.StepAnswer.TheVariants as answer
-use Rattle.group_commit.specs.Broker.{settings_of, table_in, durable_of, is_broken, Stands, IsSameBroker, Breaks, IsReason}
+use Rattle.broker_core.specs.Broker.{settings_of, table_in, durable_of, is_broken, Stands, IsSameBroker, Breaks, IsReason}
 use Rattle.sector_disk.specs.declared.memory.MemDisk.{MemDisk}
 use Rattle.sector_disk.specs.Memory.{memory_view}
 use Rattle.group_commit.specs.Drill.{Log, IsRefused, IsNotResumed, IsNotCommitted, IsStep, IsRun, MayBeCutOff, IsCutOffAt}
 use Rattle.checkpoint.specs.declared.error.OpenError.{OpenError}
 use Rattle.group_commit.specs.DrillBroker.{log_of, LeadsOn, IsDrilled}
-use Rattle.group_commit.specs.Resume.{IsResumed, IsOwnReason}
-use Rattle.group_commit.proofs.Issued.{refusal_is}
+use Rattle.broker_core.specs.Resume.{IsResumed, IsOwnReason}
+use Rattle.broker_core.specs.IssuerBroker.{issuer_of, issuer_laws}
+use Rattle.broker_core.specs.laws.Issuer.{refusal_is}
 
 -- it is not broken, since it would answer so
 pub unbroken : (b : Bool) → (b ≡ true → ⊥) → b ≡ false
@@ -40,16 +41,16 @@ reason_is view broker history stands command issue_error.WornOut first is =
     (unbroken (is_broken broker) (λ broken. let wrong = first broken in cc), omega (arith, is, number))
 reason_is view broker history stands command (issue_error.Illegal why) first is = (
   unbroken (is_broken broker) (λ broken. let wrong = first broken in cc),
-  sym (refusal_is history stands command) ∙ is,
+  sym (refusal_is (issuer_of view broker) (issuer_laws view broker) history stands command) ∙ is,
 )
 reason_is view broker history stands command issue_error.Backlog first is = (
   unbroken (is_broken broker) (λ broken. let wrong = first broken in cc),
-  sym (refusal_is history stands command) ∙ is.0,
+  sym (refusal_is (issuer_of view broker) (issuer_laws view broker) history stands command) ∙ is.0,
   omega (arith, is.1, ap length stands.pending_is, length-drop (durable_of broker) history, stands.durable_is),
 )
 reason_is view broker history stands command issue_error.OutOfMemory first is = (
   unbroken (is_broken broker) (λ broken. let wrong = first broken in cc),
-  sym (refusal_is history stands command) ∙ is,
+  sym (refusal_is (issuer_of view broker) (issuer_laws view broker) history stands command) ∙ is,
 )
 
 -- why a broker is not resumed, said of the history that it stands for

@@ -1,13 +1,4 @@
-pub mod Committed
 pub mod Drilled
-pub mod Issued
-pub mod Reopening
 pub mod Results
-pub mod Rested
-pub mod Resumed
-pub mod Memory
-pub mod Taken
-pub mod Writes
-pub mod Joined
 pub mod SplitDrilled
 pub mod Migrated

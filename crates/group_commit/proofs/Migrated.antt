@@ -27,10 +27,9 @@ use Rattle.checkpoint.specs.Live.{version_of, settings_of, generation_of, ReadsA
 use Rattle.checkpoint.specs.Opening.{Refuses}
 use Rattle.group_commit.specs.declared.error.MigrateError.{MigrateError}
 use Rattle.group_commit.specs.declared.error.MigrateError.TheVariants as migrate_error
-use Rattle.group_commit.specs.History.{AreGood}
-use Rattle.group_commit.specs.Steps.{IsReadAs}
+use Rattle.broker_core.specs.History.{AreGood}
 use Rattle.group_commit.specs.Migrating.{ReadsTo, HoldsHistories, IsOldDisk, Phases, LeavesMigrating, Migrates, IsMigrateReason, IsSoundRefusal, HoldsOne, HoldsOneWhere, IsUnchanged, WritesNothingBut}
-use Rattle.group_commit.specs.MigrateSteps.{migrate_error_of, IsUnwritten, IsFaultOr}
+use Rattle.group_commit.specs.MigrateSteps.{IsReadAs, migrate_error_of, IsUnwritten, IsFaultOr}
 
 -- ## Moments
 

@@ -15,19 +15,19 @@ use Rattle.async_core.specs.Rules.{refusal_at}
 use Rattle.async_core.specs.History.{IsLegal, refusal_of}
 use Rattle.async_core.specs.laws.Tables.{number-table_of}
 use Rattle.checkpoint.specs.declared.error.OpenError.{OpenError}
-use Rattle.group_commit.specs.declared.broker.Broker.{Broker}
-use Rattle.group_commit.specs.declared.batch.Batch.{Batch}
-use Rattle.group_commit.specs.declared.batch.Written.{Written}
-use Rattle.group_commit.specs.declared.batch.Failed.{Failed}
-use Rattle.group_commit.specs.declared.issue_half.IssueHalf.{IssueHalf}
-use Rattle.group_commit.specs.declared.error.IssueError.{IssueError}
-use Rattle.group_commit.specs.declared.error.IssueError.TheVariants as issue_error
-use Rattle.group_commit.specs.declared.error.LendError.{LendError}
-use Rattle.group_commit.specs.declared.error.LendError.TheVariants as lend_error
-use Rattle.group_commit.specs.declared.error.WriteError.{WriteError}
-use Rattle.group_commit.specs.declared.error.WriteError.TheVariants as write_error
-use Rattle.group_commit.specs.declared.error.SettleError.{SettleError}
-use Rattle.group_commit.specs.declared.error.SettleError.TheVariants as settle_error
+use Rattle.broker_core.specs.declared.broker.Broker.{Broker}
+use Rattle.broker_core.specs.declared.batch.Batch.{Batch}
+use Rattle.broker_core.specs.declared.batch.Written.{Written}
+use Rattle.broker_core.specs.declared.batch.Failed.{Failed}
+use Rattle.broker_core.specs.declared.issue_half.IssueHalf.{IssueHalf}
+use Rattle.broker_core.specs.declared.error.IssueError.{IssueError}
+use Rattle.broker_core.specs.declared.error.IssueError.TheVariants as issue_error
+use Rattle.broker_core.specs.declared.error.LendError.{LendError}
+use Rattle.broker_core.specs.declared.error.LendError.TheVariants as lend_error
+use Rattle.broker_core.specs.declared.error.WriteError.{WriteError}
+use Rattle.broker_core.specs.declared.error.WriteError.TheVariants as write_error
+use Rattle.broker_core.specs.declared.error.SettleError.{SettleError}
+use Rattle.broker_core.specs.declared.error.SettleError.TheVariants as settle_error
 use Rattle.group_commit.specs.declared.split_script.SplitStep.{SplitStep}
 use Rattle.group_commit.specs.declared.split_script.SplitStep.TheVariants as step
 use Rattle.group_commit.specs.declared.split_script.SplitAnswer.{SplitAnswer}
@@ -35,20 +35,20 @@ use Rattle.group_commit.specs.declared.split_script.SplitAnswer.TheVariants as a
 use Rattle.group_commit.specs.declared.split_drilling.Halves.{Halves}
 use Rattle.group_commit.specs.declared.split_drilling.Held.{Held}
 use Rattle.group_commit.specs.declared.split_drilling.Held.TheVariants as held
-use Rattle.group_commit.specs.Broker.{settings_of, table_in, issued_of, durable_of, is_broken, Stands}
+use Rattle.broker_core.specs.Broker.{settings_of, table_in, issued_of, durable_of, is_broken, Stands}
 use Rattle.group_commit.specs.DrillBroker.{IsStarted}
-use Rattle.group_commit.specs.Issuer.{issued_in, IsSameIssuer, IsReason}
-use Rattle.group_commit.specs.laws.Issuer.{refusal_is}
-use Rattle.group_commit.specs.IssuerHalf.{half_view, half_laws, lent_of}
-use Rattle.group_commit.specs.Batch.{first_of, last_of, commands_of, cause_of, last_written, first_in, last_in, is_lasting}
-use Rattle.group_commit.specs.Lending.{CanLend, Lends, IsLendReason, IsOut, SettlesBy, IsNotSettled}
-use Rattle.group_commit.specs.Splitting.{broker_of}
-use Rattle.group_commit.specs.Writing.{taken_from, missing_in, EndsWith, IsFrontOf, IsRefusedAs, IsWriteReason, NextIsIllegal, StaysInFront, Writes, IsNotWritten}
+use Rattle.broker_core.specs.Issuer.{issued_in, IsSameIssuer, IsReason}
+use Rattle.broker_core.specs.laws.Issuer.{refusal_is}
+use Rattle.broker_core.specs.IssuerHalf.{half_view, half_laws, lent_of}
+use Rattle.broker_core.specs.Batch.{first_of, last_of, commands_of, cause_of, last_written, first_in, last_in, is_lasting}
+use Rattle.broker_core.specs.Lending.{CanLend, Lends, IsLendReason, IsOut, SettlesBy, IsNotSettled}
+use Rattle.broker_core.specs.Splitting.{broker_of}
+use Rattle.broker_core.specs.Writing.{taken_from, missing_in, EndsWith, IsFrontOf, IsRefusedAs, IsWriteReason, NextIsIllegal, StaysInFront, Writes, IsNotWritten}
 use Rattle.group_commit.specs.Drill.{IsRefused}
 use Rattle.group_commit.specs.SplitDrill.{SplitLog, IsSplitStep, IsSplitRun, MayBeCutOff, MayLend, HasLent, IsNotLent, IsWriteFailure, IsSplitCutOffAt, issue_log, recovered}
 use Rattle.group_commit.specs.SplitSteps.{IsHeld, Keeps, IsBegun, IsStopped, Leads, IsSplitDrilledOn, is_disk_broken, told, write_answer}
 use Rattle.group_commit.proofs.Drilled.{unbroken}
-use Rattle.group_commit.proofs.Issued.{refusal_is as broker_refusal_is}
+use Rattle.broker_core.specs.IssuerBroker.{issuer_of, issuer_laws}
 
 -- how many commands a broker has that stands for a list
 pub number : {g : Ghosts MemDisk} (broker : Broker MemDisk g) (history : List Command) → Stands memory_view broker history → issued_of broker ≡ length history
@@ -318,7 +318,7 @@ module _ {g : Ghosts MemDisk} (old new : Broker MemDisk g) (batch : Batch) (hist
       let there : slice_get (missing_in old batch) (n - issued_of old) ≡ Some c =
       ap (λ (l : List Command). slice_get l (n - issued_of old)) missing_is ∙ found_between history (issued_of old) lent n c longer below within found.1 in
       let passes : refusal_at (settings_of new) (table_in new) c ≡ None =
-      broker_refusal_is (take n history) stands c ∙ legal.each n c found.1 in
+      refusal_is (issuer_of memory_view new) (issuer_laws memory_view new) (take n history) stands c ∙ legal.each n c found.1 in
       refused_none (refusal_at (settings_of new) (table_in new) c) passes
       (subst (λ (o : Option Command). IfSome o (λ command. IsSome (refusal_at (settings_of new) (table_in new) command))) there illegal.0)
 

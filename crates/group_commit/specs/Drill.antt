@@ -3,15 +3,15 @@ use Rattle.std.specs.Prelude.{◌≡◌, ◌⊎◌, ℕ, ◌+◌, ◌^◌, ◌<�
 use Rattle.retry_rules.specs.declared.settings.Settings.{Settings}
 use Rattle.invoke_records.specs.declared.command.Command.{Command}
 use Rattle.async_core.specs.History.{refusal_of}
-use Rattle.group_commit.specs.Resume.{IsResumed}
-use Rattle.group_commit.specs.declared.error.IssueError.{IssueError}
-use Rattle.group_commit.specs.declared.error.IssueError.TheVariants as issue_error
-use Rattle.group_commit.specs.declared.error.CommitError.{CommitError}
-use Rattle.group_commit.specs.declared.error.CommitError.TheVariants as commit_error
+use Rattle.broker_core.specs.Resume.{IsResumed}
+use Rattle.broker_core.specs.declared.error.IssueError.{IssueError}
+use Rattle.broker_core.specs.declared.error.IssueError.TheVariants as issue_error
+use Rattle.broker_core.specs.declared.error.CommitError.{CommitError}
+use Rattle.broker_core.specs.declared.error.CommitError.TheVariants as commit_error
 use Rattle.checkpoint.specs.declared.error.OpenError.{OpenError}
 use Rattle.checkpoint.specs.declared.error.OpenError.TheVariants as open_error
 use Rattle.checkpoint.specs.Image.{recovered}
-use Rattle.group_commit.specs.Refusals.{IsCutOff, TellsNotFormatted, TellsDamage, TellsOld}
+use Rattle.broker_core.specs.Refusals.{IsCutOff, TellsNotFormatted, TellsDamage, TellsOld}
 use Rattle.group_commit.specs.declared.script.DrillFailure.{DrillFailure}
 use Rattle.group_commit.specs.declared.script.DrillFailure.TheVariants as drill_failure
 use Rattle.group_commit.specs.declared.script.Step.{Step}

@@ -5,12 +5,12 @@ use Rattle.sector_disk.specs.declared.memory.MemDisk.{MemDisk}
 use Rattle.sector_disk.specs.Memory.{memory_view}
 use Rattle.retry_rules.specs.declared.settings.Settings.{Settings}
 use Rattle.invoke_records.specs.declared.command.Command.{Command}
-use Rattle.group_commit.specs.declared.broker.Broker.{Broker}
+use Rattle.broker_core.specs.declared.broker.Broker.{Broker}
 use Rattle.group_commit.specs.declared.script.Step.{Step}
 use Rattle.group_commit.specs.declared.script.StepAnswer.{StepAnswer}
 use Rattle.group_commit.specs.declared.script.Drill.{Drill}
-use Rattle.group_commit.specs.Broker.{settings_of, durable_of, is_broken, Stands}
-use Rattle.group_commit.specs.Promises.{ForEachHistory}
+use Rattle.broker_core.specs.Broker.{settings_of, durable_of, is_broken, Stands}
+use Rattle.broker_core.specs.Promises.{ForEachHistory}
 use Rattle.group_commit.specs.Drill.{Log, IsStep, IsRun}
 
 -- the log of a broker that stands for this history

@@ -8,10 +8,15 @@ use Rattle.invoke_records.specs.declared.version.Version.{Version}
 use Rattle.checkpoint.specs.declared.opened.Opened.{Opened}
 use Rattle.checkpoint.specs.declared.error.OpenError.{OpenError}
 use Rattle.checkpoint.specs.declared.error.OpenError.TheVariants as open_error
-use Rattle.checkpoint.specs.Live.{settings_of, IsLiveIn, IsLive, may_stand}
+use Rattle.checkpoint.specs.Live.{version_of, settings_of, ReadsAs, IsLiveIn, IsLive, may_stand}
 use Rattle.group_commit.specs.declared.error.MigrateError.{MigrateError}
 use Rattle.group_commit.specs.declared.error.MigrateError.TheVariants as migrate_error
 use Rattle.group_commit.specs.Migrating.{ReadsTo}
+
+-- the disk's content read, in the version that was opened, to this table, which the live segment of the disk now stands for
+abbrev pub IsReadAs : DiskView → DiskView → Opened → Snapshot → Type 0
+IsReadAs old new opened table =
+    ReadsAs (version_of opened) (settings_of opened) table old.content × IsLiveIn (version_of opened) new opened table
 
 -- why a disk is not migrated that was not opened in either version; that it is of version 1 is no such cause
 abbrev pub migrate_error_of : OpenError → MigrateError

@@ -14,7 +14,7 @@ use Rattle.checkpoint.specs.Image.{read_as, least_sectors, HasGeneration}
 use Rattle.checkpoint.specs.Live.{ReadsAs, RecoversTo, may_stand}
 use Rattle.group_commit.specs.declared.error.MigrateError.{MigrateError}
 use Rattle.group_commit.specs.declared.error.MigrateError.TheVariants as migrate_error
-use Rattle.group_commit.specs.Promises.{LeavesWhatWas}
+use Rattle.broker_core.specs.Promises.{LeavesWhatWas}
 
 -- ## What an image holds
 

@@ -5,12 +5,12 @@ use Rattle.invoke_records.specs.declared.command.Command.{Command}
 use Rattle.async_core.specs.History.{refusal_of}
 use Rattle.checkpoint.specs.declared.error.OpenError.{OpenError}
 use Rattle.checkpoint.specs.declared.error.OpenError.TheVariants as open_error
-use Rattle.group_commit.specs.declared.error.LendError.{LendError}
-use Rattle.group_commit.specs.declared.error.LendError.TheVariants as lend_error
-use Rattle.group_commit.specs.declared.error.WriteError.{WriteError}
-use Rattle.group_commit.specs.declared.error.WriteError.TheVariants as write_error
-use Rattle.group_commit.specs.declared.error.SettleError.TheVariants as settle_error
-use Rattle.group_commit.specs.declared.issue_half.IssueHalf.{IssueHalf}
+use Rattle.broker_core.specs.declared.error.LendError.{LendError}
+use Rattle.broker_core.specs.declared.error.LendError.TheVariants as lend_error
+use Rattle.broker_core.specs.declared.error.WriteError.{WriteError}
+use Rattle.broker_core.specs.declared.error.WriteError.TheVariants as write_error
+use Rattle.broker_core.specs.declared.error.SettleError.TheVariants as settle_error
+use Rattle.broker_core.specs.declared.issue_half.IssueHalf.{IssueHalf}
 use Rattle.group_commit.specs.declared.script.DrillFailure.{DrillFailure}
 use Rattle.group_commit.specs.declared.script.DrillFailure.TheVariants as drill_failure
 use Rattle.group_commit.specs.declared.split_script.SplitStep.{SplitStep}
@@ -18,9 +18,9 @@ use Rattle.group_commit.specs.declared.split_script.SplitStep.TheVariants as ste
 use Rattle.group_commit.specs.declared.split_script.SplitAnswer.{SplitAnswer}
 use Rattle.group_commit.specs.declared.split_script.SplitAnswer.TheVariants as answer
 use Rattle.group_commit.specs.declared.split_script.SplitDrill.{SplitDrill}
-use Rattle.group_commit.specs.Batch.{is_lasting}
-use Rattle.group_commit.specs.IssuerHalf.{half_view}
-use Rattle.group_commit.specs.Refusals.{IsCutOff}
+use Rattle.broker_core.specs.Batch.{is_lasting}
+use Rattle.broker_core.specs.IssuerHalf.{half_view}
+use Rattle.broker_core.specs.Refusals.{IsCutOff}
 use Rattle.group_commit.specs.Drill.{Log, IsRefused}
 
 -- a list of commands, how many are durable, up to which the disk half has written, and up to which they were lent; whether the

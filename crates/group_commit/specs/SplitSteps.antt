@@ -7,16 +7,16 @@ use Rattle.invoke_records.specs.declared.command.Command.{Command}
 use Rattle.group_commit.specs.declared.split_script.SplitStep.{SplitStep}
 use Rattle.group_commit.specs.declared.split_script.SplitAnswer.{SplitAnswer}
 use Rattle.group_commit.specs.declared.split_script.SplitAnswer.TheVariants as answer
-use Rattle.group_commit.specs.declared.batch.Written.{Written}
-use Rattle.group_commit.specs.declared.batch.Failed.{Failed}
-use Rattle.group_commit.specs.declared.error.WriteError.{WriteError}
+use Rattle.broker_core.specs.declared.batch.Written.{Written}
+use Rattle.broker_core.specs.declared.batch.Failed.{Failed}
+use Rattle.broker_core.specs.declared.error.WriteError.{WriteError}
 use Rattle.group_commit.specs.declared.split_drilling.Halves.{Halves}
 use Rattle.group_commit.specs.declared.split_drilling.Held.{Held}
 use Rattle.group_commit.specs.declared.split_drilling.Held.TheVariants as held
-use Rattle.group_commit.specs.Broker.{settings_of, issued_of, durable_of, is_broken, Stands}
-use Rattle.group_commit.specs.IssuerHalf.{half_view, lent_of}
-use Rattle.group_commit.specs.Batch.{first_of, last_of, commands_of, last_written, cause_of, first_in, last_in, is_lasting}
-use Rattle.group_commit.specs.Splitting.{broker_of}
+use Rattle.broker_core.specs.Broker.{settings_of, issued_of, durable_of, is_broken, Stands}
+use Rattle.broker_core.specs.IssuerHalf.{half_view, lent_of}
+use Rattle.broker_core.specs.Batch.{first_of, last_of, commands_of, last_written, cause_of, first_in, last_in, is_lasting}
+use Rattle.broker_core.specs.Splitting.{broker_of}
 use Rattle.group_commit.specs.SplitDrill.{SplitLog, IsSplitStep, IsSplitRun, recovered}
 
 -- what a result is told as

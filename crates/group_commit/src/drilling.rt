@@ -1,16 +1,15 @@
 // Scripts of steps, stops among them, on a disk in memory.
 ghost use Rattle.std.specs.Prelude.{◌≡◌, [], length, OnOk, IfOk, IfErr};
 ghost use Rattle.sector_disk.specs.Memory.{memory_view};
-ghost use Rattle.group_commit.specs.Broker.{settings_of, pending_of, durable_of};
-ghost use Rattle.group_commit.specs.Promises.{ForEachHistory, ForEachHistoryOn};
-ghost use Rattle.group_commit.specs.Refusals.{TellsNotFormatted, TellsDamage, TellsOld, IsCutOff};
+ghost use Rattle.broker_core.specs.Broker.{settings_of, pending_of, durable_of};
+ghost use Rattle.broker_core.specs.Promises.{ForEachHistory, ForEachHistoryOn};
+ghost use Rattle.broker_core.specs.Refusals.{TellsNotFormatted, TellsDamage, TellsOld, IsCutOff};
 ghost use Rattle.group_commit.specs.declared.script.Step.TheVariants as step;
 ghost use Rattle.group_commit.specs.Drill.{answer_to, cause_in, IsAtOneOf, Recovers, TellsOpening, MayBeCutOff, IsDrillFailure};
 ghost use Rattle.group_commit.specs.DrillBroker.{Leads, IsStarted, IsDrillOf};
 
-use crate::broker::without_disk;
-use crate::copying::copy_command;
-use crate::{Broker, Drill, DrillFailure, IssueError, Step, StepAnswer, Ticket};
+use crate::{Drill, DrillFailure, Step, StepAnswer};
+use broker_core::{Broker, IssueError, Ticket, copy_command, without_disk};
 use checkpoint::OpenError;
 use invoke_records::{Command, GREATEST_MOMENT};
 use sector_disk::MemDisk;

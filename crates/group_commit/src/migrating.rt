@@ -1,20 +1,45 @@
 // Migrating a disk of version 1 of the format.
 ghost use Rattle.std.specs.Prelude.{◌≡◌, ◌+◌, ◌<◌, ◌≤◌, ◌^◌, IsErrOf, IfOk, IfErr, OnOk};
 ghost use Rattle.sector_disk.specs.Disk.{IsSameDisk, HasRisen};
-ghost use Rattle.checkpoint.specs.Live.{version_of, settings_of, generation_of, HasRoom, IsLiveIn};
+ghost use Rattle.checkpoint.specs.Live.{version_of, settings_of, generation_of, HasRoom, HasRoomFor, IsLiveIn};
+ghost use Rattle.checkpoint.specs.Opening.{TellsUnread};
 ghost use Rattle.checkpoint.specs.declared.error.OpenError.TheVariants as open_error;
 ghost use Rattle.group_commit.specs.declared.error.MigrateError.TheVariants as migrate_error;
-ghost use Rattle.group_commit.specs.History.{AreGood};
-ghost use Rattle.group_commit.specs.Promises.{LeavesWhatWas};
+ghost use Rattle.broker_core.specs.History.{AreGood};
+ghost use Rattle.broker_core.specs.Promises.{LeavesWhatWas};
 ghost use Rattle.group_commit.specs.Migrating.{HoldsHistories, IsOldDisk, LeavesMigrating, Migrates, IsMigrateReason, IsSoundRefusal, HoldsOneWhere, WritesNothingBut};
-ghost use Rattle.group_commit.specs.MigrateSteps.{migrate_error_of, IsUnwritten, IsFaultOr, WritesTable, LeavesTable};
+ghost use Rattle.group_commit.specs.MigrateSteps.{IsReadAs, migrate_error_of, IsUnwritten, IsFaultOr, WritesTable, LeavesTable};
 
-use crate::recovery::recover_either;
 use crate::{MigrateError, MigrateFailure};
 use async_core::Table;
+use broker_core::table_behind;
 use checkpoint::{MOST_GENERATIONS, OpenError, Opened, SwitchError, least_sectors};
 use sector_disk::Disk;
-use std::alloc::Global;
+use std::alloc::{AllocError, Global};
+
+// Opens a disk of either version: its live segment, and the table after each command behind an open gate.
+fn recover_either<D: Disk>(alloc: Global, disk: &mut D) -> Result<(Opened, Table), OpenError>
+    ensures same { IsSameDisk (D.view disk.old) (D.view disk.new) }
+    ensures later { D.fault_count disk.old ≤ D.fault_count disk.new }
+    ensures fault { IsErrOf result OpenError.Fault → HasRisen (D.fault_count disk.old) (D.fault_count disk.new) }
+    ensures old { IsErrOf result OpenError.OldVersion → ⊥ }
+    ensures content { (D.view disk.old).honest → (D.view disk.new).content ≡ (D.view disk.old).content }
+    ensures any_moment { (D.view disk.old).honest → LeavesWhatWas (D.view disk.old) (D.view disk.new) }
+
+    ensures settings { IfOk result (λ r. r.1.settings ≡ settings_of r.0) }
+    ensures good { IfOk result (λ r. AreGood (settings_of r.0)) }
+    ensures room { IfOk result (λ r. HasRoomFor (version_of r.0) (D.view disk.new).sectors r.0) }
+    ensures below { IfOk result (λ r. r.1.table.number ≤ 2 ^ 62) }
+
+    ensures live { (D.view disk.old).honest → IfOk result (λ r. IsReadAs (D.view disk.old) (D.view disk.new) r.0 r.1.table) }
+    ensures refused { TellsUnread (D.view disk.old) result }
+{
+    let (opened, snapshot, commands) = checkpoint::open_either(alloc, disk)?;
+    match table_behind(alloc, opened.settings(), snapshot, &commands) {
+        Ok(table) => Ok((opened, table)),
+        Err(AllocError) => Err(OpenError::OutOfMemory),
+    }
+}
 
 // Why a disk was not migrated that was not opened in either version.
 fn unopened(why: OpenError) -> MigrateError

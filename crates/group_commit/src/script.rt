@@ -1,5 +1,5 @@
 // Scripts of steps, and what they answer.
-use crate::{Broker, CommitError, IssueError};
+use broker_core::{Broker, CommitError, IssueError};
 use checkpoint::OpenError;
 use invoke_records::Command;
 use sector_disk::MemDisk;

@@ -1,19 +1,16 @@
 // Scripts of steps of two halves, stops among them, on a disk in memory.
 ghost use Rattle.std.specs.Prelude.{◌≡◌, length, OnOk, IfOk, IfErr};
 ghost use Rattle.sector_disk.specs.Memory.{memory_view};
-ghost use Rattle.group_commit.specs.Promises.{ForEachHistoryOn};
-ghost use Rattle.group_commit.specs.Refusals.{TellsNotFormatted, TellsDamage, TellsOld, IsCutOff};
+ghost use Rattle.broker_core.specs.Promises.{ForEachHistoryOn};
+ghost use Rattle.broker_core.specs.Refusals.{TellsNotFormatted, TellsDamage, TellsOld, IsCutOff};
 ghost use Rattle.group_commit.specs.Drill.{cause_in, IsAtOneOf, Recovers, TellsOpening};
 ghost use Rattle.group_commit.specs.declared.split_script.SplitStep.TheVariants as split_step;
 ghost use Rattle.group_commit.specs.SplitDrill.{MayBeCutOff, IsSplitDrillOf, IsSplitDrillFailure};
 ghost use Rattle.group_commit.specs.SplitSteps.{ForEachLog, Leads, IsBegun, IsStopped, write_answer};
 
-use crate::copying::copy_command;
 use crate::drilling::start;
-use crate::{
-    Batch, DiskHalf, DrillFailure, Failed, IssueHalf, SplitAnswer, SplitDrill, SplitFailure,
-    SplitStep, Written,
-};
+use crate::{DrillFailure, SplitAnswer, SplitDrill, SplitStep};
+use broker_core::{Batch, DiskHalf, Failed, IssueHalf, SplitFailure, Written, copy_command};
 use checkpoint::OpenError;
 use invoke_records::Command;
 use sector_disk::MemDisk;

@@ -1,5 +1,5 @@
 // Scripts of steps of two halves, and what they answer.
-use crate::{DiskHalf, IssueError, IssueHalf, LendError, SettleError, WriteError};
+use broker_core::{DiskHalf, IssueError, IssueHalf, LendError, SettleError, WriteError};
 use invoke_records::Command;
 use sector_disk::MemDisk;
 

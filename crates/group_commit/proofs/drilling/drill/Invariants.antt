@@ -3,7 +3,7 @@ use Rattle.sector_disk.specs.Memory.{memory_view}
 use Rattle.retry_rules.specs.declared.settings.Settings.{Settings}
 use Rattle.invoke_records.specs.declared.command.Command.{Command}
 use Rattle.async_core.specs.History.{IsLegal}
-use Rattle.group_commit.specs.History.{IsLegalStop}
+use Rattle.broker_core.specs.History.{IsLegalStop}
 use Rattle.group_commit.specs.DrillBroker.{IsDrilled}
 use Rattle.group_commit.proofs.drilling.drill.Given as goal
 

@@ -1,6 +1,6 @@
 use Rattle.std.proofs.Common.{ℕ, refl, subst}
-use Rattle.group_commit.specs.Broker.{settings_of}
-use Rattle.group_commit.specs.Resume.{IsResumed}
+use Rattle.broker_core.specs.Broker.{settings_of}
+use Rattle.broker_core.specs.Resume.{IsResumed}
 use Rattle.group_commit.specs.DrillBroker.{log_of}
 use Rattle.sector_disk.specs.Memory.{memory_view}
 use Rattle.group_commit.proofs.Drilled.{not_resumed}

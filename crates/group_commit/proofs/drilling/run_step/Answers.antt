@@ -1,7 +1,7 @@
 use Rattle.std.proofs.Common.{◌≡◌, ℕ, false, take, refl, sym, ◌∙◌, ap, subst, arith}
 use Rattle.group_commit.specs.declared.script.Step.{Step}
 use Rattle.group_commit.specs.declared.script.StepAnswer.TheVariants as answer
-use Rattle.group_commit.specs.Broker.{durable_of}
+use Rattle.broker_core.specs.Broker.{durable_of}
 use Rattle.group_commit.specs.Drill.{Log}
 use Rattle.group_commit.specs.DrillBroker.{LeadsOn}
 use Rattle.group_commit.proofs.drilling.run_step.Goals as goal

@@ -2,9 +2,8 @@ use Rattle.std.proofs.Common.{ℕ, take, Result, sym, ap, subst, arith, is_ok}
 use Rattle.sector_disk.specs.Memory.{memory_view}
 use Rattle.async_core.specs.State.{State}
 use Rattle.checkpoint.specs.declared.error.OpenError.{OpenError}
-use Rattle.group_commit.specs.Broker.{Stands}
-use Rattle.group_commit.proofs.Issued.{if_ok}
-use Rattle.group_commit.proofs.Results.{if_ok_both, ok_from, err_from}
+use Rattle.broker_core.specs.Broker.{Stands}
+use Rattle.group_commit.proofs.Results.{if_ok, if_ok_both, ok_from, err_from}
 use Rattle.group_commit.proofs.drilling.start.Goals as goal
 
 pub returns-clause-recovers : goal.returns-clause-recovers

@@ -2,8 +2,8 @@ use Rattle.std.proofs.Common.{ℕ, List, sym, subst}
 use Rattle.sector_disk.specs.declared.memory.MemDisk.{MemDisk}
 use Rattle.sector_disk.specs.Memory.{memory_view}
 use Rattle.invoke_records.specs.declared.command.Command.{Command}
-use Rattle.group_commit.specs.History.{IsLegalStop}
-use Rattle.group_commit.specs.Broker.{settings_of, durable_of, Stands}
+use Rattle.broker_core.specs.History.{IsLegalStop}
+use Rattle.broker_core.specs.Broker.{settings_of, durable_of, Stands}
 use Rattle.group_commit.proofs.drilling.stop.Goals as goal
 
 -- each image of the stopped disk is a legal stop

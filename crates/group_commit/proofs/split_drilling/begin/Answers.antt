@@ -1,8 +1,8 @@
 use Rattle.std.proofs.Common.{◌≡◌, take, refl, sym, ap, subst, ◌∙◌}
-use Rattle.group_commit.specs.Broker.{settings_of, durable_of}
+use Rattle.broker_core.specs.Broker.{settings_of, durable_of}
 use Rattle.group_commit.specs.DrillBroker.{IsStarted}
-use Rattle.group_commit.specs.IssuerHalf.{half_view}
-use Rattle.group_commit.specs.Splitting.{broker_of}
+use Rattle.broker_core.specs.IssuerHalf.{half_view}
+use Rattle.broker_core.specs.Splitting.{broker_of}
 use Rattle.group_commit.specs.declared.split_drilling.Held.TheVariants as held
 use Rattle.group_commit.proofs.SplitDrilled.{begun}
 use Rattle.group_commit.proofs.split_drilling.begin.Goals as goal

@@ -1,7 +1,7 @@
 use Rattle.std.proofs.Common.{◌≡◌, ◌++◌, ◌∷◌, [], refl, sym, subst, ◌∙◌}
 use Rattle.invoke_records.specs.declared.command.Command.{Command}
 use Rattle.async_core.specs.History.{refusal_of}
-use Rattle.group_commit.specs.IssuerHalf.{half_view}
+use Rattle.broker_core.specs.IssuerHalf.{half_view}
 use Rattle.group_commit.specs.Drill.{IsRefused}
 use Rattle.group_commit.specs.SplitDrill.{issue_log}
 use Rattle.group_commit.proofs.Drilled.{unbroken}

@@ -1,11 +1,11 @@
 use Rattle.std.proofs.Common.{ℕ, Option, sym, subst}
-use Rattle.group_commit.specs.declared.batch.Batch.{Batch}
-use Rattle.group_commit.specs.declared.issue_half.IssueHalf.{IssueHalf}
+use Rattle.broker_core.specs.declared.batch.Batch.{Batch}
+use Rattle.broker_core.specs.declared.issue_half.IssueHalf.{IssueHalf}
 use Rattle.group_commit.specs.declared.split_script.SplitStep.TheVariants as step
 use Rattle.group_commit.specs.declared.split_script.SplitAnswer.TheVariants as answer
 use Rattle.group_commit.specs.declared.split_drilling.Halves.{Halves}
 use Rattle.group_commit.specs.declared.split_drilling.Held.TheVariants as held
-use Rattle.group_commit.specs.Lending.{Lends}
+use Rattle.broker_core.specs.Lending.{Lends}
 use Rattle.group_commit.specs.SplitDrill.{SplitLog, IsSplitStep}
 use Rattle.group_commit.specs.SplitSteps.{Keeps}
 use Rattle.group_commit.proofs.SplitDrilled.{lent_more, lent_none, lend_refused}

@@ -1,7 +1,7 @@
 use Rattle.std.proofs.Common.{◌≡◌, ℕ, take, sym, ap, subst, ◌∙◌, arith}
 use Rattle.group_commit.specs.declared.split_script.SplitStep.{SplitStep}
 use Rattle.group_commit.specs.declared.split_script.SplitAnswer.TheVariants as answer
-use Rattle.group_commit.specs.IssuerHalf.{half_view}
+use Rattle.broker_core.specs.IssuerHalf.{half_view}
 use Rattle.group_commit.specs.SplitDrill.{SplitLog, IsSplitStep, recovered}
 use Rattle.group_commit.specs.SplitSteps.{Keeps}
 use Rattle.group_commit.proofs.split_drilling.run_step.Goals as goal

@@ -1,6 +1,6 @@
 use Rattle.std.proofs.Common.{ℕ, refl, sym, ap, subst, ◌∙◌}
 use Rattle.std.specs.Prelude.{None}
-use Rattle.group_commit.specs.IssuerHalf.{lent_of}
+use Rattle.broker_core.specs.IssuerHalf.{lent_of}
 use Rattle.group_commit.specs.declared.split_drilling.Held.TheVariants as held
 use Rattle.group_commit.specs.SplitSteps.{IsHeld, Keeps}
 use Rattle.group_commit.proofs.SplitDrilled.{up_to, settled, settle_refused}

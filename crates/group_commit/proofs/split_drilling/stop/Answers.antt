@@ -3,11 +3,11 @@ use Rattle.sector_disk.specs.declared.disk.Disk.{Ghosts}
 use Rattle.sector_disk.specs.declared.memory.MemDisk.{MemDisk}
 use Rattle.sector_disk.specs.Memory.{memory_view}
 use Rattle.invoke_records.specs.declared.command.Command.{Command}
-use Rattle.group_commit.specs.declared.broker.Broker.{Broker}
-use Rattle.group_commit.specs.History.{IsLegalStop}
-use Rattle.group_commit.specs.Broker.{disk_of, settings_of, issued_of, durable_of, Stands}
-use Rattle.group_commit.specs.Splitting.{broker_of}
-use Rattle.group_commit.proofs.Issued.{if_ok}
+use Rattle.broker_core.specs.declared.broker.Broker.{Broker}
+use Rattle.broker_core.specs.History.{IsLegalStop}
+use Rattle.broker_core.specs.Broker.{disk_of, settings_of, issued_of, durable_of, Stands}
+use Rattle.broker_core.specs.Splitting.{broker_of}
+use Rattle.group_commit.proofs.Results.{if_ok}
 use Rattle.group_commit.proofs.SplitDrilled.{stopped}
 use Rattle.group_commit.proofs.split_drilling.stop.Goals as goal
 

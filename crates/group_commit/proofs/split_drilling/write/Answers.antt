@@ -3,7 +3,7 @@ use Rattle.group_commit.specs.declared.split_script.SplitStep.TheVariants as ste
 use Rattle.group_commit.specs.declared.split_script.SplitAnswer.{SplitAnswer}
 use Rattle.group_commit.specs.declared.split_drilling.Halves.{Halves}
 use Rattle.group_commit.specs.declared.split_drilling.Held.TheVariants as held
-use Rattle.group_commit.specs.IssuerHalf.{lent_of}
+use Rattle.broker_core.specs.IssuerHalf.{lent_of}
 use Rattle.group_commit.specs.SplitDrill.{SplitLog, IsSplitStep}
 use Rattle.group_commit.specs.SplitSteps.{IsHeld, Keeps}
 use Rattle.group_commit.proofs.SplitDrilled.{write_leads}

@@ -1,0 +1,9 @@
+pub mod Committed
+pub mod Issued
+pub mod Reopening
+pub mod Rested
+pub mod Resumed
+pub mod Memory
+pub mod Taken
+pub mod Writes
+pub mod Joined

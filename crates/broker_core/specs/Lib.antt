@@ -1,0 +1,15 @@
+pub mod Broker
+pub mod History
+pub mod Promises
+pub mod Refusals
+pub mod Issuer
+pub mod IssuerBroker
+pub mod IssuerHalf
+pub mod Batch
+pub mod Lending
+pub mod Splitting
+pub mod Writing
+pub mod Taking
+pub mod Resume
+pub mod Steps
+pub mod laws
