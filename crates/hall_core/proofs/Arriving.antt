@@ -13,34 +13,34 @@ use Rattle.env_phase.specs.declared.answer.PollAnswer.{PollAnswer}
 use Rattle.api_core.specs.declared.call.Call.{Call}
 use Rattle.api_core.specs.Replies.{Told, Words, reply_in}
 use Rattle.group_commit.specs.Issuer.{IsIssuer, issued_in, state_in, Fails}
-use Rattle.hall_core.specs.declared.error.HallError.TheVariants as error
-use Rattle.hall_core.specs.Past.{HallCall, arrive, Past, asked, replied, calls_in, calls_of, call_stops, asks_stop, is_stopping}
-use Rattle.hall_core.specs.Effects.{Effect, scene, effect_of_request, effect_of, command_of}
-use Rattle.hall_core.specs.Run.{option_list, reply_to_poll, replies_to_polls, own_reply, slot_events, past_by, past_after, issued_by, slots_of, polls_answered}
-use Rattle.hall_core.specs.Slots.{open_slots, open_among}
-use Rattle.hall_core.specs.Refusals.{first_failed, why_refused}
-use Rattle.hall_core.specs.Agreement.{IsFit, IsUnrefused, IsKept}
-use Rattle.hall_core.specs.declared.error.HallError.{HallError}
+use Rattle.hall_plans.specs.declared.error.HallError.TheVariants as error
+use Rattle.hall_plans.specs.Past.{HallCall, arrive, Past, asked, replied, calls_in, calls_of, call_stops, asks_stop, is_stopping}
+use Rattle.hall_plans.specs.Effects.{Effect, scene, effect_of_request, effect_of, command_of}
+use Rattle.hall_plans.specs.Run.{option_list, reply_to_poll, replies_to_polls, own_reply, slot_events, past_by, past_after, issued_by, slots_of, polls_answered}
+use Rattle.hall_plans.specs.Slots.{open_slots, open_among}
+use Rattle.hall_plans.specs.Refusals.{first_failed, why_refused}
+use Rattle.hall_plans.specs.Agreement.{IsFit, IsUnrefused, IsKept}
+use Rattle.hall_plans.specs.declared.error.HallError.{HallError}
 use Rattle.async_core.specs.declared.illegal.Illegal.{Illegal}
 use Rattle.async_core.specs.Rules.{refusal_at}
 use Rattle.async_core.specs.History.{table_of, refusal_of}
 use Rattle.async_core.specs.laws.Tables.{refusal-of_table}
-use Rattle.hall_core.specs.laws.Sound.{step, command_is_legal, call_is_accepted}
-use Rattle.hall_core.specs.laws.Statuses.{open_slots_are}
-use Rattle.hall_core.specs.Environments.{HoldFor}
-use Rattle.hall_core.specs.Plans.{PlansRequest, drawn_by}
+use Rattle.hall_plans.specs.laws.Sound.{step, command_is_legal, call_is_accepted}
+use Rattle.hall_plans.specs.laws.Statuses.{open_slots_are}
+use Rattle.hall_plans.specs.Environments.{HoldFor}
+use Rattle.hall_plans.specs.Plans.{PlansRequest, drawn_by}
 use Rattle.hall_core.specs.OpenSlots.{KeepFor, has_open, open_count, unavailable_in}
-use Rattle.hall_core.specs.Answering.{polls_told}
-use Rattle.hall_core.specs.Changes.{Leads, answered_to, IsUncalled}
-use Rattle.hall_core.specs.Settling.{replies_told, replied_at, own_at}
+use Rattle.hall_plans.specs.Answering.{polls_told}
+use Rattle.hall_plans.specs.Changes.{Leads, answered_to, IsUncalled}
+use Rattle.hall_plans.specs.Settling.{replies_told, replied_at, own_at}
 use Rattle.hall_core.specs.Issuing.{HasPlaceFor, Continues, IsAnswered, IsWanting, told_of}
 use Rattle.hall_core.specs.Hall.{HallView, StandsFor, settings_in, words_in, pending_in, is_slot_open, open_slot_count, refusal_of_arrival, Passes, request}
 use Rattle.hall_core.proofs.OpenCount.{all_are_open}
 use Rattle.std.specs.Prelude.{slice_index}
 use Rattle.api_core.specs.declared.reply.Reply.{Reply}
-use Rattle.hall_core.specs.declared.preparing.Prepared.{Prepared}
-use Rattle.hall_core.specs.declared.issuing.Issued.{Issued}
-use Rattle.hall_core.specs.Prepared.{IsPreparedFor}
+use Rattle.hall_plans.specs.declared.preparing.Prepared.{Prepared}
+use Rattle.hall_plans.specs.declared.issued.Issued.{Issued}
+use Rattle.hall_plans.specs.Prepared.{IsPreparedFor}
 use Rattle.hall_core.specs.Doing.{KeepRequest, Tells}
 
 -- ## Refusals

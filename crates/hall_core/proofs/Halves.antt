@@ -14,7 +14,7 @@ use Rattle.group_commit.specs.Broker.{settings_of, table_in, is_broken}
 use Rattle.group_commit.specs.IssuerHalf.{half_view}
 use Rattle.group_commit.specs.Lending.{IsNotSettled}
 use Rattle.group_commit.specs.Splitting.{Joins}
-use Rattle.hall_core.specs.Past.{Past}
+use Rattle.hall_plans.specs.Past.{Past}
 use Rattle.hall_core.specs.Hall.{HallView, StandsFor}
 use Rattle.hall_core.specs.Halves.{HasSameParts}
 

@@ -9,13 +9,13 @@ use Rattle.api_core.specs.declared.reply.Reply.{Reply as Text}
 use Rattle.hall_core.specs.declared.open_slot.OpenSlot.{OpenSlot}
 use Rattle.hall_core.specs.declared.open_slot.SlotStanding.{SlotStanding}
 use Rattle.hall_core.specs.declared.open_slot.SlotStanding.TheVariants.{Waiting, Forgotten, Replied}
-use Rattle.hall_core.specs.Past.{SlotEvent, asked, replied, taken, forgotten}
-use Rattle.hall_core.specs.Slots.{Reply, is_open_in, tell, unavailable, released_in}
-use Rattle.hall_core.specs.Status.{Status, status_of, slot_of, fresh, after_reply, after_forgetting, changed_by, status_after, is_open_by, released_by, ComesApart}
+use Rattle.hall_plans.specs.Past.{SlotEvent, asked, replied, taken, forgotten}
+use Rattle.hall_plans.specs.Slots.{Reply, is_open_in, tell, unavailable, released_in}
+use Rattle.hall_plans.specs.Status.{Status, status_of, slot_of, fresh, after_reply, after_forgetting, changed_by, status_after, is_open_by, released_by, ComesApart}
 use Rattle.hall_core.specs.OpenSlots.{Entries, entry_at, is_open_at, has_open, told_in, unavailable_in, kept, KeepFor, KeepMore}
 use Rattle.hall_core.specs.SlotSteps.{PutsEntry, fresh_entry, standing_of, with_reply, marked, released_at, tell_entry}
-use Rattle.hall_core.specs.laws.Statuses.{status_snoc, status_nil, open_by_status, open_by_standing, released_by_status}
-use Rattle.hall_core.specs.laws.Counts.{apart_nil, apart_front, apart_last, apart_more, count_snoc}
+use Rattle.hall_plans.specs.laws.Statuses.{status_snoc, status_nil, open_by_status, open_by_standing, released_by_status}
+use Rattle.hall_plans.specs.laws.Counts.{apart_nil, apart_front, apart_last, apart_more, count_snoc}
 
 -- ## Entries and statuses
 

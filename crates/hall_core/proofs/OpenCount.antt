@@ -16,10 +16,10 @@ use Rattle.std.proofs.lemmas.Map.Lookups.{exact_unsigned}
 use Rattle.async_core.specs.laws.Lives.{count_by-cons}
 use Rattle.api_core.specs.Replies.{Words}
 use Rattle.hall_core.specs.declared.open_slot.OpenSlot.{OpenSlot}
-use Rattle.hall_core.specs.Past.{SlotEvent}
-use Rattle.hall_core.specs.Slots.{open_among}
+use Rattle.hall_plans.specs.Past.{SlotEvent}
+use Rattle.hall_plans.specs.Slots.{open_among}
 use Rattle.hall_core.specs.OpenSlots.{Entries, is_open_entry, is_open_at, has_open, open_count, KeepFor}
-use Rattle.hall_core.specs.laws.Counts.{one_if, times, times_open}
+use Rattle.hall_plans.specs.laws.Counts.{one_if, times, times_open}
 use Rattle.hall_core.proofs.Kept.{open_kept}
 
 -- ## Lists in which each number stands as often

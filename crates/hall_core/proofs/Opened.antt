@@ -3,9 +3,9 @@ use Rattle.std.proofs.Common.{◌≡◌, List, [], length, false, refl}
 use Rattle.invoke_records.specs.declared.command.Command.{Command}
 use Rattle.group_commit.specs.Issuer.{IsIssuer}
 use Rattle.api_core.specs.Replies.{Words}
-use Rattle.hall_core.specs.Past.{opening}
-use Rattle.hall_core.specs.laws.Sound.{kept_at_opening}
-use Rattle.hall_core.specs.Environments.{HoldFor}
+use Rattle.hall_plans.specs.Past.{opening}
+use Rattle.hall_plans.specs.laws.Sound.{kept_at_opening}
+use Rattle.hall_plans.specs.Environments.{HoldFor}
 use Rattle.hall_core.specs.OpenSlots.{KeepFor}
 use Rattle.hall_core.specs.Hall.{HallView, StandsFor, settings_in, words_in}
 

@@ -2,12 +2,12 @@
 use Rattle.std.proofs.Common.{◌≡◌, ℕ, List, cond, refl, sym, ap, ◌∙◌, Option, Some, None, option_map}
 use Rattle.api_core.specs.declared.reply.Reply.{Reply as Text}
 use Rattle.api_core.specs.Replies.{Words}
-use Rattle.hall_core.specs.Past.{SlotEvent, Past}
-use Rattle.hall_core.specs.Slots.{Reply, point_in, point_of}
-use Rattle.hall_core.specs.Status.{Status, status_of}
+use Rattle.hall_plans.specs.Past.{SlotEvent, Past}
+use Rattle.hall_plans.specs.Slots.{Reply, point_in, point_of}
+use Rattle.hall_plans.specs.Status.{Status, status_of}
 use Rattle.hall_core.specs.OpenSlots.{Entries, entry_at, told_in, kept, KeepFor}
 use Rattle.hall_core.specs.SlotSteps.{point_at}
-use Rattle.hall_core.specs.laws.Points.{points, point_by_status, point_in_status}
+use Rattle.hall_plans.specs.laws.Points.{points, point_by_status, point_in_status}
 
 told_point : (s : Words) (reply : Option Reply) → option_map (λ (r : Text × ℕ). r.1) (option_map (told_in s) reply) ≡ points reply
 told_point s None = refl

@@ -8,14 +8,14 @@ use Rattle.env_phase.specs.declared.call.EnvCall.{EnvCall}
 use Rattle.invoke_records.specs.declared.command.Command.{Command}
 use Rattle.api_core.specs.declared.call.Call.{Call}
 use Rattle.group_commit.specs.Issuer.{IssuerView, issued_in, state_in}
-use Rattle.hall_core.specs.declared.error.HallError.{HallError}
-use Rattle.hall_core.specs.declared.error.HallError.TheVariants as error
-use Rattle.hall_core.specs.Refusals.{first_failed}
-use Rattle.hall_core.specs.Asked.{AsksFor, MayAsk, IsAsked}
-use Rattle.hall_core.specs.Past.{HallCall, arrive, tick}
-use Rattle.hall_core.specs.Effects.{Effect, id_of}
-use Rattle.hall_core.specs.Plans.{drawn_by, PlansRequest, PlansTick}
-use Rattle.hall_core.specs.Changes.{IsUncalled}
+use Rattle.hall_plans.specs.declared.error.HallError.{HallError}
+use Rattle.hall_plans.specs.declared.error.HallError.TheVariants as error
+use Rattle.hall_plans.specs.Refusals.{first_failed}
+use Rattle.hall_plans.specs.Asked.{AsksFor, MayAsk, IsAsked}
+use Rattle.hall_plans.specs.Past.{HallCall, arrive, tick}
+use Rattle.hall_plans.specs.Effects.{Effect, id_of}
+use Rattle.hall_plans.specs.Plans.{drawn_by, PlansRequest, PlansTick}
+use Rattle.hall_plans.specs.Changes.{IsUncalled}
 use Rattle.hall_core.specs.Issuing.{IsWanting, told_of}
 use Rattle.hall_core.specs.Hall.{HallView, ForEachPast, settings_in, pending_in, open_slot_count, request, refusal_of_arrival, refusal_of_moving, WouldIssue, NeedsMemory, KeepsReason}
 use Rattle.hall_core.proofs.Arriving.{effect_is}

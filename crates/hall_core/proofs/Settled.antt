@@ -4,9 +4,9 @@ use Rattle.std.specs.Prelude.{Option, Some, None, option_map}
 use Rattle.std.proofs.Common.{◌≡◌, ℕ, List, [], ◌∷◌, ◌++◌, length, take, refl, sym, ap, arith, append_assoc}
 use Rattle.api_core.specs.declared.reply.Reply.{Reply}
 use Rattle.api_core.specs.Replies.{Words, Told, reply_in}
-use Rattle.hall_core.specs.Past.{SlotEvent, replied}
+use Rattle.hall_plans.specs.Past.{SlotEvent, replied}
 use Rattle.hall_core.specs.OpenSlots.{Entries, KeepFor}
-use Rattle.hall_core.specs.Settling.{replies_told, replied_at, own_at}
+use Rattle.hall_plans.specs.Settling.{replies_told, replied_at, own_at}
 
 nothing_there : {A : Type 0} (x : A) (xs : List A) → x ∷ xs ≡ [] → ⊥
 nothing_there x xs h = cc

@@ -10,25 +10,25 @@ use Rattle.invoke_records.specs.declared.command.Command.{Command}
 use Rattle.invoke_records.specs.declared.command.Kind.{Kind}
 use Rattle.async_core.specs.Choice.{move_of}
 use Rattle.group_commit.specs.Issuer.{IssuerView, IsIssuer, issued_in, state_in}
-use Rattle.hall_core.specs.declared.error.HallError.TheVariants as error
-use Rattle.hall_core.specs.declared.preparing.Prepared.{Prepared}
-use Rattle.hall_core.specs.declared.issuing.Issued.{Issued}
-use Rattle.hall_core.specs.Past.{HallCall, tick, take_slot, forget_slot, taken, forgotten, Past, SlotEvent, ready_in, asks_stop, is_stopping}
-use Rattle.hall_core.specs.Firsts.{Event, first_unheld, first_moving}
-use Rattle.hall_core.specs.Effects.{Effect, Scene, nothing, scene, moves_by, moves, interrupts_or_moves, effect_of_tick, effect_of, command_of}
-use Rattle.hall_core.specs.laws.Moving.{command_by_kind}
-use Rattle.hall_core.specs.Run.{option_list, slot_events, past_after, issued_by, polls_answered}
-use Rattle.hall_core.specs.Refusals.{first_failed, why_refused}
-use Rattle.hall_core.specs.Agreement.{IsFit, IsUnrefused}
-use Rattle.hall_core.specs.Plans.{PlansTick}
-use Rattle.hall_core.specs.Prepared.{IsPreparedFor}
+use Rattle.hall_plans.specs.declared.error.HallError.TheVariants as error
+use Rattle.hall_plans.specs.declared.preparing.Prepared.{Prepared}
+use Rattle.hall_plans.specs.declared.issued.Issued.{Issued}
+use Rattle.hall_plans.specs.Past.{HallCall, tick, take_slot, forget_slot, taken, forgotten, Past, SlotEvent, ready_in, asks_stop, is_stopping}
+use Rattle.hall_plans.specs.Firsts.{Event, first_unheld, first_moving}
+use Rattle.hall_plans.specs.Effects.{Effect, Scene, nothing, scene, moves_by, moves, interrupts_or_moves, effect_of_tick, effect_of, command_of}
+use Rattle.hall_plans.specs.laws.Moving.{command_by_kind}
+use Rattle.hall_plans.specs.Run.{option_list, slot_events, past_after, issued_by, polls_answered}
+use Rattle.hall_plans.specs.Refusals.{first_failed, why_refused}
+use Rattle.hall_plans.specs.Agreement.{IsFit, IsUnrefused}
+use Rattle.hall_plans.specs.Plans.{PlansTick}
+use Rattle.hall_plans.specs.Prepared.{IsPreparedFor}
 use Rattle.api_core.specs.Replies.{Words}
 use Rattle.api_core.specs.declared.reply.Reply.{Reply as Text}
 use Rattle.hall_core.specs.declared.released.Released.{Released}
-use Rattle.hall_core.specs.Slots.{Reply, released, released_in}
+use Rattle.hall_plans.specs.Slots.{Reply, released, released_in}
 use Rattle.hall_core.specs.OpenSlots.{KeepFor, told_in}
-use Rattle.hall_core.specs.Changes.{Leads, answered_to}
-use Rattle.hall_core.specs.Settling.{replied_at}
+use Rattle.hall_plans.specs.Changes.{Leads, answered_to}
+use Rattle.hall_plans.specs.Settling.{replied_at}
 use Rattle.hall_core.specs.Issuing.{HasPlaceFor, Continues, IsAnswered}
 use Rattle.hall_core.specs.Doing.{KeepTick}
 use Rattle.hall_core.specs.Hall.{HallView, StandsFor, settings_in, words_in, pending_in, refusal_of_moving, Passes, IssuesAtMostOne, released_to}

@@ -6,7 +6,7 @@ use Rattle.group_commit.specs.declared.error.CommitError.{CommitError}
 use Rattle.group_commit.specs.declared.error.CommitError.TheVariants as commit_error
 use Rattle.group_commit.specs.Broker.{pending_of, is_broken, IsSameBroker, Breaks}
 use Rattle.group_commit.specs.Refusals.{NeedsSwitch, IsWornOut, HasBadTable}
-use Rattle.hall_core.specs.declared.error.HallError.{HallError}
+use Rattle.hall_plans.specs.declared.error.HallError.{HallError}
 use Rattle.hall_core.specs.Hall.{commit_error_of}
 
 -- the broker is not broken, and something is pending

@@ -3,10 +3,10 @@ use Rattle.std.specs.Prelude.{◌≡◌, ℕ, List, ◌∷◌, [], ◌++◌, Opt
 use Rattle.api_core.specs.declared.call.Call.{Call}
 use Rattle.api_core.specs.declared.reply.Reply.{Reply}
 use Rattle.api_core.specs.Replies.{Told, Words, reply_in}
-use Rattle.hall_core.specs.declared.preparing.Prepared.{Prepared}
-use Rattle.hall_core.specs.Past.{asked}
+use Rattle.hall_plans.specs.declared.preparing.Prepared.{Prepared}
+use Rattle.hall_plans.specs.Past.{asked}
 use Rattle.hall_core.specs.OpenSlots.{Entries, KeepFor, ForEachKept, unavailable_in}
-use Rattle.hall_core.specs.Settling.{replies_told, replied_at, own_at}
+use Rattle.hall_plans.specs.Settling.{replies_told, replied_at, own_at}
 
 -- these answers are told to polls, and this to the caller
 abbrev pub Tells : Words → Prepared → List (ℕ × Told) → Option Told → Type 0

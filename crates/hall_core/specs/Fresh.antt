@@ -4,7 +4,7 @@ use Rattle.retry_rules.specs.declared.settings.Settings.{Settings}
 use Rattle.api_core.specs.Replies.{Words}
 use Rattle.group_commit.specs.declared.issuer.Issuer.{Ghosts}
 use Rattle.hall_core.specs.declared.hall.Hall.{Hall}
-use Rattle.hall_core.specs.Environments.{HoldFor}
+use Rattle.hall_plans.specs.Environments.{HoldFor}
 use Rattle.hall_core.specs.OpenSlots.{KeepFor}
 
 -- nothing has come to a hall with these settings: by its parts, whatever history its table is of

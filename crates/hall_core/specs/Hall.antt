@@ -8,23 +8,23 @@ use Rattle.group_commit.specs.declared.error.CommitError.{CommitError}
 use Rattle.group_commit.specs.declared.error.CommitError.TheVariants as commit_error
 use Rattle.group_commit.specs.Issuer.{IssuerView, issued_in, state_in, IsSameIssuer}
 use Rattle.hall_core.specs.declared.hall.Hall.{Hall}
-use Rattle.hall_core.specs.declared.error.HallError.{HallError}
-use Rattle.hall_core.specs.declared.error.HallError.TheVariants as error
-use Rattle.hall_core.specs.declared.issuing.Issued.{Issued}
+use Rattle.hall_plans.specs.declared.error.HallError.{HallError}
+use Rattle.hall_plans.specs.declared.error.HallError.TheVariants as error
+use Rattle.hall_plans.specs.declared.issued.Issued.{Issued}
 use Rattle.invoke_records.specs.declared.command.Command.{Command}
 use Rattle.hall_core.specs.Issuing.{Continues, IsAnswered}
-use Rattle.hall_core.specs.Past.{HallCall, arrive, tick, Past, SlotEvent, is_stopping}
-use Rattle.hall_core.specs.Effects.{id_of, command_of}
-use Rattle.hall_core.specs.Asked.{AsksFor}
-use Rattle.hall_core.specs.Run.{past_after, issued_by, polls_answered}
+use Rattle.hall_plans.specs.Past.{HallCall, arrive, tick, Past, SlotEvent, is_stopping}
+use Rattle.hall_plans.specs.Effects.{id_of, command_of}
+use Rattle.hall_plans.specs.Asked.{AsksFor}
+use Rattle.hall_plans.specs.Run.{past_after, issued_by, polls_answered}
 use Rattle.hall_core.specs.declared.released.Released.{Released}
 use Rattle.api_core.specs.declared.dialect.Dialect.{Dialect}
 use Rattle.api_core.specs.Replies.{Words, reply_in}
-use Rattle.hall_core.specs.Slots.{Reply, released, released_in}
-use Rattle.hall_core.specs.Refusals.{first_failed, why_refused}
-use Rattle.hall_core.specs.Agreement.{IsFit}
-use Rattle.hall_core.specs.Answering.{words_of}
-use Rattle.hall_core.specs.Plans.{Meets, IsToOneOf}
+use Rattle.hall_plans.specs.Slots.{Reply, released, released_in}
+use Rattle.hall_plans.specs.Refusals.{first_failed, why_refused}
+use Rattle.hall_plans.specs.Agreement.{IsFit}
+use Rattle.hall_plans.specs.Answering.{words_of}
+use Rattle.hall_plans.specs.Plans.{Meets, IsToOneOf}
 use Rattle.hall_core.specs.OpenSlots.{Entries, KeepFor, has_open, open_count}
 
 -- the parts of a hall at a moment

@@ -11,8 +11,8 @@ use Rattle.group_commit.specs.declared.error.SettleError.{SettleError}
 use Rattle.group_commit.specs.declared.error.SettleError.TheVariants as settle_error
 use Rattle.group_commit.specs.Batch.{is_lasting}
 use Rattle.group_commit.specs.Lending.{IsLendReason, IsNotSettled}
-use Rattle.hall_core.specs.declared.error.HallError.{HallError}
-use Rattle.hall_core.specs.declared.error.HallError.TheVariants as error
+use Rattle.hall_plans.specs.declared.error.HallError.{HallError}
+use Rattle.hall_plans.specs.declared.error.HallError.TheVariants as error
 use Rattle.hall_core.specs.OpenSlots.{KeepFor}
 use Rattle.hall_core.specs.Hall.{HallView, ForEachPast, words_in}
 

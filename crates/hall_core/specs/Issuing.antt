@@ -8,10 +8,10 @@ use Rattle.async_core.specs.Rules.{table_after}
 use Rattle.group_commit.specs.Issuer.{IssuerView, issued_in, IsLegalNow, Fails}
 use Rattle.group_commit.specs.declared.error.IssueError.{IssueError}
 use Rattle.group_commit.specs.declared.error.IssueError.TheVariants as issue_error
-use Rattle.hall_core.specs.declared.error.HallError.{HallError}
-use Rattle.hall_core.specs.declared.error.HallError.TheVariants as error
-use Rattle.hall_core.specs.declared.issuing.Issued.{Issued}
-use Rattle.hall_core.specs.Run.{option_list}
+use Rattle.hall_plans.specs.declared.error.HallError.{HallError}
+use Rattle.hall_plans.specs.declared.error.HallError.TheVariants as error
+use Rattle.hall_plans.specs.declared.issued.Issued.{Issued}
+use Rattle.hall_plans.specs.Run.{option_list}
 
 -- what is told of a command: it is the next one
 abbrev pub told_of : ℕ → Command → Issued

@@ -9,9 +9,9 @@ use Rattle.api_core.specs.declared.dialect.Audience.TheVariants.{Caller}
 use Rattle.api_core.specs.declared.refusal.Refusal.TheVariants.{Unavailable}
 use Rattle.api_core.specs.Replies.{refused, Words, reply_in}
 use Rattle.hall_core.specs.declared.open_slot.OpenSlot.{OpenSlot}
-use Rattle.hall_core.specs.Past.{SlotEvent, asked}
-use Rattle.hall_core.specs.Slots.{Reply, open_among}
-use Rattle.hall_core.specs.Status.{Status, status_of, AreApart}
+use Rattle.hall_plans.specs.Past.{SlotEvent, asked}
+use Rattle.hall_plans.specs.Slots.{Reply, open_among}
+use Rattle.hall_plans.specs.Status.{Status, status_of, AreApart}
 
 -- what is kept of slots, behind their numbers
 abbrev pub Entries : Type 0

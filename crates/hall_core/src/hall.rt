@@ -1,18 +1,14 @@
 // The hall: requests and ticks make commands, calls of environments and replies.
 ghost use Rattle.std.specs.Prelude.{◌≡◌};
-ghost use Rattle.hall_core.specs.Past.{call_stops};
+ghost use Rattle.hall_plans.specs.Past.{call_stops};
 
-use crate::environments::Environments;
-use crate::error::HallError;
-use crate::issuing::{Issued, issue};
-use crate::planner::plan_request;
-use crate::planning_ticks::plan_tick;
-use crate::preparing::{Prepared, prepare};
+use crate::issuing::issue;
 use crate::released::Released;
 use crate::slots::Slots;
 use api_core::{Call, Dialect, Reply, unavailable};
 use async_core::Table;
 use group_commit::{Durable, Issuer, MOST_COMMANDS, MOST_PENDING, Receipt, Ticket};
+use hall_plans::{Environments, HallError, Issued, Prepared, plan_request, plan_tick, prepare};
 use std::alloc::Global;
 
 /// How many slots may be open.
@@ -50,16 +46,16 @@ pub struct Hall<I: Issuer> {
 
 impl<I: Issuer> Hall<I> {
     ghost use Rattle.std.specs.Prelude.{◌&&◌, ◌||◌, ◌^◌, nat_le, length, false, true, IfOk, IfErr, IfSome, IfNone, OnOk, OnErr, OnSome};
-    ghost use Rattle.hall_core.specs.declared.error.HallError.TheVariants as HallError;
+    ghost use Rattle.hall_plans.specs.declared.error.HallError.TheVariants as HallError;
     ghost use Rattle.hall_core.specs.OpenSlots.{has_open, unavailable_in, ForEachKept};
-    ghost use Rattle.hall_core.specs.Changes.{IsWithin, Leads};
+    ghost use Rattle.hall_plans.specs.Changes.{IsWithin, Leads};
     ghost use Rattle.hall_core.specs.Issuing.{Continues, IsAnswered, IsUnissued};
     ghost use Rattle.hall_core.specs.Doing.{KeepRequest, KeepTick};
-    ghost use Rattle.hall_core.specs.Agreement.{IsFit};
-    ghost use Rattle.hall_core.specs.Plans.{IsToOneOf, drawn_by};
-    ghost use Rattle.hall_core.specs.Asked.{IsAsked};
+    ghost use Rattle.hall_plans.specs.Agreement.{IsFit};
+    ghost use Rattle.hall_plans.specs.Plans.{IsToOneOf, drawn_by};
+    ghost use Rattle.hall_plans.specs.Asked.{IsAsked};
     ghost use Rattle.group_commit.specs.Issuer.{issued_in, state_in};
-    ghost use Rattle.hall_core.specs.Past.{tick, take_slot, forget_slot};
+    ghost use Rattle.hall_plans.specs.Past.{tick, take_slot, forget_slot};
     ghost use Rattle.hall_core.specs.Hall.{view_of, settings_in, words_in, pending_in, refusal_of_arrival, refusal_of_moving, IsSameHall, request, Does, Passes, Refuses, KeepsReason};
     ghost use Rattle.hall_core.specs.Hall.{is_slot_open, Gives, GivesFor, slot_told, IsDone, IsAsDurable, IssuesAtMostOne, AnswersPolls, answered_slots};
 
@@ -196,7 +192,7 @@ impl<I: Issuer> Hall<I> {
             now,
             words,
         );
-        if let Some(why) = self.refusal_of_arrival(plan.command.is_some()) {
+        if let Some(why) = self.refusal_of_arrival(plan.has_command()) {
             return Err(why);
         }
         let prepared = match prepare(
@@ -283,7 +279,7 @@ impl<I: Issuer> Hall<I> {
         ensures err { OnErr result (IsSameHall (view_of I.view self.old) (view_of I.view self.new)) }
     {
         let plan = plan_tick(self.issuer.table(), &self.environments, self.stops, now);
-        let has_command = plan.command.is_some();
+        let has_command = plan.has_command();
         if let Some(why) = self.refusal_of_moving(has_command) {
             return Err(why);
         }

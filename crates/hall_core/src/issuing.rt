@@ -1,21 +1,12 @@
 // Issuing the command of a call.
 ghost use Rattle.std.specs.Prelude.{◌≡◌, ◌++◌, false, option_map, IfOk, IfErr, OnOk, OnErr, is_some, is_none};
 ghost use Rattle.group_commit.specs.Issuer.{ForEachHistory, IsSameIssuer};
-ghost use Rattle.hall_core.specs.Run.{option_list};
+ghost use Rattle.hall_plans.specs.Run.{option_list};
 ghost use Rattle.hall_core.specs.Issuing.{IsAnswered, Continues, IsUnissued, error_of};
 
-use crate::error::HallError;
 use group_commit::{IssueError, Issuer};
-use invoke_records::{Command, Kind};
-
-/// The command that a call issued: its number, kind, event and moment, in milliseconds since 1970.
-#[derive(Clone, Copy)]
-pub struct Issued {
-    pub number: u64,
-    pub kind: Kind,
-    pub id: [u8; 16],
-    pub time: u64,
-}
+use hall_plans::{HallError, Issued};
+use invoke_records::Command;
 
 fn error_of(why: IssueError) -> HallError
     ensures { result ≡ error_of why }

@@ -1,24 +1,13 @@
 // What an operator is shown of a hall.
-ghost use Rattle.std.specs.Prelude.{◌≡◌, IfOk};
-ghost use Rattle.env_phase.specs.State.{ForEachList};
+ghost use Rattle.std.specs.Prelude.{IfOk};
 ghost use Rattle.hall_core.specs.Hall.{view_of};
-ghost use Rattle.hall_core.specs.HallStatus.{IsShownAfter, Shows};
+ghost use Rattle.hall_core.specs.HallStatus.{Shows};
 
 use crate::hall::Hall;
-use env_phase::{Env, Phase};
 use group_commit::Issuer;
+use hall_plans::EnvironmentStatus;
 use invoke_records::Snapshot;
 use std::alloc::AllocError;
-
-/// What is shown of one environment.
-#[derive(Clone, Copy)]
-pub struct EnvironmentStatus {
-    /// Its number, from 1 on.
-    pub number: u16,
-    pub phase: Phase,
-    /// How many of its parties are parked, of the runtime and the extensions that are registered.
-    pub parked: usize,
-}
 
 /// What is shown of a hall at a moment.
 #[derive(Drop)]
@@ -32,18 +21,6 @@ pub struct HallStatus {
     pub environments: Vec<EnvironmentStatus>,
     /// A request asked the hall to stop.
     pub is_stopping: bool,
-}
-
-/// What is shown of an environment. It takes no memory.
-pub(crate) fn environment_status(env: &Env) -> EnvironmentStatus
-    ensures number { result.number ≡ env.now.number }
-    ensures shown { ForEachList env.now (λ calls. IsShownAfter env.now.wanted calls result) }
-{
-    EnvironmentStatus {
-        number: env.number(),
-        phase: env.phase(),
-        parked: env.parked(),
-    }
 }
 
 impl<I: Issuer> Hall<I> {

@@ -5,19 +5,18 @@ ghost use Rattle.group_commit.specs.Broker.{disk_of, settings_of, is_broken, Sta
 ghost use Rattle.group_commit.specs.Promises.{LeavesLegalStops};
 ghost use Rattle.group_commit.specs.Refusals.{FaultsHaveRisen, IsWornOut, NeedsSwitch};
 ghost use Rattle.group_commit.specs.IssuerBroker.{issuer_of};
-ghost use Rattle.hall_core.specs.declared.error.HallError.TheVariants as HallError;
-ghost use Rattle.hall_core.specs.Past.{opening};
+ghost use Rattle.hall_plans.specs.declared.error.HallError.TheVariants as HallError;
+ghost use Rattle.hall_plans.specs.Past.{opening};
 ghost use Rattle.hall_core.specs.Hall.{view_of, answered_slots, StandsFor, ForEachPast, IsAllDurable, commit_error_of};
 ghost use Rattle.hall_core.specs.Fresh.{IsFresh};
 ghost use Rattle.hall_core.specs.Halves.{HasSameParts};
 ghost use Rattle.hall_core.specs.Committing.{HasToWrite, IsNotCommitted};
 
-use crate::environments::Environments;
-use crate::error::HallError;
 use crate::hall::Hall;
 use crate::slots::Slots;
 use api_core::Dialect;
 use group_commit::{Broker, CommitError, Durable};
+use hall_plans::{Environments, HallError};
 use sector_disk::Disk;
 use std::alloc::Global;
 

@@ -9,12 +9,12 @@ ghost use Rattle.hall_core.specs.Hall.{view_of, answered_slots, StandsFor, ForEa
 ghost use Rattle.hall_core.specs.Halves.{HasSameParts, KeepsSlotsOf, IsNotLent, IsNotDurable};
 ghost use Rattle.hall_core.specs.Halves as meant;
 
-use crate::error::HallError;
 use crate::hall::Hall;
 use group_commit::{
     Batch, Broker, DiskHalf, Durable, Failed, IssueHalf, JoinError, LendError, SettleError,
     SplitError, WriteError, Written,
 };
+use hall_plans::HallError;
 use sector_disk::Disk;
 
 /// A hall whose broker was not split, and why. It is handed back.

@@ -3,7 +3,7 @@ ghost use Rattle.std.specs.Prelude.{◌≡◌, ◌++◌, ℕ, List, Option, opti
 ghost use Rattle.api_core.specs.Replies.{Told, reply_in};
 ghost use Rattle.group_commit.specs.Issuer.{issued_in};
 ghost use Rattle.hall_core.specs.OpenSlots.{KeepFor, ForEachKept};
-ghost use Rattle.hall_core.specs.Settling.{replies_told, replied_at, own_at};
+ghost use Rattle.hall_plans.specs.Settling.{replies_told, replied_at, own_at};
 
 use crate::slots::Slots;
 use api_core::Reply;

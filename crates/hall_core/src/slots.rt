@@ -29,8 +29,8 @@ impl Slots {
     ghost use Rattle.std.specs.Prelude.{[]};
     ghost use Rattle.api_core.specs.declared.call.Call.{Call};
     ghost use Rattle.api_core.specs.Replies.{Told, Words, reply_in};
-    ghost use Rattle.hall_core.specs.Past.{asked, replied, taken, forgotten};
-    ghost use Rattle.hall_core.specs.Slots.{open_among, is_open_in, released_in, point_in};
+    ghost use Rattle.hall_plans.specs.Past.{asked, replied, taken, forgotten};
+    ghost use Rattle.hall_plans.specs.Slots.{open_among, is_open_in, released_in, point_in};
     ghost use Rattle.hall_core.specs.OpenSlots.{entry_at, has_open, open_count, told_in, unavailable_in, KeepFor, ForEachKept, KeepMore, IsUndone};
     ghost use Rattle.hall_core.specs.SlotSteps.{PutsEntry, standing_of, with_reply, marked, released_at, point_at};
 

@@ -1,6 +1,6 @@
 // What a hall says of its replies to those that wait for them.
 ghost use Rattle.std.specs.Prelude.{◌≡◌, []};
-ghost use Rattle.hall_core.specs.Slots.{point_in, point_of};
+ghost use Rattle.hall_plans.specs.Slots.{point_in, point_of};
 ghost use Rattle.hall_core.specs.OpenSlots.{ForEachKept};
 ghost use Rattle.hall_core.specs.Hall.{view_of, answered_slots, ForEachPast, IsSameHall};
 ghost use Rattle.hall_core.specs.Halves.{HasSameParts};
@@ -25,8 +25,7 @@ impl<I: Issuer> Hall<I> {
     /// How many commands have to be durable before the reply of this slot is told, where it is computed and still wanted.
     /// None where the slot is not open, its reply is not wanted, or it is not computed yet. It takes no memory.
     pub fn point(&self, slot: u64) -> Option<u64>
-        // claim: A slot's point is how many commands its reply needs durable. Only a call that names the slot, or
-        // answers its poll, changes it. [: by_past, by_events; points]
+        // claim: A slot's point is how many commands its reply needs durable. [: by_past, by_events]
         ensures by_past { ForEachPast (view_of I.view self.now) (λ past. result ≡ point_of past slot) }
         ensures by_events { ForEachKept self.now.slots (λ _ events. result ≡ point_in events slot) }
     {

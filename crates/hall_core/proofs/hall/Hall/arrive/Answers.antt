@@ -1,9 +1,9 @@
 use Rattle.std.proofs.Common.{rules, ◌≡◌, ap, subst, ◌∙◌, inl, inr, None, Some}
 use Rattle.std.specs.Prelude.{is_some, slice_index}
-use Rattle.hall_core.specs.Plans.{PlansRequest}
-use Rattle.hall_core.specs.Prepared.{IsPreparedFor}
+use Rattle.hall_plans.specs.Plans.{PlansRequest}
+use Rattle.hall_plans.specs.Prepared.{IsPreparedFor}
 use Rattle.hall_core.specs.Issuing.{HasPlaceFor}
-use Rattle.hall_core.specs.Effects.{Effect}
+use Rattle.hall_plans.specs.Effects.{Effect}
 use Rattle.hall_core.specs.Hall.{view_of, settings_in, request, refusal_of_arrival}
 use Rattle.hall_core.proofs.Arriving.{arrived, answered_is, refused_by, finds_place, is_free, effect_is, arrival_passes, planned_unrefused, called_but_for_memory, issued_but_for_memory}
 use Rattle.hall_core.proofs.Reasons.{arrival_reason, uncalled_reason, wanting_reason, request_would, told_asked}

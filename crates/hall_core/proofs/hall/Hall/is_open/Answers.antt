@@ -1,8 +1,8 @@
 use Rattle.std.proofs.Common.{rules, ◌≡◌, ◌==◌, sym, ap, ◌∙◌}
 use Rattle.std.specs.List.{list_any}
-use Rattle.hall_core.specs.Slots.{is_open_in}
+use Rattle.hall_plans.specs.Slots.{is_open_in}
 use Rattle.hall_core.specs.OpenSlots.{has_open}
-use Rattle.hall_core.specs.laws.Statuses.{open_slots_are}
+use Rattle.hall_plans.specs.laws.Statuses.{open_slots_are}
 use Rattle.hall_core.proofs.hall.Hall.is_open.Goals as goal
 
 pub returns-clause-by_past : goal.returns-clause-by_past

@@ -1,8 +1,18 @@
-use Rattle.std.proofs.Common.{refl, ap, ◌∙◌}
+use Rattle.std.proofs.Common.{List, refl, ap, ◌∙◌}
 use Rattle.async_core.specs.State.{State}
-use Rattle.hall_core.specs.Hall.{view_of}
-use Rattle.hall_core.proofs.Showing.{shown_by_past}
+use Rattle.hall_plans.specs.declared.environment_status.EnvironmentStatus.{EnvironmentStatus}
+use Rattle.hall_plans.specs.Past.{calls_in, calls_of}
+use Rattle.hall_plans.specs.Environments.{ForEachMade}
+use Rattle.hall_plans.specs.Showing.{AreShownAfter}
+use Rattle.hall_core.specs.Hall.{HallView, ForEachPast, view_of}
 use Rattle.hall_core.proofs.hall.Hall.look.Goals as goal
+
+-- each is shown as the past of the hall left it
+shown_by_past : (hall : HallView) (statuses : List EnvironmentStatus)
+    → ForEachMade hall.environments (λ wanted made. AreShownAfter wanted (λ n. calls_in n made) statuses)
+    → ForEachPast hall (λ past. AreShownAfter past.wanted (calls_of past) statuses)
+unfolding calls_of
+shown_by_past hall statuses shown past stands = shown past.wanted past.made stands.environments.hold
 
 pub returns : goal.returns
 returns g c = record {

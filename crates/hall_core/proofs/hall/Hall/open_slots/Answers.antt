@@ -1,7 +1,7 @@
 use Rattle.std.proofs.Common.{rules, ◌≡◌, length, sym, ap, ◌∙◌}
-use Rattle.hall_core.specs.Slots.{open_among}
+use Rattle.hall_plans.specs.Slots.{open_among}
 use Rattle.hall_core.specs.OpenSlots.{open_count}
-use Rattle.hall_core.specs.laws.Statuses.{open_slots_are}
+use Rattle.hall_plans.specs.laws.Statuses.{open_slots_are}
 use Rattle.hall_core.proofs.hall.Hall.open_slots.Goals as goal
 
 pub returns-clause-by_past : goal.returns-clause-by_past

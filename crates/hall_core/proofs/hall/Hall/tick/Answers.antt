@@ -1,10 +1,10 @@
 use Rattle.std.proofs.Common.{rules, ◌≡◌, true, false, refl, sym, ap, subst, ◌∙◌, inl, inr, None, Some}
 use Rattle.std.specs.Prelude.{is_some}
-use Rattle.hall_core.specs.Plans.{PlansTick}
-use Rattle.hall_core.specs.Prepared.{IsPreparedFor}
+use Rattle.hall_plans.specs.Plans.{PlansTick}
+use Rattle.hall_plans.specs.Prepared.{IsPreparedFor}
 use Rattle.hall_core.specs.Issuing.{HasPlaceFor}
-use Rattle.hall_core.specs.Past.{tick}
-use Rattle.hall_core.specs.Effects.{Effect}
+use Rattle.hall_plans.specs.Past.{tick}
+use Rattle.hall_plans.specs.Effects.{Effect}
 use Rattle.hall_core.specs.Hall.{view_of, settings_in, refusal_of_moving}
 use Rattle.hall_core.proofs.Arriving.{answered_is, called_but_for_memory, issued_but_for_memory}
 use Rattle.hall_core.proofs.Kept.{nothing_there}

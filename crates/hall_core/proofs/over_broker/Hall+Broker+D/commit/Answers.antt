@@ -1,5 +1,5 @@
 use Rattle.std.proofs.Common.{◌≡◌, ap, sym, ◌∙◌, Err, inl, inr, ⊎_elim}
-use Rattle.hall_core.specs.declared.error.HallError.TheVariants as error
+use Rattle.hall_plans.specs.declared.error.HallError.TheVariants as error
 use Rattle.hall_core.specs.Hall.{commit_error_of}
 use Rattle.group_commit.specs.declared.error.CommitError.TheVariants as commit_error
 use Rattle.hall_core.proofs.Committing.{told_broken, not_committed, disk_is_left}

@@ -1,6 +1,6 @@
 -- In a broken hall those are counted that are open, and else all that are kept.
 use Rattle.std.proofs.Common.{◌≡◌, ◌∙◌, sym, ap, length, rules}
-use Rattle.hall_core.specs.Slots.{open_among}
+use Rattle.hall_plans.specs.Slots.{open_among}
 use Rattle.hall_core.specs.OpenSlots.{open_count}
 use Rattle.hall_core.proofs.OpenCount.{all_are_open}
 use Rattle.hall_core.proofs.slots.Slots.open_count.Goals as goal

@@ -1,9 +1,9 @@
 use Rattle.std.proofs.Common.{rules, ◌≡◌, ◌++◌, ◌∷◌, [], length, take, subst, sym, ap, ◌∙◌, append_assoc}
 use Rattle.group_commit.specs.Issuer.{issued_in}
 use Rattle.std.proofs.lemmas.List.{append-nil}
-use Rattle.hall_core.specs.Past.{replied}
+use Rattle.hall_plans.specs.Past.{replied}
 use Rattle.hall_core.specs.OpenSlots.{KeepFor}
-use Rattle.hall_core.specs.Settling.{replied_at}
+use Rattle.hall_plans.specs.Settling.{replied_at}
 use Rattle.hall_core.proofs.Settled.{next_answer, keeps_next, all_answers, nothing_left}
 use Rattle.hall_core.proofs.slots.Slots.reply_all.Goals as goal
 

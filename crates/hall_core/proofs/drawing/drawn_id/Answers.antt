@@ -1,8 +1,0 @@
-use Rattle.std.proofs.Common.{arith, ◌∙◌}
-use Rattle.hall_core.specs.Plans.{drawn_by}
-use Rattle.hall_core.proofs.Drawn.{two_words}
-use Rattle.hall_core.proofs.drawing.drawn_id.Goals as goal
-
-pub returns : goal.returns
-unfolding drawn_by
-returns c = c.into_bytes.ensures ∙ c.from_u64_pair.ensures ∙ two_words _ _ (omega arith)

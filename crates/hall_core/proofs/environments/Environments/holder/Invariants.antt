@@ -1,7 +1,0 @@
-use Rattle.env_phase.specs.Environment.{runs}
-use Rattle.hall_core.proofs.Holding.{NotAmong}
-use Rattle.hall_core.proofs.environments.Environments.holder.Given as goal
-
--- the first is not among those that were asked
-abbrev pub invariant-loop-env : goal.invariant-loop-env
-invariant-loop-env l = NotAmong l.self (λ wanted calls. runs calls l.fn.id) l.env-index

@@ -1,5 +1,0 @@
-use Rattle.hall_core.specs.laws.Points.{point_stays}
-use Rattle.hall_core.proofs.laws.points.Goals as goal
-
-pub returns : goal.returns
-returns c = λ s past call slot alone. point_stays s past call slot alone

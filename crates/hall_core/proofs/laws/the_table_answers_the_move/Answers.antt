@@ -1,5 +1,0 @@
-use Rattle.hall_core.specs.laws.Moving.{next_move_is}
-use Rattle.hall_core.proofs.laws.the_table_answers_the_move.Goals as goal
-
-pub returns : goal.returns
-returns c = next_move_is

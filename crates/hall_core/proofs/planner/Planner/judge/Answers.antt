@@ -1,6 +1,0 @@
-use Rattle.hall_core.specs.Past.{calls_of}
-use Rattle.hall_core.proofs.planner.Planner.judge.Goals as goal
-
-pub returns : goal.returns
-unfolding calls_of
-returns c past meets = c.judge.ensures past.wanted past.made meets.hold

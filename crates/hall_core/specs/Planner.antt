@@ -1,9 +1,0 @@
--- The scenes that a planner stands for.
-use Rattle.hall_core.specs.declared.planner.Planner.{Planner}
-use Rattle.hall_core.specs.Past.{Past}
-use Rattle.hall_core.specs.Effects.{Scene}
-use Rattle.hall_core.specs.Plans.{Meets, scene_at}
-
--- this holds of each scene whose past the planner's table and environments meet, at its moment
-abbrev pub ForEachScene : Planner → (Scene → Type 0) → Type 0
-ForEachScene p holds = (past : Past) → Meets p.table.now p.environments.now past → holds (scene_at p.table.now past p.moment)
