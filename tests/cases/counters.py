@@ -6,7 +6,7 @@ import time
 from cases.collecting import told as told_of_list
 from cases.limits import INVOKES, statuses_in, told_to_the_end
 from disks import SECTOR, sectors_of
-from harness import DEADLINE, EXTENSION, INVOKE, OPENING, RUNTIME, case, matches, same, statuses, until
+from harness import DEADLINE, EXTENSION, INVOKE, OPENING, REQUEST, RUNTIME, case, matches, same, statuses, until
 
 # The head of a frame's body, and that of a command in it, in bytes.
 FRAME, COMMAND = 32, 31
@@ -28,15 +28,16 @@ def refused(reason):
 OUTCOMES = [ended(outcome) for outcome in ("success", "retries_exhausted", "event_age_exceeded")]
 SUCCESS, EXHAUSTED, TOO_OLD = OUTCOMES
 REFUSED = [refused(reason) for reason in ("bad_request", "not_found", "conflict", "too_large", "too_many", "unavailable", "other")]
+UNREAD = [refused(reason) for reason in ("bad_head", "head_too_large", "head_cut_off", "head_late", "body_cut_off", "body_late", "forbidden")]
 
 # The reason of each status that has one.
 REASON = {400: "bad_request", 404: "not_found", 409: "conflict", 413: "too_large", 429: "too_many", 503: "unavailable"}
 
 UNKNOWN = "00000000-0000-4000-8000-000000000009"
 
-# All counters that there are. Some case of this file moves each of them but INTERRUPTED: no attempt is put back while a broker serves.
+# All counters that there are. Some case of this file moves each of them.
 ALL = {
-    ACCEPTED, STARTED, COLLECTED, FAILED, THROTTLED, INTERRUPTED, ISSUED, DURABLE, COMMITS, WRITTEN, SWITCHES, *OUTCOMES, *REFUSED,
+    ACCEPTED, STARTED, COLLECTED, FAILED, THROTTLED, INTERRUPTED, ISSUED, DURABLE, COMMITS, WRITTEN, SWITCHES, *OUTCOMES, *REFUSED, *UNREAD,
 }
 
 
@@ -184,9 +185,9 @@ def a_broker_that_is_served_anew_counts_anew_but_for_its_commands(broker):
         before = counters(broker)
         end()
         broker.serve()
-        # Before it serves, what the end cut off was put back by one command, of which nothing but its bytes is counted anew.
-        wanted = dict.fromkeys(ALL, 0) | {name: before[name] + 1 for name in (ISSUED, DURABLE)} | {WRITTEN: committed(0)[WRITTEN]}
-        same(counters(broker), wanted)
+        # Before it serves, what the end cut off was put back by one command.
+        wanted = committed(0) | {name: before[name] + 1 for name in (ISSUED, DURABLE)} | {INTERRUPTED: 1}
+        same(counters(broker), dict.fromkeys(ALL, 0) | wanted)
         broker.end()
 
 
@@ -293,39 +294,135 @@ def who_is_told_503_is_counted_and_nothing_of_his(broker):
     same(moved_by(broker, crowd), commits | {ACCEPTED: 256, refused("unavailable"): 4})
 
 
+def unread_by(broker, reason, act):
+    """What an act moves of which this reason is counted once its connection has ended."""
+    before = broker.number(refused(reason))
+
+    def ended():
+        act()
+        broker.until_number(refused(reason), before + 1)
+
+    return moved_by(broker, ended)
+
+
 @case()
-def what_is_no_request_to_the_table_moves_no_counter(broker):
+def what_does_not_come_to_the_table_moves_its_reason_alone(broker):
+    broker.serve("--acts")
+    for reason, status, head in (
+        ("bad_head", [400], b"GET\r\n\r\n"),
+        ("head_too_large", [414], b"GET /" + 70000 * b"x" + b" HTTP/1.1\r\nhost: h\r\n\r\n"),
+        ("head_too_large", [431], b"GET / HTTP/1.1\r\nhost: h\r\n" + 200 * b"x: y\r\n" + b"\r\n"),
+        ("head_cut_off", [], b"GET / HT"),
+        ("body_cut_off", [400], f"{INVOKES}content-length: 9\r\n\r\n{{}}".encode()),
+        ("forbidden", [403], b"GET / HTTP/1.1\r\nhost: site.example\r\n\r\n"),
+        ("forbidden", [403], b"GET / HTTP/1.1\r\nhost: h\r\norigin: null\r\n\r\n"),
+    ):
+
+        def ask(environment):
+            with broker.socket(environment) as client:
+                client.sendall(head)
+                client.shutdown(socket.SHUT_WR)
+                same((reason, statuses_in(told_to_the_end(client))), (reason, status))
+
+        for environment in 0, 1:
+            same((reason, unread_by(broker, reason, lambda: ask(environment))), (reason, {refused(reason): 1}))
+
+    def leave():
+        with broker.socket() as client:
+            client.sendall(b"GET / HT")
+
+    same(unread_by(broker, "head_cut_off", leave), {refused("head_cut_off"): 1})
+
+
+@case()
+def who_sends_nothing_and_who_asks_the_operator_move_no_counter(broker):
     broker.serve("--acts")
 
-    def heads():
-        for status, head in (
-            (400, b"GET\r\n\r\n"),
-            (414, b"GET /" + 70000 * b"x" + b" HTTP/1.1\r\nhost: h\r\n\r\n"),
-            (431, b"GET / HTTP/1.1\r\nhost: h\r\n" + 200 * b"x: y\r\n" + b"\r\n"),
-            (403, b"GET / HTTP/1.1\r\nhost: site.example\r\n\r\n"),
-            (403, b"GET / HTTP/1.1\r\nhost: h\r\norigin: null\r\n\r\n"),
-        ):
-            for environment in 0, 1:
-                with broker.socket(environment) as client:
-                    client.sendall(head)
-                    client.shutdown(socket.SHUT_WR)
-                    same((status, statuses_in(told_to_the_end(client))), (status, [status]))
-
-    def half():
+    def nothing():
         with broker.socket() as client:
-            client.sendall(f"{INVOKES}content-length: 9\r\n\r\n{{}}".encode())
             client.shutdown(socket.SHUT_WR)
-            told_to_the_end(client)
+            same(told_to_the_end(client), b"")
 
     def operator():
         for status, method, path in (400, "GET", "/events/x"), (403, "POST", "/records/collect"), (404, "GET", "/x"), (405, "PUT", "/metrics"):
             same((path, broker.look(path, method).status), (path, status))
 
-    for act in heads, half, operator:
+    for act in nothing, operator:
         same(moved_by(broker, act), {})
 
 
-# What is counted of commits.
+@case(slow=True)
+def what_comes_too_late_moves_its_reason_alone(broker):
+    broker.serve()
+    for reason, status, sent in (
+        ("head_late", [], b"GET / HT"),
+        ("body_late", [408], f"{INVOKES}content-length: 9\r\n\r\n{{}}".encode()),
+    ):
+
+        def ask():
+            with broker.socket() as client:
+                client.sendall(sent)
+                same((reason, statuses_in(told_to_the_end(client, REQUEST + DEADLINE))), (reason, status))
+
+        same((reason, unread_by(broker, reason, ask)), (reason, {refused(reason): 1}))
+
+
+# What is counted of times.
+
+
+def replies(broker, kind):
+    """How many requests of a kind took at most so many seconds, and all of them together."""
+    told, start = broker.numbers(), f'request_seconds_bucket{{kind="{kind}",le="'
+    found = {float(name[len(start):-2]): value for name, value in told.items() if name.startswith(start)}
+    of = f'{{kind="{kind}"}}'
+    same(found[float("inf")], told["request_seconds_count" + of])
+    return found, told["request_seconds_sum" + of]
+
+
+KINDS = "call", "report", "poll"
+
+
+@case()
+def a_request_is_counted_with_its_time_under_its_kind(broker):
+    watch = broker.watches_disk()
+    broker.serve()
+
+    def held(send, least):
+        """What is answered once a commit was held for so long."""
+        watch.release = 0
+        watch.hold_flush = watch.flushes + 1
+        asked = send()
+        until("a flush", lambda: watch.flushes == watch.hold_flush)
+        begun = time.monotonic()
+        until("a time", lambda: time.monotonic() - begun > least)
+        watch.let_go()
+        return asked.done()
+
+    def took(kind, act):
+        """By how much an act moves the counts of its kind alone, and how long that took."""
+        before, begun = {kind: replies(broker, kind) for kind in KINDS}, time.monotonic()
+        act()
+        most, after = time.monotonic() - begun, {kind: replies(broker, kind) for kind in KINDS}
+        same({other: after[other] for other in KINDS if other != kind}, {other: before[other] for other in KINDS if other != kind})
+        moved = {bound: after[kind][0][bound] - before[kind][0][bound] for bound in before[kind][0]}
+        return moved, after[kind][1] - before[kind][1], most
+
+    def is_told(kind, least, act):
+        moved, spent, most = took(kind, act)
+        assert least <= spent <= most, (kind, least, spent, most)
+        same({bound: by for bound, by in moved.items() if bound < least or bound > most},
+             {bound: int(bound > most) for bound in moved if bound < least or bound > most})
+        same((len(moved), list(moved.values()), set(moved.values())), (9, sorted(moved.values()), {0, 1}))
+
+    for least in 0.03, 0.11, 0.6, 2.6:
+        is_told("call", least, lambda: same(held(lambda: broker.send_invoke("{}"), least).status, 202))
+    events = []
+    is_told("poll", 0.03, lambda: events.append(held(broker.send_next, 0.03).id))
+    answer = f"{RUNTIME}/invocation/{events[0]}/response"
+    is_told("report", 0.11, lambda: same(held(lambda: broker.send("POST", answer, "1", environment=1), 0.11).status, 202))
+    # A request that is refused is answered too.
+    moved, _, _ = took("call", lambda: same(broker.ask("GET", "/x").status, 404))
+    same(moved[float("inf")], 1)
 
 
 def buckets(broker):

@@ -6,7 +6,7 @@ import disks
 from harness import OPENING, RUNTIME, case, same, statuses, until
 
 # What each commit changes, or the machine does.
-ALWAYS = ("segment_free_bytes", "process_resident_memory_bytes", "oldest_wait_age_seconds", "oldest_record_age_seconds")
+ALWAYS = ("segment_free_bytes", "process_resident_memory_bytes", "oldest_wait_age_seconds", "oldest_record_age_seconds", "open_connections")
 
 
 def standing(name):
@@ -95,6 +95,25 @@ def polls_and_phases_are_counted(broker):
     steps.change("an answer", running=-1, success=1)
     polls[environment - 1] = broker.send_next(environment)
     steps.change("a poll behind an answer", open=1, parked=1, ready=1, busy=-1)
+
+
+@case({"environments": 2})
+def open_connections_are_counted_by_port(broker):
+    broker.serve()
+    ports, clients = ("callers", "environments", "operator"), []
+
+    def told():
+        numbers = broker.numbers()
+        return [numbers[f'open_connections{{port="{port}"}}'] for port in ports]
+
+    # Who looks has one.
+    until("none but that", lambda: told() == [0, 0, 1])
+    for port, counts in (0, [1, 0, 1]), (0, [2, 0, 1]), (1, [2, 1, 1]), (2, [2, 2, 1]), (3, [2, 2, 2]):
+        clients.append(broker.socket(port))
+        until(f"{counts} connections", lambda: told() == counts)
+    for counts in [1, 2, 2], [0, 2, 2], [0, 1, 2], [0, 0, 2], [0, 0, 1]:
+        clients.pop(0).close()
+        until(f"{counts} connections", lambda: told() == counts)
 
 
 @case({"environments": 2})

@@ -170,7 +170,7 @@ def an_event_outlives_a_kill_in_its_attempt(broker):
     same(broker.next().id, accepted.id)
     broker.kill()
     broker.serve()
-    same(broker.number("attempts_interrupted_total"), 0)
+    same(broker.number("attempts_interrupted_total"), 1)
     again = broker.next()
     same((again.id, again.body), (accepted.id, b'{"a":1}'))
     same(broker.respond(again.id, "ok").status, 202)

@@ -80,10 +80,11 @@ def the_numbers_of_a_broker_that_was_just_served_are_these(broker):
     nonzero = {'environments{phase="init"}': 2, "generation": 1, "disk_bytes": 4096 * 512, "segment_free_bytes": (2048 - 3) * 512}
     nonzero |= {"table_limit": 16, "attempts_limit": 10, "timeout_seconds": 900, "retries_limit": 2, "age_limit_seconds": 21600}
     nonzero |= {"payload_limit_bytes": 1024, "response_limit_bytes": 1024, 'problem{reason="nobody_polls"}': 1}
+    nonzero['open_connections{port="operator"}'] = 1
     settings = [name for name in told if name.startswith(("settings_info{", "build_info{"))]
     same([told.pop(name) for name in settings], [1, 1])
     same({name: value for name, value in told.items() if value}, nonzero)
-    same(len(told), 67)
+    same(len(told), 110)
 
 
 @case({"events": 2})

@@ -10,7 +10,7 @@ use async_core::Table;
 use http_port::{HttpLimits, Listening};
 use long_poll::{Acting, AdminReader};
 use operator_view::Memory;
-use port_meters::{Beside, Machine, Meters, Moment};
+use port_meters::{Beside, Machine, Meters, Moment, Opening, PortMeters};
 use receipts::Trace;
 use sector_disk::Written;
 use std::alloc::{AllocError, Global};
@@ -28,6 +28,8 @@ pub struct Admin {
     pub written: Written,
     /// Where Linux tells how many pages the process has, `/proc/self/statm`.
     pub memory: Option<File>,
+    /// What is counted of all ports.
+    pub ports: PortMeters,
     /// Whether he may act.
     pub acts: bool,
 }
@@ -41,14 +43,16 @@ pub struct AdminPort {
 }
 
 impl Admin {
-    /// The operator's port of a broker that is opened with this table. Only want of memory is refused.
-    pub fn over(self, table: &Table) -> Result<AdminPort, AllocError>
+    /// The operator's port of a broker that is opened with this table, by an opening that did this. Only want of memory is
+    /// refused.
+    pub fn over(self, table: &Table, opening: Opening) -> Result<AdminPort, AllocError>
         // claim: An operator's port keeps the table's settings, and how many of its events had ended.
         ensures admin { IfOk result (λ port. port.admin ≡ self) }
         ensures settings { IfOk result (λ port. port.baseline.settings ≡ table.now.settings) }
         ensures ended { IfOk result (λ port. CountsEnded table.now.table.rows port.baseline.ended_before) }
+        ensures opening { IfOk result (λ port. port.baseline.opening ≡ opening) }
     {
-        let baseline = Baseline::of(table)?;
+        let baseline = Baseline::of(table, opening)?;
         Ok(AdminPort {
             admin: self,
             baseline,
@@ -79,6 +83,7 @@ fn context_of<L: Ledger, T: Trace>(
         listening,
         written,
         memory,
+        ports,
         acts: _,
     } = admin;
     let context = AdminContext {
@@ -88,6 +93,7 @@ fn context_of<L: Ledger, T: Trace>(
         meters,
         written,
         memory,
+        ports,
         started_at,
         looks: Mutex::new(Memory::begun(started_at)),
         history: Mutex::new(history),

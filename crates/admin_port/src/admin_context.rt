@@ -6,7 +6,7 @@ use crate::memory::resident_bytes;
 use admin_replies::{AdminRequest, Baseline, History, Measures, sample_of, tell};
 use long_poll::AdminReader;
 use operator_view::{Counts, Memory};
-use port_meters::{Counters, Meters, Moment};
+use port_meters::{Counters, Meters, Moment, PortMeters};
 use receipts::{Trace, View};
 use sector_disk::Written;
 use std::alloc::Global;
@@ -27,6 +27,8 @@ pub(crate) struct AdminContext<L: Ledger, T: Trace> {
     pub(crate) written: Written,
     /// Where Linux tells how many pages the process has.
     pub(crate) memory: Option<File>,
+    /// What is counted of all ports.
+    pub(crate) ports: PortMeters,
     /// When it was begun to be served, in milliseconds since 1970.
     pub(crate) started_at: u64,
     /// What is remembered of the looks up to now.
@@ -49,6 +51,7 @@ impl<L: Ledger, T: Trace> AdminContext<L, T> {
     fn measures<R: Wait>(&self, rt: &R, counters: Counters, memory: Memory) -> Measures {
         Measures {
             counters,
+            ports: self.ports.read(),
             started_at: self.started_at,
             memory,
             written_bytes: self.written.bytes(),
@@ -70,7 +73,7 @@ impl<L: Ledger, T: Trace> AdminContext<L, T> {
             Ok(at) => at.millis(),
             Err(_) => 0,
         };
-        let counters = self.meters.read(rt);
+        let counters = self.baseline.opening.counted(self.meters.read(rt));
         let sample = sample_of(&self.baseline, view, &counters, self.written.bytes(), now);
         let measures = self.measures(rt, counters, self.remember(rt, sample.counts));
         let mut history = self.history.lock(rt);

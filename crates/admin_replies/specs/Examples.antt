@@ -71,11 +71,27 @@ numbers = record {
       not_found = 39;
       conflict = 40;
       too_large = 41;
-      head_too_large = 42;
       too_many = 43;
       unavailable = 44;
       other = 45;
     };
+  };
+  ports = record {
+    callers = 55;
+    environments = 56;
+    operator = 57;
+    unread = record {
+      bad_head = 58;
+      head_too_large = 59;
+      head_cut_off = 60;
+      head_late = 61;
+      body_cut_off = 62;
+      body_late = 63;
+      forbidden = 64;
+    };
+    calls = record { buckets = 65 ∷ 66 ∷ 67 ∷ 68 ∷ 69 ∷ 70 ∷ 71 ∷ 72 ∷ []; all = 73; microseconds = 74 };
+    reports = record { buckets = 75 ∷ 76 ∷ 77 ∷ 78 ∷ 79 ∷ 80 ∷ 81 ∷ 82 ∷ []; all = 83; microseconds = 84 };
+    polls = record { buckets = 85 ∷ 86 ∷ 87 ∷ 88 ∷ 89 ∷ 90 ∷ 91 ∷ 92 ∷ []; all = 93; microseconds = 94 };
   };
   limits = record { retries = 48; age = 49; timeout = 50; concurrency = 51; events = 52; payload = 53; response = 54 };
   problems = None ∷ Some (problem.NobodyPolls 1 2 3) ∷ None ∷ None ∷ None ∷ None ∷ None ∷ None ∷ None ∷ [];

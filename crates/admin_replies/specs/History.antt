@@ -8,12 +8,12 @@ use Rattle.port_meters.specs.declared.counters.Counters.{Counters}
 use Rattle.receipts.specs.declared.view.View.{View}
 use Rattle.admin_replies.specs.declared.telling.Baseline.{Baseline}
 use Rattle.admin_replies.specs.declared.sample.Sample.{Sample}
-use Rattle.admin_replies.specs.Numbers.{ended_in, event_counters, counts_told}
+use Rattle.admin_replies.specs.Numbers.{events_since, counts_told}
 
 -- what is kept of a broker that is seen so, by the census of its events
 abbrev pub sample_told : Baseline → View → Census → Counters → (written now : ℕ) → Sample
 sample_told baseline view census counters written now = record {
-  counts = counts_told now (event_counters baseline.ended_before (min (ended_in census) (2 ^ 64 - 1)) view.counters) counters;
+  counts = counts_told now (events_since baseline census view.counters) counters;
   accepted = view.counters.accepted;
   collected = view.counters.collected;
   waiting = min (census.waiting + census.due_again) (2 ^ 64 - 1);

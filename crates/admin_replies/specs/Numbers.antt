@@ -77,8 +77,8 @@ abbrev pub ended_since : (before ended collected : ℕ) → ℕ
 ended_since before ended collected = sum_up_to ended collected - before
 
 -- each that ended neither with success nor by its age had no retries left
-abbrev pub event_counters : ℕ → ℕ → CommandCounters → EventCounters
-event_counters before ended counted = record {
+abbrev pub event_counters : (before interrupted ended : ℕ) → CommandCounters → EventCounters
+event_counters before interrupted ended counted = record {
   accepted = counted.accepted;
   success = counted.succeeded;
   retries_exhausted = ended_since before ended counted.collected - counted.succeeded - counted.expired;
@@ -87,8 +87,13 @@ event_counters before ended counted = record {
   started = counted.started;
   failed = counted.failed;
   throttled = counted.throttled;
-  interrupted = counted.interrupted;
+  interrupted = sum_up_to counted.interrupted interrupted;
 }
+
+-- of these, the opening interrupted some before anything was counted
+abbrev pub events_since : Baseline → Census → CommandCounters → EventCounters
+events_since baseline census counted =
+    event_counters baseline.ended_before baseline.opening.interrupted (min (ended_in census) (2 ^ 64 - 1)) counted
 
 -- ## Of the process
 
@@ -177,7 +182,8 @@ pub record AreMetrics (baseline : Baseline) (view : View) (measures : Measures) 
   pub open_slots : metrics.open_slots ≡ view.hall.open_slots
   pub parked : metrics.parked_polls ≡ min (parked_in view.hall.environments.items) (2 ^ 64 - 1)
   pub environments : metrics.environments ≡ phases_of view.hall.environments.items
-  pub events : metrics.events ≡ event_counters baseline.ended_before (min (ended_in metrics.census) (2 ^ 64 - 1)) view.counters
+  pub events : metrics.events ≡ events_since baseline metrics.census view.counters
   pub process : metrics.process ≡ process_told measures view.hall.is_stopping
+  pub ports : metrics.ports ≡ measures.ports
   pub limits : metrics.limits ≡ limits_of view.hall.table.policy baseline.settings
   pub problems : AreProblems baseline.settings view metrics.census measures.memory (counts_told now metrics.events measures.counters) metrics.problems

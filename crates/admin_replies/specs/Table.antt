@@ -3,13 +3,17 @@ use Rattle.std.specs.Prelude.{ℕ, List, [], ◌∷◌, ◌++◌, codes}
 use Prim.Native.String.{String}
 use Rattle.admin_replies.specs.declared.metric.Metric.{Metric}
 use Rattle.admin_replies.specs.declared.metric.Metric.TheVariants as metric
-use Rattle.admin_replies.specs.declared.metric.CommitMetric.TheVariants as commit
 use Rattle.admin_replies.specs.declared.metric.HeldMetric.TheVariants as held
 use Rattle.admin_replies.specs.declared.metric.LifeMetric.TheVariants as life
 use Rattle.admin_replies.specs.declared.metric.LimitMetric.TheVariants as limit
+use Rattle.admin_replies.specs.declared.metric.OpenMetric.TheVariants as open_of
 use Rattle.admin_replies.specs.declared.metric.PhaseMetric.TheVariants as phase
 use Rattle.admin_replies.specs.declared.metric.RefusalMetric.TheVariants as refusal
+use Rattle.admin_replies.specs.declared.metric.ReplyMetric.{ReplyMetric}
+use Rattle.admin_replies.specs.declared.metric.ReplyMetric.TheVariants as reply
 use Rattle.admin_replies.specs.declared.metric.StateMetric.TheVariants as state
+use Rattle.admin_replies.specs.declared.metric.TimeMetric.TheVariants as time
+use Rattle.admin_replies.specs.declared.metric.UnreadMetric.TheVariants as unread
 use Rattle.admin_replies.specs.declared.metric.WaitMetric.TheVariants as wait
 use Rattle.admin_replies.specs.declared.table.Section.{Section}
 use Rattle.admin_replies.specs.declared.table.Section.TheVariants as section
@@ -107,22 +111,59 @@ refusal_lines =
     ∷ more (labelled "refused_total" "reason" "too_many") (metric.Refusal refusal.TooMany)
     ∷ more (labelled "refused_total" "reason" "unavailable") (metric.Refusal refusal.Unavailable)
     ∷ more (labelled "refused_total" "reason" "other") (metric.Refusal refusal.Other)
+    ∷ more (labelled "refused_total" "reason" "bad_head") (metric.Unread unread.BadHead)
+    ∷ more (labelled "refused_total" "reason" "head_too_large") (metric.Unread unread.HeadTooLarge)
+    ∷ more (labelled "refused_total" "reason" "head_cut_off") (metric.Unread unread.HeadCutOff)
+    ∷ more (labelled "refused_total" "reason" "head_late") (metric.Unread unread.HeadLate)
+    ∷ more (labelled "refused_total" "reason" "body_cut_off") (metric.Unread unread.BodyCutOff)
+    ∷ more (labelled "refused_total" "reason" "body_late") (metric.Unread unread.BodyLate)
+    ∷ more (labelled "refused_total" "reason" "forbidden") (metric.Unread unread.Forbidden)
     ∷ []
+
+-- the requests of a kind that took at most so long
+abbrev pub bucket : String → String → List ℕ
+bucket kind bound =
+    plain "request_seconds_bucket" ++ (codes "{kind=\"" ++ (codes kind ++ (codes "\",le=\"" ++ (codes bound ++ codes "\"}"))))
+
+-- how long the requests of a kind took
+abbrev pub reply_lines : List ℕ → String → ReplyMetric → List Line
+reply_lines begins kind of =
+    first begins (bucket kind "0.001") (metric.Reply of (time.Within 0))
+    ∷ more (bucket kind "0.0025") (metric.Reply of (time.Within 1))
+    ∷ more (bucket kind "0.005") (metric.Reply of (time.Within 2))
+    ∷ more (bucket kind "0.01") (metric.Reply of (time.Within 3))
+    ∷ more (bucket kind "0.025") (metric.Reply of (time.Within 4))
+    ∷ more (bucket kind "0.1") (metric.Reply of (time.Within 5))
+    ∷ more (bucket kind "0.5") (metric.Reply of (time.Within 6))
+    ∷ more (bucket kind "2.5") (metric.Reply of (time.Within 7))
+    ∷ more (bucket kind "+Inf") (metric.Reply of time.All)
+    ∷ more (labelled "request_seconds_sum" "kind" kind) (metric.Reply of time.Time)
+    ∷ more (labelled "request_seconds_count" "kind" kind) (metric.Reply of time.All)
+    ∷ []
+
+-- the connections and the requests of ports
+abbrev pub port_lines : List Line
+port_lines =
+    first (family "open_connections" "gauge" "Connections that are open, by port.") (labelled "open_connections" "port" "callers") (metric.Open open_of.Callers)
+    ∷ more (labelled "open_connections" "port" "environments") (metric.Open open_of.Environments)
+    ∷ more (labelled "open_connections" "port" "operator") (metric.Open open_of.Operator)
+    ∷ (reply_lines (family "request_seconds" "histogram" "Time from the head of a request to its reply, by kind.") "call" reply.Call
+    ++ (reply_lines [] "report" reply.Report ++ reply_lines [] "poll" reply.Poll))
 
 -- how long commits took
 abbrev pub commit_lines : List Line
 commit_lines =
-    first (family "commit_seconds" "histogram" "Time that a commit took.") (labelled "commit_seconds_bucket" "le" "0.001") (metric.Commit (commit.Within 0))
-    ∷ more (labelled "commit_seconds_bucket" "le" "0.0025") (metric.Commit (commit.Within 1))
-    ∷ more (labelled "commit_seconds_bucket" "le" "0.005") (metric.Commit (commit.Within 2))
-    ∷ more (labelled "commit_seconds_bucket" "le" "0.01") (metric.Commit (commit.Within 3))
-    ∷ more (labelled "commit_seconds_bucket" "le" "0.025") (metric.Commit (commit.Within 4))
-    ∷ more (labelled "commit_seconds_bucket" "le" "0.1") (metric.Commit (commit.Within 5))
-    ∷ more (labelled "commit_seconds_bucket" "le" "0.5") (metric.Commit (commit.Within 6))
-    ∷ more (labelled "commit_seconds_bucket" "le" "2.5") (metric.Commit (commit.Within 7))
-    ∷ more (labelled "commit_seconds_bucket" "le" "+Inf") (metric.Commit commit.All)
-    ∷ more (plain "commit_seconds_sum") (metric.Commit commit.Time)
-    ∷ more (plain "commit_seconds_count") (metric.Commit commit.All)
+    first (family "commit_seconds" "histogram" "Time that a commit took.") (labelled "commit_seconds_bucket" "le" "0.001") (metric.Commit (time.Within 0))
+    ∷ more (labelled "commit_seconds_bucket" "le" "0.0025") (metric.Commit (time.Within 1))
+    ∷ more (labelled "commit_seconds_bucket" "le" "0.005") (metric.Commit (time.Within 2))
+    ∷ more (labelled "commit_seconds_bucket" "le" "0.01") (metric.Commit (time.Within 3))
+    ∷ more (labelled "commit_seconds_bucket" "le" "0.025") (metric.Commit (time.Within 4))
+    ∷ more (labelled "commit_seconds_bucket" "le" "0.1") (metric.Commit (time.Within 5))
+    ∷ more (labelled "commit_seconds_bucket" "le" "0.5") (metric.Commit (time.Within 6))
+    ∷ more (labelled "commit_seconds_bucket" "le" "2.5") (metric.Commit (time.Within 7))
+    ∷ more (labelled "commit_seconds_bucket" "le" "+Inf") (metric.Commit time.All)
+    ∷ more (plain "commit_seconds_sum") (metric.Commit time.Time)
+    ∷ more (plain "commit_seconds_count") (metric.Commit time.All)
     ∷ []
 
 -- the disk and the process
@@ -158,9 +199,10 @@ lines_of section.Waits = wait_lines
 lines_of section.Environments = phase_lines
 lines_of section.Lives = life_lines
 lines_of section.Refusals = refusal_lines
+lines_of section.Ports = port_lines
 lines_of section.Commits = commit_lines
 lines_of section.Disk = disk_lines
 lines_of section.Limits = limit_lines
 
 abbrev pub sections : List Section
-sections = section.Problems ∷ section.Held ∷ section.Waits ∷ section.Environments ∷ section.Lives ∷ section.Refusals ∷ section.Commits ∷ section.Disk ∷ section.Limits ∷ []
+sections = section.Problems ∷ section.Held ∷ section.Waits ∷ section.Environments ∷ section.Lives ∷ section.Refusals ∷ section.Ports ∷ section.Commits ∷ section.Disk ∷ section.Limits ∷ []

@@ -8,22 +8,31 @@ use Rattle.admin_replies.specs.declared.metrics.Metrics.{Metrics}
 use Rattle.admin_replies.specs.declared.metrics.Phases.{Phases}
 use Rattle.admin_replies.specs.declared.metrics.Process.{Process}
 use Rattle.port_meters.specs.declared.counters.Refusals.{Refusals}
+use Rattle.port_meters.specs.declared.histogram.Spread.{Spread}
+use Rattle.port_meters.specs.declared.port_meter.UnreadCounts.{UnreadCounts}
+use Rattle.port_meters.specs.declared.ports.Ports.{Ports}
 use Rattle.admin_replies.specs.declared.metric.Metric.{Metric}
 use Rattle.admin_replies.specs.declared.metric.Metric.TheVariants as metric
-use Rattle.admin_replies.specs.declared.metric.CommitMetric.{CommitMetric}
-use Rattle.admin_replies.specs.declared.metric.CommitMetric.TheVariants as commit
 use Rattle.admin_replies.specs.declared.metric.HeldMetric.{HeldMetric}
 use Rattle.admin_replies.specs.declared.metric.HeldMetric.TheVariants as held
 use Rattle.admin_replies.specs.declared.metric.LifeMetric.{LifeMetric}
 use Rattle.admin_replies.specs.declared.metric.LifeMetric.TheVariants as life
 use Rattle.admin_replies.specs.declared.metric.LimitMetric.{LimitMetric}
 use Rattle.admin_replies.specs.declared.metric.LimitMetric.TheVariants as limit
+use Rattle.admin_replies.specs.declared.metric.OpenMetric.{OpenMetric}
+use Rattle.admin_replies.specs.declared.metric.OpenMetric.TheVariants as open_of
 use Rattle.admin_replies.specs.declared.metric.PhaseMetric.{PhaseMetric}
 use Rattle.admin_replies.specs.declared.metric.PhaseMetric.TheVariants as phase
 use Rattle.admin_replies.specs.declared.metric.RefusalMetric.{RefusalMetric}
 use Rattle.admin_replies.specs.declared.metric.RefusalMetric.TheVariants as refusal
+use Rattle.admin_replies.specs.declared.metric.ReplyMetric.{ReplyMetric}
+use Rattle.admin_replies.specs.declared.metric.ReplyMetric.TheVariants as reply
 use Rattle.admin_replies.specs.declared.metric.StateMetric.{StateMetric}
 use Rattle.admin_replies.specs.declared.metric.StateMetric.TheVariants as state
+use Rattle.admin_replies.specs.declared.metric.TimeMetric.{TimeMetric}
+use Rattle.admin_replies.specs.declared.metric.TimeMetric.TheVariants as time
+use Rattle.admin_replies.specs.declared.metric.UnreadMetric.{UnreadMetric}
+use Rattle.admin_replies.specs.declared.metric.UnreadMetric.TheVariants as unread
 use Rattle.admin_replies.specs.declared.metric.WaitMetric.{WaitMetric}
 use Rattle.admin_replies.specs.declared.metric.WaitMetric.TheVariants as wait
 use Rattle.admin_replies.specs.declared.value.Value.{Value}
@@ -81,11 +90,33 @@ refusal_value r refusal.TooMany = r.too_many
 refusal_value r refusal.Unavailable = r.unavailable
 refusal_value r refusal.Other = r.other
 
+abbrev pub unread_value : UnreadCounts → UnreadMetric → ℕ
+unread_value u unread.BadHead = u.bad_head
+unread_value u unread.HeadTooLarge = u.head_too_large
+unread_value u unread.HeadCutOff = u.head_cut_off
+unread_value u unread.HeadLate = u.head_late
+unread_value u unread.BodyCutOff = u.body_cut_off
+unread_value u unread.BodyLate = u.body_late
+unread_value u unread.Forbidden = u.forbidden
+
+abbrev pub open_value : Ports → OpenMetric → ℕ
+open_value p open_of.Callers = p.callers
+open_value p open_of.Environments = p.environments
+open_value p open_of.Operator = p.operator
+
+abbrev pub spread_in : Ports → ReplyMetric → Spread
+spread_in p reply.Call = p.calls
+spread_in p reply.Report = p.reports
+spread_in p reply.Poll = p.polls
+
 -- a bucket counts those of the one before it too
-abbrev pub commit_value : Process → CommitMetric → Value
-commit_value p (commit.Within index) = Whole (slice_index p.buckets index)
-commit_value p commit.All = Whole p.commits
-commit_value p commit.Time = Microseconds p.commit_microseconds
+abbrev pub time_value : Spread → TimeMetric → Value
+time_value s (time.Within index) = Whole (slice_index s.buckets index)
+time_value s time.All = Whole s.all
+time_value s time.Time = Microseconds s.microseconds
+
+abbrev pub commit_value : Process → TimeMetric → Value
+commit_value p took = time_value (record { buckets = p.buckets; all = p.commits; microseconds = p.commit_microseconds }) took
 
 abbrev pub state_value : Process → StateMetric → Value
 state_value p state.Switches = Whole p.switches
@@ -117,6 +148,9 @@ value_of f (metric.Wait g) = wait_value f g
 value_of f (metric.Phase g) = Whole (phase_value f.environments g)
 value_of f (metric.Life g) = Whole (life_value f g)
 value_of f (metric.Refusal g) = Whole (refusal_value f.process.refused g)
+value_of f (metric.Unread g) = Whole (unread_value f.ports.unread g)
+value_of f (metric.Open g) = Whole (open_value f.ports g)
+value_of f (metric.Reply g took) = time_value (spread_in f.ports g) took
 value_of f (metric.Commit g) = commit_value f.process g
 value_of f (metric.State g) = state_value f.process g
 value_of f (metric.Limit g) = Whole (limit_value f.limits g)

@@ -23,6 +23,7 @@ mod metrics_text;
 mod name;
 mod page;
 mod parameters;
+mod port_table;
 mod query;
 mod reading;
 mod resource;

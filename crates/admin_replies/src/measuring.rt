@@ -1,7 +1,7 @@
 // The numbers of a broker.
 ghost use Rattle.std.specs.Prelude.{◌≡◌, ◌^◌, ◌-◌, min, count_by};
 ghost use Rattle.operator_view.specs.Census.{ends};
-ghost use Rattle.admin_replies.specs.Numbers.{age_of, is_in_phase, phases_of, parked_in, ended_in, event_counters, in_bytes, process_told, IsOldestAge, AreMetrics, limits_of};
+ghost use Rattle.admin_replies.specs.Numbers.{age_of, is_in_phase, phases_of, parked_in, ended_in, event_counters, events_since, in_bytes, process_told, IsOldestAge, AreMetrics, limits_of};
 
 use crate::judging::{counts_told, problems_of};
 use crate::metrics::{EventCounters, Limits, Metrics, Phases, Process};
@@ -10,14 +10,16 @@ use env_phase::Phase;
 use hall_core::EnvironmentStatus;
 use invoke_records::EventRow;
 use operator_view::{Census, Memory, census, oldest_record, oldest_waiting};
-use port_meters::Counters;
+use port_meters::{Counters, Ports};
 use receipts::View;
 use retry_rules::{RetryPolicy, Settings};
 
 /// What was counted and measured of a process.
 #[derive(Clone, Copy)]
 pub struct Measures {
+    /// With the opening's commit.
     pub counters: Counters,
+    pub ports: Ports,
     /// How many bytes were written to the disk.
     pub written_bytes: u64,
     /// How many bytes of memory the process has.
@@ -89,14 +91,15 @@ pub(crate) fn ended_in(census: &Census) -> u64
     (census.success as u64).saturating_add(failures)
 }
 
-/// What became of events since the opening, when so many had ended. An event that ended and is not held was collected; one that
-/// ended neither with success nor by its age had no retries left.
-pub(crate) fn event_counters(
+// What became of events since the opening, when so many had ended, and which interrupted so many attempts. An event that ended
+// and is not held was collected; one that ended neither with success nor by its age had no retries left.
+fn event_counters(
     before: u64,
+    interrupted: u64,
     ended: u64,
     counted: &receipts::CommandCounters,
 ) -> EventCounters
-    ensures { result ≡ event_counters before ended counted.now }
+    ensures { result ≡ event_counters before interrupted ended counted.now }
 {
     let all = ended
         .saturating_add(counted.collected)
@@ -111,8 +114,25 @@ pub(crate) fn event_counters(
         started: counted.started,
         failed: counted.failed,
         throttled: counted.throttled,
-        interrupted: counted.interrupted,
+        interrupted: counted.interrupted.saturating_add(interrupted),
     }
+}
+
+/// What became of events since an opening, by the census of those that are held and by what was counted.
+pub(crate) fn events_since(
+    baseline: &Baseline,
+    census: &Census,
+    counted: &receipts::CommandCounters,
+) -> EventCounters
+    ensures { result ≡ events_since baseline.now census.now counted.now }
+{
+    let interrupted = baseline.opening.interrupted;
+    event_counters(
+        baseline.ended_before,
+        interrupted,
+        ended_in(census),
+        counted,
+    )
 }
 
 // A sector has 512 bytes.
@@ -166,7 +186,7 @@ pub(crate) fn metrics_of(baseline: &Baseline, view: &View, measures: &Measures, 
     let rows = hall.table.rows.as_slice();
     let census = census(rows);
     let issued = hall.table.number;
-    let events = event_counters(baseline.ended_before, ended_in(&census), &view.counters);
+    let events = events_since(baseline, &census, &view.counters);
     let counts = counts_told(now, &events, &measures.counters);
     Metrics {
         census,
@@ -180,6 +200,7 @@ pub(crate) fn metrics_of(baseline: &Baseline, view: &View, measures: &Measures, 
         environments: phases_of(&hall.environments),
         events,
         process: process_told(measures, hall.is_stopping),
+        ports: measures.ports,
         limits: limits_of(&hall.table.policy, &baseline.settings),
         problems: problems_of(&baseline.settings, view, &census, &measures.memory, &counts),
     }

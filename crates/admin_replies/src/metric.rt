@@ -8,7 +8,11 @@ pub(crate) enum Metric {
     Phase(PhaseMetric),
     Life(LifeMetric),
     Refusal(RefusalMetric),
-    Commit(CommitMetric),
+    Unread(UnreadMetric),
+    Open(OpenMetric),
+    /// How long requests took, of which kind.
+    Reply(ReplyMetric, TimeMetric),
+    Commit(TimeMetric),
     State(StateMetric),
     Limit(LimitMetric),
     /// Whether something is wrong, by its place among the problems.
@@ -85,9 +89,37 @@ pub(crate) enum RefusalMetric {
     Other,
 }
 
-/// Commits.
+/// Requests that were refused before they were read, or not read.
 #[derive(Clone, Copy)]
-pub(crate) enum CommitMetric {
+pub(crate) enum UnreadMetric {
+    BadHead,
+    HeadTooLarge,
+    HeadCutOff,
+    HeadLate,
+    BodyCutOff,
+    BodyLate,
+    Forbidden,
+}
+
+/// Connections that are open, by port.
+#[derive(Clone, Copy)]
+pub(crate) enum OpenMetric {
+    Callers,
+    Environments,
+    Operator,
+}
+
+/// Requests that were answered, by kind.
+#[derive(Clone, Copy)]
+pub(crate) enum ReplyMetric {
+    Call,
+    Report,
+    Poll,
+}
+
+/// Things that took some time.
+#[derive(Clone, Copy)]
+pub(crate) enum TimeMetric {
     /// Those of a bucket, by its index.
     Within(u8),
     All,

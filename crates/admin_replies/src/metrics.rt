@@ -1,7 +1,7 @@
 // The numbers that a monitor collects.
 
 use operator_view::{Census, Problem};
-use port_meters::Refusals;
+use port_meters::{Ports, Refusals};
 
 /// The numbers that a monitor collects, as they are at one moment.
 #[derive(Clone, Copy)]
@@ -24,6 +24,8 @@ pub struct Metrics {
     pub environments: Phases,
     pub events: EventCounters,
     pub process: Process,
+    /// What was counted of connections and requests.
+    pub ports: Ports,
     pub limits: Limits,
     /// What is wrong, in the order in which it is told.
     pub problems: [Option<Problem>; 9],

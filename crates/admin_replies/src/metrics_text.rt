@@ -10,13 +10,14 @@ use crate::table::Section;
 use retry_rules::Settings;
 use std::alloc::{AllocError, Global};
 
-const SECTIONS: [Section; 9] = [
+const SECTIONS: [Section; 10] = [
     Section::Problems,
     Section::Held,
     Section::Waits,
     Section::Environments,
     Section::Lives,
     Section::Refusals,
+    Section::Ports,
     Section::Commits,
     Section::Disk,
     Section::Limits,

@@ -6,7 +6,7 @@ pub const PAGE: &str = r##"<!doctype html>
 <head>
 <meta charset="utf-8">
 <meta name="viewport" content="width=device-width, initial-scale=1">
-<meta http-equiv="Content-Security-Policy" content="default-src 'none'; connect-src 'self'; frame-src 'self'; img-src data:; base-uri 'none'; form-action 'none'; style-src 'sha256-bw1yV4ByBa9q66WphivbkTr/p+LLuW//C61/VbnIXWI='; script-src 'sha256-IUp32Fw3i7rFQyoI6NiDZ+ntEUHTl8u84vzCth1J7bk=' 'sha256-wv1vKIkUn8hlx1MrdU9RUvR908GvTq7yHLY3TaX5ouc='">
+<meta http-equiv="Content-Security-Policy" content="default-src 'none'; connect-src 'self'; frame-src 'self'; img-src data:; base-uri 'none'; form-action 'none'; style-src 'sha256-bw1yV4ByBa9q66WphivbkTr/p+LLuW//C61/VbnIXWI='; script-src 'sha256-IUp32Fw3i7rFQyoI6NiDZ+ntEUHTl8u84vzCth1J7bk=' 'sha256-YrxuW5DNNPMENxJxZHF19M66TsEnSW7gU9xQnp/XBaQ='">
 <link rel="icon" href="data:,">
 <title>Lambda broker</title>
 <style>
@@ -343,6 +343,7 @@ function showFacts({ families, waits, now, count, waiting, ended }) {
   tell("more", {
     "oldest record": ended ? span(count("oldest_record_age_seconds")) : "none",
     "parked polls, of open requests": `${number("parked_polls")} of ${number("open_slots")}`,
+    "open connections": each(families, "open_connections", "port"),
     "commands not durable yet": number("pending_commands"),
     "throttled, interrupted": `${number("attempts_throttled_total")}, ${number("attempts_interrupted_total")}`,
     "switches, generation": `${number("switches_total")}, ${number("generation")}`,

@@ -3,7 +3,7 @@ ghost use Rattle.std.specs.Prelude.{◌≡◌};
 ghost use Rattle.admin_replies.specs.History.{IsSample, numbers_in};
 
 use crate::judging::counts_told;
-use crate::measuring::{ended_in, event_counters};
+use crate::measuring::events_since;
 use crate::telling::Baseline;
 use operator_view::{Counts, census};
 use port_meters::Counters;
@@ -33,7 +33,7 @@ pub fn sample_of(
     ensures { IsSample baseline.now view.now counters.now written_bytes now result }
 {
     let census = census(view.hall.table.rows.as_slice());
-    let events = event_counters(baseline.ended_before, ended_in(&census), &view.counters);
+    let events = events_since(baseline, &census, &view.counters);
     Sample {
         counts: counts_told(now, &events, counters),
         accepted: view.counters.accepted,

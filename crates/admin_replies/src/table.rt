@@ -5,9 +5,10 @@ ghost use Rattle.admin_replies.specs.Table.{lines_of};
 
 use crate::judged_table::{LIMITS, PROBLEMS};
 use crate::metric::{
-    CommitMetric, HeldMetric, LifeMetric, Metric, PhaseMetric, RefusalMetric, StateMetric,
-    WaitMetric,
+    HeldMetric, LifeMetric, Metric, PhaseMetric, RefusalMetric, StateMetric, TimeMetric,
+    UnreadMetric, WaitMetric,
 };
+use crate::port_table::PORTS;
 
 /// A number and what stands before it.
 pub(crate) struct Row {
@@ -33,6 +34,8 @@ pub(crate) enum Section {
     Lives,
     /// The requests that were refused.
     Refusals,
+    /// The connections and the requests of ports.
+    Ports,
     /// How long commits took.
     Commits,
     /// The disk and the process.
@@ -183,7 +186,7 @@ const LIVES: [Row; 11] = [
     },
 ];
 
-const REFUSALS: [Row; 7] = [
+const REFUSALS: [Row; 14] = [
     Row {
         head: "# HELP lambda_broker_refused_total Requests that were refused, by reason.\n# TYPE lambda_broker_refused_total counter\n",
         name: "lambda_broker_refused_total{reason=\"bad_request\"}",
@@ -219,63 +222,98 @@ const REFUSALS: [Row; 7] = [
         name: "lambda_broker_refused_total{reason=\"other\"}",
         metric: Metric::Refusal(RefusalMetric::Other),
     },
+    Row {
+        head: "",
+        name: "lambda_broker_refused_total{reason=\"bad_head\"}",
+        metric: Metric::Unread(UnreadMetric::BadHead),
+    },
+    Row {
+        head: "",
+        name: "lambda_broker_refused_total{reason=\"head_too_large\"}",
+        metric: Metric::Unread(UnreadMetric::HeadTooLarge),
+    },
+    Row {
+        head: "",
+        name: "lambda_broker_refused_total{reason=\"head_cut_off\"}",
+        metric: Metric::Unread(UnreadMetric::HeadCutOff),
+    },
+    Row {
+        head: "",
+        name: "lambda_broker_refused_total{reason=\"head_late\"}",
+        metric: Metric::Unread(UnreadMetric::HeadLate),
+    },
+    Row {
+        head: "",
+        name: "lambda_broker_refused_total{reason=\"body_cut_off\"}",
+        metric: Metric::Unread(UnreadMetric::BodyCutOff),
+    },
+    Row {
+        head: "",
+        name: "lambda_broker_refused_total{reason=\"body_late\"}",
+        metric: Metric::Unread(UnreadMetric::BodyLate),
+    },
+    Row {
+        head: "",
+        name: "lambda_broker_refused_total{reason=\"forbidden\"}",
+        metric: Metric::Unread(UnreadMetric::Forbidden),
+    },
 ];
 
 const COMMITS: [Row; 11] = [
     Row {
         head: "# HELP lambda_broker_commit_seconds Time that a commit took.\n# TYPE lambda_broker_commit_seconds histogram\n",
         name: "lambda_broker_commit_seconds_bucket{le=\"0.001\"}",
-        metric: Metric::Commit(CommitMetric::Within(0)),
+        metric: Metric::Commit(TimeMetric::Within(0)),
     },
     Row {
         head: "",
         name: "lambda_broker_commit_seconds_bucket{le=\"0.0025\"}",
-        metric: Metric::Commit(CommitMetric::Within(1)),
+        metric: Metric::Commit(TimeMetric::Within(1)),
     },
     Row {
         head: "",
         name: "lambda_broker_commit_seconds_bucket{le=\"0.005\"}",
-        metric: Metric::Commit(CommitMetric::Within(2)),
+        metric: Metric::Commit(TimeMetric::Within(2)),
     },
     Row {
         head: "",
         name: "lambda_broker_commit_seconds_bucket{le=\"0.01\"}",
-        metric: Metric::Commit(CommitMetric::Within(3)),
+        metric: Metric::Commit(TimeMetric::Within(3)),
     },
     Row {
         head: "",
         name: "lambda_broker_commit_seconds_bucket{le=\"0.025\"}",
-        metric: Metric::Commit(CommitMetric::Within(4)),
+        metric: Metric::Commit(TimeMetric::Within(4)),
     },
     Row {
         head: "",
         name: "lambda_broker_commit_seconds_bucket{le=\"0.1\"}",
-        metric: Metric::Commit(CommitMetric::Within(5)),
+        metric: Metric::Commit(TimeMetric::Within(5)),
     },
     Row {
         head: "",
         name: "lambda_broker_commit_seconds_bucket{le=\"0.5\"}",
-        metric: Metric::Commit(CommitMetric::Within(6)),
+        metric: Metric::Commit(TimeMetric::Within(6)),
     },
     Row {
         head: "",
         name: "lambda_broker_commit_seconds_bucket{le=\"2.5\"}",
-        metric: Metric::Commit(CommitMetric::Within(7)),
+        metric: Metric::Commit(TimeMetric::Within(7)),
     },
     Row {
         head: "",
         name: "lambda_broker_commit_seconds_bucket{le=\"+Inf\"}",
-        metric: Metric::Commit(CommitMetric::All),
+        metric: Metric::Commit(TimeMetric::All),
     },
     Row {
         head: "",
         name: "lambda_broker_commit_seconds_sum",
-        metric: Metric::Commit(CommitMetric::Time),
+        metric: Metric::Commit(TimeMetric::Time),
     },
     Row {
         head: "",
         name: "lambda_broker_commit_seconds_count",
-        metric: Metric::Commit(CommitMetric::All),
+        metric: Metric::Commit(TimeMetric::All),
     },
 ];
 
@@ -339,6 +377,7 @@ impl Section {
             Section::Environments => &ENVIRONMENTS,
             Section::Lives => &LIVES,
             Section::Refusals => &REFUSALS,
+            Section::Ports => &PORTS,
             Section::Commits => &COMMITS,
             Section::Disk => &DISK,
             Section::Limits => &LIMITS,

@@ -13,6 +13,7 @@ use crate::page::PAGE;
 use crate::words::problems_text;
 use async_core::Table;
 use operator_view::{Problem, census};
+use port_meters::Opening;
 use receipts::View;
 use retry_rules::Settings;
 use std::alloc::{AllocError, Global};
@@ -23,13 +24,16 @@ pub struct Baseline {
     pub settings: Settings,
     /// How many events had ended and were held.
     pub ended_before: u64,
+    /// What the opening did.
+    pub opening: Opening,
 }
 
 impl Baseline {
-    /// Of a broker that is opened with this table.
-    pub fn of(table: &Table) -> Result<Baseline, AllocError>
+    /// Of a broker that is opened with this table, by an opening that did this.
+    pub fn of(table: &Table, opening: Opening) -> Result<Baseline, AllocError>
         ensures settings { IfOk result (λ baseline. baseline.settings ≡ table.now.settings) }
         ensures ended { IfOk result (λ baseline. CountsEnded table.now.table.rows baseline.ended_before) }
+        ensures opening { IfOk result (λ baseline. baseline.opening ≡ opening) }
     {
         let settings = table.settings().copy()?;
         let snapshot = table.snapshot()?;
@@ -37,6 +41,7 @@ impl Baseline {
         Ok(Baseline {
             settings,
             ended_before: ended_in(&census),
+            opening,
         })
     }
 }

@@ -1,14 +1,14 @@
 // The number that a metric names.
 ghost use Rattle.std.specs.Prelude.{◌≡◌, slice_index};
-ghost use Rattle.admin_replies.specs.Values.{or_zero, indicator, held_value, wait_value, phase_value, life_value, refusal_value, commit_value, state_value, limit_value, problem_value, value_of};
+ghost use Rattle.admin_replies.specs.Values.{or_zero, indicator, held_value, wait_value, phase_value, life_value, refusal_value, unread_value, open_value, spread_in, time_value, commit_value, state_value, limit_value, problem_value, value_of};
 
 use crate::metric::{
-    CommitMetric, HeldMetric, LifeMetric, LimitMetric, Metric, PhaseMetric, RefusalMetric,
-    StateMetric, WaitMetric,
+    HeldMetric, LifeMetric, LimitMetric, Metric, OpenMetric, PhaseMetric, RefusalMetric,
+    ReplyMetric, StateMetric, TimeMetric, UnreadMetric, WaitMetric,
 };
 use crate::metrics::{Limits, Metrics, Phases, Process};
 use operator_view::{Census, Problem};
-use port_meters::Refusals;
+use port_meters::{Ports, Refusals, Spread, UnreadCounts};
 
 /// A number, and how it is told.
 #[derive(Clone, Copy)]
@@ -114,13 +114,58 @@ fn in_bucket(buckets: &[u64; 8], index: u8) -> u64
     }
 }
 
-fn commit_value(process: &Process, commit: CommitMetric) -> Value
+fn time_value(spread: &Spread, time: TimeMetric) -> Value
+    ensures { result ≡ time_value spread.now time }
+{
+    match time {
+        TimeMetric::Within(index) => Value::Whole(in_bucket(&spread.buckets, index)),
+        TimeMetric::All => Value::Whole(spread.all),
+        TimeMetric::Time => Value::Microseconds(spread.microseconds),
+    }
+}
+
+fn commit_value(process: &Process, commit: TimeMetric) -> Value
     ensures { result ≡ commit_value process.now commit }
 {
-    match commit {
-        CommitMetric::Within(index) => Value::Whole(in_bucket(&process.buckets, index)),
-        CommitMetric::All => Value::Whole(process.commits),
-        CommitMetric::Time => Value::Microseconds(process.commit_microseconds),
+    let spread = Spread {
+        buckets: process.buckets,
+        all: process.commits,
+        microseconds: process.commit_microseconds,
+    };
+    time_value(&spread, commit)
+}
+
+fn unread_value(counts: &UnreadCounts, unread: UnreadMetric) -> u64
+    ensures { result ≡ unread_value counts.now unread }
+{
+    match unread {
+        UnreadMetric::BadHead => counts.bad_head,
+        UnreadMetric::HeadTooLarge => counts.head_too_large,
+        UnreadMetric::HeadCutOff => counts.head_cut_off,
+        UnreadMetric::HeadLate => counts.head_late,
+        UnreadMetric::BodyCutOff => counts.body_cut_off,
+        UnreadMetric::BodyLate => counts.body_late,
+        UnreadMetric::Forbidden => counts.forbidden,
+    }
+}
+
+fn open_value(ports: &Ports, of: OpenMetric) -> u64
+    ensures { result ≡ open_value ports.now of }
+{
+    match of {
+        OpenMetric::Callers => ports.callers,
+        OpenMetric::Environments => ports.environments,
+        OpenMetric::Operator => ports.operator,
+    }
+}
+
+fn spread_in(ports: &Ports, reply: ReplyMetric) -> Spread
+    ensures { result ≡ spread_in ports.now reply }
+{
+    match reply {
+        ReplyMetric::Call => ports.calls,
+        ReplyMetric::Report => ports.reports,
+        ReplyMetric::Poll => ports.polls,
     }
 }
 
@@ -174,6 +219,9 @@ pub(crate) fn value_of(metrics: &Metrics, metric: Metric) -> Value
         Metric::Phase(phase) => Value::Whole(phase_value(&metrics.environments, phase)),
         Metric::Life(life) => Value::Whole(life_value(metrics, life)),
         Metric::Refusal(refusal) => Value::Whole(refusal_value(&metrics.process.refused, refusal)),
+        Metric::Unread(unread) => Value::Whole(unread_value(&metrics.ports.unread, unread)),
+        Metric::Open(of) => Value::Whole(open_value(&metrics.ports, of)),
+        Metric::Reply(reply, time) => time_value(&spread_in(&metrics.ports, reply), time),
         Metric::Commit(commit) => commit_value(&metrics.process, commit),
         Metric::State(state) => state_value(&metrics.process, state),
         Metric::Limit(limit) => Value::Whole(limit_value(&metrics.limits, limit)),

@@ -6,3 +6,4 @@ pub mod ReadBody
 pub mod Reading
 pub mod Serving
 pub mod Target
+pub mod Unread

@@ -19,7 +19,7 @@ struct Connected<C, R> {
     permit: Permit,
 }
 
-impl<C: Future<Output = T>, T: Drop, R: Clock + Drop> Connected<C, R> {
+impl<C: Future<Output = hyper::Result<()>>, R: Clock + Drop> Connected<C, R> {
     // Ready once the connection has ended, or is to be closed.
     fn poll(&mut self, cx: &mut Context<'_>) -> Poll<()>
         requires { C.can_poll self.old.conn }
@@ -27,14 +27,15 @@ impl<C: Future<Output = T>, T: Drop, R: Clock + Drop> Connected<C, R> {
         ensures armed { OnPending result (IsArmed cx.new) }
         ensures kept { Keeps cx.old cx.new }
     {
-        if self.conn.poll(cx).is_ready() {
+        if let Poll::Ready(ended) = self.conn.poll(cx) {
+            self.timer.phase_cell.note_end(&ended);
             return Poll::Ready(());
         }
         self.timer.poll(cx)
     }
 }
 
-/// A connection as a task. How it ended is not told. It stays where it is, and each poll moves a pointer alone.
+/// A connection as a task. How it ended is counted and not told. It stays where it is, and each poll moves a pointer alone.
 #[derive(Drop)]
 pub(crate) struct ConnectionFuture<C, R> {
     connected: Option<Box<Connected<C, R>>>,
@@ -63,7 +64,7 @@ impl<C: Future, R: Drop> ConnectionFuture<C, R> {
     }
 }
 
-impl<C: Future<Output = T>, T: Drop, R: Clock + Drop> Future for ConnectionFuture<C, R> {
+impl<C: Future<Output = hyper::Result<()>>, R: Clock + Drop> Future for ConnectionFuture<C, R> {
     type Output = ();
 
     ghost can_poll = { λ s. IfSome s.connected (λ connected. C.can_poll connected.value.conn) };

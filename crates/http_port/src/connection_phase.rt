@@ -1,8 +1,12 @@
 // What a connection waits for, as its socket and its requests note it.
 ghost use Rattle.std.specs.Prelude.{◌≡◌, Some, None};
+ghost use Rattle.http_port.specs.Unread.{unread_at};
 
 use crate::http_limits::HttpLimits;
+use hyper::Error;
+use port_meters::{PortMeter, Unread};
 use std::cell::Cell;
+use std::sync::Arc;
 use std::time::Duration;
 
 /// What a connection waits for.
@@ -49,20 +53,44 @@ impl ConnectionPhase {
     }
 }
 
-/// The phase of a connection.
+// What was not read of a connection that failed in this phase.
+fn unread_at(phase: ConnectionPhase) -> Option<Unread>
+    ensures { result ≡ unread_at phase }
+{
+    match phase {
+        ConnectionPhase::Head => Some(Unread::HeadCutOff),
+        ConnectionPhase::Body => Some(Unread::BodyCutOff),
+        _ => None,
+    }
+}
+
+// What was not read of a connection that failed so in this phase.
+fn unread_of(phase: ConnectionPhase, why: &Error) -> Option<Unread> {
+    if why.is_parse_too_large() {
+        Some(Unread::HeadTooLarge)
+    } else if why.is_parse() {
+        Some(Unread::BadHead)
+    } else {
+        unread_at(phase)
+    }
+}
+
+/// The phase of a connection, and where it is counted what was not read of it.
 #[derive(Drop)]
 pub(crate) struct PhaseCell {
     phase: Cell<ConnectionPhase>,
     // Whether it was entered since that was asked last.
     is_new: Cell<bool>,
+    meter: Arc<PortMeter>,
 }
 
 impl PhaseCell {
     /// That of a connection to which nothing has come.
-    pub(crate) fn new() -> PhaseCell {
+    pub(crate) fn new(meter: Arc<PortMeter>) -> PhaseCell {
         PhaseCell {
             phase: Cell::new(ConnectionPhase::First),
             is_new: Cell::new(true),
+            meter,
         }
     }
 
@@ -110,5 +138,31 @@ impl PhaseCell {
     /// Whether the request is to be refused, since its body has not come in time.
     pub(crate) fn is_late(&self) -> bool {
         self.phase.get() == ConnectionPhase::Late
+    }
+    /// A request was answered, so many microseconds after its head was read.
+    pub(crate) fn note_reply(&self, is_get: bool, took: u64) {
+        self.meter.note_reply(is_get, took);
+    }
+
+    /// A request does not come to what the port serves.
+    pub(crate) fn note_unread(&self, why: Unread) {
+        self.meter.note_unread(why);
+    }
+
+    /// The connection has ended so: what was not read of it is counted.
+    pub(crate) fn note_end(&self, ended: &hyper::Result<()>) {
+        let Err(why) = ended else {
+            return;
+        };
+        if let Some(unread) = unread_of(self.phase.get(), why) {
+            self.meter.note_unread(unread);
+        }
+    }
+
+    /// The connection is closed, since its time has passed: a head that was not read is counted.
+    pub(crate) fn note_late(&self) {
+        if self.phase.get() == ConnectionPhase::Head {
+            self.meter.note_unread(Unread::HeadLate);
+        }
     }
 }

@@ -18,6 +18,7 @@ use crate::timer::Timer;
 use hyper::rt::TokioTimer;
 use hyper::server::conn::http1::{Builder, Connection};
 use hyper::server::graceful::{Graceful, until};
+use port_meters::PortMeter;
 use std::alloc::Global;
 use std::rc::Rc;
 use std::sync::Arc;
@@ -31,7 +32,7 @@ type Socket<R> = Noted<FilteredStream<Lingering<R, TcpStream>>>;
 
 // A connection that ends after its exchange once the port ends.
 type Ending<R, A> = Graceful<
-    Connection<Socket<R>, Requests<A>, Body, TokioTimer<R>>,
+    Connection<Socket<R>, Requests<R, A>, Body, TokioTimer<R>>,
     WaitForCancellationFuture,
 >;
 
@@ -44,6 +45,8 @@ pub(crate) struct HttpDoor<R, A> {
     pub(crate) http: Builder<TokioTimer<R>>,
     pub(crate) application: Arc<A>,
     pub(crate) hosts: Arc<Hosts>,
+    /// Where its connections are counted.
+    pub(crate) meter: Arc<PortMeter>,
     pub(crate) timers: time::Handle,
     pub(crate) alarm: Rc<Alarm<R>>,
     pub(crate) limits: HttpLimits,
@@ -73,8 +76,10 @@ impl<R: Clock + Copy + Drop, A: Application> Door for HttpDoor<R, A> {
     type Served = ConnectionFuture<Ending<R, A>, R>;
 
     fn serve(&self, socket: TcpStream, permit: Permit) -> Option<Self::Served> {
-        let phase_cell = Rc::new(self.alloc, PhaseCell::new()).ok()?;
+        let meter = Arc::try_clone(&self.meter).ok()?;
+        let phase_cell = Rc::new(self.alloc, PhaseCell::new(meter)).ok()?;
         let requests = Requests {
+            rt: self.rt,
             alloc: self.alloc,
             application: Arc::try_clone(&self.application).ok()?,
             hosts: Arc::try_clone(&self.hosts).ok()?,

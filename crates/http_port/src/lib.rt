@@ -5,7 +5,8 @@
 //! the reply says that the connection ends, and what is left is read behind it and thrown away, so that the client sees the
 //! reply and not a connection that fails. The value of one header may be left out, so that heads may be longer by it. What a
 //! browser sends for a web page is refused by its head alone, and so is a host that a port does not answer to (`Hosts`).
-//! `HttpLimits` say how long a client may take, and how many connections are open at once.
+//! `HttpLimits` say how long a client may take, and how many connections are open at once. A `PortMeter` counts connections, how
+//! long replies took, and what did not come to the application.
 #![tactic(auto)]
 
 mod answering;

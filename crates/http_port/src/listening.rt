@@ -2,37 +2,53 @@
 ghost use Rattle.std.specs.Prelude.{◌≡◌, IfOk};
 
 use crate::hosts::Hosts;
+use port_meters::PortMeter;
 use std::alloc::{AllocError, AllocGlobal, Global};
 use std::io;
 use std::net::{Net, SocketAddr, TcpListener, TcpStream};
 use std::sync::Arc;
 
-/// Where the requests of a port come, and which hosts it answers to.
+/// Where the requests of a port come, which hosts it answers to, and where its connections are counted.
 #[derive(Drop)]
 pub struct Listening {
     pub listener: TcpListener,
     pub hosts: Arc<Hosts>,
+    pub meter: Arc<PortMeter>,
 }
 
 impl Listening {
     /// What this listener gives is answered, for these hosts. Only want of memory is refused.
-    pub fn new(alloc: Global, listener: TcpListener, hosts: Hosts) -> Result<Listening, AllocError>
+    pub fn new(
+        alloc: Global,
+        listener: TcpListener,
+        hosts: Hosts,
+        meter: Arc<PortMeter>,
+    ) -> Result<Listening, AllocError>
         ensures listener { IfOk result (λ listening. listening.listener ≡ listener) }
         ensures hosts { IfOk result (λ listening. listening.hosts.value ≡ hosts) }
     {
         let hosts = Arc::new(alloc, hosts)?;
-        Ok(Listening { listener, hosts })
+        Ok(Listening {
+            listener,
+            hosts,
+            meter,
+        })
     }
 
     /// Listens on an address of this machine, and answers to the hosts of a port there that is asked under this name, too, where
     /// one is given.
-    pub fn bind<R>(rt: &R, address: SocketAddr, name: Option<&str>) -> io::Result<Listening>
+    pub fn bind<R>(
+        rt: &R,
+        address: SocketAddr,
+        name: Option<&str>,
+        meter: Arc<PortMeter>,
+    ) -> io::Result<Listening>
     where
         R: Net<Listener = TcpListener, Stream = TcpStream> + AllocGlobal,
     {
         let listener = TcpListener::bind(rt, address)?;
         let reach = address.ip().to_canonical();
         let hosts = Hosts::of(rt.alloc(), reach, name)?;
-        Ok(Listening::new(rt.alloc(), listener, hosts)?)
+        Ok(Listening::new(rt.alloc(), listener, hosts, meter)?)
     }
 }

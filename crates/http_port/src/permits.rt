@@ -4,9 +4,11 @@ ghost use Rattle.futures.specs.Task.{IsArmed, Keeps};
 ghost use Rattle.futures.specs.Poll.{IfReady, OnPending};
 
 use futures::task::{Context, Poll, Source, Waker};
+use port_meters::PortMeter;
 use std::alloc::{AllocError, Global};
 use std::cell::Cell;
 use std::rc::Rc;
+use std::sync::Arc;
 
 // Where permits tell that they were given back.
 #[derive(Drop)]
@@ -16,11 +18,14 @@ struct Returned {
     count: Cell<usize>,
     // The task that waits for one.
     waker: Cell<Option<Waker>>,
+    // Where it is counted how many are out.
+    meter: Arc<PortMeter>,
 }
 
 impl Returned {
     // A permit was given back. A waker wakes its task when it is dropped.
     fn note(&self) {
+        self.meter.note_closed();
         self.count.set(self.count.get().saturating_add(1));
         drop(self.waker.take());
     }
@@ -60,8 +65,12 @@ pub(crate) struct Permits {
 }
 
 impl Permits {
-    /// So many permits, all free.
-    pub(crate) fn new(alloc: Global, most: usize) -> Result<Permits, AllocError>
+    /// So many permits, all free. Those that are taken are counted here.
+    pub(crate) fn new(
+        alloc: Global,
+        most: usize,
+        meter: Arc<PortMeter>,
+    ) -> Result<Permits, AllocError>
         ensures most { IfOk result (λ permits. permits.most ≡ most) }
         ensures free { IfOk result (λ permits. permits.taken ≡ 0) }
     {
@@ -69,6 +78,7 @@ impl Permits {
             source: Source::new(),
             count: Cell::new(0),
             waker: Cell::new(None),
+            meter,
         };
         Ok(Permits {
             most,
@@ -110,6 +120,7 @@ impl Permits {
         ensures none { result ≡ None → self.new.taken ≡ self.old.taken }
     {
         let returned = Rc::clone(&self.returned).ok()?;
+        returned.meter.note_opened();
         self.taken += 1;
         Some(Permit { returned })
     }

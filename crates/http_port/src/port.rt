@@ -9,6 +9,7 @@ use crate::listening::Listening;
 use crate::permits::Permits;
 use hyper::rt::TokioTimer;
 use hyper::server::conn::http1::Builder;
+use port_meters::PortMeter;
 use std::alloc::{AllocGlobal, Global};
 use std::hash::RandomState;
 use std::io;
@@ -51,6 +52,7 @@ fn door_of<R, A>(
     rt: R,
     application: Arc<A>,
     hosts: Arc<Hosts>,
+    meter: &Arc<PortMeter>,
     timers: &time::Handle,
     limits: HttpLimits,
     ending: &CancellationToken,
@@ -69,6 +71,7 @@ where
         http,
         application,
         hosts,
+        meter: Arc::try_clone(meter)?,
         timers: timers.clone()?,
         alarm,
         limits,
@@ -80,6 +83,7 @@ where
 fn connections_of<R, A>(
     rt: R,
     door: HttpDoor<R, A>,
+    meter: Arc<PortMeter>,
     timers: &time::Handle,
     listener: TcpListener,
     ending: &CancellationToken,
@@ -88,7 +92,7 @@ where
     R: Clock + AllocGlobal + Copy + Drop,
     A: Application,
 {
-    let permits = Permits::new(rt.alloc(), door.limits.connections)?;
+    let permits = Permits::new(rt.alloc(), door.limits.connections, meter)?;
     let timers = timers.clone()?;
     let ending = ending.cancelled()?;
     Ok(Connections {
@@ -141,13 +145,17 @@ where
         + Drop,
     A: Application,
 {
-    let Listening { listener, hosts } = listening;
+    let Listening {
+        listener,
+        hosts,
+        meter,
+    } = listening;
     let mut runtime = LocalRuntime::new(&rt)?;
     runtime.set_shutdown_timeout(Some(Duration::from_secs(LAST_REPLIES)));
     let listener = TcpListener::from_std(listener, runtime.handle().reactor())?;
     let timers = runtime.handle().time();
     let application = Arc::new(rt.alloc(), application)?;
-    let door = door_of(rt, application, hosts, timers, limits, ending)?;
-    let connections = connections_of(rt, door, timers, listener, ending)?;
+    let door = door_of(rt, application, hosts, &meter, timers, limits, ending)?;
+    let connections = connections_of(rt, door, meter, timers, listener, ending)?;
     run(&rt, &mut runtime, connections)
 }

@@ -15,18 +15,21 @@ use crate::hosts::Hosts;
 use crate::reading::{ReadBody, Reading, State};
 use futures::Future;
 use futures::task::{Context, Poll};
+use http::Method;
 use http::request::Parts;
 use hyper::body::Incoming;
 use hyper::service::Service;
 use hyper::{Request, StatusCode};
+use port_meters::{Unread, micros_since};
 use std::alloc::Global;
 use std::convert::Infallible;
 use std::rc::Rc;
 use std::sync::Arc;
+use std::time::{Clock, Instant};
 
 /// The future of one request. First its body is read; where it has a reply, that waits.
 #[derive(Drop)]
-pub(crate) struct Serving<A: Application, I: Drop> {
+pub(crate) struct Serving<R, A: Application, I: Drop> {
     alloc: Global,
     application: Option<Arc<A>>,
     phase_cell: Option<Rc<PhaseCell>>,
@@ -35,9 +38,12 @@ pub(crate) struct Serving<A: Application, I: Drop> {
     head: Parts,
     reading: Reading<I>,
     reply: Option<A::Future>,
+    rt: R,
+    // When its head was read. None where the clock does not tell.
+    begun: Option<Instant>,
 }
 
-impl<A: Application, I: Drop> Serving<A, I> {
+impl<R: Clock, A: Application, I: Drop> Serving<R, A, I> {
     // Another phase of its connection begins.
     fn enter(&self, phase: ConnectionPhase) {
         if let Some(phase_cell) = &self.phase_cell {
@@ -69,11 +75,38 @@ impl<A: Application, I: Drop> Serving<A, I> {
         }
     }
 
+    // Why it does not come to the application, if it does not.
+    fn unread(&self) -> Option<Unread> {
+        if self.forbidden.is_some() {
+            Some(Unread::Forbidden)
+        } else if self.is_late() {
+            Some(Unread::BodyLate)
+        } else if matches!(self.reading.state(), State::Failed) {
+            Some(Unread::BodyCutOff)
+        } else {
+            None
+        }
+    }
+
+    // It is answered now.
+    fn note(&self) {
+        let Some(phase_cell) = &self.phase_cell else {
+            return;
+        };
+        if let Some(why) = self.unread() {
+            phase_cell.note_unread(why);
+        } else if let Some(begun) = self.begun {
+            let is_get = self.head.method == Method::GET;
+            phase_cell.note_reply(is_get, micros_since(&self.rt, Ok(begun)));
+        }
+    }
+
     // A response, as it is sent. Where the body of its request was not read to its end, it is the last of its connection. It
     // says so, where `hyper` does not.
     fn send(&self, answered: HttpResponse) -> HttpResponse
         ensures { IsSent (message_of answered) (message_of result) }
     {
+        self.note();
         match self.reading.state() {
             State::Ended => {
                 self.enter(ConnectionPhase::Idle);
@@ -147,7 +180,7 @@ impl<A: Application, I: Drop> Serving<A, I> {
     }
 }
 
-impl<A: Application, I: Drop> Future for Serving<A, I> {
+impl<R: Clock + Drop, A: Application, I: Drop> Future for Serving<R, A, I> {
     type Output = Result<HttpResponse, Infallible>;
 
     ghost can_poll = { λ s. IfSome s.reply A.Future.can_poll };
@@ -168,19 +201,21 @@ impl<A: Application, I: Drop> Future for Serving<A, I> {
 
 /// Serves the requests of a connection.
 #[derive(Drop)]
-pub(crate) struct Requests<A> {
+pub(crate) struct Requests<R, A> {
+    pub(crate) rt: R,
     pub(crate) alloc: Global,
     pub(crate) application: Arc<A>,
     pub(crate) hosts: Arc<Hosts>,
     pub(crate) phase_cell: Rc<PhaseCell>,
 }
 
-impl<A: Application, I: Drop> Service<Request<Incoming<I>>> for Requests<A> {
+impl<R: Clock + Copy + Drop, A: Application, I: Drop> Service<Request<Incoming<I>>>
+    for Requests<R, A> {
     type Response = HttpResponse;
 
     type Error = Infallible;
 
-    type Future = Serving<A, I>;
+    type Future = Serving<R, A, I>;
 
     // What its future may send for a request is what is sent for that very request, by its head and its body.
     ghost calls = { λ requests req serving. (response : _)
@@ -189,7 +224,7 @@ impl<A: Application, I: Drop> Service<Request<Incoming<I>>> for Requests<A> {
         → Sends A.Future.gives A.Response.tells
         (AnswersFor A.answers requests.hosts.value (arc_value requests.application) req) response };
 
-    fn call(&self, req: Request<Incoming<I>>) -> Serving<A, I> {
+    fn call(&self, req: Request<Incoming<I>>) -> Serving<R, A, I> {
         let (head, body) = req.into_parts();
         self.phase_cell.enter(ConnectionPhase::Body);
         Serving {
@@ -200,6 +235,8 @@ impl<A: Application, I: Drop> Service<Request<Incoming<I>>> for Requests<A> {
             head,
             reading: Reading::new(self.alloc, body, self.application.most()),
             reply: None,
+            rt: self.rt,
+            begun: Instant::now(&self.rt).ok(),
         }
     }
 }

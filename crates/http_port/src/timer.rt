@@ -18,7 +18,7 @@ use tokio::time::Sleep;
 pub(crate) struct Timer<R> {
     rt: R,
     limits: HttpLimits,
-    phase_cell: Rc<PhaseCell>,
+    pub(crate) phase_cell: Rc<PhaseCell>,
     /// When the phase has to have ended.
     deadline: Option<Instant>,
     sleep: Sleep,
@@ -92,6 +92,7 @@ impl<R: Clock + Drop> Timer<R> {
         if self.phase_cell.give_up() {
             return cx.yield_now();
         }
+        self.phase_cell.note_late();
         Poll::Ready(())
     }
 }

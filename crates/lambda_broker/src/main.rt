@@ -2,6 +2,7 @@
 #![tactic(auto)]
 
 mod command_line;
+mod listening;
 mod notes;
 mod output;
 mod serving;

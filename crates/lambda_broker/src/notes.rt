@@ -5,15 +5,6 @@ use std::io::Eprint;
 use std::net::SocketAddr;
 use std::time::{Clock, Instant};
 
-/// What was found on a disk that was opened.
-#[derive(Clone, Copy)]
-pub struct Opening {
-    /// How many events it holds.
-    pub held: usize,
-    /// How many attempts the last stop had cut off.
-    pub interrupted: u64,
-}
-
 // How many milliseconds have gone since then. None where the clock does not tell.
 fn since<C: Clock>(rt: &C, start: &io::Result<Instant>) -> Option<u128> {
     match start {
@@ -22,15 +13,15 @@ fn since<C: Clock>(rt: &C, start: &io::Result<Instant>) -> Option<u128> {
     }
 }
 
-/// Says that a disk was opened, what was found there, and how long that took.
+/// Says that a disk was opened, how many events it holds, how many attempts the last stop had cut off, and how long that took.
 pub fn note_opening<R: Eprint + Clock>(
     rt: &R,
     at: &Address<'_>,
-    opening: Opening,
+    held: usize,
+    interrupted: u64,
     start: &io::Result<Instant>,
 ) {
     let path = at.path;
-    let Opening { held, interrupted } = opening;
     let took = since(rt, start).unwrap_or(0);
     let _ = eprintln!(rt; "opened {path}: held {held}, interrupted {interrupted}, in {took} ms");
 }

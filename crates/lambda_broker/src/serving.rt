@@ -9,15 +9,15 @@ ghost use Rattle.hall_core.specs.Past.{opening};
 ghost use Rattle.hall_core.specs.Fresh.{IsFresh};
 ghost use Rattle.receipts.specs.Desks.{desk_count};
 
-use crate::notes::{Opening, note_opening, note_port, note_stop, warn};
+use crate::listening::{Ports, listen_on_all};
+use crate::notes::{note_opening, note_stop, warn};
 use crate::standby::open_in_turn;
 use admin_port::{Admin, AdminPort};
 use broker_commands::{Address, Device, DiskError, now, open};
 use group_commit::{Broker, CommitError, IssueError, OpenError};
 use hall_core::{Hall, HallFailure};
 use http_front::{Discard, Ending, ServeError, WhenPending, serve};
-use http_port::Listening;
-use port_meters::Machine;
+use port_meters::{Machine, Opening, micros_since};
 use receipts::{Gone, SharedOpening, SharedTrace, desks};
 use sector_disk::{CountingDisk, Disk, Written};
 use std::alloc::{AllocError, AllocGlobal, Global};
@@ -25,7 +25,7 @@ use std::fs::File;
 use std::io;
 use std::io::{Eprint, Write};
 use std::marker::Brand;
-use std::net::{IpAddr, Ipv4Addr, Net, SocketAddr, TcpListener, TcpStream};
+use std::net::{IpAddr, SocketAddr};
 use std::rt::Files;
 use std::sync::Wait;
 use std::sync::ledger::{Blank, Ledger};
@@ -89,99 +89,27 @@ fn interrupt_attempts<R: Clock + Wait, D: Disk>(
     Ok(())
 }
 
-// Issues an Interrupt for each attempt that the last stop cut off, and makes that durable: nothing runs then.
-fn resume<R: Clock + Wait, D: Disk>(rt: &R, broker: &mut Broker<D>) -> Result<(), ServingError>
+// Issues an Interrupt for each attempt that the last stop cut off, and makes that durable: nothing runs then. It is noted how long
+// the commit took.
+fn resume<R: Clock + Wait, D: Disk>(
+    rt: &R,
+    broker: &mut Broker<D>,
+    opening: &mut Opening,
+) -> Result<(), ServingError>
     // claim: After Ok nothing runs, and all is durable. Interrupts alone were issued. [: durable, rest;
     // interrupt_attempts: rest]
     ensures durable { OnOk result (pending_of broker.new ≡ []) }
     ensures rest { ForEachHistory D.view broker.old (λ history. OnOk result (ComesToRest D.view history broker.new)) }
 {
     interrupt_attempts(rt, broker)?;
+    let begun = Instant::now(rt);
     match broker.commit() {
-        Ok(_) => Ok(()),
+        Ok(_) => {
+            opening.commit_microseconds = micros_since(rt, begun);
+            Ok(())
+        }
         Err(why) => Err(ServingError::Commit(why)),
     }
-}
-
-// Listens on a port.
-fn bind<R>(rt: &R, address: SocketAddr, host: Option<&str>) -> Result<Listening, ServingError>
-where
-    R: Eprint + Net<Listener = TcpListener, Stream = TcpStream> + AllocGlobal,
-{
-    match Listening::bind(rt, address, host) {
-        Ok(listening) => Ok(listening),
-        Err(why) if why.kind() == io::ErrorKind::OutOfMemory => {
-            Err(ServingError::OutOfMemory(AllocError))
-        }
-        Err(why) => {
-            note_port(rt, address, &why);
-            Err(ServingError::Port)
-        }
-    }
-}
-
-// Listens on the port of the callers and on one for each environment behind it.
-fn listen<R>(rt: &R, at: &Address<'_>, environments: u8) -> Result<Vec<Listening>, ServingError>
-where
-    R: Eprint + Net<Listener = TcpListener, Stream = TcpStream> + AllocGlobal,
-{
-    let mut listeners = Vec::with_capacity(rt.alloc(), usize::from(environments) + 1)?;
-    for number in 0..=u16::from(environments) {
-        let address = SocketAddr::new(at.reach, at.port.saturating_add(number));
-        let listening = bind(rt, address, at.host)?;
-        if listeners.push(listening).is_err() {
-            return Err(ServingError::OutOfMemory(AllocError));
-        }
-    }
-    Ok(listeners)
-}
-
-/// Where Linux tells how many pages this process has.
-const MEMORY: &str = "/proc/self/statm";
-
-// Listens on the operator's port, if there is to be one: on the loopback address, wherever the others are.
-fn listen_admin<R>(
-    rt: &R,
-    at: &Address<'_>,
-    written: Written,
-) -> Result<Option<Admin>, ServingError>
-where
-    R: Files<File = File> + Eprint + Net<Listener = TcpListener, Stream = TcpStream> + AllocGlobal,
-{
-    let Some(port) = at.admin else {
-        return Ok(None);
-    };
-    let address = SocketAddr::from((Ipv4Addr::LOCALHOST, port));
-    Ok(Some(Admin {
-        listening: bind(rt, address, at.host)?,
-        written,
-        memory: File::open(rt, MEMORY).ok(),
-        acts: at.acts,
-    }))
-}
-
-// What a front listens on.
-#[derive(Drop)]
-struct Ports {
-    // The callers' port, and one for each environment behind it.
-    listeners: Vec<Listening>,
-    // The operator's port.
-    admin: Option<Admin>,
-}
-
-// Listens on all ports.
-fn listen_on_all<R>(
-    rt: &R,
-    at: &Address<'_>,
-    environments: u8,
-    written: Written,
-) -> Result<Ports, ServingError>
-where
-    R: Files<File = File> + Eprint + Net<Listener = TcpListener, Stream = TcpStream> + AllocGlobal,
-{
-    let listeners = listen(rt, at, environments)?;
-    let admin = listen_admin(rt, at, written)?;
-    Ok(Ports { listeners, admin })
 }
 
 // A hall over a broker, which tells its replies and waits for extensions as it is asked to.
@@ -208,12 +136,13 @@ fn hall_over<D: Disk + Drop>(
 }
 
 // The hall over a broker of which nothing runs any more: attempts that the last stop cut off are interrupted. It is told what was
-// found since the opening began.
+// found since the opening began, and noted what was done.
 fn hall_at_rest<R, D>(
     rt: &R,
     broker: Broker<D>,
     at: &Address<'_>,
     start: &io::Result<Instant>,
+    opening: &mut Opening,
 ) -> Result<Hall<Broker<D>>, ServingError>
 where
     R: Clock + Wait + Eprint + AllocGlobal,
@@ -229,9 +158,9 @@ where
     let mut broker = broker;
     let held = broker.table().snapshot()?.rows.as_slice().len();
     let before = broker.table().number();
-    resume(rt, &mut broker)?;
-    let interrupted = broker.table().number().saturating_sub(before);
-    note_opening(rt, at, Opening { held, interrupted }, start);
+    resume(rt, &mut broker, opening)?;
+    opening.interrupted = broker.table().number().saturating_sub(before);
+    note_opening(rt, at, held, opening.interrupted, start);
     hall_over(rt.alloc(), broker, at)
 }
 
@@ -249,12 +178,13 @@ fn announce<W: Write>(at: &Address<'_>, out: &mut W) -> io::Result<()> {
 fn admin_over<D: Disk>(
     hall: &Hall<Broker<D>>,
     admin: Option<Admin>,
+    opening: Opening,
 ) -> Result<Option<AdminPort>, AllocError>
     ensures same { IfOk result (λ port. is_some port ≡ is_some admin) }
     ensures settings { IfOk result (λ port. IfSome port (λ port. port.baseline.settings ≡ settings_of hall.now.issuer)) }
 {
     match admin {
-        Some(admin) => Ok(Some(admin.over(hall.table())?)),
+        Some(admin) => Ok(Some(admin.over(hall.table(), opening)?)),
         None => Ok(None),
     }
 }
@@ -279,8 +209,12 @@ where
     requires parts { blank.parts ≡ L.parts }
     requires count { L.parts ≡ desk_count (settings_of hall.issuer) }
 {
-    let Ports { listeners, admin } = ports;
-    let admin = admin_over(&hall, admin)?;
+    let Ports {
+        listeners,
+        admin,
+        opening,
+    } = ports;
+    let admin = admin_over(&hall, admin, opening)?;
     let served = serve::<R, L, T, D, WhenPending, AdminPort>(
         rt,
         hall,
@@ -333,8 +267,8 @@ where
 {
     let broker = open(rt.alloc(), disk)?;
     let environments = broker.table().settings().environments;
-    let ports = listen_on_all(&rt, at, environments, written)?;
-    let hall = hall_at_rest(&rt, broker, at, start)?;
+    let mut ports = listen_on_all(&rt, at, environments, written)?;
+    let hall = hall_at_rest(&rt, broker, at, start, &mut ports.opening)?;
     announce(at, out)?;
     let discard = Discard {
         success: at.discards_success,

@@ -1,7 +1,8 @@
 -- What is counted for an operator: each number up to the greatest of 64 bits.
-use Rattle.std.specs.Prelude.{◌≡◌, ℕ, ◌+◌, ◌-◌, ◌^◌, ◌==◌, nat_le, min, List, [], ◌∷◌, slice_index, if◌then◌else◌}
+use Rattle.std.specs.Prelude.{◌≡◌, ℕ, ◌+◌, ◌-◌, ◌^◌, ◌==◌, nat_le, nat_lt, min, List, [], ◌∷◌, slice_index, if◌then◌else◌}
 use Rattle.port_meters.specs.declared.counters.Refusals.{Refusals}
 use Rattle.port_meters.specs.declared.counters.Counters.{Counters}
+use Rattle.port_meters.specs.declared.opening.Opening.{Opening}
 
 abbrev pub sum_up_to : ℕ → ℕ → ℕ
 sum_up_to n more = min (n + more) (2 ^ 64 - 1)
@@ -29,7 +30,6 @@ refused_more refused status =
     else if status == 404 then record refused { not_found = sum_up_to refused.not_found 1 }
     else if status == 409 then record refused { conflict = sum_up_to refused.conflict 1 }
     else if status == 413 then record refused { too_large = sum_up_to refused.too_large 1 }
-    else if status == 431 then record refused { head_too_large = sum_up_to refused.head_too_large 1 }
     else if status == 429 then record refused { too_many = sum_up_to refused.too_many 1 }
     else if status == 503 then record refused { unavailable = sum_up_to refused.unavailable 1 }
     else record refused { other = sum_up_to refused.other 1 }
@@ -47,3 +47,16 @@ pub record HasSameCounts (old new : Counters) : Type 0 where
   pub time : new.commit_microseconds ≡ old.commit_microseconds
   pub buckets : new.buckets ≡ old.buckets
   pub refused : new.refused ≡ old.refused
+
+-- one commit more, which took so long
+abbrev pub committed : Counters → ℕ → Counters
+committed counters took = record counters {
+  commits = sum_up_to counters.commits 1;
+  commit_microseconds = sum_up_to counters.commit_microseconds took;
+  buckets = raised_buckets took counters.buckets;
+}
+
+-- with the commit of an opening, where that interrupted something
+abbrev pub with_opening : Opening → Counters → Counters
+with_opening opening counters =
+    if nat_lt 0 opening.interrupted then committed counters opening.commit_microseconds else counters

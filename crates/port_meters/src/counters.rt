@@ -13,8 +13,6 @@ pub struct Refusals {
     pub conflict: u64,
     /// 413.
     pub too_large: u64,
-    /// 431.
-    pub head_too_large: u64,
     /// 429.
     pub too_many: u64,
     /// 503.
@@ -76,7 +74,6 @@ fn refused_more(refused: Refusals, status: u16) -> Refusals
         404 => more.not_found = more.not_found.saturating_add(1),
         409 => more.conflict = more.conflict.saturating_add(1),
         413 => more.too_large = more.too_large.saturating_add(1),
-        431 => more.head_too_large = more.head_too_large.saturating_add(1),
         429 => more.too_many = more.too_many.saturating_add(1),
         503 => more.unavailable = more.unavailable.saturating_add(1),
         _ => more.other = more.other.saturating_add(1),
@@ -102,7 +99,6 @@ impl Counters {
                 not_found: 0,
                 conflict: 0,
                 too_large: 0,
-                head_too_large: 0,
                 too_many: 0,
                 unavailable: 0,
                 other: 0,

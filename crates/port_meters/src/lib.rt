@@ -8,12 +8,20 @@
 
 mod beside;
 mod counters;
+mod histogram;
 mod machine;
 mod meters;
 mod moment;
+mod opening;
+mod port_meter;
+mod ports;
 
 pub use beside::Beside;
 pub use counters::{Counters, Refusals};
+pub use histogram::{Histogram, Spread};
 pub use machine::Machine;
-pub use meters::{DiskState, Meters};
+pub use meters::{DiskState, Meters, micros_since};
 pub use moment::{Moment, NoClock};
+pub use opening::Opening;
+pub use port_meter::{PortMeter, Unread, UnreadCounts};
+pub use ports::{PortMeters, Ports};

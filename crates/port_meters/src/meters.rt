@@ -63,8 +63,8 @@ impl Meters {
     }
 }
 
-// How many microseconds have passed, as far as the clock says.
-fn micros_since<R: Clock>(rt: &R, begun: io::Result<Instant>) -> u64 {
+/// How many microseconds have passed, as far as the clock says.
+pub fn micros_since<R: Clock>(rt: &R, begun: io::Result<Instant>) -> u64 {
     match (begun, Instant::now(rt)) {
         (Ok(begun), Ok(now)) => now
             .saturating_duration_since(begun)

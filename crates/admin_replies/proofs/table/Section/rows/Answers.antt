@@ -23,6 +23,10 @@ pub returns-in-Refusals : goal.returns-in-Refusals
 unfolding lines_of
 returns-in-Refusals c = rw c.in-Refusals.is refl
 
+pub returns-in-Ports : goal.returns-in-Ports
+unfolding lines_of
+returns-in-Ports c = rw c.in-Ports.is refl
+
 pub returns-in-Commits : goal.returns-in-Commits
 unfolding lines_of
 returns-in-Commits c = rw c.in-Commits.is refl
