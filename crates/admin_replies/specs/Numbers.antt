@@ -3,7 +3,7 @@ use Rattle.std.specs.Prelude.{◌≡◌, ℕ, ◌+◌, ◌-◌, ◌*◌, ◌^◌
 use Rattle.std.specs.List.{count_by, sum_by}
 use Rattle.env_phase.specs.declared.phase.Phase.{Phase}
 use Rattle.env_phase.specs.declared.phase.Phase.TheVariants.{Init, Ready, Busy, Closing}
-use Rattle.hall_core.specs.declared.looking.EnvironmentStatus.{EnvironmentStatus}
+use Rattle.hall_plans.specs.declared.environment_status.EnvironmentStatus.{EnvironmentStatus}
 use Rattle.operator_view.specs.declared.numbers.Census.{Census}
 use Rattle.operator_view.specs.Census.{IsCensus, oldest_waiting, ends}
 use Rattle.operator_view.specs.declared.memory.Counts.{Counts}

@@ -9,10 +9,10 @@ use Rattle.invoke_records.specs.declared.snapshot.Snapshot.{Snapshot}
 use Rattle.async_core.specs.History.{table_of}
 use Rattle.async_core.specs.Policies.{pair_of, policy_by}
 use Rattle.async_core.specs.Rules.{table_after}
-use Rattle.group_commit.specs.declared.broker.Broker.{Broker}
-use Rattle.group_commit.specs.declared.error.IssueError.{IssueError}
-use Rattle.group_commit.specs.History.{IsLegalStop}
-use Rattle.group_commit.specs.Broker.{disk_of, settings_of, table_in, pending_of, durable_of, Stands, Issues, IsReason}
+use Rattle.broker_core.specs.declared.broker.Broker.{Broker}
+use Rattle.broker_core.specs.declared.error.IssueError.{IssueError}
+use Rattle.broker_core.specs.History.{IsLegalStop}
+use Rattle.broker_core.specs.Broker.{disk_of, settings_of, table_in, pending_of, durable_of, Stands, Issues, IsReason}
 use Rattle.broker_commands.specs.declared.configuring.ConfiguringError.{ConfiguringError}
 use Rattle.broker_commands.specs.declared.configuring.NewPolicy.{NewPolicy}
 use Rattle.broker_commands.specs.Configuring.{told_or, policy_for, configure_after, configure_at, with_configure, IsConfigured, HoldsConfigured, IsAsked}

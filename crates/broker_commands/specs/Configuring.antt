@@ -12,11 +12,11 @@ use Rattle.invoke_records.specs.declared.command.Kind.TheVariants.{Configure}
 use Rattle.invoke_records.specs.declared.snapshot.Snapshot.{Snapshot}
 use Rattle.async_core.specs.History.{last_moment, in_force}
 use Rattle.checkpoint.specs.declared.error.OpenError.TheVariants as open_error
-use Rattle.group_commit.specs.History.{IsLegalStop}
-use Rattle.group_commit.specs.declared.broker.Broker.{Broker}
-use Rattle.group_commit.specs.declared.error.CommitError.TheVariants as commit_error
-use Rattle.group_commit.specs.Broker.{settings_of, IsReason, Stands}
-use Rattle.group_commit.specs.Promises.{ForEachHistoryOn}
+use Rattle.broker_core.specs.History.{IsLegalStop}
+use Rattle.broker_core.specs.declared.broker.Broker.{Broker}
+use Rattle.broker_core.specs.declared.error.CommitError.TheVariants as commit_error
+use Rattle.broker_core.specs.Broker.{settings_of, IsReason, Stands}
+use Rattle.broker_core.specs.Promises.{ForEachHistoryOn}
 use Rattle.broker_commands.specs.Opening.{is_disk_fault}
 use Rattle.broker_commands.specs.declared.configuring.ConfiguringError.{ConfiguringError}
 use Rattle.broker_commands.specs.declared.configuring.ConfiguringError.TheVariants as error

@@ -7,7 +7,7 @@ use async_core::Table;
 use audit_report::{
     Report, all_records, audit, explain, figures, in_force_line, inspect, json_line,
 };
-use group_commit::OpenError;
+use broker_core::OpenError;
 use sector_disk::Disk;
 use std::alloc::{AllocError, Global};
 use std::fs::File;

@@ -2,14 +2,14 @@
 ghost use Rattle.std.specs.Prelude.{◌≡◌, [], IfErr, IfOk, OnOk};
 ghost use Rattle.async_core.specs.Policies.{pair_of};
 ghost use Rattle.sector_disk.specs.Disk.{IsSameDisk};
-ghost use Rattle.group_commit.specs.Broker.{disk_of, settings_of, pending_of, table_in, IsReason};
-ghost use Rattle.group_commit.specs.Promises.{ForEachHistory, ForEachHistoryOn};
+ghost use Rattle.broker_core.specs.Broker.{disk_of, settings_of, pending_of, table_in, IsReason};
+ghost use Rattle.broker_core.specs.Promises.{ForEachHistory, ForEachHistoryOn};
 ghost use Rattle.broker_commands.specs.Configuring.{policy_for, configure_at, IsConfigured, HoldsConfigured, WasConfigured, IsRefusal, IsAsked};
 
 use crate::configuring::{ConfiguringError, NewPolicy};
 use crate::opening::open;
 use async_core::Table;
-use group_commit::{Broker, IssueError};
+use broker_core::{Broker, IssueError};
 use invoke_records::{Bytes, Command, Kind};
 use retry_rules::RetryPolicy;
 use sector_disk::Disk;

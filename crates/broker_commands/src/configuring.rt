@@ -6,7 +6,7 @@ ghost use Rattle.retry_rules.specs.declared.settings.Field.{Field};
 use crate::clock::now;
 use crate::configured::{Configured, configure};
 use crate::opening::{Device, DiskError, open_device};
-use group_commit::{CommitError, IssueError, OpenError};
+use broker_core::{CommitError, IssueError, OpenError};
 use retry_rules::{BadSettings, Field, RetryPolicy};
 use std::alloc::AllocError;
 use std::fs::File;

@@ -7,8 +7,8 @@ ghost use Rattle.broker_commands.specs.Formatting.{settings_for, is_device_fault
 use crate::contents::{ContentsError, check_contents};
 use crate::opening::DiskError;
 use crate::telltale::telltale_for;
+use broker_core::{FormatError, format};
 use checkpoint::least_sectors;
-use group_commit::{FormatError, format};
 use retry_rules::{BadSettings, Settings, Text};
 use sector_disk::{
     FaultLog, FileDisk, FileError, LoggedFile, Place, RandomAccessFile, SECTOR_SIZE,

@@ -1,15 +1,15 @@
 // Opening a disk for a command.
 ghost use Rattle.std.specs.Prelude.{◌≡◌, ◌≤◌, IfOk, IfErr};
 ghost use Rattle.sector_disk.specs.Disk.{HasRisen, IsSameDisk};
-ghost use Rattle.group_commit.specs.Broker.{disk_of};
-ghost use Rattle.group_commit.specs.Promises.{ForEachHistoryOn, IsRecovered};
+ghost use Rattle.broker_core.specs.Broker.{disk_of};
+ghost use Rattle.broker_core.specs.Promises.{ForEachHistoryOn, IsRecovered};
 ghost use Rattle.resized_disk.specs.Reading.{OnlyReads};
 ghost use Rattle.broker_commands.specs.Opening.{is_disk_fault, TellsSize};
 ghost use Rattle.broker_commands.specs.declared.opening.DiskError.TheVariants as disk_error;
 ghost use Rattle.sector_disk.specs.declared.file.FileError.TheVariants as file_error;
 
 use crate::telltale::{Telltale, telltale_for};
-use group_commit::{Broker, OpenError, without_disk};
+use broker_core::{Broker, OpenError, without_disk};
 use resized_disk::{Resized, ResizedError, resized};
 use sector_disk::{Disk, FileDisk, FileError, LoggedFile, lock_file, lock_file_read_only};
 use std::alloc::{AllocError, Global};

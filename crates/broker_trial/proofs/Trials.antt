@@ -14,9 +14,9 @@ use Rattle.async_core.specs.History.{IsLegal, standing_in, table_of}
 use Rattle.async_core.specs.laws.Tables.{table_of-nil}
 use Rattle.async_core.specs.Lives.{life}
 use Rattle.checkpoint.specs.Live.{RecoversTo}
-use Rattle.group_commit.specs.declared.broker.Broker.{Broker}
-use Rattle.group_commit.specs.History.{IsLegalStop}
-use Rattle.group_commit.specs.Broker.{disk_of, settings_of}
+use Rattle.broker_core.specs.declared.broker.Broker.{Broker}
+use Rattle.broker_core.specs.History.{IsLegalStop}
+use Rattle.broker_core.specs.Broker.{disk_of, settings_of}
 use Rattle.broker_trial.specs.Trial.{trial_settings, trial_acceptance, Holds, IsOpened}
 
 -- what is Ok was Ok before

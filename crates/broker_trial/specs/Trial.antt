@@ -10,10 +10,10 @@ use Rattle.invoke_records.specs.declared.command.Kind.TheVariants.{Accept}
 use Rattle.async_core.specs.History.{IsLegal}
 use Rattle.checkpoint.specs.declared.error.FormatError.TheVariants as format_error
 use Rattle.checkpoint.specs.declared.error.OpenError.TheVariants as open_error
-use Rattle.group_commit.specs.declared.error.CommitError.TheVariants as commit_error
-use Rattle.group_commit.specs.declared.broker.Broker.{Broker}
-use Rattle.group_commit.specs.History.{IsLegalStop}
-use Rattle.group_commit.specs.Broker.{settings_of, durable_of, Stands}
+use Rattle.broker_core.specs.declared.error.CommitError.TheVariants as commit_error
+use Rattle.broker_core.specs.declared.broker.Broker.{Broker}
+use Rattle.broker_core.specs.History.{IsLegalStop}
+use Rattle.broker_core.specs.Broker.{settings_of, durable_of, Stands}
 use Rattle.broker_trial.specs.declared.trial.Accepted.{Accepted}
 use Rattle.broker_trial.specs.declared.trial.TrialError.{TrialError}
 use Rattle.broker_trial.specs.declared.trial.TrialError.TheVariants.{Format, Open, Commit}

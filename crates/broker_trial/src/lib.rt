@@ -1,4 +1,4 @@
-//! One event accepted, committed and recovered, on a disk in memory. It rests on the clauses of `group_commit` alone.
+//! One event accepted, committed and recovered, on a disk in memory. It rests on the clauses of `broker_core` alone.
 #![tactic(auto)]
 
 mod printing;

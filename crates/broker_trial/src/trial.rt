@@ -5,7 +5,7 @@ ghost use Rattle.invoke_records.specs.declared.command.Command.{Command};
 ghost use Rattle.invoke_records.specs.declared.row.Standing.TheVariants as standing;
 ghost use Rattle.broker_trial.specs.Trial.{trial_settings, trial_acceptance, Holds, IsOpened, IsAccepted, is_device_fault};
 
-use group_commit::{Broker, CommitError, FormatError, IssueError, OpenError, format, without_disk};
+use broker_core::{Broker, CommitError, FormatError, IssueError, OpenError, format, without_disk};
 use invoke_records::{Bytes, Command, Kind, Standing};
 use retry_rules::{Settings, Text};
 use sector_disk::MemDisk;

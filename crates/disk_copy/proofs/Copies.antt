@@ -18,8 +18,8 @@ use Rattle.checkpoint.specs.declared.error.SeedError.TheVariants as seed_error
 use Rattle.checkpoint.specs.Image.{least_sectors}
 use Rattle.checkpoint.specs.Live.{RecoversTo, may_stand}
 use Rattle.checkpoint.specs.Formatting.{IsTooSmall, IsBadToSeed, IsSeeded}
-use Rattle.group_commit.specs.declared.broker.Broker.{Broker}
-use Rattle.group_commit.specs.Broker.{settings_of, table_in, Stands}
+use Rattle.broker_core.specs.declared.broker.Broker.{Broker}
+use Rattle.broker_core.specs.Broker.{settings_of, table_in, Stands}
 use Rattle.disk_copy.specs.Limits.{AllowsAll}
 use Rattle.disk_copy.specs.laws.Histories.{IsLegal-kept, table_of-same}
 use Rattle.disk_copy.specs.laws.Tables.{may_stand-kept}

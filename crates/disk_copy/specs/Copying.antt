@@ -10,9 +10,9 @@ use Rattle.checkpoint.specs.declared.error.SeedError.{SeedError}
 use Rattle.checkpoint.specs.declared.error.SeedError.TheVariants as seed_error
 use Rattle.checkpoint.specs.Image.{least_sectors}
 use Rattle.checkpoint.specs.Live.{may_stand}
-use Rattle.group_commit.specs.declared.broker.Broker.{Broker}
-use Rattle.group_commit.specs.Broker.{settings_of, table_in}
-use Rattle.group_commit.specs.History.{IsLegalStop}
+use Rattle.broker_core.specs.declared.broker.Broker.{Broker}
+use Rattle.broker_core.specs.Broker.{settings_of, table_in}
+use Rattle.broker_core.specs.History.{IsLegalStop}
 use Rattle.disk_copy.specs.declared.change.Change.{Change}
 use Rattle.disk_copy.specs.declared.change.ChangeError.{ChangeError}
 use Rattle.disk_copy.specs.declared.change.ChangeError.TheVariants as change_error

@@ -1,10 +1,10 @@
 // Steps on what issues commands: a broker, or the half of one.
 ghost use Rattle.std.specs.Prelude.{◌≡◌, [], IfOk};
-ghost use Rattle.group_commit.specs.Broker.{pending_of};
+ghost use Rattle.broker_core.specs.Broker.{pending_of};
 
 use crate::refusals;
+use broker_core::{Broker, Issuer, OpenFailure, Ticket};
 use case_runner::{CommandRange, StepReply, TextBuffer, Words, read_order};
-use group_commit::{Broker, Issuer, OpenFailure, Ticket};
 use sector_disk::Disk;
 use std::alloc::Global;
 use table_steps::{retaken_step, table_step};

@@ -4,7 +4,7 @@ ghost use Rattle.std.specs.Prelude.{◌≡◌, ◌<◌, ◌≤◌, All, IfOk, If
 use crate::rule::{Looks, Raises, Rises, SeatView, Sits};
 use crate::{AnyNumber, Numbers, Shown};
 use atomic_table::Table;
-use group_commit::{Durable, Receipt, Ticket};
+use broker_core::{Durable, Receipt, Ticket};
 use std::alloc::{AllocError, Global};
 
 /// How many commands are durable, as far as threads were told. The number only rises.

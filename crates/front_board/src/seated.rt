@@ -3,7 +3,7 @@ ghost use Rattle.std.specs.Prelude.{◌≡◌, ◌<◌, ◌≤◌, All, IfOk, If
 ghost use Rattle.front_board.specs.Board.{SitsAt};
 
 use crate::{Board, Seat, Shown};
-use group_commit::{Durable, Ticket};
+use broker_core::{Durable, Ticket};
 use std::alloc::{AllocError, Global};
 use std::sync::Arc;
 

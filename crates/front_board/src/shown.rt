@@ -3,7 +3,7 @@ ghost use Rattle.std.specs.Prelude.{◌≡◌, ◌≤◌};
 ghost use Rattle.front_board.specs.Board.{seen_from};
 
 use crate::Seat;
-use group_commit::Receipt;
+use broker_core::Receipt;
 use std::snapshot::Snapshot as Seen;
 
 /// A receipt whose number a board showed. Only a look at a board makes one: proofs see in it the seat that saw it.

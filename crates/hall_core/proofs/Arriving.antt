@@ -12,7 +12,7 @@ use Rattle.env_phase.specs.declared.call.EnvCall.{EnvCall}
 use Rattle.env_phase.specs.declared.answer.PollAnswer.{PollAnswer}
 use Rattle.api_core.specs.declared.call.Call.{Call}
 use Rattle.api_core.specs.Replies.{Told, Words, reply_in}
-use Rattle.group_commit.specs.Issuer.{IsIssuer, issued_in, state_in, Fails}
+use Rattle.broker_core.specs.Issuer.{IsIssuer, issued_in, state_in, Fails}
 use Rattle.hall_plans.specs.declared.error.HallError.TheVariants as error
 use Rattle.hall_plans.specs.Past.{HallCall, arrive, Past, asked, replied, calls_in, calls_of, call_stops, asks_stop, is_stopping}
 use Rattle.hall_plans.specs.Effects.{Effect, scene, effect_of_request, effect_of, command_of}

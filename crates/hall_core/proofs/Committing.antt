@@ -2,11 +2,11 @@
 use Rattle.std.proofs.Common.{◌≡◌, ◌⊎◌, ◌≤◌, true, false, Bool, List, [], ◌∷◌, length, refl, arith, inl, inr}
 use Rattle.sector_disk.specs.declared.disk.Disk.{Ghosts}
 use Rattle.invoke_records.specs.declared.command.Command.{Command}
-use Rattle.group_commit.specs.declared.broker.Broker.{Broker}
-use Rattle.group_commit.specs.declared.error.CommitError.{CommitError}
-use Rattle.group_commit.specs.declared.error.CommitError.TheVariants as commit_error
-use Rattle.group_commit.specs.Broker.{disk_of, pending_of, is_broken, IsSameBroker, Breaks}
-use Rattle.group_commit.specs.Refusals.{NeedsSwitch, IsWornOut, HasBadTable}
+use Rattle.broker_core.specs.declared.broker.Broker.{Broker}
+use Rattle.broker_core.specs.declared.error.CommitError.{CommitError}
+use Rattle.broker_core.specs.declared.error.CommitError.TheVariants as commit_error
+use Rattle.broker_core.specs.Broker.{disk_of, pending_of, is_broken, IsSameBroker, Breaks}
+use Rattle.broker_core.specs.Refusals.{NeedsSwitch, IsWornOut, HasBadTable}
 use Rattle.hall_plans.specs.declared.error.HallError.TheVariants as error
 use Rattle.hall_core.specs.Hall.{commit_error_of}
 use Rattle.hall_core.specs.Committing.{HasToWrite, IsCommitReason}

@@ -4,16 +4,16 @@ use Rattle.std.specs.Prelude.{Result, Ok, Err}
 use Rattle.std.proofs.lemmas.Bool.{true≢false}
 use Rattle.sector_disk.specs.declared.disk.Disk.{Ghosts}
 use Rattle.invoke_records.specs.declared.command.Command.{Command}
-use Rattle.group_commit.specs.declared.broker.Broker.{Broker}
-use Rattle.group_commit.specs.declared.batch.Written.{Written}
-use Rattle.group_commit.specs.declared.batch.Failed.{Failed}
-use Rattle.group_commit.specs.declared.issue_half.IssueHalf.{IssueHalf}
-use Rattle.group_commit.specs.declared.error.SettleError.{SettleError}
-use Rattle.group_commit.specs.declared.error.SettleError.TheVariants as settle_error
-use Rattle.group_commit.specs.Broker.{settings_of, table_in, is_broken}
-use Rattle.group_commit.specs.IssuerHalf.{half_view}
-use Rattle.group_commit.specs.Lending.{IsNotSettled}
-use Rattle.group_commit.specs.Splitting.{Joins}
+use Rattle.broker_core.specs.declared.broker.Broker.{Broker}
+use Rattle.broker_core.specs.declared.batch.Written.{Written}
+use Rattle.broker_core.specs.declared.batch.Failed.{Failed}
+use Rattle.broker_core.specs.declared.issue_half.IssueHalf.{IssueHalf}
+use Rattle.broker_core.specs.declared.error.SettleError.{SettleError}
+use Rattle.broker_core.specs.declared.error.SettleError.TheVariants as settle_error
+use Rattle.broker_core.specs.Broker.{settings_of, table_in, is_broken}
+use Rattle.broker_core.specs.IssuerHalf.{half_view}
+use Rattle.broker_core.specs.Lending.{IsNotSettled}
+use Rattle.broker_core.specs.Splitting.{Joins}
 use Rattle.hall_plans.specs.Past.{Past}
 use Rattle.hall_core.specs.Hall.{HallView, StandsFor}
 use Rattle.hall_core.specs.Halves.{HasSameParts}

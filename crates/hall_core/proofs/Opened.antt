@@ -1,7 +1,7 @@
 -- Lemmas: what a hall stands for in which nothing has come yet.
 use Rattle.std.proofs.Common.{◌≡◌, List, [], length, false, refl}
 use Rattle.invoke_records.specs.declared.command.Command.{Command}
-use Rattle.group_commit.specs.Issuer.{IsIssuer}
+use Rattle.broker_core.specs.Issuer.{IsIssuer}
 use Rattle.api_core.specs.Replies.{Words}
 use Rattle.hall_plans.specs.Past.{opening}
 use Rattle.hall_plans.specs.laws.Sound.{kept_at_opening}

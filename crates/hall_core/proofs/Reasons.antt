@@ -7,7 +7,7 @@ use Rattle.env_phase.specs.State.{EnvState}
 use Rattle.env_phase.specs.declared.call.EnvCall.{EnvCall}
 use Rattle.invoke_records.specs.declared.command.Command.{Command}
 use Rattle.api_core.specs.declared.call.Call.{Call}
-use Rattle.group_commit.specs.Issuer.{IssuerView, issued_in, state_in}
+use Rattle.broker_core.specs.Issuer.{IssuerView, issued_in, state_in}
 use Rattle.hall_plans.specs.declared.error.HallError.{HallError}
 use Rattle.hall_plans.specs.declared.error.HallError.TheVariants as error
 use Rattle.hall_plans.specs.Refusals.{first_failed}

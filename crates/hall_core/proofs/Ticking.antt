@@ -9,7 +9,7 @@ use Rattle.retry_rules.specs.declared.settings.Settings.{Settings}
 use Rattle.invoke_records.specs.declared.command.Command.{Command}
 use Rattle.invoke_records.specs.declared.command.Kind.{Kind}
 use Rattle.async_core.specs.Choice.{move_of}
-use Rattle.group_commit.specs.Issuer.{IssuerView, IsIssuer, issued_in, state_in}
+use Rattle.broker_core.specs.Issuer.{IssuerView, IsIssuer, issued_in, state_in}
 use Rattle.hall_plans.specs.declared.error.HallError.TheVariants as error
 use Rattle.hall_plans.specs.declared.preparing.Prepared.{Prepared}
 use Rattle.hall_plans.specs.declared.issued.Issued.{Issued}

@@ -1,11 +1,11 @@
 -- A commit of a hall over a broker that is refused: why, and what it leaves.
 use Rattle.std.specs.Prelude.{◌≡◌, ◌≤◌, true, false, length}
 use Rattle.sector_disk.specs.declared.disk.Disk.{Ghosts}
-use Rattle.group_commit.specs.declared.broker.Broker.{Broker}
-use Rattle.group_commit.specs.declared.error.CommitError.{CommitError}
-use Rattle.group_commit.specs.declared.error.CommitError.TheVariants as commit_error
-use Rattle.group_commit.specs.Broker.{pending_of, is_broken, IsSameBroker, Breaks}
-use Rattle.group_commit.specs.Refusals.{NeedsSwitch, IsWornOut, HasBadTable}
+use Rattle.broker_core.specs.declared.broker.Broker.{Broker}
+use Rattle.broker_core.specs.declared.error.CommitError.{CommitError}
+use Rattle.broker_core.specs.declared.error.CommitError.TheVariants as commit_error
+use Rattle.broker_core.specs.Broker.{pending_of, is_broken, IsSameBroker, Breaks}
+use Rattle.broker_core.specs.Refusals.{NeedsSwitch, IsWornOut, HasBadTable}
 use Rattle.hall_plans.specs.declared.error.HallError.{HallError}
 use Rattle.hall_core.specs.Hall.{commit_error_of}
 

@@ -2,7 +2,7 @@
 use Rattle.std.specs.Prelude.{◌≡◌, false, [], length}
 use Rattle.retry_rules.specs.declared.settings.Settings.{Settings}
 use Rattle.api_core.specs.Replies.{Words}
-use Rattle.group_commit.specs.declared.issuer.Issuer.{Ghosts}
+use Rattle.broker_core.specs.declared.issuer.Issuer.{Ghosts}
 use Rattle.hall_core.specs.declared.hall.Hall.{Hall}
 use Rattle.hall_plans.specs.Environments.{HoldFor}
 use Rattle.hall_core.specs.OpenSlots.{KeepFor}

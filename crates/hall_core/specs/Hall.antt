@@ -3,10 +3,10 @@ use Rattle.std.specs.Prelude.{◌≡◌, ℕ, ◌-◌, ◌^◌, ◌≤◌, Bool,
 use Rattle.retry_rules.specs.declared.settings.Settings.{Settings}
 use Rattle.env_phase.specs.State.{EnvState}
 use Rattle.api_core.specs.declared.call.Call.{Call}
-use Rattle.group_commit.specs.declared.issuer.Issuer.{Ghosts}
-use Rattle.group_commit.specs.declared.error.CommitError.{CommitError}
-use Rattle.group_commit.specs.declared.error.CommitError.TheVariants as commit_error
-use Rattle.group_commit.specs.Issuer.{IssuerView, issued_in, state_in, IsSameIssuer}
+use Rattle.broker_core.specs.declared.issuer.Issuer.{Ghosts}
+use Rattle.broker_core.specs.declared.error.CommitError.{CommitError}
+use Rattle.broker_core.specs.declared.error.CommitError.TheVariants as commit_error
+use Rattle.broker_core.specs.Issuer.{IssuerView, issued_in, state_in, IsSameIssuer}
 use Rattle.hall_core.specs.declared.hall.Hall.{Hall}
 use Rattle.hall_plans.specs.declared.error.HallError.{HallError}
 use Rattle.hall_plans.specs.declared.error.HallError.TheVariants as error

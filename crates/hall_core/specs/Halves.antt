@@ -1,16 +1,16 @@
 -- A hall over an issue half: how it comes from a hall over a broker, and how it tells why it lends or settles nothing.
 use Rattle.std.specs.Prelude.{◌≡◌, Bool, false, Result}
-use Rattle.group_commit.specs.declared.batch.Written.{Written}
-use Rattle.group_commit.specs.declared.batch.Failed.{Failed}
-use Rattle.group_commit.specs.declared.issue_half.IssueHalf.{IssueHalf}
-use Rattle.group_commit.specs.declared.error.LendError.{LendError}
-use Rattle.group_commit.specs.declared.error.LendError.TheVariants as lend_error
-use Rattle.group_commit.specs.declared.error.WriteError.{WriteError}
-use Rattle.group_commit.specs.declared.error.WriteError.TheVariants as write_error
-use Rattle.group_commit.specs.declared.error.SettleError.{SettleError}
-use Rattle.group_commit.specs.declared.error.SettleError.TheVariants as settle_error
-use Rattle.group_commit.specs.Batch.{is_lasting}
-use Rattle.group_commit.specs.Lending.{IsLendReason, IsNotSettled}
+use Rattle.broker_core.specs.declared.batch.Written.{Written}
+use Rattle.broker_core.specs.declared.batch.Failed.{Failed}
+use Rattle.broker_core.specs.declared.issue_half.IssueHalf.{IssueHalf}
+use Rattle.broker_core.specs.declared.error.LendError.{LendError}
+use Rattle.broker_core.specs.declared.error.LendError.TheVariants as lend_error
+use Rattle.broker_core.specs.declared.error.WriteError.{WriteError}
+use Rattle.broker_core.specs.declared.error.WriteError.TheVariants as write_error
+use Rattle.broker_core.specs.declared.error.SettleError.{SettleError}
+use Rattle.broker_core.specs.declared.error.SettleError.TheVariants as settle_error
+use Rattle.broker_core.specs.Batch.{is_lasting}
+use Rattle.broker_core.specs.Lending.{IsLendReason, IsNotSettled}
 use Rattle.hall_plans.specs.declared.error.HallError.{HallError}
 use Rattle.hall_plans.specs.declared.error.HallError.TheVariants as error
 use Rattle.hall_core.specs.OpenSlots.{KeepFor}

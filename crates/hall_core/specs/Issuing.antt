@@ -5,9 +5,9 @@ use Rattle.invoke_records.specs.declared.command.Command.{Command}
 use Rattle.invoke_records.specs.declared.snapshot.Snapshot.{Snapshot}
 use Rattle.async_core.specs.declared.illegal.Illegal.{Illegal}
 use Rattle.async_core.specs.Rules.{table_after}
-use Rattle.group_commit.specs.Issuer.{IssuerView, issued_in, IsLegalNow, Fails}
-use Rattle.group_commit.specs.declared.error.IssueError.{IssueError}
-use Rattle.group_commit.specs.declared.error.IssueError.TheVariants as issue_error
+use Rattle.broker_core.specs.Issuer.{IssuerView, issued_in, IsLegalNow, Fails}
+use Rattle.broker_core.specs.declared.error.IssueError.{IssueError}
+use Rattle.broker_core.specs.declared.error.IssueError.TheVariants as issue_error
 use Rattle.hall_plans.specs.declared.error.HallError.{HallError}
 use Rattle.hall_plans.specs.declared.error.HallError.TheVariants as error
 use Rattle.hall_plans.specs.declared.issued.Issued.{Issued}

@@ -6,7 +6,7 @@ ghost use Rattle.hall_core.specs.Hall.{view_of, settings_in, is_slot_open, reque
 
 use crate::hall::Hall;
 use api_core::Call;
-use group_commit::Issuer;
+use broker_core::Issuer;
 use hall_plans::fits;
 
 impl<I: Issuer> Hall<I> {

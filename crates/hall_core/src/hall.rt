@@ -7,7 +7,7 @@ use crate::released::Released;
 use crate::slots::Slots;
 use api_core::{Call, Dialect, Reply, unavailable};
 use async_core::Table;
-use group_commit::{Durable, Issuer, MOST_COMMANDS, MOST_PENDING, Receipt, Ticket};
+use broker_core::{Durable, Issuer, MOST_COMMANDS, MOST_PENDING, Receipt, Ticket};
 use hall_plans::{Environments, HallError, Issued, Prepared, plan_request, plan_tick, prepare};
 use std::alloc::Global;
 
@@ -54,7 +54,7 @@ impl<I: Issuer> Hall<I> {
     ghost use Rattle.hall_plans.specs.Agreement.{IsFit};
     ghost use Rattle.hall_plans.specs.Plans.{IsToOneOf, drawn_by};
     ghost use Rattle.hall_plans.specs.Asked.{IsAsked};
-    ghost use Rattle.group_commit.specs.Issuer.{issued_in, state_in};
+    ghost use Rattle.broker_core.specs.Issuer.{issued_in, state_in};
     ghost use Rattle.hall_plans.specs.Past.{tick, take_slot, forget_slot};
     ghost use Rattle.hall_core.specs.Hall.{view_of, settings_in, words_in, pending_in, refusal_of_arrival, refusal_of_moving, IsSameHall, request, Does, Passes, Refuses, KeepsReason};
     ghost use Rattle.hall_core.specs.Hall.{is_slot_open, Gives, GivesFor, slot_told, IsDone, IsAsDurable, IssuesAtMostOne, AnswersPolls, answered_slots};

@@ -1,10 +1,10 @@
 // Issuing the command of a call.
 ghost use Rattle.std.specs.Prelude.{◌≡◌, ◌++◌, false, option_map, IfOk, IfErr, OnOk, OnErr, is_some, is_none};
-ghost use Rattle.group_commit.specs.Issuer.{ForEachHistory, IsSameIssuer};
+ghost use Rattle.broker_core.specs.Issuer.{ForEachHistory, IsSameIssuer};
 ghost use Rattle.hall_plans.specs.Run.{option_list};
 ghost use Rattle.hall_core.specs.Issuing.{IsAnswered, Continues, IsUnissued, error_of};
 
-use group_commit::{IssueError, Issuer};
+use broker_core::{IssueError, Issuer};
 use hall_plans::{HallError, Issued};
 use invoke_records::Command;
 

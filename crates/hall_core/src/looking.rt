@@ -4,7 +4,7 @@ ghost use Rattle.hall_core.specs.Hall.{view_of};
 ghost use Rattle.hall_core.specs.HallStatus.{Shows};
 
 use crate::hall::Hall;
-use group_commit::Issuer;
+use broker_core::Issuer;
 use hall_plans::EnvironmentStatus;
 use invoke_records::Snapshot;
 use std::alloc::AllocError;

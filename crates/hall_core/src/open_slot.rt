@@ -2,7 +2,7 @@
 ghost use Rattle.std.specs.Prelude.{◌≡◌, is_some};
 
 use api_core::Reply;
-use group_commit::{Receipt, Ticket};
+use broker_core::{Receipt, Ticket};
 
 /// A slot with which a request came: its reply waits to be taken, or is not there yet.
 #[derive(Drop)]

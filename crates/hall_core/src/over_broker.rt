@@ -1,10 +1,10 @@
 // A hall over a broker: opening it, committing, and closing it.
 ghost use Rattle.std.specs.Prelude.{◌≡◌, ◌↔◌, List, [], false, true, Err, IfOk, IfErr, OnOk};
 ghost use Rattle.invoke_records.specs.declared.command.Command.{Command};
-ghost use Rattle.group_commit.specs.Broker.{disk_of, settings_of, is_broken, Stands, Commits};
-ghost use Rattle.group_commit.specs.Promises.{LeavesLegalStops};
-ghost use Rattle.group_commit.specs.Refusals.{FaultsHaveRisen, IsWornOut, NeedsSwitch};
-ghost use Rattle.group_commit.specs.IssuerBroker.{issuer_of};
+ghost use Rattle.broker_core.specs.Broker.{disk_of, settings_of, is_broken, Stands, Commits};
+ghost use Rattle.broker_core.specs.Promises.{LeavesLegalStops};
+ghost use Rattle.broker_core.specs.Refusals.{FaultsHaveRisen, IsWornOut, NeedsSwitch};
+ghost use Rattle.broker_core.specs.IssuerBroker.{issuer_of};
 ghost use Rattle.hall_plans.specs.declared.error.HallError.TheVariants as HallError;
 ghost use Rattle.hall_plans.specs.Past.{opening};
 ghost use Rattle.hall_core.specs.Hall.{view_of, answered_slots, StandsFor, ForEachPast, IsAllDurable, commit_error_of};
@@ -15,7 +15,7 @@ ghost use Rattle.hall_core.specs.Committing.{HasToWrite, IsNotCommitted};
 use crate::hall::Hall;
 use crate::slots::Slots;
 use api_core::Dialect;
-use group_commit::{Broker, CommitError, Durable};
+use broker_core::{Broker, CommitError, Durable};
 use hall_plans::{Environments, HallError};
 use sector_disk::Disk;
 use std::alloc::Global;

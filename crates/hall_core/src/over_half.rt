@@ -1,16 +1,16 @@
 // A hall over an issue half: it lends what is pending, and settles what became of it, while a disk half writes.
 ghost use Rattle.std.specs.Prelude.{◌≡◌, [], false, take, IfOk, IfErr, OnErr};
-ghost use Rattle.group_commit.specs.Broker.{pending_of, is_broken, issued_of, Stands};
-ghost use Rattle.group_commit.specs.IssuerBroker.{issuer_of};
-ghost use Rattle.group_commit.specs.IssuerHalf.{half_view, has_same_lent};
-ghost use Rattle.group_commit.specs.Lending.{Lends, CanLend, SettlesBy};
-ghost use Rattle.group_commit.specs.Splitting.{broker_of, Splits, IsSplitReason, Joins, IsNotJoined};
+ghost use Rattle.broker_core.specs.Broker.{pending_of, is_broken, issued_of, Stands};
+ghost use Rattle.broker_core.specs.IssuerBroker.{issuer_of};
+ghost use Rattle.broker_core.specs.IssuerHalf.{half_view, has_same_lent};
+ghost use Rattle.broker_core.specs.Lending.{Lends, CanLend, SettlesBy};
+ghost use Rattle.broker_core.specs.Splitting.{broker_of, Splits, IsSplitReason, Joins, IsNotJoined};
 ghost use Rattle.hall_core.specs.Hall.{view_of, answered_slots, StandsFor, ForEachPast, IsSameHall};
 ghost use Rattle.hall_core.specs.Halves.{HasSameParts, KeepsSlotsOf, IsNotLent, IsNotDurable};
 ghost use Rattle.hall_core.specs.Halves as meant;
 
 use crate::hall::Hall;
-use group_commit::{
+use broker_core::{
     Batch, Broker, DiskHalf, Durable, Failed, IssueHalf, JoinError, LendError, SettleError,
     SplitError, WriteError, Written,
 };

@@ -2,7 +2,7 @@
 ghost use Rattle.std.specs.Prelude.{◌≡◌};
 
 use api_core::Reply;
-use group_commit::Receipt;
+use broker_core::Receipt;
 
 /// A reply that may be told, since all that it shows is durable by this receipt. Only a hall makes one, for one slot.
 #[derive(Drop)]

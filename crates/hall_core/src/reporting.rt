@@ -1,12 +1,12 @@
 // What a hall says of itself to those that end it.
 ghost use Rattle.std.specs.Prelude.{◌≡◌, ◌↔◌, [], IsTrue, length};
-ghost use Rattle.group_commit.specs.Broker.{pending_of};
+ghost use Rattle.broker_core.specs.Broker.{pending_of};
 ghost use Rattle.hall_plans.specs.Slots.{open_slots, is_open};
 ghost use Rattle.hall_core.specs.Hall.{view_of, pending_in, is_slot_open, open_slot_count, ForEachPast};
 
 use crate::hall::Hall;
 use api_core::Dialect;
-use group_commit::{Broker, Issuer};
+use broker_core::{Broker, Issuer};
 use sector_disk::Disk;
 
 impl<I: Issuer> Hall<I> {

@@ -1,13 +1,13 @@
 // Giving replies to their slots.
 ghost use Rattle.std.specs.Prelude.{◌≡◌, ◌++◌, ℕ, List, Option, option_map};
 ghost use Rattle.api_core.specs.Replies.{Told, reply_in};
-ghost use Rattle.group_commit.specs.Issuer.{issued_in};
+ghost use Rattle.broker_core.specs.Issuer.{issued_in};
 ghost use Rattle.hall_core.specs.OpenSlots.{KeepFor, ForEachKept};
 ghost use Rattle.hall_plans.specs.Settling.{replies_told, replied_at, own_at};
 
 use crate::slots::Slots;
 use api_core::Reply;
-use group_commit::{Issuer, Ticket};
+use broker_core::{Issuer, Ticket};
 
 impl Slots {
     /// Gives these replies to their slots: all that is issued has to be durable before they are told.

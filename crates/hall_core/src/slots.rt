@@ -3,7 +3,7 @@ ghost use Rattle.std.specs.Prelude.{◌≡◌, IfNone, OnSome, OnOk, OnErr, None
 
 use crate::open_slot::{OpenSlot, SlotStanding};
 use api_core::Reply;
-use group_commit::{Receipt, Ticket};
+use broker_core::{Receipt, Ticket};
 use std::alloc::{AllocError, Global};
 use std::collections::BTreeMap;
 use std::marker::Model;

@@ -6,7 +6,7 @@ ghost use Rattle.hall_core.specs.Hall.{view_of, answered_slots, ForEachPast, IsS
 ghost use Rattle.hall_core.specs.Halves.{HasSameParts};
 
 use crate::hall::Hall;
-use group_commit::Issuer;
+use broker_core::Issuer;
 use std::mem::replace;
 
 impl<I: Issuer> Hall<I> {

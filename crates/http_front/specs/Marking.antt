@@ -1,8 +1,8 @@
 -- What a ticker has marked, beside the steps that it made.
 use Rattle.std.specs.Prelude.{◌≡◌, ◌⊎◌, ℕ, ◌+◌, Bool, true, false, List, sum_by, None}
-use Rattle.hall_core.specs.declared.error.HallError.{HallError}
+use Rattle.hall_plans.specs.declared.error.HallError.{HallError}
 use Rattle.hall_core.specs.Hall.{HallView}
-use Rattle.hall_core.specs.Past.{tick}
+use Rattle.hall_plans.specs.Past.{tick}
 use Rattle.receipts.specs.UnderLock.{AnswersItsNumber, IsNotMoved}
 use Rattle.commit_loop.specs.Ticker.{Step, counted, ticked, called, slept}
 use Rattle.http_front.specs.declared.tried.Tried.{Tried}

@@ -1,7 +1,7 @@
 -- Why the office and the front refuse.
 use Rattle.std.specs.Prelude.{Bool, true, false}
-use Rattle.hall_core.specs.declared.error.HallError.{HallError}
-use Rattle.hall_core.specs.declared.error.HallError.TheVariants as error
+use Rattle.hall_plans.specs.declared.error.HallError.{HallError}
+use Rattle.hall_plans.specs.declared.error.HallError.TheVariants as error
 use Rattle.http_front.specs.declared.error.ArrivalError.{ArrivalError}
 use Rattle.http_front.specs.declared.error.ArrivalError.TheVariants as arrival
 use Rattle.long_poll.specs.Port.{IsRequestRefusal}

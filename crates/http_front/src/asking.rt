@@ -1,11 +1,11 @@
 // Asking the office to commit.
 ghost use Rattle.std.specs.Prelude.{◌≡◌, IfOk, IfErr, OnErr, Ok, Err};
-ghost use Rattle.group_commit.specs.Splitting.{broker_of};
+ghost use Rattle.broker_core.specs.Splitting.{broker_of};
 ghost use Rattle.receipts.specs.Answers.{IsToldMore, IsCommitRefusal};
 ghost use Rattle.receipts.specs.Serving.{HasServed};
 ghost use Rattle.receipts.specs.Committing.{CommitsBy};
 
-use group_commit::{DiskHalf, Durable};
+use broker_core::{DiskHalf, Durable};
 use hall_core::HallError;
 use receipts::{Committed, Desk, Office, Trace};
 use sector_disk::Disk;

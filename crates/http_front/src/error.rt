@@ -1,10 +1,10 @@
 // Why a front was not served, or a request did not come to its hall.
 ghost use Rattle.std.specs.Prelude.{◌≡◌};
-ghost use Rattle.hall_core.specs.declared.error.HallError.TheVariants.{OutOfMemory};
+ghost use Rattle.hall_plans.specs.declared.error.HallError.TheVariants.{OutOfMemory};
 ghost use Rattle.http_front.specs.declared.error.ArrivalError.TheVariants.{Hall, System};
 ghost use Rattle.http_front.specs.declared.error.ServeError.TheVariants as serve_error;
 
-use group_commit::SplitError;
+use broker_core::SplitError;
 use hall_core::HallError;
 use port_meters::NoClock;
 use std::alloc::AllocError;

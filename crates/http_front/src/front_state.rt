@@ -9,7 +9,7 @@ use crate::discarding::{Discard, Discarding};
 use crate::error::ArrivalError;
 use crate::wake::Wake;
 use api_core::{Call, Dialect};
-use group_commit::Durable;
+use broker_core::Durable;
 use long_poll::{Arrived, Bell, Port};
 use port_meters::Meters;
 use receipts::{Office, Trace};

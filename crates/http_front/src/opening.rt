@@ -1,7 +1,7 @@
 // Opening a front over a hall.
 ghost use Rattle.std.specs.Prelude.{◌≡◌, ◌≤◌, [], vec_len, IsErrOf, IfOk, IsSome};
-ghost use Rattle.group_commit.specs.Broker.{pending_of, settings_of};
-ghost use Rattle.group_commit.specs.Splitting.{broker_of};
+ghost use Rattle.broker_core.specs.Broker.{pending_of, settings_of};
+ghost use Rattle.broker_core.specs.Splitting.{broker_of};
 ghost use Rattle.hall_core.specs.Fresh.{IsFresh};
 ghost use Rattle.receipts.specs.Desks.{desk_count};
 
@@ -10,8 +10,8 @@ use crate::discarding::Discard;
 use crate::error::ServeError;
 use crate::front_state::FrontState;
 use api_core::Dialect;
+use broker_core::{Broker, DiskHalf, Durable};
 use front_board::Seated;
-use group_commit::{Broker, DiskHalf, Durable};
 use hall_core::Hall;
 use long_poll::{AdminReader, Bell, Port};
 use receipts::{Desk, Office, Trace};

@@ -1,7 +1,7 @@
 // A whole front, until its last thread has ended.
 ghost use Rattle.std.specs.Prelude.{◌≡◌, ◌≤◌, ◌<◌, ◌+◌, [], vec_len, IsErrOf, OnOk, IfOk, is_some, Ok};
-ghost use Rattle.group_commit.specs.Broker.{pending_of, settings_of};
-ghost use Rattle.group_commit.specs.Splitting.{broker_of};
+ghost use Rattle.broker_core.specs.Broker.{pending_of, settings_of};
+ghost use Rattle.broker_core.specs.Splitting.{broker_of};
 ghost use Rattle.hall_core.specs.Fresh.{IsFresh};
 ghost use Rattle.receipts.specs.Desks.{desk_count};
 ghost use Rattle.receipts.specs.Serving.{HasServed};
@@ -15,9 +15,9 @@ use crate::gates::{UntilEnding, UntilOver};
 use crate::opening::{OpenedFront, open};
 use crate::starting::{PortThread, join_all, join_beside, start, start_beside};
 use crate::ticking::tick_all;
+use broker_core::{Broker, DiskHalf};
 use commit_loop::Gate;
 use front_board::Seated;
-use group_commit::{Broker, DiskHalf};
 use hall_core::Hall;
 use http_port::Listening;
 use long_poll::{AdminReader, Port};

@@ -2,8 +2,8 @@
 ghost use Rattle.std.specs.Prelude.{◌≤◌, IfOk};
 
 use crate::serving::serve_disk;
-use crate::stopping::stop_broker;
 use broker_commands::{Address, DONE, Task, USAGE, print_fault, print_job, print_usage, read_task};
+use broker_opening::stop_broker;
 use std::fs::File;
 use std::io;
 use std::io::{Eprint, Write};
@@ -31,7 +31,7 @@ where
         + Send
         + 'static,
     W: Write,
-    // claim: A status, where one is answered, is 0 to 3.
+    // claim: The program's status is 0 to 3, where its printing does not fail.
     ensures { IfOk result (λ status. status ≤ 3) }
 {
     match read_task(rt.alloc(), words) {

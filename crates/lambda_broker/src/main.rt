@@ -1,16 +1,12 @@
-//! The program `lambda_broker`: its command line, serving a disk, and ending that. The other commands stand in `broker_commands`.
+//! The program `lambda_broker`: its command line, and serving a disk. What is done before that stands in `broker_opening`, the other
+//! commands in `broker_commands`.
 #![tactic(auto)]
 
 mod command_line;
-mod listening;
-mod notes;
-mod output;
 mod serving;
-mod standby;
-mod stopping;
 
-use crate::output::{Output, keep_numbers};
 use broker_commands::{DONE, refuse_for_memory};
+use broker_opening::{Output, keep_numbers};
 use std::io::{ErrorKind, Write};
 use std::process::ExitCode;
 use std::rt::Env;

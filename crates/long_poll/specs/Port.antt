@@ -1,7 +1,7 @@
 -- What a port answers, whose desk is behind its lock.
 use Rattle.std.specs.Prelude.{ℕ, ◌<◌, List}
 use Rattle.api_core.specs.declared.call.Call.{Call}
-use Rattle.hall_core.specs.declared.error.HallError.{HallError}
+use Rattle.hall_plans.specs.declared.error.HallError.{HallError}
 use Rattle.hall_core.specs.Hall.{HallView, IsDone, request}
 use Rattle.receipts.specs.Answers.{IsSlotOf, IsArrivalRefusal, IsTickRefusal}
 use Rattle.receipts.specs.UnderLock.{IsNotMade, IsNotMoved}

@@ -4,8 +4,8 @@ ghost use Rattle.receipts.specs.Locked.{hall_in};
 ghost use Rattle.receipts.specs.Views.{IsViewOf};
 
 use crate::bell::Bell;
+use broker_core::Ticket;
 use front_board::{Seated, Shown};
-use group_commit::Ticket;
 use receipts::{Mark, Office, Trace, Unreleased, Witnessed};
 use std::alloc::AllocError;
 use std::sync::atomic::{AtomicU64, Ordering};

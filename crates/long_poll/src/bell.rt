@@ -3,8 +3,8 @@ ghost use Rattle.std.specs.Prelude.{◌≡◌};
 ghost use Rattle.futures.specs.Task.{Hears, IsArmed, Keeps};
 
 use crate::waiters::{Parked, Registered, Waiters};
+use broker_core::Durable;
 use futures::task::{Context, Source};
-use group_commit::Durable;
 use std::alloc::Global;
 use std::sync::atomic::{AtomicBool, Ordering};
 use std::sync::{Mutex, Wait};

@@ -2,7 +2,7 @@
 ghost use Rattle.std.specs.Prelude.{◌≡◌, ◌≤◌, IfOk, IfErr, OnOk};
 ghost use Rattle.invoke_records.specs.Spelling.{greatest_moment};
 ghost use Rattle.hall_core.specs.Hall.{request, IsDone};
-ghost use Rattle.hall_core.specs.Past.{tick};
+ghost use Rattle.hall_plans.specs.Past.{tick};
 ghost use Rattle.receipts.specs.Locked.{hall_in};
 ghost use Rattle.receipts.specs.Told.{TellsPoint, Takes, Forgets};
 ghost use Rattle.receipts.specs.UnderLock.{IssuedAt};
@@ -10,8 +10,8 @@ ghost use Rattle.long_poll.specs.Port.{IsSlot, IsRequestRefusal, IsMoveRefusal, 
 
 use crate::bell::Bell;
 use api_core::Call;
+use broker_core::{Receipt, Ticket};
 use front_board::Seated;
-use group_commit::{Receipt, Ticket};
 use hall_core::{HallError, Issued, Released};
 use receipts::{Desk, Mark, Office, Trace, Witnessed};
 use std::sync::ledger::Ledger;

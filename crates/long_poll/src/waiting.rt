@@ -4,9 +4,9 @@ ghost use Rattle.futures.specs.Task.{Covers, Keeps};
 
 use crate::port::{Arrived, Port};
 use crate::waiters::{Parked, Registered};
+use broker_core::{Receipt, Ticket};
 use futures::Future;
 use futures::task::{Context, Poll};
-use group_commit::{Receipt, Ticket};
 use hall_core::Released;
 use receipts::{Mark, Trace, Witnessed};
 use std::mem;

@@ -23,12 +23,12 @@ use Rattle.async_core.specs.Choice.{IsNextAt, IsNextMove}
 use Rattle.api_core.specs.declared.call.Call.{Call}
 use Rattle.api_core.specs.declared.call.Call.TheVariants.{Invoke, InvokeAsync, Oldest}
 use Rattle.api_core.specs.Replies.{Told, accepted, accepted_async, record_of}
-use Rattle.hall_core.specs.Past.{HallCall, arrive, Past}
-use Rattle.hall_core.specs.Effects.{command_for, ending_of_event}
-use Rattle.hall_core.specs.Firsts.{oldest_ended}
-use Rattle.hall_core.specs.Run.{past_of}
-use Rattle.hall_core.specs.Slots.{reply_of, released}
-use Rattle.hall_core.specs.Promises.{comes_with, IsRunFrom}
+use Rattle.hall_plans.specs.Past.{HallCall, arrive, Past}
+use Rattle.hall_plans.specs.Effects.{command_for, ending_of_event}
+use Rattle.hall_plans.specs.Firsts.{oldest_ended}
+use Rattle.hall_plans.specs.Run.{past_of}
+use Rattle.hall_plans.specs.Slots.{reply_of, released}
+use Rattle.hall_plans.specs.Promises.{comes_with, IsRunFrom}
 use Rattle.checkpoint.specs.Live.{RecoversTo}
 
 -- ## What was told

@@ -8,10 +8,10 @@ ghost use Rattle.async_core.specs.Readers.{Ending};
 ghost use Rattle.api_core.specs.declared.dialect.Audience.TheVariants.{Caller};
 ghost use Rattle.api_core.specs.declared.refusal.Refusal.TheVariants.{Unavailable};
 ghost use Rattle.api_core.specs.Replies.{Told, Words, accepted, accepted_async, async_body, record_of, refused, reply_in};
-ghost use Rattle.group_commit.specs.History.{IsLegalStop};
-ghost use Rattle.group_commit.specs.Broker.{disk_of, settings_of, durable_of, Stands};
-ghost use Rattle.group_commit.specs.IssuerHalf.{half_view};
-ghost use Rattle.group_commit.specs.Splitting.{broker_of};
+ghost use Rattle.broker_core.specs.History.{IsLegalStop};
+ghost use Rattle.broker_core.specs.Broker.{disk_of, settings_of, durable_of, Stands};
+ghost use Rattle.broker_core.specs.IssuerHalf.{half_view};
+ghost use Rattle.broker_core.specs.Splitting.{broker_of};
 ghost use Rattle.group_commit.specs.Migrating.{Migrates};
 ghost use Rattle.disk_copy.specs.Limits.{AllowsAll};
 ghost use Rattle.disk_copy.specs.Copying.{GoesOnWith};
@@ -20,7 +20,7 @@ ghost use Rattle.promises.specs.Promises.{Life, done, Telling, issued, WasAnswer
 ghost use Rattle.promises.specs.Giving.{IsTold};
 ghost use Rattle.promises.specs.Halves.{IsBehind};
 
-use group_commit::{Broker, DiskHalf, IssueHalf, Issuer};
+use broker_core::{Broker, DiskHalf, IssueHalf, Issuer};
 use hall_core::{Hall, Released};
 use sector_disk::Disk;
 

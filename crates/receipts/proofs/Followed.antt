@@ -14,13 +14,13 @@ use Rattle.invoke_records.specs.declared.row.Standing.{Standing}
 use Rattle.invoke_records.specs.declared.row.Standing.TheVariants as standing
 use Rattle.async_core.specs.Policies.{policy_by}
 use Rattle.async_core.specs.Rules.{has_id, row_after, rows_after, change_row, remove_row, accepted_row, table_after}
-use Rattle.hall_core.specs.declared.issuing.Issued.{Issued}
-use Rattle.hall_core.specs.Run.{option_list}
+use Rattle.hall_plans.specs.declared.issued.Issued.{Issued}
+use Rattle.hall_plans.specs.Run.{option_list}
 use Rattle.hall_core.specs.Issuing.{told_of, table_by}
 use Rattle.receipts.specs.declared.mark.Mark.{Mark}
 use Rattle.receipts.specs.Marks.{mark_of, marks_by, AreNumbered}
 use Rattle.api_core.specs.declared.call.Call.{Call}
-use Rattle.hall_core.specs.Asked.{IsAsked}
+use Rattle.hall_plans.specs.Asked.{IsAsked}
 use Rattle.receipts.specs.Answers.{AddsAtMostOne, AddsAnswered, AddsAsked}
 use Rattle.receipts.specs.Locked.{number_of}
 use Rattle.receipts.specs.Following.{bare_standing, bare_row, bare, TellTheSame, command_of, table_after_marks, Follows}

@@ -3,7 +3,7 @@ use Rattle.std.proofs.Common.{◌≡◌, ◌≢◌, ◌⊎◌, ⊎_elim, inl, in
 use Rattle.std.proofs.lemmas.Bool.Decides.{nat_tests}
 use Rattle.std.proofs.lemmas.List.{append-nil}
 use Rattle.std.proofs.lemmas.List.Elements.{filter-append}
-use Rattle.hall_core.specs.declared.issuing.Issued.{Issued}
+use Rattle.hall_plans.specs.declared.issued.Issued.{Issued}
 use Rattle.receipts.specs.declared.mark.Mark.{Mark}
 use Rattle.receipts.specs.Marks.{mark_of, marks_by, is_of, history_of_desk, KeepsHistories, AreHistories}
 

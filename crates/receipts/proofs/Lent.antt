@@ -2,7 +2,7 @@
 use Rattle.std.proofs.Common.{◌≡◌, ℕ, refl, sym, subst}
 use Rattle.std.specs.Prelude.{Result, Ok, Err}
 use Rattle.std.specs.declared.sync.ledger.Ledger.{Ghosts as LedgerGhosts}
-use Rattle.hall_core.specs.declared.error.HallError.{HallError}
+use Rattle.hall_plans.specs.declared.error.HallError.{HallError}
 use Rattle.receipts.specs.declared.mark.Trace.{Ghosts as TraceGhosts}
 use Rattle.receipts.specs.declared.opening.OpeningTrace.{Ghosts as OpeningGhosts}
 use Rattle.receipts.specs.declared.desk.Desk.{Desk}

@@ -1,19 +1,19 @@
 -- Why a desk's commit is refused, and how much can be pending.
 use Rattle.std.proofs.Common.{inl, inr, ℕ, ◌≤◌, sym, subst, arith}
 use Rattle.std.specs.Prelude.{Result}
-use Rattle.group_commit.specs.declared.issue_half.IssueHalf.{IssueHalf}
-use Rattle.group_commit.specs.declared.batch.Written.{Written}
-use Rattle.group_commit.specs.declared.batch.Failed.{Failed}
-use Rattle.group_commit.specs.declared.error.LendError.{LendError}
-use Rattle.group_commit.specs.declared.error.LendError.TheVariants as lend_error
-use Rattle.group_commit.specs.declared.error.WriteError.{WriteError}
-use Rattle.group_commit.specs.declared.error.WriteError.TheVariants as write_error
-use Rattle.group_commit.specs.declared.error.SettleError.{SettleError}
-use Rattle.group_commit.specs.declared.error.SettleError.TheVariants as settle_error
-use Rattle.group_commit.specs.IssuerHalf.{half_view, half_laws}
-use Rattle.hall_core.specs.declared.error.HallError.{HallError}
-use Rattle.hall_core.specs.declared.error.HallError.TheVariants as error
-use Rattle.hall_core.specs.Past.{HallCall, tick}
+use Rattle.broker_core.specs.declared.issue_half.IssueHalf.{IssueHalf}
+use Rattle.broker_core.specs.declared.batch.Written.{Written}
+use Rattle.broker_core.specs.declared.batch.Failed.{Failed}
+use Rattle.broker_core.specs.declared.error.LendError.{LendError}
+use Rattle.broker_core.specs.declared.error.LendError.TheVariants as lend_error
+use Rattle.broker_core.specs.declared.error.WriteError.{WriteError}
+use Rattle.broker_core.specs.declared.error.WriteError.TheVariants as write_error
+use Rattle.broker_core.specs.declared.error.SettleError.{SettleError}
+use Rattle.broker_core.specs.declared.error.SettleError.TheVariants as settle_error
+use Rattle.broker_core.specs.IssuerHalf.{half_view, half_laws}
+use Rattle.hall_plans.specs.declared.error.HallError.{HallError}
+use Rattle.hall_plans.specs.declared.error.HallError.TheVariants as error
+use Rattle.hall_plans.specs.Past.{HallCall, tick}
 use Rattle.hall_core.specs.Hall.{HallView, pending_in, KeepsReason}
 use Rattle.hall_core.specs.Halves.{lend_error_of, write_error_of, settle_error_of, IsNotLent, IsNotDurable}
 use Rattle.receipts.specs.Answers.{IsMismatch, IsArrivalRefusal, IsTickRefusal, IsCommitRefusal}

@@ -6,22 +6,22 @@ use Rattle.retry_rules.specs.declared.settings.Settings.{Settings}
 use Rattle.invoke_records.specs.declared.snapshot.Snapshot.{Snapshot}
 use Rattle.invoke_records.specs.declared.command.Command.{Command}
 use Rattle.async_core.specs.laws.Tables.{number-table_of}
-use Rattle.group_commit.specs.Issuer.{IssuerView, issued_in}
-use Rattle.group_commit.specs.declared.issuer.Issuer.{Ghosts}
-use Rattle.group_commit.specs.declared.issue_half.IssueHalf.{IssueHalf}
+use Rattle.broker_core.specs.Issuer.{IssuerView, issued_in}
+use Rattle.broker_core.specs.declared.issuer.Issuer.{Ghosts}
+use Rattle.broker_core.specs.declared.issue_half.IssueHalf.{IssueHalf}
 use Rattle.env_phase.specs.State.{EnvState}
 use Rattle.hall_core.specs.declared.hall.Hall.{Hall}
 use Rattle.hall_core.specs.declared.released.Released.{Released}
-use Rattle.hall_core.specs.Environments.{HoldFor}
+use Rattle.hall_plans.specs.Environments.{HoldFor}
 use Rattle.hall_core.specs.OpenSlots.{Entries, KeepFor}
 use Rattle.receipts.specs.Locked.{hall_in, issuer_in}
-use Rattle.group_commit.specs.IssuerHalf.{half_view, half_laws}
-use Rattle.hall_core.specs.Past.{HallCall, take_slot, forget_slot, Past, opening}
-use Rattle.hall_core.specs.Run.{past_after, after, past_of}
-use Rattle.hall_core.specs.Refusals.{why_refused}
-use Rattle.hall_core.specs.Agreement.{IsFit, IsUnrefused, IsRun}
-use Rattle.hall_core.specs.laws.Adding.{runs_join, wanted_stays}
-use Rattle.hall_core.specs.laws.Sound.{kept_at_opening}
+use Rattle.broker_core.specs.IssuerHalf.{half_view, half_laws}
+use Rattle.hall_plans.specs.Past.{HallCall, take_slot, forget_slot, Past, opening}
+use Rattle.hall_plans.specs.Run.{past_after, after, past_of}
+use Rattle.hall_plans.specs.Refusals.{why_refused}
+use Rattle.hall_plans.specs.Agreement.{IsFit, IsUnrefused, IsRun}
+use Rattle.hall_plans.specs.laws.Adding.{runs_join, wanted_stays}
+use Rattle.hall_plans.specs.laws.Sound.{kept_at_opening}
 use Rattle.hall_core.specs.Hall.{HallView, StandsFor, ForEachPast, IsSameHall, IsDone, view_of, settings_in, words_in}
 use Rattle.hall_core.specs.Fresh.{IsFresh}
 use Rattle.hall_core.specs.Halves.{HasSameParts}

@@ -1,18 +1,18 @@
 -- What settling a batch leaves as it was.
 use Rattle.std.proofs.Common.{◌≡◌, ℕ, List, ap, sym, ◌∙◌}
 use Rattle.std.specs.Prelude.{Result, Ok, Err, IfOk, IfErr}
-use Rattle.hall_core.specs.declared.error.HallError.{HallError}
+use Rattle.hall_plans.specs.declared.error.HallError.{HallError}
 use Rattle.hall_core.specs.Halves.{IsNotDurable}
 use Rattle.retry_rules.specs.declared.settings.Settings.{Settings}
 use Rattle.invoke_records.specs.declared.snapshot.Snapshot.{Snapshot}
-use Rattle.group_commit.specs.declared.issue_half.IssueHalf.{IssueHalf}
-use Rattle.group_commit.specs.declared.batch.Written.{Written}
-use Rattle.group_commit.specs.declared.batch.Failed.{Failed}
-use Rattle.group_commit.specs.declared.error.SettleError.{SettleError}
-use Rattle.group_commit.specs.declared.error.SettleError.TheVariants.{Mismatch, NotWritten}
-use Rattle.group_commit.specs.IssuerHalf.{half_view}
-use Rattle.group_commit.specs.Batch.{last_in}
-use Rattle.group_commit.specs.Lending.{SettlesBy, IsNotSettled}
+use Rattle.broker_core.specs.declared.issue_half.IssueHalf.{IssueHalf}
+use Rattle.broker_core.specs.declared.batch.Written.{Written}
+use Rattle.broker_core.specs.declared.batch.Failed.{Failed}
+use Rattle.broker_core.specs.declared.error.SettleError.{SettleError}
+use Rattle.broker_core.specs.declared.error.SettleError.TheVariants.{Mismatch, NotWritten}
+use Rattle.broker_core.specs.IssuerHalf.{half_view}
+use Rattle.broker_core.specs.Batch.{last_in}
+use Rattle.broker_core.specs.Lending.{SettlesBy, IsNotSettled}
 use Rattle.receipts.specs.declared.mark.Mark.{Mark}
 use Rattle.receipts.specs.Following.{bare, table_after_marks, Follows}
 

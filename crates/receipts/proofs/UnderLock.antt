@@ -2,25 +2,25 @@
 use Rattle.std.proofs.Common.{◌≡◌, ◌⊎◌, inl, inr, ℕ, ◌<◌, ◌≤◌, ◌^◌, Bool, true, false, List, ◌++◌, Option, refl, sym, ap, subst, ◌∙◌}
 use Rattle.std.specs.Prelude.{Result, Ok, Err, IfOk, IfErr, option_map}
 use Rattle.std.proofs.lemmas.Bool.{true≢false}
-use Rattle.group_commit.specs.declared.issue_half.IssueHalf.{IssueHalf}
-use Rattle.group_commit.specs.declared.batch.Written.{Written}
-use Rattle.group_commit.specs.declared.batch.Failed.{Failed}
-use Rattle.group_commit.specs.declared.error.LendError.{LendError}
-use Rattle.group_commit.specs.declared.error.LendError.TheVariants as lend_error
-use Rattle.group_commit.specs.declared.error.WriteError.{WriteError}
-use Rattle.group_commit.specs.declared.error.WriteError.TheVariants as write_error
-use Rattle.group_commit.specs.declared.error.SettleError.{SettleError}
-use Rattle.group_commit.specs.declared.error.SettleError.TheVariants as settle_error
-use Rattle.group_commit.specs.Issuer.{IssuerView, IsSameIssuer, issued_in}
-use Rattle.group_commit.specs.IssuerHalf.{half_view}
-use Rattle.group_commit.specs.Batch.{cause_of}
-use Rattle.group_commit.specs.Lending.{SettlesBy, IsNotSettled}
-use Rattle.group_commit.specs.Writing.{IsRefusedAs}
-use Rattle.hall_core.specs.declared.error.HallError.{HallError}
-use Rattle.hall_core.specs.declared.error.HallError.TheVariants as error
-use Rattle.hall_core.specs.declared.issuing.Issued.{Issued}
-use Rattle.hall_core.specs.Past.{HallCall}
-use Rattle.hall_core.specs.Run.{past_after}
+use Rattle.broker_core.specs.declared.issue_half.IssueHalf.{IssueHalf}
+use Rattle.broker_core.specs.declared.batch.Written.{Written}
+use Rattle.broker_core.specs.declared.batch.Failed.{Failed}
+use Rattle.broker_core.specs.declared.error.LendError.{LendError}
+use Rattle.broker_core.specs.declared.error.LendError.TheVariants as lend_error
+use Rattle.broker_core.specs.declared.error.WriteError.{WriteError}
+use Rattle.broker_core.specs.declared.error.WriteError.TheVariants as write_error
+use Rattle.broker_core.specs.declared.error.SettleError.{SettleError}
+use Rattle.broker_core.specs.declared.error.SettleError.TheVariants as settle_error
+use Rattle.broker_core.specs.Issuer.{IssuerView, IsSameIssuer, issued_in}
+use Rattle.broker_core.specs.IssuerHalf.{half_view}
+use Rattle.broker_core.specs.Batch.{cause_of}
+use Rattle.broker_core.specs.Lending.{SettlesBy, IsNotSettled}
+use Rattle.broker_core.specs.Writing.{IsRefusedAs}
+use Rattle.hall_plans.specs.declared.error.HallError.{HallError}
+use Rattle.hall_plans.specs.declared.error.HallError.TheVariants as error
+use Rattle.hall_plans.specs.declared.issued.Issued.{Issued}
+use Rattle.hall_plans.specs.Past.{HallCall}
+use Rattle.hall_plans.specs.Run.{past_after}
 use Rattle.hall_core.specs.Hall.{HallView, settings_in, IsSameHall, CanBeAsked, Does, IssuesAtMostOne, request}
 use Rattle.hall_core.specs.Halves.{lend_error_of, write_error_of, settle_error_of, IsNotLent, IsNotDurable}
 use Rattle.receipts.specs.declared.mark.Mark.{Mark}

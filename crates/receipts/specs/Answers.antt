@@ -1,9 +1,9 @@
 -- What the calls of an office answer to a desk.
 use Rattle.std.specs.Prelude.{◌≡◌, ℕ, ◌+◌, ◌*◌, ◌<◌, ◌≤◌, ◌^◌, List, [], ◌∷◌, ◌++◌, Option, Some, None, ◌⊎◌}
 use Rattle.api_core.specs.declared.call.Call.{Call}
-use Rattle.hall_core.specs.declared.error.HallError.{HallError}
-use Rattle.hall_core.specs.declared.error.HallError.TheVariants as error
-use Rattle.hall_core.specs.Asked.{AsksFor}
+use Rattle.hall_plans.specs.declared.error.HallError.{HallError}
+use Rattle.hall_plans.specs.declared.error.HallError.TheVariants as error
+use Rattle.hall_plans.specs.Asked.{AsksFor}
 use Rattle.receipts.specs.declared.mark.Mark.{Mark}
 
 -- one mark came to those of this desk, with this number

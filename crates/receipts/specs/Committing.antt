@@ -3,10 +3,10 @@ use Rattle.std.specs.Prelude.{◌≡◌, ℕ, Result, Ok, Err, MatchOption}
 use Rattle.std.specs.declared.sync.ledger.Ledger.{Ghosts as LedgerGhosts}
 use Rattle.sector_disk.specs.Disk.{DiskView}
 use Rattle.sector_disk.specs.declared.disk.Disk.{Ghosts}
-use Rattle.group_commit.specs.declared.broker.Broker.{Broker}
-use Rattle.group_commit.specs.declared.batch.Batch.{Batch}
-use Rattle.group_commit.specs.Batch.{first_of, first_in}
-use Rattle.hall_core.specs.declared.error.HallError.{HallError}
+use Rattle.broker_core.specs.declared.broker.Broker.{Broker}
+use Rattle.broker_core.specs.declared.batch.Batch.{Batch}
+use Rattle.broker_core.specs.Batch.{first_of, first_in}
+use Rattle.hall_plans.specs.declared.error.HallError.{HallError}
 use Rattle.receipts.specs.declared.mark.Trace.{Ghosts as TraceGhosts}
 use Rattle.receipts.specs.declared.opening.OpeningTrace.{Ghosts as OpeningGhosts}
 use Rattle.receipts.specs.declared.desk.Desk.{Desk}

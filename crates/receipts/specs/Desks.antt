@@ -4,7 +4,7 @@ use Rattle.retry_rules.specs.declared.settings.Settings.{Settings}
 use Rattle.receipts.specs.declared.error.FinishError.{FinishError}
 use Rattle.receipts.specs.declared.error.FinishError.TheVariants.{Mismatch, NotJoined}
 use Rattle.receipts.specs.declared.mark.Mark.{Mark}
-use Rattle.group_commit.specs.declared.error.JoinError.{JoinError}
+use Rattle.broker_core.specs.declared.error.JoinError.{JoinError}
 use Rattle.receipts.specs.Marks.{history_of_desk}
 
 -- for each environment one, and three more; at least eight

@@ -1,16 +1,16 @@
 -- The hall under the lock, as its marks see it, and what its calls tell.
 use Rattle.std.specs.Prelude.{◌≡◌, ◌⊎◌, ℕ, ◌≤◌, Option, Some, None}
 use Rattle.hall_core.specs.declared.hall.Hall.{Hall}
-use Rattle.hall_core.specs.declared.issuing.Issued.{Issued}
-use Rattle.group_commit.specs.declared.issuer.Issuer.{Ghosts}
-use Rattle.group_commit.specs.declared.issue_half.IssueHalf.{IssueHalf}
-use Rattle.group_commit.specs.Issuer.{IssuerView, issued_in}
-use Rattle.group_commit.specs.IssuerHalf.{half_view}
-use Rattle.group_commit.specs.Batch.{last_of}
+use Rattle.hall_plans.specs.declared.issued.Issued.{Issued}
+use Rattle.broker_core.specs.declared.issuer.Issuer.{Ghosts}
+use Rattle.broker_core.specs.declared.issue_half.IssueHalf.{IssueHalf}
+use Rattle.broker_core.specs.Issuer.{IssuerView, issued_in}
+use Rattle.broker_core.specs.IssuerHalf.{half_view}
+use Rattle.broker_core.specs.Batch.{last_of}
 use Rattle.hall_core.specs.Hall.{HallView, view_of}
 use Rattle.receipts.specs.declared.locked.Loan.{Loan}
 use Rattle.receipts.specs.declared.locked.Loan.TheVariants.{Nothing, Out}
-use Rattle.hall_core.specs.declared.error.HallError.{HallError}
+use Rattle.hall_plans.specs.declared.error.HallError.{HallError}
 use Rattle.hall_core.specs.Halves.{IsNotLent}
 use Rattle.receipts.specs.Answers.{IsToldMore, IsMismatch}
 

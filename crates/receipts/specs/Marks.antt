@@ -1,7 +1,7 @@
 -- Marks: what an office keeps of the commands that were issued since it was opened.
 use Rattle.std.specs.Prelude.{◌≡◌, ◌≢◌, ℕ, ◌+◌, Bool, ◌==◌, List, [], ◌∷◌, length, map, filter, sum_by, slice_get, Option, Some, None}
 use Rattle.std.specs.List.{range_with_len}
-use Rattle.hall_core.specs.declared.issuing.Issued.{Issued}
+use Rattle.hall_plans.specs.declared.issued.Issued.{Issued}
 use Rattle.receipts.specs.declared.mark.Mark.{Mark}
 
 -- the mark of a command that a call of this desk issued

@@ -4,9 +4,9 @@ use Rattle.retry_rules.specs.declared.settings.Settings.{Settings}
 use Rattle.invoke_records.specs.declared.snapshot.Snapshot.{Snapshot}
 use Rattle.invoke_records.specs.declared.command.Command.{Command}
 use Rattle.async_core.specs.History.{IsLegal, table_of}
-use Rattle.hall_core.specs.Past.{HallCall, opening}
-use Rattle.hall_core.specs.Run.{past_of}
-use Rattle.hall_core.specs.Agreement.{IsRun}
+use Rattle.hall_plans.specs.Past.{HallCall, opening}
+use Rattle.hall_plans.specs.Run.{past_of}
+use Rattle.hall_plans.specs.Agreement.{IsRun}
 use Rattle.hall_core.specs.Hall.{HallView, StandsFor, settings_in}
 
 -- the history is legal, and the table is that of it

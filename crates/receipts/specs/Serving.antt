@@ -4,19 +4,19 @@ use Rattle.sector_disk.specs.Disk.{DiskView, IsSameDisk}
 use Rattle.sector_disk.specs.Moments.{LeavesOnly}
 use Rattle.sector_disk.specs.declared.disk.Disk.{Ghosts}
 use Rattle.invoke_records.specs.declared.command.Command.{Command}
-use Rattle.group_commit.specs.declared.broker.Broker.{Broker}
-use Rattle.group_commit.specs.declared.batch.Batch.{Batch}
-use Rattle.group_commit.specs.declared.batch.Written.{Written}
-use Rattle.group_commit.specs.declared.batch.Failed.{Failed}
-use Rattle.group_commit.specs.declared.error.WriteError.TheVariants as write_error
-use Rattle.group_commit.specs.History.{IsLegalStop}
-use Rattle.group_commit.specs.Broker.{disk_of, settings_of, issued_of, durable_of, is_broken, Stands}
-use Rattle.group_commit.specs.Promises.{ForEachHistory}
-use Rattle.group_commit.specs.Refusals.{FaultsHaveRisen}
-use Rattle.group_commit.specs.Batch.{last_of, last_written, last_in, cause_of}
-use Rattle.group_commit.specs.Writing.{taken_from, IsRefusedAs, IsNotWritten, Writes, StaysInFront, LeavesStopsWith}
-use Rattle.hall_core.specs.declared.error.HallError.{HallError}
-use Rattle.hall_core.specs.declared.error.HallError.TheVariants as error
+use Rattle.broker_core.specs.declared.broker.Broker.{Broker}
+use Rattle.broker_core.specs.declared.batch.Batch.{Batch}
+use Rattle.broker_core.specs.declared.batch.Written.{Written}
+use Rattle.broker_core.specs.declared.batch.Failed.{Failed}
+use Rattle.broker_core.specs.declared.error.WriteError.TheVariants as write_error
+use Rattle.broker_core.specs.History.{IsLegalStop}
+use Rattle.broker_core.specs.Broker.{disk_of, settings_of, issued_of, durable_of, is_broken, Stands}
+use Rattle.broker_core.specs.Promises.{ForEachHistory}
+use Rattle.broker_core.specs.Refusals.{FaultsHaveRisen}
+use Rattle.broker_core.specs.Batch.{last_of, last_written, last_in, cause_of}
+use Rattle.broker_core.specs.Writing.{taken_from, IsRefusedAs, IsNotWritten, Writes, StaysInFront, LeavesStopsWith}
+use Rattle.hall_plans.specs.declared.error.HallError.{HallError}
+use Rattle.hall_plans.specs.declared.error.HallError.TheVariants as error
 use Rattle.hall_core.specs.Halves.{write_error_of}
 
 -- ## One commit

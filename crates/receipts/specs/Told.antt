@@ -3,19 +3,19 @@
 use Rattle.std.specs.Prelude.{◌≡◌, ℕ, List, map, Option, Result, IfOk, IfErr, OnOk, OnErr, OnSome, IfSome, IfNone}
 use Rattle.std.specs.declared.sync.ledger.Ledger.{Ghosts as LedgerGhosts}
 use Rattle.api_core.specs.declared.call.Call.{Call}
-use Rattle.group_commit.specs.Issuer.{issued_in}
-use Rattle.group_commit.specs.IssuerHalf.{has_same_lent}
-use Rattle.group_commit.specs.Lending.{SettlesBy}
-use Rattle.group_commit.specs.declared.batch.Written.{Written}
-use Rattle.group_commit.specs.declared.batch.Failed.{Failed}
+use Rattle.broker_core.specs.Issuer.{issued_in}
+use Rattle.broker_core.specs.IssuerHalf.{has_same_lent}
+use Rattle.broker_core.specs.Lending.{SettlesBy}
+use Rattle.broker_core.specs.declared.batch.Written.{Written}
+use Rattle.broker_core.specs.declared.batch.Failed.{Failed}
 use Rattle.hall_core.specs.declared.released.Released.{Released}
-use Rattle.hall_core.specs.declared.error.HallError.{HallError}
-use Rattle.hall_core.specs.Past.{tick, take_slot, forget_slot}
-use Rattle.hall_core.specs.Plans.{drawn_by}
+use Rattle.hall_plans.specs.declared.error.HallError.{HallError}
+use Rattle.hall_plans.specs.Past.{tick, take_slot, forget_slot}
+use Rattle.hall_plans.specs.Plans.{drawn_by}
 use Rattle.hall_core.specs.Halves.{HasSameParts, IsNotDurable}
 use Rattle.hall_core.specs.Hall.{StandsFor, ForEachPast, IsSameHall, IsAsDurable, IsDone, AnswersPolls, request, slot_told, Gives, GivesFor}
 use Rattle.hall_core.specs.OpenSlots.{ForEachKept}
-use Rattle.hall_core.specs.Slots.{point_in, point_of}
+use Rattle.hall_plans.specs.Slots.{point_in, point_of}
 use Rattle.receipts.specs.declared.mark.Mark.{Mark}
 use Rattle.receipts.specs.declared.mark.Trace.{Ghosts as TraceGhosts}
 use Rattle.receipts.specs.declared.opening.OpeningTrace.{Ghosts as OpeningGhosts}

@@ -1,15 +1,15 @@
 -- What the calls under the lock make of the hall and of the marks, and why they are refused.
 use Rattle.std.specs.Prelude.{◌≡◌, ◌⊎◌, ℕ, ◌+◌, ◌*◌, ◌<◌, ◌≤◌, ◌^◌, List, ◌++◌, Option, Some, None, option_map}
 use Rattle.api_core.specs.declared.call.Call.{Call}
-use Rattle.group_commit.specs.declared.issue_half.IssueHalf.{IssueHalf}
-use Rattle.group_commit.specs.Issuer.{issued_in}
-use Rattle.group_commit.specs.IssuerHalf.{half_view}
-use Rattle.group_commit.specs.Lending.{CanLend, Lends}
-use Rattle.hall_core.specs.declared.issuing.Issued.{Issued}
-use Rattle.hall_core.specs.declared.error.HallError.{HallError}
-use Rattle.hall_core.specs.declared.error.HallError.TheVariants as error
-use Rattle.hall_core.specs.Past.{HallCall, tick}
-use Rattle.hall_core.specs.Run.{past_after, issued_by}
+use Rattle.broker_core.specs.declared.issue_half.IssueHalf.{IssueHalf}
+use Rattle.broker_core.specs.Issuer.{issued_in}
+use Rattle.broker_core.specs.IssuerHalf.{half_view}
+use Rattle.broker_core.specs.Lending.{CanLend, Lends}
+use Rattle.hall_plans.specs.declared.issued.Issued.{Issued}
+use Rattle.hall_plans.specs.declared.error.HallError.{HallError}
+use Rattle.hall_plans.specs.declared.error.HallError.TheVariants as error
+use Rattle.hall_plans.specs.Past.{HallCall, tick}
+use Rattle.hall_plans.specs.Run.{past_after, issued_by}
 use Rattle.hall_core.specs.Hall.{HallView, settings_in, StandsFor, ForEachPast, IsSameHall, CanBeAsked, request, Refuses, KeepsReason}
 use Rattle.receipts.specs.declared.locked.Loan.{Loan}
 use Rattle.receipts.specs.declared.locked.Loan.TheVariants.{Nothing, Out}

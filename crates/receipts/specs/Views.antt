@@ -1,6 +1,6 @@
 -- What an operator is shown of an office, once all of it is durable.
 use Rattle.std.specs.Prelude.{◌≡◌, List}
-use Rattle.group_commit.specs.Issuer.{issued_in}
+use Rattle.broker_core.specs.Issuer.{issued_in}
 use Rattle.hall_core.specs.Hall.{HallView}
 use Rattle.hall_core.specs.HallStatus.{Shows}
 use Rattle.receipts.specs.declared.mark.Mark.{Mark}

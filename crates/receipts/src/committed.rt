@@ -2,7 +2,7 @@
 
 use crate::mark::{Mark, Trace};
 use crate::witness::Witnessed;
-use group_commit::Durable;
+use broker_core::Durable;
 use hall_core::HallError;
 use std::sync::ledger::Ledger;
 

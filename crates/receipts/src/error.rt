@@ -1,7 +1,7 @@
 // Why an office is not opened or not closed.
 use crate::desk::Desk;
 use crate::unlocked::Unlocked;
-use group_commit::{DiskHalf, JoinError, SplitError};
+use broker_core::{DiskHalf, JoinError, SplitError};
 use sector_disk::Disk;
 use std::sync::ledger::{Blank, Ledger};
 use thiserror::Error;

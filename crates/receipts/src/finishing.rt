@@ -3,7 +3,7 @@ ghost use Rattle.std.specs.Prelude.{◌≡◌, ◌<◌, ◌↔◌, ◌==◌, ◌
 ghost use Rattle.receipts.specs.Marks.{history_of_desk, AreNumberedFromSome, sum_of_lists};
 ghost use Rattle.receipts.specs.declared.mark.Mark.{Mark};
 ghost use Rattle.receipts.specs.Desks.{IsEachOnce, HaveEachOnce, AreAll, IsReason, IsWhyNotJoined};
-ghost use Rattle.group_commit.specs.Splitting.{broker_of, Joins, IsNotJoined};
+ghost use Rattle.broker_core.specs.Splitting.{broker_of, Joins, IsNotJoined};
 
 use crate::desk::Desk;
 use crate::error::{FinishError, UnlockedFailure};
@@ -11,7 +11,7 @@ use crate::locked::Locked;
 use crate::mark::Mark;
 use crate::marks::Marks;
 use crate::office::Office;
-use group_commit::{Broker, DiskHalf};
+use broker_core::{Broker, DiskHalf};
 use hall_core::Hall;
 use sector_disk::Disk;
 use std::sync::ledger::Ledger;

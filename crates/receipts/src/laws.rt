@@ -1,8 +1,8 @@
 // What follows from the definitions alone, for the crates above.
-ghost use Rattle.group_commit.specs.Splitting.{broker_of};
+ghost use Rattle.broker_core.specs.Splitting.{broker_of};
 ghost use Rattle.receipts.specs.Serving.{CommitsTo, HasServed};
 
-use group_commit::{DiskHalf, Durable};
+use broker_core::{DiskHalf, Durable};
 use hall_core::HallError;
 use sector_disk::Disk;
 

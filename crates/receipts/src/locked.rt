@@ -1,6 +1,6 @@
 // What the office keeps under its lock: the hall, and the marks of all that it issued.
 ghost use Rattle.std.specs.Prelude.{◌≡◌, ◌+◌, ◌<◌, ◌≤◌, ◌^◌, ◌++◌, [], map, length, vec_len, vec_capacity, IfOk, IfErr, OnOk, option_map};
-ghost use Rattle.group_commit.specs.Issuer.{issued_in};
+ghost use Rattle.broker_core.specs.Issuer.{issued_in};
 ghost use Rattle.receipts.specs.Marks.{marks_by, AreNumbered};
 ghost use Rattle.receipts.specs.Following.{Follows};
 ghost use Rattle.receipts.specs.Locked.{hall_in, issuer_in, number_of, either_number};
@@ -15,7 +15,7 @@ use crate::mark::{Mark, Trace};
 use crate::marks::Marks;
 use crate::view::{Unreleased, View};
 use api_core::Call;
-use group_commit::{Batch, Broker, DiskHalf, Durable, Failed, IssueHalf, Ticket, Written};
+use broker_core::{Batch, Broker, DiskHalf, Durable, Failed, IssueHalf, Ticket, Written};
 use hall_core::{Hall, HallError, Issued, Released};
 use sector_disk::Disk;
 use std::alloc::{AllocError, Global};
@@ -109,10 +109,10 @@ impl<L: Ledger, T: Trace> Locked<L, T> {
     ghost use Rattle.receipts.specs.NextMoment.{IsNextMomentOf};
     ghost use Rattle.receipts.specs.Views.{IsViewOf};
     ghost use Rattle.invoke_records.specs.Spelling.{greatest_moment};
-    ghost use Rattle.group_commit.specs.Batch.{last_in};
-    ghost use Rattle.hall_core.specs.Slots.{open_slots};
+    ghost use Rattle.broker_core.specs.Batch.{last_in};
+    ghost use Rattle.hall_plans.specs.Slots.{open_slots};
     ghost use Rattle.hall_core.specs.Hall.{ForEachPast, pending_in, open_slot_count};
-    ghost use Rattle.hall_core.specs.declared.error.HallError.TheVariants.{WornOut};
+    ghost use Rattle.hall_plans.specs.declared.error.HallError.TheVariants.{WornOut};
 
     /// What an office keeps over a new hall, of whose table this is kept, and over a book of no marks.
     pub(crate) fn new(
@@ -348,7 +348,7 @@ impl<L: Ledger, T: Trace> Locked<L, T> {
 }
 
 impl<L: Ledger> Locked<L, Mark> {
-    ghost use Rattle.group_commit.specs.Splitting.{broker_of, Joins, IsNotJoined};
+    ghost use Rattle.broker_core.specs.Splitting.{broker_of, Joins, IsNotJoined};
     ghost use Rattle.receipts.specs.Desks.{IsNotMismatch, IsWhyNotJoined};
 
     /// Joins the hall with the disk half.

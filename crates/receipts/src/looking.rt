@@ -1,8 +1,8 @@
 // What is read of an office under its lock, which stays as it is.
 ghost use Rattle.std.specs.Prelude.{◌≡◌, ◌≤◌, map, IfOk, length};
-ghost use Rattle.group_commit.specs.Issuer.{issued_in};
+ghost use Rattle.broker_core.specs.Issuer.{issued_in};
 ghost use Rattle.hall_core.specs.Hall.{ForEachPast, pending_in, open_slot_count};
-ghost use Rattle.hall_core.specs.Slots.{open_slots};
+ghost use Rattle.hall_plans.specs.Slots.{open_slots};
 ghost use Rattle.receipts.specs.Locked.{hall_in, issuer_in};
 ghost use Rattle.receipts.specs.NextMoment.{IsNextMomentOf};
 ghost use Rattle.receipts.specs.Views.{IsViewOf};
@@ -11,7 +11,7 @@ use crate::mark::Trace;
 use crate::office::Office;
 use crate::view::Unreleased;
 use crate::witness::Witnessed;
-use group_commit::Ticket;
+use broker_core::Ticket;
 use std::alloc::AllocError;
 use std::sync::Wait;
 use std::sync::ledger::Ledger;

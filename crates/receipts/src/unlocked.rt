@@ -1,7 +1,7 @@
 // An office out of its lock: what was locked can be seen.
 ghost use Rattle.std.specs.Prelude.{◌≡◌, ◌+◌, map, length, IfOk, IfErr, OnOk};
-ghost use Rattle.group_commit.specs.Issuer.{issued_in};
-ghost use Rattle.group_commit.specs.Splitting.{broker_of, Joins, IsNotJoined};
+ghost use Rattle.broker_core.specs.Issuer.{issued_in};
+ghost use Rattle.broker_core.specs.Splitting.{broker_of, Joins, IsNotJoined};
 ghost use Rattle.receipts.specs.Desks.{AreAll, IsReason, IsWhyNotJoined};
 ghost use Rattle.receipts.specs.Following.{Follows};
 ghost use Rattle.receipts.specs.Locked.{hall_in, issuer_in};
@@ -14,7 +14,7 @@ use crate::finishing::NotClosed;
 use crate::locked::Locked;
 use crate::mark::{Mark, Trace};
 use crate::office::Office;
-use group_commit::{Broker, DiskHalf, IssueHalf};
+use broker_core::{Broker, DiskHalf, IssueHalf};
 use hall_core::Hall;
 use sector_disk::Disk;
 use std::sync::Mutex;

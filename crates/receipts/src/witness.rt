@@ -1,6 +1,6 @@
 // The steps under the lock with what was seen around each, and looks.
 ghost use Rattle.std.specs.Prelude.{◌≡◌, ◌≤◌};
-ghost use Rattle.group_commit.specs.Batch.{last_in};
+ghost use Rattle.broker_core.specs.Batch.{last_in};
 ghost use Rattle.invoke_records.specs.Spelling.{greatest_moment};
 ghost use Rattle.receipts.specs.Told.{Arrives, Moves, LendsTo, Settles, Takes, Forgets, MakesStep};
 ghost use Rattle.receipts.specs.Witness.{IsOfStep};
@@ -9,7 +9,7 @@ use crate::desk::{Desk, Steps};
 use crate::locked::{Loan, Locked};
 use crate::mark::{Mark, Trace};
 use api_core::Call;
-use group_commit::{Durable, Failed, Ticket, Written};
+use broker_core::{Durable, Failed, Ticket, Written};
 use hall_core::{HallError, Released};
 use std::snapshot::Snapshot as Seen;
 use std::sync::ledger::Ledger;

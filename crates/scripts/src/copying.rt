@@ -1,8 +1,8 @@
 // Copying an open broker to a new disk.
+use broker_core::Broker;
 use case_runner::{StepReply, TextBuffer, Words};
 use disk_copy::{Change, CopyError, copy};
 use disk_steps::{CaseDisk, read_failures, wrapped};
-use group_commit::Broker;
 use retry_rules::BadSettings;
 use sector_disk::{Disk, MemDisk};
 use std::alloc::Global;

@@ -1,9 +1,9 @@
 // Steps on an open broker.
 use async_core::Table;
 use audit_report::explain;
+use broker_core::{Broker, Ticket};
 use case_runner::{StepReply, TextBuffer, Words, id_of};
 use disk_steps::{broker_step, keep, refusals};
-use group_commit::{Broker, Ticket};
 use invoke_records::GREATEST_MOMENT;
 use sector_disk::Disk;
 use std::alloc::Global;

@@ -1,9 +1,9 @@
 // What a case of halls has of a disk: the disk, or a broker or a hall that is open on it.
 use crate::open_hall::{OpenHall, ask, open, split_or_join, step_on, take};
 use crate::placing::set;
+use broker_core::{Broker, Ticket};
 use case_runner::{StepReply, TextBuffer, Words};
 use disk_steps::{Base, CaseDisk, Stage};
-use group_commit::{Broker, Ticket};
 use sector_disk::MemDisk;
 use std::alloc::Global;
 

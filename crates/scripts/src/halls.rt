@@ -1,6 +1,6 @@
 // Steps of a hall: requests and ticks, commits, and the replies that are told.
+use broker_core::{Broker, Issuer};
 use case_runner::{StepReply, TextBuffer, Words, kind_word, number_of_id};
-use group_commit::{Broker, Issuer};
 use hall_core::{Hall, HallError, Issued};
 use invoke_records::GREATEST_MOMENT;
 use request_steps::{read_call, tell_reply};

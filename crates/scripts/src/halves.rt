@@ -1,7 +1,7 @@
 // Steps of the two halves of a broker.
+use broker_core::{Batch, DiskHalf, Failed, IssueHalf, Ticket, Written};
 use case_runner::{StepReply, TextBuffer, Words};
 use disk_steps::{issuer_step, refusals};
-use group_commit::{Batch, DiskHalf, Failed, IssueHalf, Ticket, Written};
 use sector_disk::Disk;
 use std::alloc::Global;
 use std::mem;

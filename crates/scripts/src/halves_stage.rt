@@ -2,9 +2,9 @@
 use crate::halves::{Halves, halves_step};
 use crate::placing::set;
 use crate::split_drilling::{drill_split_step, split_orders_step};
+use broker_core::{Broker, JoinFailure, Ticket};
 use case_runner::{StepReply, TextBuffer, Words};
 use disk_steps::{Base, CaseDisk, Stage, broker_step, disk_step, open_broker, refusals};
-use group_commit::{Broker, JoinFailure, Ticket};
 use sector_disk::{Disk, MemDisk};
 use std::alloc::Global;
 use std::mem;

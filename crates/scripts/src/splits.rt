@@ -1,8 +1,8 @@
 // Steps of a hall over an issue half: what is lent, written and settled.
 use crate::halls::{hall_step, refusal};
+use broker_core::{Batch, Broker, DiskHalf, Failed, IssueHalf, SplitError, Written};
 use case_runner::{StepReply, TextBuffer, Words};
 use disk_steps::refusals;
-use group_commit::{Batch, Broker, DiskHalf, Failed, IssueHalf, SplitError, Written};
 use hall_core::{Hall, HallJoinFailure, HallSplitFailure};
 use retry_rules::Settings;
 use sector_disk::Disk;

@@ -1,9 +1,9 @@
 // A disk in memory that tells what it does, and a hall over it.
 ghost use Rattle.std.specs.Prelude.{◌≡◌, [], IfOk};
-ghost use Rattle.group_commit.specs.Broker.{pending_of, settings_of};
+ghost use Rattle.broker_core.specs.Broker.{pending_of, settings_of};
 ghost use Rattle.hall_core.specs.Fresh.{IsFresh};
 
-use group_commit::{Broker, format};
+use broker_core::{Broker, format};
 use hall_core::Hall;
 use retry_rules::{Settings, Text};
 use sector_disk::{CallKind, Disk, Fault, FaultOnceDisk, MemDisk};

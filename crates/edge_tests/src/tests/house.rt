@@ -1,6 +1,6 @@
 // An office over a hall, for what happens in it.
 ghost use Rattle.std.specs.Prelude.{◌≡◌, []};
-ghost use Rattle.group_commit.specs.Broker.{pending_of, settings_of};
+ghost use Rattle.broker_core.specs.Broker.{pending_of, settings_of};
 ghost use Rattle.hall_core.specs.Fresh.{IsFresh};
 ghost use Rattle.receipts.specs.Desks.{desk_count};
 
@@ -8,7 +8,7 @@ use crate::tests::disks::{DiskWatch, TestDisk, hall};
 use crate::tests::polls::{Poll, poll_in};
 use crate::tests::threads::{Plan, ask_in_threads};
 use api_core::Call;
-use group_commit::{Broker, DiskHalf, Durable};
+use broker_core::{Broker, DiskHalf, Durable};
 use hall_core::Hall;
 use invoke_records::Bytes;
 use receipts::{Desk, Mark, Office, desks};

@@ -1,7 +1,7 @@
 // Threads that ask one office, with a committer on a thread of its own.
 use crate::tests::disks::{DiskWatch, MOST_TURNS, NO_TROUBLE, Trouble};
 use crate::tests::house::{House, NOW, Story, expect, invoke, tell};
-use group_commit::DiskHalf;
+use broker_core::DiskHalf;
 use receipts::{Desk, FinishError, Office};
 use sector_disk::Disk;
 use std::alloc::{AllocGlobal, Global};

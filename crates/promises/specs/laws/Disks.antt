@@ -4,9 +4,9 @@ use Rattle.sector_disk.specs.Disk.{DiskView}
 use Rattle.sector_disk.specs.declared.disk.Disk.{Ghosts}
 use Rattle.retry_rules.specs.declared.settings.Settings.{Settings}
 use Rattle.invoke_records.specs.declared.command.Command.{Command}
-use Rattle.group_commit.specs.declared.broker.Broker.{Broker}
-use Rattle.group_commit.specs.History.{IsLegalStop}
-use Rattle.group_commit.specs.Broker.{disk_of, settings_of, durable_of, issued_of, Stands}
+use Rattle.broker_core.specs.declared.broker.Broker.{Broker}
+use Rattle.broker_core.specs.History.{IsLegalStop}
+use Rattle.broker_core.specs.Broker.{disk_of, settings_of, durable_of, issued_of, Stands}
 use Rattle.promises.specs.Promises.{Telling, issued, WasAnswered202, GoesOn, Leaves, LeavesEvent}
 use Rattle.promises.specs.laws.Histories.{goes_on_stopped, take_take}
 use Rattle.promises.specs.laws.Promised.{event_is_kept}

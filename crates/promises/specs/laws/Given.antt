@@ -5,7 +5,7 @@ use Rattle.std.proofs.lemmas.Option.{none-some}
 use Rattle.retry_rules.specs.declared.settings.Settings.{Settings}
 use Rattle.api_core.specs.Replies.{Words}
 use Rattle.hall_core.specs.declared.released.Released.{Released}
-use Rattle.hall_core.specs.Slots.{Reply, released}
+use Rattle.hall_plans.specs.Slots.{Reply, released}
 use Rattle.hall_core.specs.Hall.{HallView, StandsFor, Gives, settings_in, words_in, released_to}
 use Rattle.promises.specs.Promises.{Life, done}
 use Rattle.promises.specs.Giving.{IsTold}

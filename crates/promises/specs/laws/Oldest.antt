@@ -20,10 +20,10 @@ use Rattle.async_core.specs.Choice.{ended_on, goes_before}
 use Rattle.async_core.specs.Readers.{Ending, ending_after}
 use Rattle.async_core.specs.laws.Lives.{life-snoc, life-nil, held-snoc, last_number-snoc}
 use Rattle.async_core.specs.laws.Held.{by_last, bytes_eq-refl, named_id, named_by, is_nil, unknown-nil, IsLegal-front, IsLegal-last}
-use Rattle.hall_core.specs.Firsts.{Event, sooner, first_ranked, ranked, ended_rank, oldest_ended}
-use Rattle.hall_core.specs.Effects.{ending_of_event}
-use Rattle.hall_core.specs.laws.Ranks.{IsIn}
-use Rattle.hall_core.specs.laws.Choosing.{first_by-none_ranked}
+use Rattle.hall_plans.specs.Firsts.{Event, sooner, first_ranked, ranked, ended_rank, oldest_ended}
+use Rattle.hall_plans.specs.Effects.{ending_of_event}
+use Rattle.hall_plans.specs.laws.Ranks.{IsIn}
+use Rattle.hall_plans.specs.laws.Choosing.{first_by-none_ranked}
 use Rattle.promises.specs.Promises.{GoesOn, IsShownFirst, oldest_record}
 use Rattle.promises.specs.laws.Histories.{since_front}
 use Rattle.promises.specs.laws.Endings.{only_collected, same_standing, stays_ended}

@@ -11,11 +11,11 @@ use Rattle.async_core.proofs.Nexts.{next_move-by_history}
 use Rattle.api_core.specs.declared.dialect.Audience.TheVariants.{Caller}
 use Rattle.api_core.specs.declared.refusal.Refusal.TheVariants.{Unavailable}
 use Rattle.api_core.specs.Replies.{Told, record_of, refused}
-use Rattle.hall_core.specs.Firsts.{oldest_ended}
-use Rattle.hall_core.specs.Past.{Past, opening}
-use Rattle.hall_core.specs.Run.{past_after, after}
-use Rattle.hall_core.specs.Slots.{reply_of}
-use Rattle.hall_core.specs.laws.Sound.{every_run_is_sound}
+use Rattle.hall_plans.specs.Firsts.{oldest_ended}
+use Rattle.hall_plans.specs.Past.{Past, opening}
+use Rattle.hall_plans.specs.Run.{past_after, after}
+use Rattle.hall_plans.specs.Slots.{reply_of}
+use Rattle.hall_plans.specs.laws.Sound.{every_run_is_sound}
 use Rattle.promises.specs.Promises.{done, Telling, issued, WasAnswered202, IsToldOfPrefix, GoesOn, IsKept, IsShown, FollowsRules, WasShown, oldest_record}
 use Rattle.promises.specs.laws.Histories.{goes_on_itself, kept_or_collected}
 use Rattle.promises.specs.laws.Endings.{told_again}

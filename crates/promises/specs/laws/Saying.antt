@@ -25,11 +25,11 @@ use Rattle.api_core.specs.declared.call.Call.{Call}
 use Rattle.api_core.specs.declared.call.Call.TheVariants as calls
 use Rattle.api_core.specs.Replies.{Told}
 use Rattle.api_core.specs.Replies as reply
-use Rattle.hall_core.specs.Past.{HallCall, arrive, Past, calls_of}
-use Rattle.hall_core.specs.Firsts.{Event, oldest_ended}
-use Rattle.hall_core.specs.Effects.{Effect, Scene, scene, command_for, command_of, effect_of, effect_of_request, record_counts, accept_by, collect_by, collects, says_record, ending_of_event, where_accepted, requests, is_late, answers_event, responds}
-use Rattle.hall_core.specs.Run.{option_list, reply_to_poll, past_after}
-use Rattle.hall_core.specs.laws.Adding.{history_grows}
+use Rattle.hall_plans.specs.Past.{HallCall, arrive, Past, calls_of}
+use Rattle.hall_plans.specs.Firsts.{Event, oldest_ended}
+use Rattle.hall_plans.specs.Effects.{Effect, Scene, scene, command_for, command_of, effect_of, effect_of_request, record_counts, accept_by, collect_by, collects, says_record, ending_of_event, where_accepted, requests, is_late, answers_event, responds}
+use Rattle.hall_plans.specs.Run.{option_list, reply_to_poll, past_after}
+use Rattle.hall_plans.specs.laws.Adding.{history_grows}
 use Rattle.promises.specs.Promises.{Accepts}
 use Rattle.promises.specs.laws.Telling.{IsOwn, IsPolled}
 

@@ -18,13 +18,13 @@ use Rattle.api_core.specs.declared.call.Call.{Call}
 use Rattle.api_core.specs.declared.dialect.Audience.TheVariants.{Caller}
 use Rattle.api_core.specs.declared.refusal.Refusal.TheVariants.{Unavailable}
 use Rattle.api_core.specs.Replies.{Told, refused}
-use Rattle.hall_core.specs.Past.{HallCall, arrive, tick, take_slot, forget_slot, SlotEvent, asked, replied, taken, forgotten, Past, opening, calls_of}
-use Rattle.hall_core.specs.Effects.{Effect, effect_of}
-use Rattle.hall_core.specs.Run.{option_list, reply_to_poll, replies_to_polls, own_reply, own_event, slot_events, past_after, after}
-use Rattle.hall_core.specs.Slots.{Reply, asks, reply_by, reply_in, reply_of, unavailable, tell, is_wanted_in, released}
-use Rattle.hall_core.specs.Promises.{comes_with}
-use Rattle.hall_core.specs.laws.Ranks.{IsIn}
-use Rattle.hall_core.specs.laws.Adding.{history_grows}
+use Rattle.hall_plans.specs.Past.{HallCall, arrive, tick, take_slot, forget_slot, SlotEvent, asked, replied, taken, forgotten, Past, opening, calls_of}
+use Rattle.hall_plans.specs.Effects.{Effect, effect_of}
+use Rattle.hall_plans.specs.Run.{option_list, reply_to_poll, replies_to_polls, own_reply, own_event, slot_events, past_after, after}
+use Rattle.hall_plans.specs.Slots.{Reply, asks, reply_by, reply_in, reply_of, unavailable, tell, is_wanted_in, released}
+use Rattle.hall_plans.specs.Promises.{comes_with}
+use Rattle.hall_plans.specs.laws.Ranks.{IsIn}
+use Rattle.hall_plans.specs.laws.Adding.{history_grows}
 
 -- ## Lists
 

@@ -8,19 +8,19 @@ use Rattle.sector_disk.specs.laws.Moments.{joined, started}
 use Rattle.sector_disk.specs.declared.disk.Disk.{Ghosts}
 use Rattle.retry_rules.specs.declared.settings.Settings.{Settings}
 use Rattle.invoke_records.specs.declared.command.Command.{Command}
-use Rattle.group_commit.specs.declared.broker.Broker.{Broker}
-use Rattle.group_commit.specs.declared.batch.Batch.{Batch}
-use Rattle.group_commit.specs.declared.batch.Written.{Written}
-use Rattle.group_commit.specs.declared.batch.Failed.{Failed}
-use Rattle.group_commit.specs.declared.error.WriteError.{WriteError}
-use Rattle.group_commit.specs.declared.error.WriteError.TheVariants as write_error
-use Rattle.group_commit.specs.History.{IsLegalStop}
-use Rattle.group_commit.specs.Broker.{disk_of, settings_of, issued_of, pending_of, durable_of, is_broken, Stands}
-use Rattle.group_commit.specs.IssuerBroker.{issuer_laws}
-use Rattle.group_commit.specs.Refusals.{FaultsHaveRisen}
-use Rattle.group_commit.specs.Batch.{cause_of, is_lasting}
-use Rattle.group_commit.specs.Writing.{taken_from, IsWriteReason, IsRefusedAs, IsNotWritten, Writes}
-use Rattle.hall_core.specs.declared.error.HallError.{HallError}
+use Rattle.broker_core.specs.declared.broker.Broker.{Broker}
+use Rattle.broker_core.specs.declared.batch.Batch.{Batch}
+use Rattle.broker_core.specs.declared.batch.Written.{Written}
+use Rattle.broker_core.specs.declared.batch.Failed.{Failed}
+use Rattle.broker_core.specs.declared.error.WriteError.{WriteError}
+use Rattle.broker_core.specs.declared.error.WriteError.TheVariants as write_error
+use Rattle.broker_core.specs.History.{IsLegalStop}
+use Rattle.broker_core.specs.Broker.{disk_of, settings_of, issued_of, pending_of, durable_of, is_broken, Stands}
+use Rattle.broker_core.specs.IssuerBroker.{issuer_laws}
+use Rattle.broker_core.specs.Refusals.{FaultsHaveRisen}
+use Rattle.broker_core.specs.Batch.{cause_of, is_lasting}
+use Rattle.broker_core.specs.Writing.{taken_from, IsWriteReason, IsRefusedAs, IsNotWritten, Writes}
+use Rattle.hall_plans.specs.declared.error.HallError.{HallError}
 use Rattle.receipts.specs.Serving.{WritesBatch, CommitsTo, GoesOnFrom, HasServed}
 
 -- ## Legal stops

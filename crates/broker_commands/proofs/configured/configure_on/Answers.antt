@@ -1,6 +1,6 @@
 -- What is told is the policy that was wanted, and each image of the disk holds the command.
 use Rattle.std.proofs.Common.{sym, ◌∙◌, subst, take}
-use Rattle.group_commit.specs.Broker.{table_in, issued_of}
+use Rattle.broker_core.specs.Broker.{table_in, issued_of}
 use Rattle.broker_commands.specs.Configuring.{HoldsConfigured}
 use Rattle.broker_commands.proofs.BroughtInForce.{asked, held}
 use Rattle.broker_commands.proofs.configured.configure_on.Goals as goal

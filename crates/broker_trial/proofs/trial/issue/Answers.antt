@@ -1,7 +1,7 @@
 use Rattle.std.proofs.Common.{◌≡◌, ◌∷◌, [], ◌∙◌, subst}
 use Rattle.sector_disk.specs.Memory.{memory_view}
 use Rattle.invoke_records.specs.declared.command.Command.{Command}
-use Rattle.group_commit.specs.Broker.{settings_of, Stands}
+use Rattle.broker_core.specs.Broker.{settings_of, Stands}
 use Rattle.broker_trial.specs.Trial.{trial_settings, trial_acceptance}
 use Rattle.broker_trial.proofs.trial.issue.Goals as goal
 

@@ -2,7 +2,7 @@ use Rattle.std.proofs.Common.{◌≡◌, List, length, ◌∙◌, subst, arith}
 use Rattle.std.proofs.lemmas.List.{take_all}
 use Rattle.sector_disk.specs.Memory.{memory_view}
 use Rattle.invoke_records.specs.declared.command.Command.{Command}
-use Rattle.group_commit.specs.Broker.{issued_of, Stands}
+use Rattle.broker_core.specs.Broker.{issued_of, Stands}
 use Rattle.broker_trial.specs.Trial.{trial_settings}
 use Rattle.broker_trial.proofs.Trials.{ok_from, if_ok_both}
 use Rattle.broker_trial.proofs.trial.open.Goals as goal

@@ -2,11 +2,11 @@
 use crate::tests::house::{House, NOW, invoke};
 use api_core::Call;
 use async_core::Side;
+use broker_core::{DiskHalf, Durable, Receipt, Ticket};
 use front_board::Seated;
 use futures::Future;
 use futures::executor::LocalPool;
 use futures::task::{Context, Poll};
-use group_commit::{DiskHalf, Durable, Receipt, Ticket};
 use hall_core::HallError;
 use long_poll::{Arrived, Bell, Port, Waiting};
 use receipts::{Desk, Office};

@@ -1,4 +1,4 @@
-use Rattle.group_commit.specs.Splitting.{broker_of}
+use Rattle.broker_core.specs.Splitting.{broker_of}
 use Rattle.receipts.specs.laws.Serving.{served_by_one}
 use Rattle.http_front.proofs.asking.ask.Goals as goal
 

@@ -1,5 +1,5 @@
 use Rattle.promises.specs.laws.Disks.{broker_leaves, leaves_event}
-use Rattle.group_commit.specs.Broker.{settings_of}
+use Rattle.broker_core.specs.Broker.{settings_of}
 use Rattle.promises.specs.Promises.{issued}
 use Rattle.promises.proofs.laws.one_disk_keeps_it.Goals as goal
 

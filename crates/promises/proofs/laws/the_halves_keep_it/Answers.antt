@@ -1,7 +1,7 @@
 use Rattle.std.proofs.Common.{arith}
-use Rattle.group_commit.specs.Broker.{settings_of}
-use Rattle.group_commit.specs.IssuerHalf.{half_view}
-use Rattle.group_commit.specs.Splitting.{broker_of}
+use Rattle.broker_core.specs.Broker.{settings_of}
+use Rattle.broker_core.specs.IssuerHalf.{half_view}
+use Rattle.broker_core.specs.Splitting.{broker_of}
 use Rattle.promises.specs.Promises.{issued}
 use Rattle.promises.specs.laws.Disks.{half_leaves, leaves_event}
 use Rattle.promises.proofs.laws.the_halves_keep_it.Goals as goal

@@ -1,4 +1,4 @@
-use Rattle.group_commit.specs.Splitting.{broker_of}
+use Rattle.broker_core.specs.Splitting.{broker_of}
 use Rattle.receipts.specs.laws.Serving.{served_at_first, served_both, served_more}
 use Rattle.receipts.proofs.laws.a_serving_is_its_commits.Goals as goal
 

@@ -1,7 +1,7 @@
 use Rattle.std.proofs.Common.{rules, ◌++◌, ◌∷◌, [], refl, subst}
 use Rattle.api_core.specs.declared.call.Call.TheVariants as calls
 use Rattle.hall_plans.specs.Past.{asked}
-use Rattle.group_commit.specs.Issuer.{issued_in}
+use Rattle.broker_core.specs.Issuer.{issued_in}
 use Rattle.hall_core.specs.OpenSlots.{KeepFor}
 use Rattle.hall_plans.specs.Settling.{replied_at, own_at}
 use Rattle.hall_core.proofs.hall.Hall.do_for.Goals as goal

@@ -1,7 +1,7 @@
 use Rattle.std.proofs.Common.{◌≡◌, ap, sym, ◌∙◌, Err, inl, inr, ⊎_elim}
 use Rattle.hall_plans.specs.declared.error.HallError.TheVariants as error
 use Rattle.hall_core.specs.Hall.{commit_error_of}
-use Rattle.group_commit.specs.declared.error.CommitError.TheVariants as commit_error
+use Rattle.broker_core.specs.declared.error.CommitError.TheVariants as commit_error
 use Rattle.hall_core.proofs.Committing.{told_broken, not_committed, disk_is_left}
 use Rattle.hall_core.proofs.over_broker.Hall+Broker+D.commit.Goals as goal
 use Rattle.hall_core.proofs.over_broker.Hall+Broker+D.commit.Goals.{then-matches, else-matches}

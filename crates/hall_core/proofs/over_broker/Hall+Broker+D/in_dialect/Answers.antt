@@ -1,6 +1,6 @@
 use Rattle.std.proofs.Common.{rules, ◌≡◌, length, refl}
-use Rattle.group_commit.specs.Broker.{settings_of}
-use Rattle.group_commit.specs.IssuerBroker.{issuer_laws}
+use Rattle.broker_core.specs.Broker.{settings_of}
+use Rattle.broker_core.specs.IssuerBroker.{issuer_laws}
 use Rattle.hall_core.proofs.Opened.{opened}
 use Rattle.hall_core.proofs.over_broker.Hall+Broker+D.in_dialect.Goals as goal
 

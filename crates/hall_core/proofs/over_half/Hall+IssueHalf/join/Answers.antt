@@ -1,5 +1,5 @@
 use Rattle.std.proofs.Common.{refl}
-use Rattle.group_commit.specs.Splitting.{broker_of}
+use Rattle.broker_core.specs.Splitting.{broker_of}
 use Rattle.hall_core.proofs.Halves.{moved, joined_whole}
 use Rattle.hall_core.proofs.over_half.Hall+IssueHalf.join.Goals as goal
 

@@ -1,5 +1,5 @@
 use Rattle.std.proofs.Common.{rules, ◌≡◌, ◌++◌, ◌∷◌, [], length, take, subst, sym, ap, ◌∙◌, append_assoc}
-use Rattle.group_commit.specs.Issuer.{issued_in}
+use Rattle.broker_core.specs.Issuer.{issued_in}
 use Rattle.std.proofs.lemmas.List.{append-nil}
 use Rattle.hall_plans.specs.Past.{replied}
 use Rattle.hall_core.specs.OpenSlots.{KeepFor}

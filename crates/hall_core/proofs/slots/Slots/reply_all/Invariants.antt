@@ -1,6 +1,6 @@
 use Rattle.std.proofs.Common.{◌≡◌, ◌++◌, ℕ, List, length, take}
 use Rattle.api_core.specs.Replies.{Told}
-use Rattle.group_commit.specs.Issuer.{issued_in}
+use Rattle.broker_core.specs.Issuer.{issued_in}
 use Rattle.hall_core.specs.OpenSlots.{KeepFor, ForEachKept}
 use Rattle.hall_plans.specs.Settling.{replies_told, replied_at}
 use Rattle.hall_core.proofs.slots.Slots.reply_all.Given as goal

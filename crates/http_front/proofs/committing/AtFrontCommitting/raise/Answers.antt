@@ -1,5 +1,5 @@
 use Rattle.std.proofs.Common.{rules}
-use Rattle.group_commit.specs.Splitting.{broker_of}
+use Rattle.broker_core.specs.Splitting.{broker_of}
 use Rattle.receipts.specs.laws.Serving.{served_at_first}
 use Rattle.http_front.proofs.committing.AtFrontCommitting.raise.Goals as goal
 

@@ -7,7 +7,7 @@ use Rattle.std.proofs.Math.Logic.{∥∥₁_map}
 use Rattle.receipts.proofs.Running.{runs_by, runs_same, same_stands}
 use Rattle.receipts.proofs.Refused.{refused_arrival}
 use Rattle.receipts.proofs.UnderLock.{does_at, does_still, issues_still, issued_at, not_made_by_fit, not_made_by_hall}
-use Rattle.group_commit.specs.IssuerHalf.{half_view}
+use Rattle.broker_core.specs.IssuerHalf.{half_view}
 use Rattle.hall_core.specs.Hall.{view_of, request, CanBeAsked}
 use Rattle.receipts.proofs.locked.Locked.arrive.Goals as goal
 

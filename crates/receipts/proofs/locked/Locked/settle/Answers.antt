@@ -1,7 +1,7 @@
 use Rattle.std.proofs.Common.{rules, refl, map, Ok, Err}
 use Rattle.receipts.proofs.Settled.{settle_same, settled_number, follows_still, reached_still}
 use Rattle.std.proofs.Math.Logic.{∥∥₁_map}
-use Rattle.group_commit.specs.IssuerHalf.{half_view}
+use Rattle.broker_core.specs.IssuerHalf.{half_view}
 use Rattle.hall_core.specs.Hall.{view_of}
 use Rattle.receipts.proofs.Running.{runs_kept}
 use Rattle.receipts.proofs.UnderLock.{told_of}

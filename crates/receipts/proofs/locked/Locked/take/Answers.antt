@@ -1,7 +1,7 @@
 use Rattle.std.proofs.Common.{rules, ap}
 use Rattle.std.proofs.Math.Logic.{∥∥₁_map}
-use Rattle.group_commit.specs.declared.issue_half.IssueHalf.{IssueHalf}
-use Rattle.group_commit.specs.IssuerHalf.{half_view}
+use Rattle.broker_core.specs.declared.issue_half.IssueHalf.{IssueHalf}
+use Rattle.broker_core.specs.IssuerHalf.{half_view}
 use Rattle.hall_core.specs.Hall.{view_of}
 use Rattle.receipts.proofs.Running.{runs_taken}
 use Rattle.receipts.proofs.locked.Locked.take.Goals as goal

@@ -6,7 +6,7 @@ use Rattle.std.proofs.Math.Logic.{∥∥₁_map}
 use Rattle.receipts.proofs.Running.{runs_by, runs_same, same_stands}
 use Rattle.receipts.proofs.Refused.{refused_tick}
 use Rattle.receipts.proofs.UnderLock.{does_at, does_still, issues_still, issued_at, answers_number}
-use Rattle.group_commit.specs.IssuerHalf.{half_view}
+use Rattle.broker_core.specs.IssuerHalf.{half_view}
 use Rattle.hall_core.specs.Hall.{view_of}
 use Rattle.receipts.proofs.locked.Locked.tick.Goals as goal
 

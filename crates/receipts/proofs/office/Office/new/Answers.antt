@@ -1,6 +1,6 @@
 use Rattle.std.proofs.Common.{rules, sym, ◌∙◌}
-use Rattle.group_commit.specs.Broker.{settings_of}
-use Rattle.group_commit.specs.IssuerBroker.{issuer_of}
+use Rattle.broker_core.specs.Broker.{settings_of}
+use Rattle.broker_core.specs.IssuerBroker.{issuer_of}
 use Rattle.receipts.proofs.AllThere.{few_desks}
 use Rattle.receipts.proofs.Running.{runs_at_first}
 use Rattle.receipts.proofs.office.Office.new.Goals as goal

@@ -1,8 +1,8 @@
 use Rattle.std.proofs.Common.{◌++◌}
-use Rattle.group_commit.specs.IssuerBroker.{issuer_of}
+use Rattle.broker_core.specs.IssuerBroker.{issuer_of}
 use Rattle.hall_core.specs.Hall.{view_of}
-use Rattle.lambda_broker.proofs.Resting.{if_ok_both, opens_at_rest}
-use Rattle.lambda_broker.proofs.serving.hall_at_rest.Goals as goal
+use Rattle.broker_opening.proofs.Resting.{if_ok_both, opens_at_rest}
+use Rattle.broker_opening.proofs.resting.hall_at_rest.Goals as goal
 
 pub returns-clause-rest : goal.returns-clause-rest
 returns-clause-rest g c = λ history stands.

@@ -4,11 +4,11 @@ use Rattle.sector_disk.specs.Disk.{DiskView}
 use Rattle.sector_disk.specs.declared.disk.Disk.{Ghosts}
 use Rattle.invoke_records.specs.declared.command.Command.{Command}
 use Rattle.invoke_records.specs.declared.command.Kind.TheVariants.{Interrupt}
-use Rattle.group_commit.specs.declared.broker.Broker.{Broker}
-use Rattle.group_commit.specs.Broker.{settings_of, Stands}
-use Rattle.group_commit.specs.Resume.{AllAtRest}
+use Rattle.broker_core.specs.declared.broker.Broker.{Broker}
+use Rattle.broker_core.specs.Broker.{settings_of, Stands}
+use Rattle.broker_core.specs.Resume.{AllAtRest}
 use Rattle.hall_core.specs.Hall.{HallView, StandsFor}
-use Rattle.hall_core.specs.Past.{opening}
+use Rattle.hall_plans.specs.Past.{opening}
 
 -- it pushes back an attempt that was cut off
 abbrev pub IsInterrupt : Command → Type 0

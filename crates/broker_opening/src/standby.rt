@@ -1,5 +1,5 @@
 // Opening a disk, at once or once another program has ended with it.
-use crate::serving::ServingError;
+use crate::error::OpeningError;
 use broker_commands::{Address, Device, DiskError, open_device};
 use sector_disk::FileError;
 use std::fs::File;
@@ -51,7 +51,7 @@ pub fn open_in_turn<R, W>(
     rt: &R,
     at: &Address<'_>,
     out: &mut W,
-) -> Result<OpenDisk<R>, ServingError>
+) -> Result<OpenDisk<R>, OpeningError>
 where
     R: Files<File = File> + Clock + Wait + Eprint + AllocGlobal + Copy + Drop,
     W: Write,

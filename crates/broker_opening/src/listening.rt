@@ -1,6 +1,6 @@
 // Listening on the ports of a broker.
+use crate::error::OpeningError;
 use crate::notes::note_port;
-use crate::serving::ServingError;
 use admin_port::Admin;
 use broker_commands::Address;
 use http_port::Listening;
@@ -20,18 +20,18 @@ fn bind<R>(
     address: SocketAddr,
     host: Option<&str>,
     meter: Arc<PortMeter>,
-) -> Result<Listening, ServingError>
+) -> Result<Listening, OpeningError>
 where
     R: Eprint + Net<Listener = TcpListener, Stream = TcpStream> + AllocGlobal,
 {
     match Listening::bind(rt, address, host, meter) {
         Ok(listening) => Ok(listening),
         Err(why) if why.kind() == io::ErrorKind::OutOfMemory => {
-            Err(ServingError::OutOfMemory(AllocError))
+            Err(OpeningError::OutOfMemory(AllocError))
         }
         Err(why) => {
             note_port(rt, address, &why);
-            Err(ServingError::Port)
+            Err(OpeningError::Port)
         }
     }
 }
@@ -51,7 +51,7 @@ fn listen<R>(
     at: &Address<'_>,
     environments: u8,
     meters: &PortMeters,
-) -> Result<Vec<Listening>, ServingError>
+) -> Result<Vec<Listening>, OpeningError>
 where
     R: Eprint + Net<Listener = TcpListener, Stream = TcpStream> + AllocGlobal,
 {
@@ -60,7 +60,7 @@ where
         let address = SocketAddr::new(at.reach, at.port.saturating_add(number));
         let listening = bind(rt, address, at.host, meter_at(meters, number)?)?;
         if listeners.push(listening).is_err() {
-            return Err(ServingError::OutOfMemory(AllocError));
+            return Err(OpeningError::OutOfMemory(AllocError));
         }
     }
     Ok(listeners)
@@ -75,7 +75,7 @@ fn listen_admin<R>(
     at: &Address<'_>,
     written: Written,
     meters: PortMeters,
-) -> Result<Option<Admin>, ServingError>
+) -> Result<Option<Admin>, OpeningError>
 where
     R: Files<File = File> + Eprint + Net<Listener = TcpListener, Stream = TcpStream> + AllocGlobal,
 {
@@ -95,22 +95,22 @@ where
 
 /// What a front listens on.
 #[derive(Drop)]
-pub struct Ports {
+pub(crate) struct Ports {
     /// The callers' port, and one for each environment behind it.
-    pub listeners: Vec<Listening>,
+    pub(crate) listeners: Vec<Listening>,
     /// The operator's port.
-    pub admin: Option<Admin>,
+    pub(crate) admin: Option<Admin>,
     /// What the opening did, as far as it has.
-    pub opening: Opening,
+    pub(crate) opening: Opening,
 }
 
-/// Listens on all ports.
-pub fn listen_on_all<R>(
+/// Listens on all ports. It is refused `Port` where one cannot be used, which is told, and for want of memory.
+pub(crate) fn listen_on_all<R>(
     rt: &R,
     at: &Address<'_>,
     environments: u8,
     written: Written,
-) -> Result<Ports, ServingError>
+) -> Result<Ports, OpeningError>
 where
     R: Files<File = File> + Eprint + Net<Listener = TcpListener, Stream = TcpStream> + AllocGlobal,
 {

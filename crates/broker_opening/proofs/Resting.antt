@@ -8,13 +8,13 @@ use Rattle.sector_disk.specs.Disk.{DiskView}
 use Rattle.sector_disk.specs.declared.disk.Disk.{Ghosts}
 use Rattle.invoke_records.specs.declared.command.Command.{Command}
 use Rattle.retry_rules.specs.declared.settings.Settings.{Settings}
-use Rattle.group_commit.specs.declared.broker.Broker.{Broker}
-use Rattle.group_commit.specs.declared.error.IssueError.{IssueError}
-use Rattle.group_commit.specs.Broker.{settings_of, Stands}
-use Rattle.group_commit.specs.Resume.{interrupt_of, Resumes, TellsRest, AllAtRest}
+use Rattle.broker_core.specs.declared.broker.Broker.{Broker}
+use Rattle.broker_core.specs.declared.error.IssueError.{IssueError}
+use Rattle.broker_core.specs.Broker.{settings_of, Stands}
+use Rattle.broker_core.specs.Resume.{interrupt_of, Resumes, TellsRest, AllAtRest}
 use Rattle.hall_core.specs.Hall.{HallView, StandsFor}
-use Rattle.hall_core.specs.Past.{opening}
-use Rattle.lambda_broker.specs.Serving.{IsInterrupt, IsInterrupted, ComesToRest, OpensAtRest}
+use Rattle.hall_plans.specs.Past.{opening}
+use Rattle.broker_opening.specs.Opening.{IsInterrupt, IsInterrupted, ComesToRest, OpensAtRest}
 
 -- before the first interrupt
 pub uninterrupted : {D : Type 0} {g : Ghosts D} (view : D → DiskView) (history : List Command) (broker : Broker D g)

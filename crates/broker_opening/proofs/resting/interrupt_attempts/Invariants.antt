@@ -1,8 +1,8 @@
 use Rattle.std.proofs.Common.{◌≡◌}
-use Rattle.group_commit.specs.Broker.{settings_of}
-use Rattle.group_commit.specs.Promises.{ForEachHistory}
-use Rattle.lambda_broker.specs.Serving.{IsInterrupted}
-use Rattle.lambda_broker.proofs.serving.interrupt_attempts.Given as goal
+use Rattle.broker_core.specs.Broker.{settings_of}
+use Rattle.broker_core.specs.Promises.{ForEachHistory}
+use Rattle.broker_opening.specs.Opening.{IsInterrupted}
+use Rattle.broker_opening.proofs.resting.interrupt_attempts.Given as goal
 
 abbrev pub invariant-loop : goal.invariant-loop
 invariant-loop g l = record {

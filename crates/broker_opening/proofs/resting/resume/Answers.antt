@@ -1,5 +1,5 @@
-use Rattle.lambda_broker.proofs.Resting.{rest_kept}
-use Rattle.lambda_broker.proofs.serving.resume.Goals as goal
+use Rattle.broker_opening.proofs.Resting.{rest_kept}
+use Rattle.broker_opening.proofs.resting.resume.Goals as goal
 
 pub returns-in-Ok-clause-rest : goal.returns-in-Ok-clause-rest
 returns-in-Ok-clause-rest g c = λ history stands.

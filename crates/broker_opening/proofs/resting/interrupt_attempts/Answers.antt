@@ -1,9 +1,9 @@
 use Rattle.std.proofs.Common.{◌∙◌, ◌++◌, sym, subst}
 use Rattle.std.proofs.lemmas.Bool.{true≢false}
-use Rattle.lambda_broker.specs.Serving.{ComesToRest}
-use Rattle.lambda_broker.proofs.Resting.{pushed_back, rested}
-use Rattle.lambda_broker.proofs.serving.interrupt_attempts.Goals.{in-None, in-Some+in_ok-resume+then-is_none}
-use Rattle.lambda_broker.proofs.serving.interrupt_attempts.Goals as goal
+use Rattle.broker_opening.specs.Opening.{ComesToRest}
+use Rattle.broker_opening.proofs.Resting.{pushed_back, rested}
+use Rattle.broker_opening.proofs.resting.interrupt_attempts.Goals.{in-None, in-Some+in_ok-resume+then-is_none}
+use Rattle.broker_opening.proofs.resting.interrupt_attempts.Goals as goal
 
 pub loop-preserved : goal.loop-preserved
 loop-preserved g c = record {

@@ -1,0 +1,102 @@
+// Opening what is on a disk, to be served.
+ghost use Rattle.std.specs.Prelude.{◌≡◌, [], IfOk, IfSome, is_some};
+ghost use Rattle.broker_core.specs.Broker.{pending_of, settings_of};
+ghost use Rattle.hall_core.specs.Fresh.{IsFresh};
+
+use crate::error::OpeningError;
+use crate::listening::{Ports, listen_on_all};
+use crate::resting::hall_at_rest;
+use admin_port::{Admin, AdminPort};
+use broker_commands::{Address, open};
+use broker_core::Broker;
+use hall_core::Hall;
+use http_port::Listening;
+use port_meters::Opening;
+use sector_disk::{Disk, Written};
+use std::alloc::{AllocError, AllocGlobal};
+use std::fs::File;
+use std::io;
+use std::io::{Eprint, Write};
+use std::net::{Net, SocketAddr, TcpListener, TcpStream};
+use std::rt::Files;
+use std::sync::Wait;
+use std::time::{Clock, Instant};
+
+/// A disk that is open to be served: the hall over it, in which nothing has come yet and nothing runs, and what is listened on.
+#[derive(Drop)]
+pub struct OpenedDisk<D: Disk> {
+    pub hall: Hall<Broker<D>>,
+    /// The callers' port, and one for each environment behind it.
+    pub listeners: Vec<Listening>,
+    /// The operator's port over the hall.
+    pub admin: Option<AdminPort>,
+}
+
+// Prints the line from which on callers are served, and one of the operator's port.
+fn announce<W: Write>(at: &Address<'_>, out: &mut W) -> io::Result<()> {
+    let address = SocketAddr::new(at.reach, at.port);
+    writeln!(out, "serving on {address}")?;
+    if let Some(admin) = at.admin {
+        writeln!(out, "showing on 127.0.0.1:{admin}")?;
+    }
+    out.flush()
+}
+
+// The operator's port over a hall, where there is one.
+fn admin_over<D: Disk>(
+    hall: &Hall<Broker<D>>,
+    admin: Option<Admin>,
+    opening: Opening,
+) -> Result<Option<AdminPort>, AllocError>
+    ensures same { IfOk result (λ port. is_some port ≡ is_some admin) }
+    ensures settings { IfOk result (λ port. IfSome port (λ port. port.baseline.settings ≡ settings_of hall.now.issuer)) }
+{
+    match admin {
+        Some(admin) => Ok(Some(admin.over(hall.table(), opening)?)),
+        None => Ok(None),
+    }
+}
+
+/// Opens what is on a disk, listens on the ports, and then interrupts the attempts that the last stop cut off. The line from which on
+/// callers are served is printed.
+///
+/// It is refused where the disk, a port, the clock, memory or the output is. An attempt is then interrupted, or runs as before.
+pub fn open_to_serve<R, D, W>(
+    rt: &R,
+    disk: D,
+    written: Written,
+    at: &Address<'_>,
+    start: &io::Result<Instant>,
+    out: &mut W,
+) -> Result<OpenedDisk<D>, OpeningError>
+where
+    R: Files<File = File>
+        + Clock
+        + Wait
+        + Eprint
+        + Net<Listener = TcpListener, Stream = TcpStream>
+        + AllocGlobal,
+    D: Disk + Drop,
+    W: Write,
+    ensures nothing { IfOk result (λ opened. pending_of opened.hall.issuer ≡ []) }
+    ensures fresh { IfOk result (λ opened. IsFresh (settings_of opened.hall.issuer) opened.hall) }
+    ensures settings { IfOk result (λ opened.
+        IfSome opened.admin (λ port. port.baseline.settings ≡ settings_of opened.hall.issuer)) }
+{
+    let broker = open(rt.alloc(), disk)?;
+    let environments = broker.table().settings().environments;
+    let mut ports = listen_on_all(rt, at, environments, written)?;
+    let hall = hall_at_rest(rt, broker, at, start, &mut ports.opening)?;
+    let Ports {
+        listeners,
+        admin,
+        opening,
+    } = ports;
+    let admin = admin_over(&hall, admin, opening)?;
+    announce(at, out)?;
+    Ok(OpenedDisk {
+        hall,
+        listeners,
+        admin,
+    })
+}

@@ -1,0 +1,116 @@
+// The hall over a broker that was opened: attempts that the last stop cut off are interrupted first.
+ghost use Rattle.std.specs.Prelude.{◌≡◌, [], IfOk, OnOk};
+ghost use Rattle.broker_core.specs.Broker.{pending_of, settings_of};
+ghost use Rattle.broker_core.specs.Promises.{ForEachHistory};
+ghost use Rattle.broker_core.specs.IssuerBroker.{issuer_of};
+ghost use Rattle.hall_core.specs.Hall.{view_of, StandsFor};
+ghost use Rattle.hall_plans.specs.Past.{opening};
+ghost use Rattle.hall_core.specs.Fresh.{IsFresh};
+ghost use Rattle.broker_opening.specs.Opening.{ComesToRest, OpensAtRest};
+
+use crate::error::OpeningError;
+use crate::notes::note_opening;
+use broker_commands::{Address, now};
+use broker_core::Broker;
+use hall_core::Hall;
+use port_meters::{Opening, micros_since};
+use sector_disk::Disk;
+use std::alloc::{AllocError, AllocGlobal, Global};
+use std::io;
+use std::io::Eprint;
+use std::sync::Wait;
+use std::time::{Clock, Instant};
+
+// Issues an Interrupt for each attempt that the last stop cut off.
+fn interrupt_attempts<R: Clock + Wait, D: Disk>(
+    rt: &R,
+    broker: &mut Broker<D>,
+) -> Result<(), OpeningError>
+    ensures settings { settings_of broker.new ≡ settings_of broker.old }
+    ensures rest { ForEachHistory D.view broker.old (λ history. OnOk result (ComesToRest D.view history broker.new)) }
+{
+    let now = now(rt)?;
+    for _ in rt.forever() {
+        if broker.resume(now)?.is_none() {
+            break;
+        }
+    }
+    Ok(())
+}
+
+// Issues an Interrupt for each attempt that the last stop cut off, and makes that durable: nothing runs then. It is noted how long
+// the commit took.
+fn resume<R: Clock + Wait, D: Disk>(
+    rt: &R,
+    broker: &mut Broker<D>,
+    opening: &mut Opening,
+) -> Result<(), OpeningError>
+    // claim: After Ok nothing runs, and all is durable. Interrupts alone were issued. [: durable, rest;
+    // interrupt_attempts: rest]
+    ensures durable { OnOk result (pending_of broker.new ≡ []) }
+    ensures rest { ForEachHistory D.view broker.old (λ history. OnOk result (ComesToRest D.view history broker.new)) }
+{
+    interrupt_attempts(rt, broker)?;
+    let begun = Instant::now(rt);
+    match broker.commit() {
+        Ok(_) => {
+            opening.commit_microseconds = micros_since(rt, begun);
+            Ok(())
+        }
+        Err(why) => Err(OpeningError::Commit(why)),
+    }
+}
+
+// A hall over a broker, which tells its replies and waits for extensions as it is asked to.
+fn hall_over<D: Disk + Drop>(
+    alloc: Global,
+    broker: Broker<D>,
+    at: &Address<'_>,
+) -> Result<Hall<Broker<D>>, OpeningError>
+    requires { pending_of broker ≡ [] }
+    ensures nothing { IfOk result (λ hall. pending_of hall.issuer ≡ []) }
+    ensures fresh { IfOk result (λ hall. IsFresh (settings_of hall.issuer) hall) }
+    ensures same { IfOk result (λ hall. hall.issuer ≡ broker) }
+    ensures dialect { IfOk result (λ hall. (view_of (issuer_of D.view) hall).dialect ≡ at.now.dialect) }
+    ensures stands { ForEachHistory D.view broker (λ history.
+        IfOk result (λ hall. StandsFor (view_of (issuer_of D.view) hall) (opening at.now.extensions history))) }
+{
+    if broker.is_broken() {
+        return Err(OpeningError::Broken);
+    }
+    match Hall::in_dialect(alloc, broker, at.dialect, at.extensions) {
+        Ok(hall) => Ok(hall),
+        Err(_) => Err(OpeningError::OutOfMemory(AllocError)),
+    }
+}
+
+/// The hall over a broker of which nothing runs any more: attempts that the last stop cut off are interrupted. It is told what was
+/// found since the opening began, and noted what was done.
+///
+/// It is refused where the clock, memory or the device fails, or a worn number leaves an attempt running.
+pub(crate) fn hall_at_rest<R, D>(
+    rt: &R,
+    broker: Broker<D>,
+    at: &Address<'_>,
+    start: &io::Result<Instant>,
+    opening: &mut Opening,
+) -> Result<Hall<Broker<D>>, OpeningError>
+where
+    R: Clock + Wait + Eprint + AllocGlobal,
+    D: Disk + Drop,
+    // claim: An Ok is a hall that stands for the history with such Interrupts, in the dialect and for the extensions
+    // asked for. [: rest, dialect]
+    ensures nothing { IfOk result (λ hall. pending_of hall.issuer ≡ []) }
+    ensures fresh { IfOk result (λ hall. IsFresh (settings_of hall.issuer) hall) }
+    ensures dialect { IfOk result (λ hall. (view_of (issuer_of D.view) hall).dialect ≡ at.now.dialect) }
+    ensures rest { ForEachHistory D.view broker (λ history.
+        IfOk result (λ hall. OpensAtRest D.view at.now.extensions history hall.issuer (view_of (issuer_of D.view) hall))) }
+{
+    let mut broker = broker;
+    let held = broker.table().snapshot()?.rows.as_slice().len();
+    let before = broker.table().number();
+    resume(rt, &mut broker, opening)?;
+    opening.interrupted = broker.table().number().saturating_sub(before);
+    note_opening(rt, at, held, opening.interrupted, start);
+    hall_over(rt.alloc(), broker, at)
+}
