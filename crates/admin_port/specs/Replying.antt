@@ -1,5 +1,5 @@
 -- What an operator is told.
-use Rattle.std.specs.Prelude.{◌≡◌, ◌⊎◌, ℕ, List, [], ◌∷◌, ◌++◌, map, codes, Option, Some, None, Result, Ok, Err, IfSome, IsTrue}
+use Rattle.std.specs.Prelude.{◌≡◌, ◌⊎◌, ℕ, true, false, List, [], ◌∷◌, ◌++◌, map, codes, Option, Some, None, Result, Ok, Err, IfSome}
 use Rattle.futures.specs.declared.future.either.Either.{Either}
 use Rattle.futures.specs.declared.future.either.Either.TheVariants.{Left, Right}
 use Rattle.http.specs.declared.request.Parts.{Parts}
@@ -7,13 +7,14 @@ use Rattle.http_port.specs.Answering.{Message, status_alone, with_more, with_byt
 use Rattle.http_port.specs.Target.{target_in}
 use Rattle.http_port.specs.declared.reading.BodyError.{BodyError}
 use Rattle.destination_json.specs.Record.{id_text}
+use Rattle.admin_port.specs.Heads.{is_local}
 use Rattle.admin_replies.specs.declared.measuring.Measures.{Measures}
 use Rattle.admin_replies.specs.declared.history.History.{History}
 use Rattle.admin_replies.specs.declared.admin_reply.AdminReply.{AdminReply}
 use Rattle.admin_replies.specs.declared.telling.Baseline.{Baseline}
 use Rattle.admin_replies.specs.Media.{content_type_of}
 use Rattle.admin_replies.specs.Requests.{asked_of, status_of}
-use Rattle.admin_replies.specs.Collecting.{brings_list, ids_in}
+use Rattle.admin_replies.specs.Collecting.{ids_in}
 use Rattle.admin_replies.specs.Telling.{TellsOf}
 use Rattle.admin_replies.specs.declared.admin_refusal.AdminRefusal.{AdminRefusal}
 use Rattle.admin_replies.specs.declared.admin_request.AdminRequest.{AdminRequest}
@@ -55,19 +56,11 @@ abbrev pub RefusesRequest : Parts → Message → Type 0
 RefusesRequest head told =
     (told ≡ status_alone 503)
     ⊎ ((status : ℕ) × (words : List ℕ) × TellsLine status words told
-    × ((status ≡ 403) ⊎ ((why : AdminRefusal) × (asked_of head.method (target_in head) ≡ Err why) × (status ≡ status_of why))))
+    × (((status ≡ 403) × (is_local head.headers ≡ false)) ⊎ ((why : AdminRefusal) × (asked_of head.method (target_in head) ≡ Err why) × (status ≡ status_of why))))
 
--- its head asks for this
+-- its head asks for this, of this machine
 abbrev pub IsAsked : Parts → AdminRequest → Type 0
-IsAsked head request = asked_of head.method (target_in head) ≡ Ok request
-
--- a list is refused by a line of text, or by a status alone: it was cut off, or memory is wanting
-abbrev pub RefusesList : Message → Type 0
-RefusesList told = (told ≡ status_alone 503) ⊎ (told ≡ status_alone 400) ⊎ ((status : ℕ) × (words : List ℕ) × TellsLine status words told)
-
--- the head brings a list of records that are to be collected
-abbrev pub BringsList : Parts → Type 0
-BringsList head = IsTrue (brings_list head.method (target_in head))
+IsAsked head request = (asked_of head.method (target_in head) ≡ Ok request) × (is_local head.headers ≡ true)
 
 -- lines with just these ids are collected. Of an E it is known which id its line has
 abbrev pub CollectsIds : {E : Type 0} → (E → Option (List ℕ)) → List ℕ → List E → Type 0

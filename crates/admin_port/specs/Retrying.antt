@@ -1,11 +1,8 @@
 -- What becomes of a failed record that is tried again, how far it is with that, and what is told of it.
-use Rattle.std.specs.Prelude.{◌≡◌, ◌⊎◌, ℕ, List, Option, Some, None, Result, Ok, Err, IfSome, option_map}
+use Rattle.std.specs.Prelude.{◌≡◌, ◌⊎◌, ℕ, List, Option, Some, None, Result, Ok, Err, IfSome}
 use Rattle.std.specs.declared.sync.ledger.Ledger.{Ghosts as LedgerGhosts}
 use Rattle.futures.specs.Task.{IsArmed}
 use Rattle.futures.specs.declared.task.context.Context.{Context}
-use Rattle.http.specs.declared.request.Parts.{Parts}
-use Rattle.http_port.specs.Answering.{Message}
-use Rattle.http_port.specs.Target.{target_in}
 use Rattle.api_core.specs.declared.call.Call.{Call}
 use Rattle.api_core.specs.declared.call.Call.TheVariants.{Invoke, Delete}
 use Rattle.api_core.specs.declared.reply.Reply.{Reply}
@@ -20,28 +17,13 @@ use Rattle.admin_replies.specs.declared.retry_refusal.RetryRefusal.{RetryRefusal
 use Rattle.admin_replies.specs.declared.verdict.ToldLine.TheVariants.{Of}
 use Rattle.admin_replies.specs.declared.verdict.Verdict.{Verdict}
 use Rattle.admin_replies.specs.Collecting.{verdict_of}
-use Rattle.admin_replies.specs.Requests.{id_of}
-use Rattle.admin_replies.specs.Retrying.{record_named, failed_payload, status_of, status_by, TellsAgain, TellsLeft}
+use Rattle.admin_replies.specs.Retrying.{failed_payload, status_of, status_by, TellsAgain, TellsLeft}
 use Rattle.admin_port.specs.Asking.{accepted_by}
-use Rattle.admin_port.specs.Replying.{BringsList, RefusesList, RefusesRequest}
 use Rattle.admin_port.specs.declared.asked.Answered.{Answered}
 use Rattle.admin_port.specs.declared.step.Step.{Step}
 use Rattle.admin_port.specs.declared.step.Step.TheVariants.{Looking, Accepting, Collecting, Told}
 use Rattle.admin_port.specs.declared.step.Turn.{Turn}
 use Rattle.admin_port.specs.declared.step.Turn.TheVariants.{Waits, Tells}
-
--- ## The request
-
--- the head names the record of this event, or what is no id
-abbrev pub NamesRecord : Parts → Option (List ℕ) → Type 0
-NamesRecord head id = option_map id_of (record_named head.method (target_in head)) ≡ Some id
-
--- it is refused as what it is
-abbrev pub Refuses : Parts → Message → Type 0
-Refuses head told =
-    RefusesRequest head told
-    ⊎ (BringsList head × RefusesList told)
-    ⊎ ((id : Option (List ℕ)) × NamesRecord head id × RefusesList told)
 
 -- ## What is told
 

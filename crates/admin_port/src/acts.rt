@@ -1,7 +1,10 @@
 // What an operator may do.
-ghost use Rattle.std.specs.Prelude.{◌≡◌, Some, Ok, IfOk, IfErr};
+ghost use Rattle.std.specs.Prelude.{◌≡◌, ◌⊎◌, true, Some, Ok, IfOk, IfErr, OnOk};
 ghost use Rattle.admin_port.specs.declared.step.Step.TheVariants as in_step;
-ghost use Rattle.admin_port.specs.Replying.{CollectsBody, CollectsIds, RefusesList};
+ghost use Rattle.http_port.specs.Answering.{status_alone};
+ghost use Rattle.admin_port.specs.Acting.{RefusesAct, RefusesBody, RefusesList, RefusesRetry, RefusesText};
+ghost use Rattle.admin_port.specs.Heads.{may_act};
+ghost use Rattle.admin_port.specs.Replying.{CollectsBody, CollectsIds};
 
 use crate::collecting::Collecting;
 use crate::local::{NOT_LOCAL, is_local};
@@ -33,9 +36,10 @@ pub(crate) struct Acts<A> {
 
 // Whether a request may do something.
 fn may_act(alloc: Global, head: &Parts) -> Result<(), Refused>
-    ensures { IfErr result RefusesList }
+    ensures may { OnOk result (may_act head.now.headers ≡ true) }
+    ensures refused { IfErr result (RefusesAct head.now) }
 {
-    if !is_local(head) {
+    if !is_local(&head.headers) {
         return Err(refuse_act(alloc, 403, NOT_LOCAL));
     }
     if head.headers.get(ACT).is_none() {
@@ -46,7 +50,7 @@ fn may_act(alloc: Global, head: &Parts) -> Result<(), Refused>
 
 // That there is no memory.
 fn no_memory(alloc: Global) -> Refused
-    ensures { RefusesList result }
+    ensures { result ≡ status_alone 503 }
 {
     Refused::bare(alloc, StatusCode::SERVICE_UNAVAILABLE)
 }
@@ -54,7 +58,7 @@ fn no_memory(alloc: Global) -> Refused
 // The body of a request that does something.
 fn whole(alloc: Global, body: ReadBody) -> Result<Vec<u8>, Refused>
     ensures bytes { IfOk result (λ list. body ≡ Ok list.items) }
-    ensures refused { IfErr result RefusesList }
+    ensures refused { IfErr result (RefusesBody body) }
 {
     match body.into_result() {
         Ok(list) => Ok(list),
@@ -87,7 +91,7 @@ impl<A: Drop> Acts<A> {
         T: Trace,
         A: Acting<R, L, T>,
         ensures ids { IfOk result (λ collecting. CollectsIds (λ entry. entry.id) list.now collecting.entries.items) }
-        ensures refused { IfErr result RefusesList }
+        ensures refused { IfErr result (λ told. (told ≡ status_alone 503) ⊎ RefusesText list.now told) }
     {
         let ids = match read_list(self.alloc, list) {
             Ok(ids) => ids,
@@ -114,8 +118,9 @@ impl<A: Drop> Acts<A> {
         L: Ledger,
         T: Trace,
         A: Acting<R, L, T>,
+        ensures may { OnOk result (may_act head.now.headers ≡ true) }
         ensures ids { IfOk result (λ collecting. CollectsBody (λ entry. entry.id) body collecting.entries.items) }
-        ensures refused { IfErr result RefusesList }
+        ensures refused { IfErr result (RefusesList head.now body) }
     {
         may_act(self.alloc, head)?;
         let list = whole(self.alloc, body)?;
@@ -124,8 +129,9 @@ impl<A: Drop> Acts<A> {
 
     /// The event whose record a request names, unless it may not act, or names none.
     pub(crate) fn named(&self, head: &Parts, id: Option<[u8; 16]>) -> Result<[u8; 16], Refused>
+        ensures may { OnOk result (may_act head.now.headers ≡ true) }
         ensures id { IfOk result (λ named. id ≡ Some named) }
-        ensures refused { IfErr result RefusesList }
+        ensures refused { IfErr result (RefusesRetry head.now id) }
     {
         may_act(self.alloc, head)?;
         match id {
@@ -148,7 +154,7 @@ impl<A: Drop> Acts<A> {
         A: Acting<R, L, T>,
         ensures id { IfOk result (λ retrying. retrying.id ≡ id) }
         ensures step { IfOk result (λ retrying. retrying.step ≡ in_step.Looking view) }
-        ensures refused { IfErr result RefusesList }
+        ensures refused { IfErr result (λ told. told ≡ status_alone 503) }
     {
         match Arc::try_clone(&self.acting) {
             Ok(acting) => Ok(Retrying::new(rt, self.alloc, acting, id, view)),

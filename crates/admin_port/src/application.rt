@@ -1,7 +1,8 @@
 // What the operator's port serves.
-ghost use Rattle.std.specs.Prelude.{◌≡◌, Some, IfOk, IfErr, IfSome, OnSome};
-ghost use Rattle.admin_port.specs.Replying.{BringsList, CollectsBody, IsAsked, RefusesList, RefusesRequest, ShowsOrActs};
-ghost use Rattle.admin_port.specs.Retrying.{NamesRecord, Refuses};
+ghost use Rattle.std.specs.Prelude.{◌≡◌, ◌&&◌, true, Some, None, IfOk, IfErr, OnOk, is_some, option_map, if◌then◌else◌};
+ghost use Rattle.admin_port.specs.Acting.{BringsList, NamesRecord, Refuses, RefusesList, RefusesRetry, brings, named_by};
+ghost use Rattle.admin_port.specs.Heads.{may_act};
+ghost use Rattle.admin_port.specs.Replying.{CollectsBody, IsAsked, RefusesRequest, ShowsOrActs};
 
 use crate::acts::Acts;
 use crate::admin_context::AdminContext;
@@ -38,7 +39,7 @@ pub(crate) struct AdminApplication<R, L: Ledger, T: Trace, A> {
 impl<R: Wait + Clock + Drop + Copy, L: Ledger, T: Trace, A> AdminApplication<R, L, T, A> {
     // What an operator may do, where a request brings a list of records.
     fn list_brought(&self, head: &Parts) -> Option<&Acts<A>>
-        ensures { OnSome result (BringsList head.now) }
+        ensures { is_some result ≡ (is_some self.now.acts && brings head.now) }
     {
         let acts = self.acts.as_ref()?;
         brings_list(head.method.as_str(), target_of(head)).then_some(acts)
@@ -68,7 +69,7 @@ impl<R: Wait + Clock + Drop + Copy, L: Ledger, T: Trace, A> AdminApplication<R, 
 
     // What an operator may do, and the event, where a request names a record that is to be tried again.
     fn record_named(&self, head: &Parts) -> Option<(&Acts<A>, Option<[u8; 16]>)>
-        ensures { IfSome result (λ named. NamesRecord head.now named.1) }
+        ensures { option_map (λ named. named.1) result ≡ (if is_some self.now.acts then named_by head.now else None) }
     {
         let acts = self.acts.as_ref()?;
         let id = record_named(head.method.as_str(), target_of(head))?;
@@ -86,7 +87,7 @@ impl<R: Wait + Clock + Drop + Copy, L: Ledger, T: Trace, A> AdminApplication<R, 
             Ok(request) => request,
             Err(why) => return Err(refuse_words(alloc, why)),
         };
-        if !is_local(head) {
+        if !is_local(&head.headers) {
             return Err(refuse(alloc, 403, NOT_LOCAL));
         }
         match self.reply_to(request) {
@@ -103,54 +104,21 @@ where
     T: Trace,
     A: Acting<R, L, T>,
 {
-    // The records of the list that a request brings are collected.
-    fn collect(
-        &self,
-        acts: &Acts<A>,
-        head: &Parts,
-        body: ReadBody,
-    ) -> Result<Collecting<R, L, T, A>, Refused>
-        requires { BringsList head.now }
-        ensures ids { IfOk result (λ collecting. CollectsBody (λ entry. entry.id) body collecting.entries.items) }
-        ensures refused { IfErr result (Refuses head.now) }
-    {
-        match acts.take_list(self.rt, head, body) {
-            Ok(collecting) => Ok(collecting),
-            Err(refused) => Err(refused),
-        }
-    }
-
     // A record is tried again, where it has an id.
-    fn try_again(
-        &self,
-        acts: &Acts<A>,
-        head: &Parts,
-        id: Option<[u8; 16]>,
-    ) -> Result<Retrying<R, L, T, A>, Refused>
-        ensures id { IfOk result (λ retrying. id ≡ Some retrying.id) }
-        ensures refused { IfErr result RefusesList }
-    {
-        let id = acts.named(head, id)?;
-        match self.look() {
-            Ok(view) => acts.retry(self.rt, id, view),
-            Err(_) => Err(Refused::bare(self.context.alloc, StatusCode::SERVICE_UNAVAILABLE)),
-        }
-    }
-
-    // The record that a request names is tried again.
     fn retry(
         &self,
         acts: &Acts<A>,
         head: &Parts,
         id: Option<[u8; 16]>,
     ) -> Result<Retrying<R, L, T, A>, Refused>
-        requires { NamesRecord head.now id }
+        ensures may { OnOk result (may_act head.now.headers ≡ true) }
         ensures id { IfOk result (λ retrying. id ≡ Some retrying.id) }
-        ensures refused { IfErr result (Refuses head.now) }
+        ensures refused { IfErr result (RefusesRetry head.now id) }
     {
-        match self.try_again(acts, head, id) {
-            Ok(retrying) => Ok(retrying),
-            Err(refused) => Err(refused),
+        let id = acts.named(head, id)?;
+        match self.look() {
+            Ok(view) => acts.retry(self.rt, id, view),
+            Err(_) => Err(Refused::bare(self.context.alloc, StatusCode::SERVICE_UNAVAILABLE)),
         }
     }
 }
@@ -177,9 +145,9 @@ where
         IfOk answered (ShowsOrActs
         (λ pending. IsAsked head pending.request × (pending.context.value ≡ application.context.value))
         (ShowsOrActs
-        (λ collecting. BringsList head × CollectsBody (λ entry. entry.id) body collecting.entries.items)
-        (λ retrying. NamesRecord head (Some retrying.id))))
-        × IfErr answered (Refuses head) };
+        (λ collecting. BringsList (is_some application.acts) head × CollectsBody (λ entry. entry.id) body collecting.entries.items)
+        (λ retrying. NamesRecord (is_some application.acts) head retrying.id)))
+        × IfErr answered (Refuses (is_some application.acts) head body) };
 
     fn most(&self) -> usize {
         match &self.acts {
@@ -194,7 +162,7 @@ where
 
     fn answer(&self, head: &Parts, body: ReadBody) -> Result<Self::Future, Refused> {
         if let Some(acts) = self.list_brought(head) {
-            let collecting = self.collect(acts, head, body)?;
+            let collecting = acts.take_list(self.rt, head, body)?;
             return Ok(Either::Right(Either::Left(collecting)));
         }
         drop(body);

@@ -2,7 +2,10 @@
 ghost use Rattle.std.specs.Prelude.{◌≡◌, ◌≤◌, ◌⊎◌, ℕ, List, IfSome};
 ghost use Rattle.http_port.specs.Answering.{message_of, status_alone};
 ghost use Rattle.admin_replies.specs.Requests.{status_of};
-ghost use Rattle.admin_port.specs.Replying.{TellsLine, RefusesList};
+ghost use Rattle.admin_replies.specs.Collecting as list;
+ghost use Rattle.admin_replies.specs.Retrying as retry;
+ghost use Rattle.admin_port.specs.Acting.{TellsOf};
+ghost use Rattle.admin_port.specs.Replying.{TellsLine};
 
 use crate::admin_response::response_of;
 use admin_replies::{AdminRefusal, AdminReply, ListError, RetryRefusal};
@@ -42,17 +45,17 @@ pub(crate) fn refuse_words(alloc: Global, why: AdminRefusal) -> Refused
     }
 }
 
-/// What a list is refused with: a line of text.
+/// With what an act is refused: a line of text.
 pub(crate) fn refuse_act(alloc: Global, status: u16, words: &str) -> Refused
     requires { 400 ≤ status }
-    ensures { RefusesList result }
+    ensures { TellsOf status result }
 {
     refuse(alloc, status, words)
 }
 
 /// Why the record that a request names is not tried again, in words, where nothing was looked at.
 pub(crate) fn refuse_retry(alloc: Global, why: RetryRefusal) -> Refused
-    ensures { RefusesList result }
+    ensures { TellsOf (retry.status_of why) result }
 {
     match format!(in alloc; "{why}") {
         Ok(words) => refuse_act(alloc, why.status(), words.as_str()),
@@ -62,7 +65,7 @@ pub(crate) fn refuse_retry(alloc: Global, why: RetryRefusal) -> Refused
 
 /// Why a list is refused, in words.
 pub(crate) fn refuse_list(alloc: Global, why: ListError) -> Refused
-    ensures { RefusesList result }
+    ensures { TellsOf (list.status_of why) result }
 {
     match format!(in alloc; "{why}") {
         Ok(words) => refuse_act(alloc, why.status(), words.as_str()),

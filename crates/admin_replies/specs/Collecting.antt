@@ -4,6 +4,8 @@ use Rattle.std.specs.List.{flat_map}
 use Rattle.std.specs.Str.Lines.{lines}
 use Rattle.uuid.specs.Text.{parsed}
 use Rattle.destination_json.specs.Record.{id_text}
+use Rattle.admin_replies.specs.declared.list_reading.ListError.{ListError}
+use Rattle.admin_replies.specs.declared.list_reading.ListError.TheVariants.{NoText, TooMany, OutOfMemory}
 use Rattle.admin_replies.specs.declared.admin_reply.AdminReply.{AdminReply}
 use Rattle.admin_replies.specs.declared.verdict.Verdict.{Verdict}
 use Rattle.admin_replies.specs.declared.verdict.Verdict.TheVariants.{Collected, Unknown, NotEnded}
@@ -31,6 +33,12 @@ abbrev pub line_in : Option (List ℕ) → Option Verdict → Option ToldLine
 line_in None verdict = Some Bad
 line_in (Some id) None = None
 line_in (Some id) (Some verdict) = Some (Of id verdict)
+
+-- the status of a list that is refused
+abbrev pub status_of : ListError → ℕ
+status_of NoText = 400
+status_of TooMany = 413
+status_of OutOfMemory = 503
 
 -- ## Its text
 

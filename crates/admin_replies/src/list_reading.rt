@@ -1,7 +1,7 @@
 // Lists of records that are to be collected, as requests bring them.
-ghost use Rattle.std.specs.Prelude.{◌≡◌, ◌≤◌, ◌<◌, length, vec_len, IfOk, IsErrOf};
+ghost use Rattle.std.specs.Prelude.{◌≡◌, ◌≤◌, ◌<◌, length, vec_len, IfOk, IsErrOf, IsUtf8};
 ghost use Rattle.uuid.specs.Text.{parsed};
-ghost use Rattle.admin_replies.specs.Collecting.{brings_list, ids_in};
+ghost use Rattle.admin_replies.specs.Collecting.{brings_list, ids_in, status_of};
 ghost use Rattle.admin_replies.specs.declared.list_reading.ListError.TheVariants as list_error;
 
 use crate::ids::read_text;
@@ -37,7 +37,7 @@ impl From<AllocError> for ListError {
 impl ListError {
     /// The status that it is answered with.
     pub fn status(self) -> u16
-        ensures { 400 ≤ result }
+        ensures { result ≡ status_of self }
     {
         match self {
             ListError::NoText => 400,
@@ -73,6 +73,7 @@ fn ids_in(alloc: Global, text: &str) -> Result<Vec<Option<[u8; 16]>>, AllocError
 pub fn read_list(alloc: Global, list: &[u8]) -> Result<Vec<Option<[u8; 16]>>, ListError>
     ensures ids { IfOk result (λ ids. ids.items ≡ ids_in list.now) }
     ensures few { IfOk result (λ ids. vec_len ids ≤ 1000) }
+    ensures text { IsErrOf result list_error.NoText → IsUtf8 list.now → ⊥ }
     ensures many { IsErrOf result list_error.TooMany → 1000 < length (ids_in list.now) }
 {
     let Ok(text) = str::from_utf8(list) else {
