@@ -121,7 +121,7 @@ impl<L: Ledger, T: Trace> Office<L, T> {
         ensures numbers { IfOk result (λ r. map (λ d. d.number) r.1.items ≡ range_with_len 0 L.parts) }
         ensures none { IfOk result (λ r. All (λ d. d.own.items ≡ []) r.1.items) }
         ensures untold { IfOk result (λ r. All (λ d. d.told ≡ 0) r.1.items) }
-        // claim: Its disk half is the hall's broker. A refusal hands the hall back, with its reason.
+        // claim: A new office's disk half is the hall's broker. A refusal hands the hall back, with its reason.
         ensures half { IfOk result (λ r. broker_of r.2 ≡ hall.issuer) }
         ensures reason { IfErr result (λ failure. IsSplitReason hall.issuer failure.cause) }
         ensures same { IfErr result (λ failure. failure.hall.issuer ≡ hall.issuer) }
@@ -172,8 +172,8 @@ impl<L: Ledger, T: Trace> Office<L, T> {
         // is marked, there and at its desk; desks' marks stay their own. Nothing becomes durable or lent. [: steps,
         // done, counts, both, histories, ticket, kept, no_call; Office::tick: steps, done, answer, both, histories,
         // counted, kept, no_call]
-        // claim: A request marks at most one command, which it may have by itself. A tick marks that whose number it
-        // answers. [: marks, asked; Office::tick: marks]
+        // claim: A request marks at most one command, which the request by itself allows. A tick marks that whose
+        // number it answers. [: marks, asked; Office::tick: marks]
         // claim: The slot is the desk's next. The desk gets the slots of just the polls answered, and hands them out once.
         // [: slot, counts, answered, kept_answered; Office::tick: answered, kept_answered; Desk::take_answered: slots,
         // none_left]
@@ -255,12 +255,13 @@ impl<L: Ledger, T: Trace> Office<L, T> {
         ensures err { OnErr result.answer (desk.new.told ≡ desk.old.told) }
         ensures refused { IfErr result.answer (IsCommitRefusal desk.old.told) }
         // claim: A commit leaves the disk half alone, or hands it one batch, all durable at Ok. A crash at any moment
-        // leaves a legal stop of the half's history with what it took. Faults are told only where their count rose, or is greatest.
+        // leaves a legal stop of the half's history with what it took. Faults are told only where their count rose, or
+        // is at its greatest.
         ensures disk { CommitsTo D.view D.fault_count (broker_of disk.old) (broker_of disk.new) result.answer }
         ensures fault { result.answer ≡ Err HallError.Fault → FaultsHaveRisen D.fault_count (broker_of disk.old) (broker_of disk.new) }
 
-        // claim: It made one step, which lent nothing, and tells how much is durable or why not; or two: all that was
-        // pending was lent, and what the disk half answered was settled, and is told, or `OtherHalf`. [: steps,
+        // claim: A commit made one step, which lent nothing, and tells how much is durable or why not; or two: all that
+        // was pending was lent, and what the disk half answered was settled, and is told, or `OtherHalf`. [: steps,
         // refused]
         ensures steps { CommitsBy D.view D.fault_count result desk.old desk.new (broker_of disk.old) (broker_of disk.new) }
     {
