@@ -27,10 +27,10 @@ use sector_disk::Disk;
 /// What was answered 202 is kept: the event is in the table of each later history, with the payload that came with the
 /// request, until a Collect of it. A stop leaves a later history, and so does each command.
 pub fn what_was_answered_202_is_kept()
-    // claim: A 202 of an invocation tells of a durable acceptance. The histories that later commands and crashes lead
-    // to begin with the commands up to it; their tables have the event with its payload, until its Collect. [:
-    // answered, kept, stopped; calls_and_stops_go_on: at_first, issued, stopped; a_202_without_a_body_accepts;
-    // a_202_that_says_so_accepts; what_is_given_was_told]
+    // claim: A 202 of an invocation tells of a durable acceptance. Later histories, by commands and crashes, begin with
+    // all up to it, and their tables have the event with its payload, until its Collect. [: answered, kept, stopped;
+    // calls_and_stops_go_on: at_first, issued, stopped; a_202_without_a_body_accepts; a_202_that_says_so_accepts;
+    // what_is_given_was_told]
     ensures answered { (s : Settings) (t : Telling s) (id : List ℕ) → (t.told ≡ accepted id) ⊎ (t.told ≡ accepted_async id)
         → (payload : List ℕ) × WasAnswered202 s t id payload }
     ensures kept { (s now : Settings) (t : Telling s) (id payload : List ℕ) (later : List Command) → WasAnswered202 s t id payload
@@ -130,8 +130,7 @@ pub fn what_a_stop_leaves_follows_the_rules()
 /// the larger limits of a copy.
 pub fn a_new_disk_goes_on<D: Disk, E: Disk>(old: &D, new: &E)
     // claim: Where a migrated disk has a later history's table, or a copied one goes on with that history, each image
-    // recovers to such a table. No smaller limits, with the same timeout, concurrency and policy, keep a history's
-    // table.
+    // recovers to such a table. [: migrated, copied]
     ensures migrated { (migration : Migrates (D.view old.now) (E.view new.now)) (point : ℕ) (history later : List Command) (image : List ℕ)
         → GoesOn migration.settings point history later → migration.table ≡ table_of migration.settings later
         → (E.view new.now).may_leave image → Leaves migration.settings point history image }

@@ -121,7 +121,7 @@ impl<L: Ledger, T: Trace> Office<L, T> {
         ensures numbers { IfOk result (λ r. map (λ d. d.number) r.1.items ≡ range_with_len 0 L.parts) }
         ensures none { IfOk result (λ r. All (λ d. d.own.items ≡ []) r.1.items) }
         ensures untold { IfOk result (λ r. All (λ d. d.told ≡ 0) r.1.items) }
-        // claim: A new office's disk half is the hall's broker. A refusal hands the hall back, with its reason.
+        // claim: Its disk half is the hall's broker. A refusal hands the hall back, with its reason.
         ensures half { IfOk result (λ r. broker_of r.2 ≡ hall.issuer) }
         ensures reason { IfErr result (λ failure. IsSplitReason hall.issuer failure.cause) }
         ensures same { IfErr result (λ failure. failure.hall.issuer ≡ hall.issuer) }

@@ -90,7 +90,7 @@ pub fn resized<D: Disk>(alloc: Global, disk: &mut D) -> Result<Option<Resized>, 
     ensures later { D.fault_count disk.old ≤ D.fault_count disk.new }
     ensures fault { IsErrOf result ResizedError.Fault → HasRisen (D.fault_count disk.old) (D.fault_count disk.new) }
     ensures no_call { IsErrOf result ResizedError.OutOfMemory → disk.new ≡ disk.old }
-    // claim: A disk of fewer than 6 sectors stays as it was, and the answer is `Ok(None)`.
+    // claim: A disk of fewer than 6 sectors stays as it was, and `Ok(None)` is told.
     ensures small { (D.view disk.old).sectors < 6 → (result ≡ Ok None) × (disk.new ≡ disk.old) }
     // claim: An Ok tells that the newer segment stands displaced, or else that the open one is cut, exactly where the
     // bytes say so.
