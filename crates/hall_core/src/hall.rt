@@ -315,7 +315,7 @@ impl<I: Issuer> Hall<I> {
         // broken hall tells every other wanted slot 503.
         ensures gives { Gives (view_of I.view self.old) slot result }
         ensures kept { ForEachKept self.old.slots (GivesFor (view_of I.view self.old) slot result) }
-        // claim: Only the slot that was taken is told, and is then closed. Else nothing changes.
+        // claim: Only the slot that was taken is told, then closed. Else nothing changes.
         ensures slot { IfSome result (λ released. slot_told released ≡ slot) }
         ensures some { OnSome result (IsDone (view_of I.view self.old) (view_of I.view self.new) (take_slot slot)) }
         ensures none { IfNone result (IsSameHall (view_of I.view self.old) (view_of I.view self.new)) }

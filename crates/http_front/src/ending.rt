@@ -29,7 +29,7 @@ impl LookAtEnding {
 pub(crate) struct ToldToEnd {
     look: LookAtEnding,
     // claim: What ends a front shows that it was told to, or that at one moment its hall was stopping, with nothing
-    // pending and no slot open, or, as `Failed`, that no slot was open. [: ends; Stopped: stops, nothing, none; Failed:
+    // pending and no slot open, or, as `Failed`, that none was open. [: ends; Stopped: stops, nothing, none; Failed:
     // none]
     ghost ends: { look.ends ≡ true },
 }

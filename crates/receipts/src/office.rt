@@ -304,8 +304,8 @@ impl<L: Ledger, T: Trace> Office<L, T> {
     ) -> Witnessed<Option<Released>, L, T>
         ensures desk { MakesStep result.from.value result.to.value desk.old desk.new }
         // claim: By one step a take or a forgetting does just that to the hall under the lock. A take gives the slot
-        // that asked what that hall gives it; where that is nothing, nothing changes. [: steps, slot, gives, by_events,
-        // done, none; Office::forget: steps, done]
+        // that asked what that hall gives it; where that is nothing, the hall stays the same. [: steps, slot, gives,
+        // by_events, done, none; Office::forget: steps, done]
         ensures takes { Takes result.before.value result.after.value slot result.answer }
     {
         self.locked.lock(rt).take_seen(desk, slot)
