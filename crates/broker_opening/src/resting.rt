@@ -98,7 +98,7 @@ pub(crate) fn hall_at_rest<R, D>(
 where
     R: Clock + Wait + Eprint + AllocGlobal,
     D: Disk + Drop,
-    // claim: An Ok is a hall that stands for the history with such Interrupts, in the dialect and for the extensions
+    // claim: An Ok hall stands for the history with Interrupts alone behind it, in the dialect and for the extensions
     // asked for. [: rest, dialect]
     ensures nothing { IfOk result (λ hall. pending_of hall.issuer ≡ []) }
     ensures fresh { IfOk result (λ hall. IsFresh (settings_of hall.issuer) hall) }

@@ -9,8 +9,8 @@ ghost use Rattle.disk_claim.specs.Takeover.{Step, IsTakeover, AllReadsHave, repl
 /// first one writes late it says nothing: that may harm what the newcomer writes.
 #[tactic(auto, using(crate::proofs::Takeover::takeover_loses_nothing))]
 pub fn a_takeover_loses_nothing()
-    // claim: On a volume that gives what was written last, each read of a newcomer has all that the first one replies to, if
-    // the newcomer claims with another token before it reads, and the first one sees its own between write and reply, and
-    // claims no more behind the newcomer.
+    // claim: Let a newcomer claim with another token before it reads, and the first one see its own between write and
+    // reply and claim no more behind the newcomer. Then, on a volume that gives what was written last, each read of the
+    // newcomer has all that the first one replies to.
     ensures { (own new : ℕ) (steps : List Step) → IsTakeover own new steps → AllReadsHave (replied_in steps) steps }
 {}

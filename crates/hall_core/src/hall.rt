@@ -162,8 +162,8 @@ impl<I: Issuer> Hall<I> {
         requires free { is_slot_open (view_of I.view self.old) slot ≡ false }
         requires environment { IsToOneOf self.old.environments call }
         requires fit { IsFit (settings_in (view_of I.view self.old)) (request slot call now words) }
-        // claim: After Ok the hall stands for its run with that call, whose command, if any, is issued. A request has
-        // only one that it may have by itself. [: ok, asked; Hall::tick: ok]
+        // claim: After Ok the hall stands for its run with that call, whose command, if any, is issued. A request's
+        // command is one that the request by itself allows. [: ok, asked; Hall::tick: ok]
         ensures ok { IfOk result (Does (view_of I.view self.old) (view_of I.view self.new) (request slot call now words)) }
         ensures asked { IfOk result (IsAsked (drawn_by words) call) }
         // claim: Even without a run an Ok issues at most one command, legal and told, and makes nothing durable. No
@@ -315,7 +315,7 @@ impl<I: Issuer> Hall<I> {
         // broken hall tells every other wanted slot 503.
         ensures gives { Gives (view_of I.view self.old) slot result }
         ensures kept { ForEachKept self.old.slots (GivesFor (view_of I.view self.old) slot result) }
-        // claim: It is told to the slot that asked, which is then closed. Else nothing changes.
+        // claim: Only the slot that was taken is told, then closed. Else nothing changes.
         ensures slot { IfSome result (λ released. slot_told released ≡ slot) }
         ensures some { OnSome result (IsDone (view_of I.view self.old) (view_of I.view self.new) (take_slot slot)) }
         ensures none { IfNone result (IsSameHall (view_of I.view self.old) (view_of I.view self.new)) }

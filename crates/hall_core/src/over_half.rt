@@ -203,8 +203,8 @@ impl Hall<IssueHalf> {
         ensures stands { ForEachPast (view_of half_view self) (λ past.
             Stands D.view (broker_of disk) (take (issued_of (broker_of disk)) past.history)
             → IfOk result (λ hall. is_broken hall.issuer ≡ false → StandsFor (view_of (issuer_of D.view) hall) past)) }
-        // claim: Joined from a broken half, it tells what the disk half has durable, and 503 to every other wanted slot. [:
-        // slots, ok; Hall::take: kept]
+        // claim: Joined from a broken half, a hall tells the replies that the disk half has durable, and 503 to every
+        // other wanted slot. [: slots, ok; Hall::take: kept]
         ensures slots { IfOk result (λ hall. KeepsSlotsOf (view_of half_view self) (view_of (issuer_of D.view) hall)) }
         ensures same { IfErr result (λ failure. failure.hall.issuer ≡ self.issuer) }
         ensures same_parts { IfErr result (λ failure. HasSameParts (view_of half_view self) (view_of half_view failure.hall)) }

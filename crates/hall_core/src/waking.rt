@@ -25,7 +25,7 @@ impl<I: Issuer> Hall<I> {
     /// How many commands have to be durable before the reply of this slot is told, where it is computed and still wanted.
     /// None where the slot is not open, its reply is not wanted, or it is not computed yet. It takes no memory.
     pub fn point(&self, slot: u64) -> Option<u64>
-        // claim: A slot's point is how many commands its reply needs durable. [: by_past, by_events]
+        // claim: A slot's point, if any, is how many commands its reply needs durable. [: by_past, by_events]
         ensures by_past { ForEachPast (view_of I.view self.now) (λ past. result ≡ point_of past slot) }
         ensures by_events { ForEachKept self.now.slots (λ _ events. result ≡ point_in events slot) }
     {

@@ -178,8 +178,8 @@ impl<L: Ledger, T: Trace, D: Disk + Drop> Committer<L, T, D> {
         ensures learned { IsRun HasLearned (G.says gate.now)
             (known self.desk.told (seen_by self.seated))
             (known result.desk.told (seen_by result.seated)) }
-        // claim: Its disk half goes on from each history that it stood for. At each moment a crash leaves a prefix of
-        // that and what it took, with all that was durable at first. [: served; ask]
+        // claim: A committer's disk half goes on from each history that it stood for. At each moment a crash leaves a
+        // prefix of that and what it took, with all that was durable at first. [: served; ask]
         ensures served { HasServed D.view D.fault_count (broker_of self.half) (broker_of result.half) }
     {
         let mut at = AtFront {

@@ -215,7 +215,8 @@ impl<R: Wait + Clock + Drop + Copy, L: Ledger, T: Trace> Collector<R, L, T> {
 
     // Collects what a view shows that is discarded.
     fn collect(&self, view: &View) -> Result<Vec<Collected<R, L, T>>, ArrivalError>
-        // claim: An Ok has just the first 64 records that the view shows on discarded sides, each collected so.
+        // claim: An Ok has just the first 64 records that the view shows on discarded sides, each collected by one
+        // DELETE.
         ensures { IfOk result (λ all. map (λ collected. collected.id) all.items
             ≡ take 64 (unwanted_ids self.now.front.value.discarding.discard view.now.hall.table.rows)) }
     {

@@ -28,9 +28,9 @@ impl LookAtEnding {
 #[derive(Drop)]
 pub(crate) struct ToldToEnd {
     look: LookAtEnding,
-    // claim: What shows why a front ends is a look that tells it to, one at a hall that stops, with nothing pending and
-    // no slot open, or one, after the hall was said to be broken, with none open. [: ends; Stopped: stops, nothing,
-    // none; Failed: none]
+    // claim: What ends a front shows that it was told to, or that at one moment its hall was stopping, with nothing
+    // pending and no slot open, or, as `Failed`, that none was open. [: ends; Stopped: stops, nothing, none; Failed:
+    // none]
     ghost ends: { look.ends ≡ true },
 }
 

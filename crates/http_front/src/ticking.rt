@@ -109,7 +109,7 @@ fn make_move<R: Wait + Eprint, L: Ledger, T: Trace>(
     at: Moment,
 ) -> Witnessed<Tried, L, T>
     // claim: Where the clock told a moment and no move is made, none was due in the hall that it met, or a reason is
-    // there. The pause after such a moment lasts until an event moves otherwise, a second at most. [: nothing; tick;
+    // there. Where none was due, the pause lasts until an event moves otherwise, a second at most. [: nothing; tick;
     // pause_at]
     ensures marked { HasMarked (length (map T.mark desk.old.own.items)) (ticked (is_made result.answer) ∷ [])
         (length (map T.mark desk.new.own.items)) }

@@ -168,8 +168,8 @@ impl<I: Drop> Reading<I> {
     /// and what was read of it is let go. Where the head says that it is larger, nothing of it is asked for, so that a client
     /// who waits to be asked is refused before it sends it.
     pub(crate) fn poll(&mut self, cx: &mut Context<'_>) -> Poll<ReadBody>
-        // claim: A body is its frames, joined in order, or was cut off, or has more than are read; or memory is wanting. [:
-        // value, same; Reading::step: follows; Reading::take_frame: ok; Requests: calls]
+        // claim: A body is told as its frames' data joined in order, as cut off, or as more bytes or frames than are
+        // read; or memory is wanting. [: value, same; Reading::step: follows; Reading::take_frame: ok; Requests: calls]
         ensures value { IfReady result (Reads self.old) }
         ensures same { OnPending result ((body : _) → Reads self.new body → Reads self.old body) }
 

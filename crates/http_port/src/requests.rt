@@ -185,8 +185,8 @@ impl<R: Clock + Drop, A: Application, I: Drop> Future for Serving<R, A, I> {
 
     ghost can_poll = { λ s. IfSome s.reply A.Future.can_poll };
 
-    // claim: What is sent for a request is all that an answer to its head and its body tells, and at most `Connection:
-    // close` more. [: gives; Requests: calls]
+    // claim: What is sent for a request is all that an answer to its head and its body tells, or 503 alone, and at most
+    // `Connection: close` more. [: gives; Requests: calls]
     ghost gives = { λ s sent. IfOk sent (Sends A.Future.gives A.Response.tells (Answers A.answers s.forbidden s.reply
         (option_map arc_value s.application) s.head (Reads s.reading))) };
 

@@ -125,8 +125,8 @@ impl<L: Ledger, T: Trace> Port<L, T> {
         ensures refused { IfErr result (λ refused. IsRequestRefusal refused.answer) }
 
         // claim: An Ok did just that request, with its slot, to the hall under the lock; a refusal has its reason
-        // there. So of a tick. Takes, points and forgettings are an office's. [: done, reason; Port::tick: done,
-        // answer, reason; Port::take; Port::point; Port::forget]
+        // there. So of a tick. A take, point or forgetting does what an office's does. [: done, reason; Port::tick:
+        // done, answer, reason; Port::take; Port::point; Port::forget]
         ensures done { IfOk result (λ arrived.
             IsDone (hall_in arrived.seen.before.value.hall) (hall_in arrived.seen.after.value.hall) (request arrived.slot call now words)) }
         ensures issued { IfOk result (λ arrived.

@@ -254,7 +254,7 @@ impl<R: Wait + Drop, L: Ledger, T: Trace> Future for Waiting<R, L, T> {
     // Bell::register, Bell::park: under, armed, heard]
     ghost needs = { λ waiting source. source ≡ source_of waiting.port.value.bell.value };
 
-    // claim: It gives the reply that the hall under the lock gave its slot.
+    // claim: The future gives the reply that the hall under the lock gave its slot.
     ghost gives = { λ waiting told. IsTaken waiting.slot told };
 
     fn poll(&mut self, cx: &mut Context<'_>) -> Poll<Witnessed<Released, L, T>> {

@@ -109,7 +109,8 @@ impl Counters {
     /// A commit took so many microseconds.
     pub fn note_commit(&mut self, took: u64)
         // claim: A commit is counted, also in each bucket of no smaller bound, and its time added; a refusal is counted
-        // by status, or as another; all up to 2^64 - 1. [: commits, time, buckets; Counters::note_refusal: refused]
+        // by its status, or among all others; each number stops at 2^64 - 1. [: commits, time, buckets;
+        // Counters::note_refusal: refused]
         ensures commits { self.new.commits ≡ sum_up_to self.old.commits 1 }
         ensures time { self.new.commit_microseconds ≡ sum_up_to self.old.commit_microseconds took }
         ensures buckets { self.new.buckets ≡ raised_buckets took self.old.buckets }

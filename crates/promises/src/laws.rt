@@ -27,8 +27,8 @@ use sector_disk::Disk;
 /// What was answered 202 is kept: the event is in the table of each later history, with the payload that came with the
 /// request, until a Collect of it. A stop leaves a later history, and so does each command.
 pub fn what_was_answered_202_is_kept()
-    // claim: A 202 of an invocation tells of an acceptance that is durable. A later history begins with the commands up
-    // to it, and its table has the event with its payload, until its Collect. [: answered, kept, stopped;
+    // claim: A 202 of an invocation tells of a durable acceptance. Later histories, by commands and crashes, begin with
+    // all up to it, and their tables have the event with its payload, until its Collect. [: answered, kept, stopped;
     // calls_and_stops_go_on: at_first, issued, stopped; a_202_without_a_body_accepts; a_202_that_says_so_accepts;
     // what_is_given_was_told]
     ensures answered { (s : Settings) (t : Telling s) (id : List ℕ) → (t.told ≡ accepted id) ⊎ (t.told ≡ accepted_async id)
@@ -65,7 +65,8 @@ pub fn calls_and_stops_go_on()
 /// The disk of a broker keeps what was answered 202, wherever it stops: each image recovers to the table of a later history.
 pub fn one_disk_keeps_it<D: Disk>(broker: &Broker<D>)
     // claim: Where a broker stands for a later history with the acceptance durable, each image of its disk recovers to
-    // one, which keeps the event. So with halves. [: leaves, keeps; the_halves_keep_it: leaves, keeps]
+    // the table of one, with the event until its Collect. So with halves. [: leaves, keeps; the_halves_keep_it: leaves,
+    // keeps]
     ensures leaves { (point : ℕ) (history later : List Command) (image : List ℕ) → GoesOn (settings_of broker.now) point history later
         → point ≤ durable_of broker.now → Stands D.view broker.now later → (D.view (disk_of broker.now)).honest
         → (D.view (disk_of broker.now)).may_leave image → Leaves (settings_of broker.now) point history image }
@@ -128,8 +129,8 @@ pub fn what_a_stop_leaves_follows_the_rules()
 /// A disk that was migrated or copied goes on with all of it: its images recover to a later history, and records stay under
 /// the larger limits of a copy.
 pub fn a_new_disk_goes_on<D: Disk, E: Disk>(old: &D, new: &E)
-    // claim: Where its history is a later one, each image of a migrated or copied disk recovers to one. Wider limits,
-    // with timeout, concurrency and policy the same, keep the table.
+    // claim: Where a migrated disk has a later history's table, or a copied one goes on with that history, each image
+    // recovers to such a table. [: migrated, copied]
     ensures migrated { (migration : Migrates (D.view old.now) (E.view new.now)) (point : ℕ) (history later : List Command) (image : List ℕ)
         → GoesOn migration.settings point history later → migration.table ≡ table_of migration.settings later
         → (E.view new.now).may_leave image → Leaves migration.settings point history image }

@@ -142,8 +142,6 @@ impl<L: Ledger> Office<L> {
         desks: Vec<Desk<L>>,
         disk: DiskHalf<D>,
     ) -> Result<(Hall<Broker<D>>, Vec<Mark>), UnlockedFailure<D, L>>
-        // claim: An Ok has each desk once, with its own of the marks answered, which are numbered. A refusal is
-        // `Mismatch` exactly where the office handed back does not have them so.
         ensures all { IfOk result (λ r. AreAll (λ d. d.number) (λ d. d.own.items) L.parts r.1.items desks.items) }
         ensures numbered { IfOk result (λ r. AreNumberedFromSome r.1.items) }
         ensures sum { IfOk result (λ r. sum_of_lists (λ d. d.own.items) desks.items ≡ length r.1.items) }

@@ -14,7 +14,8 @@ pub fn a_serving_is_its_commits<D: Disk>(
     told: &Result<Durable, HallError>,
 )
     // claim: Any number of commits takes nothing durable back. A crash at any moment since the first leaves a legal
-    // stop of the half's history with what it took. The half broke only where the count of faults rose, or is greatest.
+    // stop of the half's history with what it took. The half broke only where the count of faults rose, or is at its
+    // greatest.
     ensures none { HasServed D.view D.fault_count (broker_of first.now) (broker_of first.now) }
     ensures more { HasServed D.view D.fault_count (broker_of first.now) (broker_of then.now)
         → CommitsTo D.view D.fault_count (broker_of then.now) (broker_of last.now) told.now

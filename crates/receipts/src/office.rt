@@ -172,8 +172,8 @@ impl<L: Ledger, T: Trace> Office<L, T> {
         // is marked, there and at its desk; desks' marks stay their own. Nothing becomes durable or lent. [: steps,
         // done, counts, both, histories, ticket, kept, no_call; Office::tick: steps, done, answer, both, histories,
         // counted, kept, no_call]
-        // claim: A request marks at most one command, which it may have by itself. A tick marks that whose number it
-        // answers. [: marks, asked; Office::tick: marks]
+        // claim: A request marks at most one command, which the request by itself allows. A tick marks that whose
+        // number it answers. [: marks, asked; Office::tick: marks]
         // claim: The slot is the desk's next. The desk gets the slots of just the polls answered, and hands them out once.
         // [: slot, counts, answered, kept_answered; Office::tick: answered, kept_answered; Desk::take_answered: slots,
         // none_left]
@@ -255,12 +255,13 @@ impl<L: Ledger, T: Trace> Office<L, T> {
         ensures err { OnErr result.answer (desk.new.told ≡ desk.old.told) }
         ensures refused { IfErr result.answer (IsCommitRefusal desk.old.told) }
         // claim: A commit leaves the disk half alone, or hands it one batch, all durable at Ok. A crash at any moment
-        // leaves a legal stop of the half's history with what it took. Faults are told only where their count rose, or is greatest.
+        // leaves a legal stop of the half's history with what it took. Faults are told only where their count rose, or
+        // is at its greatest.
         ensures disk { CommitsTo D.view D.fault_count (broker_of disk.old) (broker_of disk.new) result.answer }
         ensures fault { result.answer ≡ Err HallError.Fault → FaultsHaveRisen D.fault_count (broker_of disk.old) (broker_of disk.new) }
 
-        // claim: It made one step, which lent nothing, and tells how much is durable or why not; or two: all that was
-        // pending was lent, and what the disk half answered was settled, and is told, or `OtherHalf`. [: steps,
+        // claim: A commit made one step, which lent nothing, and tells how much is durable or why not; or two: all that
+        // was pending was lent, and what the disk half answered was settled, and is told, or `OtherHalf`. [: steps,
         // refused]
         ensures steps { CommitsBy D.view D.fault_count result desk.old desk.new (broker_of disk.old) (broker_of disk.new) }
     {
@@ -303,8 +304,8 @@ impl<L: Ledger, T: Trace> Office<L, T> {
     ) -> Witnessed<Option<Released>, L, T>
         ensures desk { MakesStep result.from.value result.to.value desk.old desk.new }
         // claim: By one step a take or a forgetting does just that to the hall under the lock. A take gives the slot
-        // that asked what that hall gives it; where that is nothing, nothing changes. [: steps, slot, gives, by_events,
-        // done, none; Office::forget: steps, done]
+        // that asked what that hall gives it; where that is nothing, the hall stays the same. [: steps, slot, gives,
+        // by_events, done, none; Office::forget: steps, done]
         ensures takes { Takes result.before.value result.after.value slot result.answer }
     {
         self.locked.lock(rt).take_seen(desk, slot)

@@ -85,12 +85,12 @@ fn judge<D: Disk>(disk: &mut D, base: u64, buffer: &mut [u8]) -> Result<Option<R
 /// over by their lengths, and what they hold is not looked at. It only reads. `OutOfMemory` comes before the first read.
 pub fn resized<D: Disk>(alloc: Global, disk: &mut D) -> Result<Option<Resized>, ResizedError>
     // claim: It only reads. Want of memory leaves the disk as it was. `Fault` is told only where the count of faults
-    // rose, or is greatest. [is_blank]
+    // rose, or is at its greatest. [is_blank]
     ensures reads { OnlyReads (D.view disk.old) (D.view disk.new) }
     ensures later { D.fault_count disk.old ≤ D.fault_count disk.new }
     ensures fault { IsErrOf result ResizedError.Fault → HasRisen (D.fault_count disk.old) (D.fault_count disk.new) }
     ensures no_call { IsErrOf result ResizedError.OutOfMemory → disk.new ≡ disk.old }
-    // claim: A disk of fewer than 6 sectors stays as it was, and nothing is told.
+    // claim: A disk of fewer than 6 sectors stays as it was, and `Ok(None)` is told.
     ensures small { (D.view disk.old).sectors < 6 → (result ≡ Ok None) × (disk.new ≡ disk.old) }
     // claim: An Ok tells that the newer segment stands displaced, or else that the open one is cut, exactly where the
     // bytes say so.
