@@ -122,6 +122,7 @@ pub record Breaks {D : Type 0} {g : Ghosts D} (old new : Broker D g) : Type 0 wh
   pub pending : pending_of new ≡ pending_of old
   pub durable : durable_of new ≡ durable_of old
   pub broken : is_broken new ≡ true
+  pub opened : opened_of new ≡ opened_of old
 
 -- why a command was refused
 abbrev pub IsReason : {D : Type 0} {g : Ghosts D} → Broker D g → Command → IssueError → Type 0

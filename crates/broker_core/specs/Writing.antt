@@ -14,7 +14,7 @@ use Rattle.broker_core.specs.declared.error.WriteError.TheVariants as write_erro
 use Rattle.broker_core.specs.History.{IsLegalStop}
 use Rattle.broker_core.specs.Broker.{disk_of, settings_of, table_in, issued_of, pending_of, durable_of, is_broken}
 use Rattle.broker_core.specs.Promises.{ForEachHistory}
-use Rattle.broker_core.specs.Refusals.{IsWornOut, NeedsSwitch, HasBadTable}
+use Rattle.broker_core.specs.Refusals.{IsWornOut, NeedsSwitch, HasBadTable, HasSwitched}
 use Rattle.broker_core.specs.Batch.{first_of, last_of, commands_of, cause_of, is_lasting}
 
 -- the batch begins behind a gap, or ends below the end of the half's own list
@@ -67,6 +67,11 @@ pub record IsNotWritten {D : Type 0} {g : Ghosts D} (old : Broker D g) (batch : 
   pub reason : IsWriteReason old batch new why
   pub broken : is_broken new ≡ is_lasting why
   pub durable : durable_of new ≡ durable_of old
+
+-- it switched once or never where the batch was written, and never where it was refused
+abbrev pub HasSwitchedFor : {D : Type 0} {g : Ghosts D} → Broker D g → Broker D g → Result Written Failed → Type 0
+HasSwitchedFor old new (Ok written) = HasSwitched 0 old new ⊎ HasSwitched 1 old new
+HasSwitchedFor old new (Err failed) = HasSwitched 0 old new
 
 -- this list ends with the batch
 pub record EndsWith (whole : List Command) (batch : Batch) : Type 0 where

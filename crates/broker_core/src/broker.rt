@@ -41,7 +41,8 @@ pub struct Broker<D: Disk> {
 }
 
 impl<D: Disk> Broker<D> {
-    ghost use Rattle.broker_core.specs.Broker.{disk_of, settings_of, table_in, issued_of, pending_of, durable_of, is_broken};
+    ghost use Rattle.checkpoint.specs.Image.{HasGeneration};
+    ghost use Rattle.broker_core.specs.Broker.{disk_of, settings_of, table_in, issued_of, pending_of, durable_of, is_broken, opened_of};
     ghost use Rattle.broker_core.specs.Promises.{ForEachHistoryOn, LeavesLegalStops, LeavesWhatWas, IsRecovered, IsReceiptFor};
     ghost use Rattle.broker_core.specs.Refusals.{TellsFault, TellsNotFormatted, TellsDamage, TellsOld, IsCutOff};
 
@@ -55,10 +56,12 @@ impl<D: Disk> Broker<D> {
         ensures same_failed { IfErr result (λ e. IsSameDisk (D.view disk) (D.view e.disk)) }
         ensures fault { IfErr result (λ e. TellsFault (D.fault_count disk) (D.fault_count e.disk) e.cause) }
 
-        // claim: A disk opens as what it recovers to, all durable. It is told not formatted, damaged or old only where its
-        // bytes say so.
+        // claim: A disk opens as what it recovers to, all durable, in its generation. It is told not formatted, damaged or
+        // old only where its bytes say so.
         ensures fresh { IfOk result (λ b. (is_broken b ≡ false) × (pending_of b ≡ []) × (durable_of b ≡ issued_of b)) }
         ensures recovers { (D.view disk).honest → IfOk result (λ b. live.RecoversTo (settings_of b) (table_in b) (D.view disk).content) }
+        ensures generation { (D.view disk).honest
+            → IfOk result (λ b. HasGeneration (live.generation_of (opened_of b)) (D.view disk).content) }
         ensures not_formatted { (D.view disk).honest → IfErr result (λ e. TellsNotFormatted (D.view disk).content e.cause) }
         ensures damaged { (D.view disk).honest → IfErr result (λ e. TellsDamage (D.view disk).content e.cause) }
         ensures old_version { (D.view disk).honest → IfErr result (λ e. TellsOld (D.view disk).content e.cause) }

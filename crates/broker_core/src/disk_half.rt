@@ -8,7 +8,7 @@ ghost use Rattle.broker_core.specs.Batch.{first_of, last_of, first_in, last_in, 
 ghost use Rattle.broker_core.specs.Splitting.{broker_of};
 ghost use Rattle.broker_core.specs.declared.error.WriteError.TheVariants as write_error;
 ghost use Rattle.broker_core.specs.Taking.{TakesMissing, HasTaken, IsTakeReason, commit_cause};
-ghost use Rattle.broker_core.specs.Writing.{taken_from, IsApart, IsRefusedAs, IsNotWritten, Writes, StaysInFront, LeavesStopsWith};
+ghost use Rattle.broker_core.specs.Writing.{taken_from, IsApart, IsRefusedAs, IsNotWritten, Writes, HasSwitchedFor, StaysInFront, LeavesStopsWith};
 
 use crate::batch::{Batch, Failed, Written};
 use crate::taking::{TakeError, forget_first, take_all};
@@ -91,6 +91,7 @@ impl<D: Disk> DiskHalf<D> {
         ensures err { IfErr result (λ failed. IsNotWritten (broker_of self.old) batch (broker_of self.new) (cause_of failed)) }
         ensures settings { settings_of (broker_of self.new) ≡ settings_of (broker_of self.old) }
         ensures longer { issued_of (broker_of self.old) ≤ issued_of (broker_of self.new) }
+        ensures switched { HasSwitchedFor (broker_of self.old) (broker_of self.new) result }
 
         // claim: The half stands for its history with what it took. Where its history began one that ends with the batch, it
         // still does.

@@ -57,6 +57,7 @@ pub(crate) fn recover<D: Disk>(alloc: Global, disk: &mut D) -> Result<(Opened, T
     ensures same { IsSameDisk (D.view disk.old) (D.view disk.new) }
     ensures later { D.fault_count disk.old ≤ D.fault_count disk.new }
     ensures fault { IsErrOf result OpenError.Fault → HasRisen (D.fault_count disk.old) (D.fault_count disk.new) }
+    ensures content { (D.view disk.old).honest → (D.view disk.new).content ≡ (D.view disk.old).content }
     ensures any_moment { (D.view disk.old).honest → LeavesWhatWas (D.view disk.old) (D.view disk.new) }
 
     ensures settings { IfOk result (λ r. r.1.settings ≡ settings_of r.0) }

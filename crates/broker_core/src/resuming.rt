@@ -2,7 +2,7 @@
 ghost use Rattle.std.specs.Prelude.{◌≡◌, ◌≤◌, Err, IfErr, OnErr, IsTrue};
 ghost use Rattle.invoke_records.specs.declared.command.Command.{Command};
 ghost use Rattle.broker_core.specs.declared.error.IssueError.TheVariants as issue_error;
-ghost use Rattle.broker_core.specs.Broker.{disk_of, settings_of, durable_of, is_broken, IsSameBroker};
+ghost use Rattle.broker_core.specs.Broker.{disk_of, settings_of, durable_of, is_broken, opened_of, IsSameBroker};
 ghost use Rattle.broker_core.specs.Promises.{ForEachHistory, LeavesLegalStops};
 ghost use Rattle.broker_core.specs.Resume.{interrupt_at, Resumes, TellsRest, IsOwnReason};
 
@@ -40,6 +40,7 @@ impl<D: Disk> Broker<D> {
         ensures durable { durable_of self.new ≡ durable_of self.old }
         ensures still { is_broken self.new ≡ is_broken self.old }
         ensures no_call { disk_of self.new ≡ disk_of self.old }
+        ensures segment { opened_of self.new ≡ opened_of self.old }
         ensures resumes { ForEachHistory D.view self.old (λ history. Resumes D.view self.old history now result self.new) }
         ensures rested { ForEachHistory D.view self.old (λ history. TellsRest (settings_of self.old) history result) }
 

@@ -1,7 +1,6 @@
 -- What a migration leaves at each moment, and what it makes of a disk.
 use Rattle.std.proofs.Common.{◌≡◌, inl, inr, ⊎_elim, ℕ, ◌+◌, ◌≤◌, ◌^◌, Bool, true, false, is_none, None, List, length, Result, Ok, Err, refl, sym, ap, subst, ◌∙◌, arith}
 use Rattle.std.specs.Prelude.{OnOk}
-use Rattle.std.specs.Result.{IsOkAnd}
 use Rattle.std.proofs.lemmas.Bool.{and_from}
 use Rattle.sector_disk.specs.Disk.{DiskView}
 use Rattle.sector_disk.specs.Moments.{LeavesOnly}
@@ -22,12 +21,13 @@ use Rattle.async_core.specs.laws.Limits.{history_fit}
 use Rattle.checkpoint.specs.declared.opened.Opened.{Opened}
 use Rattle.checkpoint.specs.declared.error.OpenError.{OpenError}
 use Rattle.checkpoint.specs.declared.error.OpenError.TheVariants as open_error
-use Rattle.checkpoint.specs.Image.{DiskImage, read_as, HasGeneration}
+use Rattle.checkpoint.specs.Image.{read_as, HasGeneration}
 use Rattle.checkpoint.specs.Live.{version_of, settings_of, generation_of, ReadsAs, ReadsToEither, RecoversTo, IsLiveIn, IsLive, may_stand, is_new, live_reads, live_recovers}
 use Rattle.checkpoint.specs.Opening.{Refuses}
 use Rattle.group_commit.specs.declared.error.MigrateError.{MigrateError}
 use Rattle.group_commit.specs.declared.error.MigrateError.TheVariants as migrate_error
 use Rattle.broker_core.specs.History.{AreGood}
+use Rattle.broker_core.specs.laws.Generations.{live_generation}
 use Rattle.group_commit.specs.Migrating.{ReadsTo, HoldsHistories, IsOldDisk, Phases, LeavesMigrating, Migrates, IsMigrateReason, IsSoundRefusal, HoldsOne, HoldsOneWhere, IsUnchanged, WritesNothingBut}
 use Rattle.group_commit.specs.MigrateSteps.{IsReadAs, migrate_error_of, IsUnwritten, IsFaultOr}
 
@@ -50,10 +50,6 @@ reads_to version s table snapshot same image =
 
 -- ## A disk of version 1
 
-generation_live : (version : Version) (disk : DiskView) (opened : Opened) (table : Snapshot) → IsLiveIn version disk opened table → HasGeneration (generation_of opened) disk.content
-generation_live version disk opened table live =
-    subst (λ (r : Result DiskImage OpenError). IsOkAnd r (λ image. image.live.generation ≡ generation_of opened)) (sym live.reads) live.generation
-
 one_of : (version : Version) → is_old version ≡ true → (policy : RetryPolicy) × (version ≡ One policy)
 one_of (One policy) is = (policy, refl)
 one_of Two is = absurd cc
@@ -69,7 +65,7 @@ old_disk old mid opened table same is (reads, live) =
     record {
       policy = version.0;
       reads = subst (λ (v : Version). ReadsAs v (settings_of opened) table old.content) version.1 reads;
-      generation_is = subst (λ (l : List ℕ). HasGeneration (generation_of opened) l) same (generation_live (version_of opened) mid opened table live);
+      generation_is = subst (λ (l : List ℕ). HasGeneration (generation_of opened) l) same (live_generation (version_of opened) mid opened table live);
     }
 
 pub not_old : (old mid : DiskView) (opened : Opened) (table : Snapshot) → is_old (version_of opened) ≡ false → IsReadAs old mid opened table → IsMigrateReason old migrate_error.NotOld
@@ -214,5 +210,5 @@ module _ (old mid new : DiskView) (opened : Opened) (table : Snapshot) (first : 
     was = was;
     phases = both_phases;
     recovers = λ image left. subst (λ (s : Settings). RecoversTo s table image) kept (live_recovers new next table live image left);
-    next = subst (λ (n : ℕ). HasGeneration n new.content) more (generation_live Two new next table live);
+    next = subst (λ (n : ℕ). HasGeneration n new.content) more (live_generation Two new next table live);
   }

@@ -1,5 +1,5 @@
 -- The steps of a script of two halves, one after another.
-use Rattle.std.proofs.Common.{◌≡◌, ◌⊎◌, inl, inr, ⊎_elim, ℕ, zero, suc, ◌+◌, ◌-◌, ◌<◌, ◌≤◌, Bool, true, false, List, [], ◌∷◌, ◌++◌, length, take, drop, get_or, Option, None, Some, refl, sym, ap, subst, ◌∙◌, arith, length-append, length-drop, get_or-drop, get_or-take}
+use Rattle.std.proofs.Common.{◌≡◌, ◌⊎◌, inl, inr, ⊎_elim, ℕ, zero, suc, ◌+◌, ◌-◌, ◌^◌, ◌<◌, ◌≤◌, Bool, true, false, List, [], ◌∷◌, ◌++◌, length, take, drop, get_or, Option, None, Some, refl, sym, ap, subst, ◌∙◌, arith, length-append, length-drop, get_or-drop, get_or-take}
 use Rattle.std.specs.Prelude.{IfSome, IfOk, IfErr, IsSome, OnOk, Result, Ok, Err, slice_get, is_some}
 use Rattle.std.proofs.lemmas.Bool.{false≢true}
 use Rattle.std.proofs.lemmas.List.{length-take, take-take, take-append-le, take_all, drop-drop}
@@ -35,18 +35,19 @@ use Rattle.group_commit.specs.declared.split_script.SplitAnswer.TheVariants as a
 use Rattle.group_commit.specs.declared.split_drilling.Halves.{Halves}
 use Rattle.group_commit.specs.declared.split_drilling.Held.{Held}
 use Rattle.group_commit.specs.declared.split_drilling.Held.TheVariants as held
-use Rattle.broker_core.specs.Broker.{settings_of, table_in, issued_of, durable_of, is_broken, Stands}
-use Rattle.group_commit.specs.DrillBroker.{IsStarted}
+use Rattle.checkpoint.specs.Live.{generation_of}
+use Rattle.broker_core.specs.Broker.{settings_of, table_in, issued_of, durable_of, is_broken, opened_of, Stands}
+use Rattle.group_commit.specs.DrillBroker.{IsStarted, KeepsGeneration}
 use Rattle.broker_core.specs.Issuer.{issued_in, IsSameIssuer, IsReason}
 use Rattle.broker_core.specs.laws.Issuer.{refusal_is}
 use Rattle.broker_core.specs.IssuerHalf.{half_view, half_laws, lent_of}
 use Rattle.broker_core.specs.Batch.{first_of, last_of, commands_of, cause_of, last_written, first_in, last_in, is_lasting}
 use Rattle.broker_core.specs.Lending.{CanLend, Lends, IsLendReason, IsOut, SettlesBy, IsNotSettled}
 use Rattle.broker_core.specs.Splitting.{broker_of}
-use Rattle.broker_core.specs.Writing.{taken_from, missing_in, EndsWith, IsFrontOf, IsRefusedAs, IsWriteReason, NextIsIllegal, StaysInFront, Writes, IsNotWritten}
+use Rattle.broker_core.specs.Writing.{taken_from, missing_in, EndsWith, IsFrontOf, IsRefusedAs, IsWriteReason, NextIsIllegal, StaysInFront, Writes, HasSwitchedFor, IsNotWritten}
 use Rattle.group_commit.specs.Drill.{IsRefused}
-use Rattle.group_commit.specs.SplitDrill.{SplitLog, IsSplitStep, IsSplitRun, MayBeCutOff, MayLend, HasLent, IsNotLent, IsWriteFailure, IsSplitCutOffAt, issue_log, recovered}
-use Rattle.group_commit.specs.SplitSteps.{IsHeld, Keeps, IsBegun, IsStopped, Leads, IsSplitDrilledOn, is_disk_broken, told, write_answer}
+use Rattle.group_commit.specs.SplitDrill.{SplitLog, IsSplitStep, IsSplitRun, MayBeCutOff, MayLend, HasLent, IsNotLent, IsWriteFailure, IsSplitCutOffAt, issue_log, recovered, is_disk_broken}
+use Rattle.group_commit.specs.SplitSteps.{generation_in, IsHeld, Keeps, IsBegun, HaveGenerationOf, IsStopped, Leads, IsSplitDrilledOn, told, write_answer}
 use Rattle.group_commit.proofs.Drilled.{unbroken}
 use Rattle.broker_core.specs.IssuerBroker.{issuer_of, issuer_laws}
 
@@ -69,21 +70,22 @@ begun s history durable halves started nothing settings same whole unlent stands
     let n = (half_view halves.issue).durable in
     let front : take n history ≡ l = ap (λ (k : ℕ). take k history) same in
     let all : take (issued_of broker) l ≡ l = take_all (issued_of broker) l (omega (arith, issued, size)) in
-    let keeps : Keeps s (recovered l) halves = record {
+    let keeps : Keeps s (recovered l (generation_in halves)) halves = record {
       settings = settings ∙ started.2;
       durable = same ∙ sym size;
       broken = whole;
       stands = stands;
       disk_settings = started.2;
       disk_durable = sym size;
+      generation = refl;
       disk_broken = started.3;
       disk_most = omega (arith, issued, size);
       disk_stands = subst (λ (x : List Command). Stands memory_view broker x) (sym all) started.4;
       settled = omega arith;
       lent = omega arith;
-      held_is = subst (IsHeld (recovered l) (lent_of halves.issue)) (sym nothing) (refl, refl, unlent);
+      held_is = subst (IsHeld (recovered l (generation_in halves)) (lent_of halves.issue)) (sym nothing) (refl, refl, unlent);
     } in
-    (omega (arith, same, started.0), omega (arith, same, started.1), subst (λ (x : List Command). Keeps s (recovered x) halves) (sym front) keeps)
+    (omega (arith, same, started.0), omega (arith, same, started.1), subst (λ (x : List Command). Keeps s (recovered x (generation_in halves)) halves) (sym front) keeps)
 
 -- ## Issuing
 
@@ -103,6 +105,7 @@ keeps_issued s log old issue c keeps settings durable broken out stands = record
   stands = stands;
   disk_settings = keeps.disk_settings;
   disk_durable = keeps.disk_durable;
+  generation = keeps.generation;
   disk_broken = keeps.disk_broken;
   disk_most = keeps.disk_most;
   disk_stands =
@@ -125,6 +128,7 @@ keeps_same s log old issue keeps same out = record {
   stands = (same.stands log.history).1 keeps.stands;
   disk_settings = keeps.disk_settings;
   disk_durable = keeps.disk_durable;
+  generation = keeps.generation;
   disk_broken = keeps.disk_broken;
   disk_most = keeps.disk_most;
   disk_stands = keeps.disk_stands;
@@ -213,6 +217,7 @@ module _ (s : Settings) (log : SplitLog) (old : Halves) (issue : IssueHalf) (kee
           stands = (same.stands log.history).1 keeps.stands;
           disk_settings = keeps.disk_settings;
           disk_durable = keeps.disk_durable;
+          generation = keeps.generation;
           disk_broken = keeps.disk_broken;
           disk_most = omega (arith, keeps.disk_most, keeps.lent, size);
           disk_stands = keeps.disk_stands;
@@ -323,14 +328,14 @@ module _ {g : Ghosts MemDisk} (old new : Broker MemDisk g) (batch : Batch) (hist
       (subst (λ (o : Option Command). IfSome o (λ command. IsSome (refusal_at (settings_of new) (table_in new) command))) there illegal.0)
 
   pub failure_is : (why : WriteError) → IsWriteReason old batch new why → is_broken old ≡ false → IsLegal (settings_of new) history → Stands memory_view new (take (issued_of new) history)
-      → issued_of old ≤ issued_of new → (why ≡ write_error.BadKind → ⊥) → lent ≤ durable_of new + 256 → IsWriteFailure why
-  failure_is write_error.Broken reason whole legal stands longer good few = false≢true (sym whole ∙ reason)
-  failure_is write_error.Mismatch reason whole legal stands longer good few = ⊎_elim (λ apart. not_apart apart) (λ illegal. not_illegal legal stands longer illegal) reason
-  failure_is write_error.WornOut reason whole legal stands longer good few = tt
-  failure_is write_error.Backlog reason whole legal stands longer good few = omega (arith, reason.0, reason.1, last, few, new.counted)
-  failure_is write_error.BadKind reason whole legal stands longer good few = good refl
-  failure_is write_error.OutOfMemory reason whole legal stands longer good few = tt
-  failure_is write_error.Fault reason whole legal stands longer good few = tt
+      → issued_of old ≤ issued_of new → (why ≡ write_error.BadKind → ⊥) → lent ≤ durable_of new + 256 → (log : SplitLog) → generation_of (opened_of new) ≡ log.generation → IsWriteFailure log why
+  failure_is write_error.Broken reason whole legal stands longer good few log generation = false≢true (sym whole ∙ reason)
+  failure_is write_error.Mismatch reason whole legal stands longer good few log generation = ⊎_elim (λ apart. not_apart apart) (λ illegal. not_illegal legal stands longer illegal) reason
+  failure_is write_error.WornOut reason whole legal stands longer good few log generation = subst (λ (n : ℕ). 2 ^ 62 ≤ n) generation reason.1
+  failure_is write_error.Backlog reason whole legal stands longer good few log generation = omega (arith, reason.0, reason.1, last, few, new.counted)
+  failure_is write_error.BadKind reason whole legal stands longer good few log generation = good refl
+  failure_is write_error.OutOfMemory reason whole legal stands longer good few log generation = tt
+  failure_is write_error.Fault reason whole legal stands longer good few log generation = tt
 
 -- ### What it leads to
 
@@ -339,9 +344,9 @@ pub keeps_written : (s : Settings) (log : SplitLog) (old new : Halves) (batch : 
     → new.issue ≡ old.issue → new.held ≡ held.Done outcome → settings_of (broker_of new.disk) ≡ settings_of (broker_of old.disk) → first_in outcome ≡ first_of batch → last_in outcome ≡ last_of batch
     → (issued_of (broker_of new.disk) ≤ log.lent) × Stands memory_view (broker_of new.disk) (take (issued_of (broker_of new.disk)) log.history)
     → (n : ℕ) → durable_of (broker_of new.disk) ≡ n → log.durable ≤ n → IfOk outcome (λ written. last_written written ≡ n)
-    → is_broken (broker_of new.disk) ≡ is_disk_broken log.broken (Some (told outcome))
-    → Keeps s (record log { written = n; has_batch = false; unsettled = Some (told outcome) }) new
-keeps_written s log old new batch outcome keeps is issue held settings first last there n durable settled written broken =
+    → is_broken (broker_of new.disk) ≡ is_disk_broken log.broken (Some (told outcome)) → (generation : ℕ) → generation_in new ≡ generation
+    → Keeps s (record log { written = n; generation = generation; has_batch = false; unsettled = Some (told outcome) }) new
+keeps_written s log old new batch outcome keeps is issue held settings first last there n durable settled written broken generation same =
     record {
       settings = ap (λ (i : IssueHalf). (half_view i).settings) issue ∙ keeps.settings;
       durable = ap (λ (i : IssueHalf). (half_view i).durable) issue ∙ keeps.durable;
@@ -349,13 +354,14 @@ keeps_written s log old new batch outcome keeps is issue held settings first las
       stands = subst (λ (i : IssueHalf). (half_view i).stands log.history) (sym issue) keeps.stands;
       disk_settings = settings ∙ keeps.disk_settings;
       disk_durable = durable;
+      generation = same;
       disk_broken = broken;
       disk_most = there.0;
       disk_stands = there.1;
       settled = settled;
       lent = keeps.lent;
       held_is =
-          subst (IsHeld (record log { written = n; has_batch = false; unsettled = Some (told outcome) }) (lent_of new.issue)) (sym held)
+          subst (IsHeld (record log { written = n; generation = generation; has_batch = false; unsettled = Some (told outcome) }) (lent_of new.issue)) (sym held)
           (refl, refl, ap (λ (i : IssueHalf). lent_of i) issue ∙ is.2, first ∙ is.3, last ∙ is.4, written);
     }
 
@@ -365,18 +371,20 @@ pub write_leads : (s : Settings) (log : SplitLog) (old new : Halves) (batch : Ba
     → ((h : List Command) → Stands memory_view (broker_of old.disk) h → Stands memory_view (broker_of new.disk) (h ++ taken_from (broker_of old.disk) (broker_of new.disk) batch))
     → ((h : List Command) → Stands memory_view (broker_of old.disk) h → IsRefusedAs outcome write_error.BadKind → ⊥) → StaysInFront memory_view (broker_of old.disk) (broker_of new.disk) batch
     → first_in outcome ≡ first_of batch → last_in outcome ≡ last_of batch → OnOk outcome (Writes batch (broker_of new.disk))
-    → IfErr outcome (λ failed. IsNotWritten (broker_of old.disk) batch (broker_of new.disk) (cause_of failed))
+    → IfErr outcome (λ failed. IsNotWritten (broker_of old.disk) batch (broker_of new.disk) (cause_of failed)) → HasSwitchedFor (broker_of old.disk) (broker_of new.disk) outcome
     → (next : SplitLog) × IsSplitStep s log step.Write (write_answer outcome) next × Keeps s next new
-write_leads s log old new batch (Ok written) keeps is issue held settings longer goes good front first last ok err =
+write_leads s log old new batch (Ok written) keeps is issue held settings longer goes good front first last ok err switched =
     let n = last_written written in
     let there = front_on (broker_of old.disk) (broker_of new.disk) batch log.history log.durable log.lent keeps.disk_most keeps.lent is.3 is.4 is.5 keeps.disk_stands goes front in
-    let whole : log.broken ≡ false = sym keeps.broken ∙ whole_while old.issue log.lent is.2 in (
-      record log { written = n; has_batch = false; unsettled = Some (Ok n) },
-      (is.0, last ∙ is.4, refl),
+    let whole : log.broken ≡ false = sym keeps.broken ∙ whole_while old.issue log.lent is.2 in
+    let generation : (generation_in new ≡ log.generation) ⊎ (generation_in new ≡ log.generation + 1) =
+    ⊎_elim (λ never. inl (omega (arith, never, keeps.generation))) (λ once. inr (omega (arith, once, keeps.generation))) switched in (
+      record log { written = n; generation = generation_in new; has_batch = false; unsettled = Some (Ok n) },
+      (is.0, last ∙ is.4, generation, refl),
       keeps_written s log old new batch (Ok written) keeps is issue held settings first last there n (ok.durable ∙ sym last)
-          (omega (arith, last, is.4, keeps.settled, keeps.disk_durable, keeps.disk_most, (broker_of old.disk).counted)) refl (ok.whole ∙ sym whole),
+          (omega (arith, last, is.4, keeps.settled, keeps.disk_durable, keeps.disk_most, (broker_of old.disk).counted)) refl (ok.whole ∙ sym whole) (generation_in new) refl,
     )
-write_leads s log old new batch (Err failed) keeps is issue held settings longer goes good front first last ok err =
+write_leads s log old new batch (Err failed) keeps is issue held settings longer goes good front first last ok err switched =
     let there = front_on (broker_of old.disk) (broker_of new.disk) batch log.history log.durable log.lent keeps.disk_most keeps.lent is.3 is.4 is.5 keeps.disk_stands goes front in
     let whole : log.broken ≡ false = sym keeps.broken ∙ whole_while old.issue log.lent is.2 in
     let disk_whole : is_broken (broker_of old.disk) ≡ false = keeps.disk_broken ∙ ap (is_disk_broken log.broken) is.1 ∙ whole in
@@ -387,12 +395,13 @@ write_leads s log old new batch (Err failed) keeps is issue held settings longer
     let same : (half_view old.issue).settings ≡ settings_of (broker_of new.disk) = keeps.settings ∙ sym (settings ∙ keeps.disk_settings) in
     let legal : IsLegal (settings_of (broker_of new.disk)) log.history =
     subst (λ (r : Settings). IsLegal r log.history) same ((half_laws old.issue).each log.history keeps.stands).legal in
-    let failure : IsWriteFailure (cause_of failed) =
+    let generation : generation_in new ≡ log.generation = omega (arith, switched, keeps.generation) in
+    let failure : IsWriteFailure log (cause_of failed) =
     failure_is (broker_of old.disk) (broker_of new.disk) batch log.history log.durable log.lent is.3 is.4 is.5 least keeps.disk_most keeps.lent (cause_of failed) err.reason disk_whole legal there.1
-    longer (λ bad. good (take (issued_of (broker_of old.disk)) log.history) keeps.disk_stands bad) few in (
+    longer (λ bad. good (take (issued_of (broker_of old.disk)) log.history) keeps.disk_stands bad) few log generation in (
       record log { has_batch = false; unsettled = Some (Err (cause_of failed)) },
       (is.0, failure, refl),
-      keeps_written s log old new batch (Err failed) keeps is issue held settings first last there log.written (err.durable ∙ keeps.disk_durable) keeps.settled tt err.broken,
+      keeps_written s log old new batch (Err failed) keeps is issue held settings first last there log.written (err.durable ∙ keeps.disk_durable) keeps.settled tt err.broken log.generation generation,
     )
 
 -- ## Settling
@@ -416,6 +425,7 @@ module _ (s : Settings) (log : SplitLog) (old : Halves) (issue : IssueHalf) (kee
     stands = stands;
     disk_settings = keeps.disk_settings;
     disk_durable = keeps.disk_durable;
+    generation = keeps.generation;
     disk_broken = disk_broken;
     disk_most = keeps.disk_most;
     disk_stands = keeps.disk_stands;
@@ -454,9 +464,9 @@ module _ (s : Settings) (log : SplitLog) (old : Halves) (issue : IssueHalf) (kee
 -- ## Stopping
 
 -- after an opening of what the half over the disk left
-pub stopped : (s : Settings) (log : SplitLog) (old new : Halves) → Keeps s log old
+pub stopped : (s : Settings) (log : SplitLog) (old new : Halves) → Keeps s log old → KeepsGeneration (broker_of old.disk) (broker_of new.disk)
     → IsBegun (settings_of (broker_of old.disk)) (take (issued_of (broker_of old.disk)) log.history) (durable_of (broker_of old.disk)) new → IsStopped s log new
-stopped s log old new keeps begun =
+stopped s log old new keeps kept begun =
     let n = (half_view new.issue).durable in
     let k = issued_of (broker_of old.disk) in
     let size : length (take k log.history) ≡ k = omega (arith, length-take k log.history, keeps.disk_most, keeps.lent) in
@@ -464,8 +474,9 @@ stopped s log old new keeps begun =
       omega (arith, begun.0, keeps.disk_durable),
       omega (arith, begun.1, size, keeps.disk_most),
       omega (arith, begun.1, size, keeps.disk_most, keeps.lent),
-      subst (λ (r : Settings). Keeps r (recovered (take n log.history)) new) keeps.disk_settings
-          (subst (λ (l : List Command). Keeps (settings_of (broker_of old.disk)) (recovered l) new) front begun.2),
+      λ whole. kept (keeps.disk_broken ∙ whole) ∙ keeps.generation,
+      subst (λ (r : Settings). Keeps r (recovered (take n log.history) (generation_in new)) new) keeps.disk_settings
+          (subst (λ (l : List Command). Keeps (settings_of (broker_of old.disk)) (recovered l (generation_in new)) new) front begun.2),
     )
 
 -- ## A run
@@ -478,41 +489,47 @@ run_more s [] (a ∷ answers) start mid end step answer run is = absurd run
 run_more s (x ∷ steps) [] start mid end step answer run is = absurd run
 run_more s (x ∷ steps) (a ∷ answers) start mid end step answer run is = (run.0, run.1, run_more s steps answers run.0 mid end step answer run.2 is)
 
-module _ (s : Settings) (history : List Command) (durable : ℕ) where
+module _ (content : List ℕ) (s : Settings) (history : List Command) (durable : ℕ) where
   -- before the first step
-  pub drilled_none : (halves : Halves) (answers : List SplitAnswer) → answers ≡ [] → IsBegun s history durable halves → IsSplitDrilledOn s history durable [] answers halves
-  drilled_none halves answers none begun =
-      subst (λ (l : List SplitAnswer). IsSplitDrilledOn s history durable [] l halves) (sym none)
+  pub drilled_none : (halves : Halves) (answers : List SplitAnswer) → answers ≡ [] → IsBegun s history durable halves → HaveGenerationOf content halves → IsSplitDrilledOn content s history durable [] answers halves
+  drilled_none halves answers none begun has =
+      subst (λ (l : List SplitAnswer). IsSplitDrilledOn content s history durable [] l halves) (sym none)
       (record {
         opened = (half_view halves.issue).durable;
         least = begun.0;
         most = begun.1;
-        end = recovered (take (half_view halves.issue).durable history);
+        generation = generation_in halves;
+        generation_is = has;
+        end = recovered (take (half_view halves.issue).durable history) (generation_in halves);
         run = refl;
         keeps = begun.2;
       })
 
   -- after one step more
-  pub drilled_more : (steps : List SplitStep) (answers : List SplitAnswer) (old new : Halves) (step : SplitStep) (answer : SplitAnswer) → IsSplitDrilledOn s history durable steps answers old
-      → Leads old step answer new → IsSplitDrilledOn s history durable (steps ++ step ∷ []) (answers ++ answer ∷ []) new
+  pub drilled_more : (steps : List SplitStep) (answers : List SplitAnswer) (old new : Halves) (step : SplitStep) (answer : SplitAnswer) → IsSplitDrilledOn content s history durable steps answers old
+      → Leads old step answer new → IsSplitDrilledOn content s history durable (steps ++ step ∷ []) (answers ++ answer ∷ []) new
   drilled_more steps answers old new step answer was leads =
       let led = leads s was.end was.keeps in
       record {
         opened = was.opened;
         least = was.least;
         most = was.most;
+        generation = was.generation;
+        generation_is = was.generation_is;
         end = led.0;
         run = run_more s steps answers _ was.end led.0 step answer was.run led.1;
         keeps = led.2;
       }
 
   -- a script cut off at its next step
-  pub cut_off : (steps : List SplitStep) (index : ℕ) (answers : List SplitAnswer) (halves : Halves) → IsSplitDrilledOn s history durable (take index steps) answers halves → (step : SplitStep)
-      → index < length steps → step ≡ get_or steps index step → (cause : OpenError) → MayBeCutOff step cause → IsSplitCutOffAt s history durable steps index cause
+  pub cut_off : (steps : List SplitStep) (index : ℕ) (answers : List SplitAnswer) (halves : Halves) → IsSplitDrilledOn content s history durable (take index steps) answers halves → (step : SplitStep)
+      → index < length steps → step ≡ get_or steps index step → (cause : OpenError) → MayBeCutOff step cause → IsSplitCutOffAt content s history durable steps index cause
   cut_off steps index answers halves was step within is cause may = record {
     opened = was.opened;
     least = was.least;
     most = was.most;
+    generation = was.generation;
+    generation_is = was.generation_is;
     answers = answers;
     end = was.end;
     run = was.run;

@@ -1,8 +1,9 @@
 -- What the answers of a script of two halves say of one list of commands and of three numbers.
-use Rattle.std.specs.Prelude.{◌≡◌, ◌⊎◌, ℕ, ◌+◌, ◌<◌, ◌≤◌, Bool, true, false, List, [], ◌∷◌, ◌++◌, length, take, slice_get, IfSome, IsSome, Option, None, Some, Result, Ok, Err}
+use Rattle.std.specs.Prelude.{◌≡◌, ◌⊎◌, ℕ, ◌+◌, ◌^◌, ◌<◌, ◌≤◌, Bool, true, false, List, [], ◌∷◌, ◌++◌, length, take, slice_get, IfSome, IsSome, Option, None, Some, Result, Ok, Err}
 use Rattle.retry_rules.specs.declared.settings.Settings.{Settings}
 use Rattle.invoke_records.specs.declared.command.Command.{Command}
 use Rattle.async_core.specs.History.{refusal_of}
+use Rattle.checkpoint.specs.Image.{HasGeneration}
 use Rattle.checkpoint.specs.declared.error.OpenError.{OpenError}
 use Rattle.checkpoint.specs.declared.error.OpenError.TheVariants as open_error
 use Rattle.broker_core.specs.declared.error.LendError.{LendError}
@@ -23,26 +24,28 @@ use Rattle.broker_core.specs.IssuerHalf.{half_view}
 use Rattle.broker_core.specs.Refusals.{IsCutOff}
 use Rattle.group_commit.specs.Drill.{Log, IsRefused}
 
--- a list of commands, how many are durable, up to which the disk half has written, and up to which they were lent; whether the
--- issue half is broken, whether a batch is held that was not written, and the result that is held and not settled, if one is:
--- up to which was written, or why not
+-- a list of commands, how many are durable, up to which the disk half has written, and up to which they were lent; the generation of
+-- the live segment; whether the issue half is broken, whether a batch is held that was not written, and the result that is held and
+-- not settled, if one is: up to which was written, or why not
 pub record SplitLog : Type 0 where
   pub history : List Command
   pub durable : ℕ
   pub written : ℕ
   pub lent : ℕ
+  pub generation : ℕ
   pub broken : Bool
   pub has_batch : Bool
   pub unsettled : Option (Result ℕ WriteError)
 
--- this list, recovered
-abbrev pub recovered : List Command → SplitLog
-recovered history =
+-- this list, recovered in this generation
+abbrev pub recovered : List Command → ℕ → SplitLog
+recovered history generation =
     record {
       history = history;
       durable = length history;
       written = length history;
       lent = length history;
+      generation = generation;
       broken = false;
       has_batch = false;
       unsettled = None;
@@ -50,7 +53,12 @@ recovered history =
 
 -- what of it the issue half has, as a broker has it
 abbrev pub issue_log : SplitLog → Log
-issue_log log = record { history = log.history; durable = log.durable; broken = log.broken }
+issue_log log = record { history = log.history; durable = log.durable; generation = log.generation; broken = log.broken }
+
+-- the half over the disk is broken: by the result that is not settled, or else where the issue half is
+abbrev pub is_disk_broken : Bool → Option (Result ℕ WriteError) → Bool
+is_disk_broken broken (Some (Err why)) = is_lasting why
+is_disk_broken broken other = broken
 
 -- a batch is out, from its lend to its settlement: it is held, or its result is
 abbrev pub HasLent : SplitLog → Type 0
@@ -68,13 +76,13 @@ IsNotLent log lend_error.Broken = log.broken ≡ true
 IsNotLent log lend_error.Lent = (log.broken ≡ false) × HasLent log
 IsNotLent log lend_error.OutOfMemory = MayLend log × (log.durable < length log.history)
 
--- why a batch is not written: the device fails, memory is wanting, or the disk is worn out. No other cause comes: a fault is
--- settled before the next lend, each batch goes on from what the disk half has, and the table is that of a list
-abbrev pub IsWriteFailure : WriteError → Type 0
-IsWriteFailure write_error.Fault = Unit {0}
-IsWriteFailure write_error.OutOfMemory = Unit {0}
-IsWriteFailure write_error.WornOut = Unit {0}
-IsWriteFailure why = ⊥
+-- why a batch is not written: the device fails, memory is wanting, or the generation has reached 2^62. No other cause comes: a fault
+-- is settled before the next lend, each batch goes on from what the disk half has, and the table is that of a list
+abbrev pub IsWriteFailure : SplitLog → WriteError → Type 0
+IsWriteFailure log write_error.Fault = Unit {0}
+IsWriteFailure log write_error.OutOfMemory = Unit {0}
+IsWriteFailure log write_error.WornOut = 2 ^ 62 ≤ log.generation
+IsWriteFailure log why = ⊥
 
 -- the step that answers so leads from one to the other
 abbrev pub IsSplitStep : Settings → SplitLog → SplitStep → SplitAnswer → SplitLog → Type 0
@@ -88,20 +96,24 @@ IsSplitStep s log step.Lend (answer.Number n) next =
     MayLend log × (log.durable < length log.history) × (n ≡ length log.history) × (next ≡ record log { lent = n; has_batch = true })
 IsSplitStep s log step.Lend answer.Idle next = MayLend log × (length log.history ≡ log.durable) × (next ≡ log)
 IsSplitStep s log step.Lend (answer.LendRefused why) next = IsNotLent log why × (next ≡ log)
--- a write goes up to what was lent
+-- a write goes up to what was lent, and may be by a switch to the next generation
 IsSplitStep s log step.Write (answer.Number n) next =
-    (log.has_batch ≡ true) × (n ≡ log.lent) × (next ≡ record log { written = n; has_batch = false; unsettled = Some (Ok n) })
+    (log.has_batch ≡ true) × (n ≡ log.lent) × ((next.generation ≡ log.generation) ⊎ (next.generation ≡ log.generation + 1))
+    × (next ≡ record log { written = n; generation = next.generation; has_batch = false; unsettled = Some (Ok n) })
 IsSplitStep s log step.Write answer.Idle next = (log.has_batch ≡ false) × (next ≡ log)
 IsSplitStep s log step.Write (answer.WriteRefused why) next =
-    (log.has_batch ≡ true) × IsWriteFailure why × (next ≡ record log { has_batch = false; unsettled = Some (Err why) })
+    (log.has_batch ≡ true) × IsWriteFailure log why × (next ≡ record log { has_batch = false; unsettled = Some (Err why) })
 -- and what was written is durable when it is settled; a fault that is settled breaks the issue half
 IsSplitStep s log step.Settle (answer.Number n) next = (log.unsettled ≡ Some (Ok n)) × (next ≡ record log { durable = n; unsettled = None })
 IsSplitStep s log step.Settle answer.Idle next = (log.unsettled ≡ None) × (next ≡ log)
 IsSplitStep s log step.Settle (answer.SettleRefused (settle_error.NotWritten why)) next =
     (log.unsettled ≡ Some (Err why)) × (next ≡ record log { unsettled = None; broken = is_lasting why })
--- a stop leaves what was written, and not more than was lent; no half is broken then
+-- a stop leaves what was written, and not more than was lent; no half is broken then. It leaves the generation too, unless the
+-- device failed: of which one a fault leaves, the half over the disk says nothing
 IsSplitStep s log (step.Stop choice) (answer.Number n) next =
-    (log.written ≤ n) × (n ≤ log.lent) × (n ≤ length log.history) × (next ≡ recovered (take n log.history))
+    (log.written ≤ n) × (n ≤ log.lent) × (n ≤ length log.history)
+    × (is_disk_broken log.broken log.unsettled ≡ false → next.generation ≡ log.generation)
+    × (next ≡ recovered (take n log.history) next.generation)
 IsSplitStep s log step answer next = ⊥
 
 -- one step after another
@@ -111,23 +123,25 @@ IsSplitRun s log (step ∷ steps) (answer ∷ answers) end =
     (next : SplitLog) × IsSplitStep s log step answer next × IsSplitRun s next steps answers end
 IsSplitRun s log steps answers end = ⊥
 
--- a script was run on a disk of which each image was a legal stop: its answers are those of one list, which begins with what
--- the opening recovered, and the issue half stands for what that list came to
-pub record IsSplitDrilled (s : Settings) (history : List Command) (durable : ℕ)
+-- a script was run on a disk with this content, of which each image was a legal stop: its answers are those of one list, which
+-- begins with what the opening recovered, and the issue half stands for what that list came to
+pub record IsSplitDrilled (content : List ℕ) (s : Settings) (history : List Command) (durable : ℕ)
     (steps : List SplitStep) (answers : List SplitAnswer) (issue : IssueHalf) : Type 0 where
   pub opened : ℕ
   pub least : durable ≤ opened
   pub most : opened ≤ length history
+  pub generation : ℕ
+  pub generation_is : HasGeneration generation content
   pub end : SplitLog
-  pub run : IsSplitRun s (recovered (take opened history)) steps answers end
+  pub run : IsSplitRun s (recovered (take opened history) generation) steps answers end
   pub settings : (half_view issue).settings ≡ s
   pub durable_is : (half_view issue).durable ≡ end.durable
   pub broken_is : (half_view issue).broken ≡ end.broken
   pub stands : (half_view issue).stands end.history
 
 -- the script was run so, and this is what came of it
-abbrev pub IsSplitDrillOf : Settings → List Command → ℕ → List SplitStep → SplitDrill → Type 0
-IsSplitDrillOf s history durable steps drill = IsSplitDrilled s history durable steps drill.answers.items drill.issue
+abbrev pub IsSplitDrillOf : List ℕ → Settings → List Command → ℕ → List SplitStep → SplitDrill → Type 0
+IsSplitDrillOf content s history durable steps drill = IsSplitDrilled content s history durable steps drill.answers.items drill.issue
 
 -- after the step the disk is opened again
 abbrev pub IsStop : SplitStep → Type 0
@@ -139,17 +153,20 @@ abbrev pub MayBeCutOff : SplitStep → OpenError → Type 0
 MayBeCutOff step cause = IsStop step ⊎ (cause ≡ open_error.OutOfMemory)
 
 -- a script was cut off at the step behind so many: those have a run, and it can be cut off so
-pub record IsSplitCutOffAt (s : Settings) (history : List Command) (durable : ℕ)
+pub record IsSplitCutOffAt (content : List ℕ) (s : Settings) (history : List Command) (durable : ℕ)
     (steps : List SplitStep) (index : ℕ) (cause : OpenError) : Type 0 where
   pub opened : ℕ
   pub least : durable ≤ opened
   pub most : opened ≤ length history
+  pub generation : ℕ
+  pub generation_is : HasGeneration generation content
   pub answers : List SplitAnswer
   pub end : SplitLog
-  pub run : IsSplitRun s (recovered (take opened history)) (take index steps) answers end
+  pub run : IsSplitRun s (recovered (take opened history) generation) (take index steps) answers end
   pub needs : IfSome (slice_get steps index) (λ step. MayBeCutOff step cause)
 
 -- a script was cut off: the device or memory refused its first opening, or it came to a step
-abbrev pub IsSplitDrillFailure : Settings → List Command → ℕ → List SplitStep → DrillFailure → Type 0
-IsSplitDrillFailure s history durable steps (drill_failure.AtOpening cause) = IsCutOff cause
-IsSplitDrillFailure s history durable steps (drill_failure.AtStep index cause) = IsSplitCutOffAt s history durable steps index cause
+abbrev pub IsSplitDrillFailure : List ℕ → Settings → List Command → ℕ → List SplitStep → DrillFailure → Type 0
+IsSplitDrillFailure content s history durable steps (drill_failure.AtOpening cause) = IsCutOff cause
+IsSplitDrillFailure content s history durable steps (drill_failure.AtStep index cause) =
+    IsSplitCutOffAt content s history durable steps index cause

@@ -1,9 +1,11 @@
 -- The two halves of a script between its steps. Names only steps of private functions: a reader of the public contracts need
 -- not believe it.
-use Rattle.std.specs.Prelude.{◌≡◌, ℕ, ◌+◌, ◌≤◌, Bool, true, false, List, length, take, drop, Option, None, Some, IfOk, Result, Ok, Err}
+use Rattle.std.specs.Prelude.{◌≡◌, ℕ, ◌+◌, ◌≤◌, true, false, List, length, take, drop, Option, None, Some, IfOk, Result, Ok, Err}
 use Rattle.sector_disk.specs.Memory.{memory_view}
 use Rattle.retry_rules.specs.declared.settings.Settings.{Settings}
 use Rattle.invoke_records.specs.declared.command.Command.{Command}
+use Rattle.checkpoint.specs.Image.{HasGeneration}
+use Rattle.checkpoint.specs.Live.{generation_of}
 use Rattle.group_commit.specs.declared.split_script.SplitStep.{SplitStep}
 use Rattle.group_commit.specs.declared.split_script.SplitAnswer.{SplitAnswer}
 use Rattle.group_commit.specs.declared.split_script.SplitAnswer.TheVariants as answer
@@ -13,21 +15,16 @@ use Rattle.broker_core.specs.declared.error.WriteError.{WriteError}
 use Rattle.group_commit.specs.declared.split_drilling.Halves.{Halves}
 use Rattle.group_commit.specs.declared.split_drilling.Held.{Held}
 use Rattle.group_commit.specs.declared.split_drilling.Held.TheVariants as held
-use Rattle.broker_core.specs.Broker.{settings_of, issued_of, durable_of, is_broken, Stands}
+use Rattle.broker_core.specs.Broker.{settings_of, issued_of, durable_of, is_broken, opened_of, Stands}
 use Rattle.broker_core.specs.IssuerHalf.{half_view, lent_of}
-use Rattle.broker_core.specs.Batch.{first_of, last_of, commands_of, last_written, cause_of, first_in, last_in, is_lasting}
+use Rattle.broker_core.specs.Batch.{first_of, last_of, commands_of, last_written, cause_of, first_in, last_in}
 use Rattle.broker_core.specs.Splitting.{broker_of}
-use Rattle.group_commit.specs.SplitDrill.{SplitLog, IsSplitStep, IsSplitRun, recovered}
+use Rattle.group_commit.specs.SplitDrill.{SplitLog, IsSplitStep, IsSplitRun, recovered, is_disk_broken}
 
 -- what a result is told as
 abbrev pub told : Result Written Failed → Result ℕ WriteError
 told (Ok written) = Ok (last_written written)
 told (Err failed) = Err (cause_of failed)
-
--- the half over the disk is broken: by the result that is not settled, or else where the issue half is
-abbrev pub is_disk_broken : Bool → Option (Result ℕ WriteError) → Bool
-is_disk_broken broken (Some (Err why)) = is_lasting why
-is_disk_broken broken other = broken
 
 -- a batch that is held has what was lent, a result that is held is that of what was lent, and only then is a batch out
 abbrev pub IsHeld : SplitLog → Option ℕ → Held → Type 0
@@ -39,6 +36,10 @@ IsHeld log out (held.Done outcome) =
     (log.has_batch ≡ false) × (log.unsettled ≡ Some (told outcome)) × (out ≡ Some log.lent)
     × (first_in outcome ≡ log.durable + 1) × (last_in outcome ≡ log.lent) × IfOk outcome (λ written. last_written written ≡ log.written)
 
+-- the generation of the live segment
+abbrev pub generation_in : Halves → ℕ
+generation_in halves = generation_of (opened_of (broker_of halves.disk))
+
 -- the issue half stands for the list, and the half over the disk for a front of what was lent
 pub record Keeps (s : Settings) (log : SplitLog) (halves : Halves) : Type 0 where
   pub settings : (half_view halves.issue).settings ≡ s
@@ -47,6 +48,7 @@ pub record Keeps (s : Settings) (log : SplitLog) (halves : Halves) : Type 0 wher
   pub stands : (half_view halves.issue).stands log.history
   pub disk_settings : settings_of (broker_of halves.disk) ≡ s
   pub disk_durable : durable_of (broker_of halves.disk) ≡ log.written
+  pub generation : generation_in halves ≡ log.generation
   pub disk_broken : is_broken (broker_of halves.disk) ≡ is_disk_broken log.broken log.unsettled
   pub disk_most : issued_of (broker_of halves.disk) ≤ log.lent
   pub disk_stands : Stands memory_view (broker_of halves.disk) (take (issued_of (broker_of halves.disk)) log.history)
@@ -66,14 +68,19 @@ Leads old step answer new = ForEachLog old (λ s log. (next : SplitLog) × IsSpl
 abbrev pub IsBegun : Settings → List Command → ℕ → Halves → Type 0
 IsBegun s history durable halves =
     (durable ≤ (half_view halves.issue).durable) × ((half_view halves.issue).durable ≤ length history)
-    × Keeps s (recovered (take (half_view halves.issue).durable history)) halves
+    × Keeps s (recovered (take (half_view halves.issue).durable history) (generation_in halves)) halves
+
+-- they have the generation that a disk with this content has
+abbrev pub HaveGenerationOf : List ℕ → Halves → Type 0
+HaveGenerationOf content halves = HasGeneration (generation_in halves) content
 
 -- the halves after a stop: they stand for a front of the list, from what was written to what was lent
 abbrev pub IsStopped : Settings → SplitLog → Halves → Type 0
 IsStopped s log new =
     (log.written ≤ (half_view new.issue).durable) × ((half_view new.issue).durable ≤ log.lent)
     × ((half_view new.issue).durable ≤ length log.history)
-    × Keeps s (recovered (take (half_view new.issue).durable log.history)) new
+    × (is_disk_broken log.broken log.unsettled ≡ false → generation_in new ≡ log.generation)
+    × Keeps s (recovered (take (half_view new.issue).durable log.history) (generation_in new)) new
 
 -- what a step says of a write
 abbrev pub write_answer : Result Written Failed → SplitAnswer
@@ -82,11 +89,13 @@ write_answer (Err failed) = answer.WriteRefused (cause_of failed)
 
 -- a script was run so far: its answers are those of one list, which begins with what the opening recovered, and the halves
 -- stand for what that list came to
-pub record IsSplitDrilledOn (s : Settings) (history : List Command) (durable : ℕ)
+pub record IsSplitDrilledOn (content : List ℕ) (s : Settings) (history : List Command) (durable : ℕ)
     (steps : List SplitStep) (answers : List SplitAnswer) (halves : Halves) : Type 0 where
   pub opened : ℕ
   pub least : durable ≤ opened
   pub most : opened ≤ length history
+  pub generation : ℕ
+  pub generation_is : HasGeneration generation content
   pub end : SplitLog
-  pub run : IsSplitRun s (recovered (take opened history)) steps answers end
+  pub run : IsSplitRun s (recovered (take opened history) generation) steps answers end
   pub keeps : Keeps s end halves

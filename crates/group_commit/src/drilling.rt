@@ -6,7 +6,7 @@ ghost use Rattle.broker_core.specs.Promises.{ForEachHistory, ForEachHistoryOn};
 ghost use Rattle.broker_core.specs.Refusals.{TellsNotFormatted, TellsDamage, TellsOld, IsCutOff};
 ghost use Rattle.group_commit.specs.declared.script.Step.TheVariants as step;
 ghost use Rattle.group_commit.specs.Drill.{answer_to, cause_in, IsAtOneOf, Recovers, TellsOpening, MayBeCutOff, IsDrillFailure};
-ghost use Rattle.group_commit.specs.DrillBroker.{Leads, IsStarted, IsDrillOf};
+ghost use Rattle.group_commit.specs.DrillBroker.{Leads, IsStarted, HasGenerationOf, KeepsGeneration, IsDrillOf};
 
 use crate::{Drill, DrillFailure, Step, StepAnswer};
 use broker_core::{Broker, IssueError, Ticket, copy_command, without_disk};
@@ -20,6 +20,7 @@ pub(crate) fn start(alloc: Global, disk: MemDisk) -> Result<Broker<MemDisk>, Ope
     ensures recovers { ForEachHistoryOn (memory_view disk) (λ s history durable. IfOk result (IsStarted s history durable)) }
     ensures refused { ForEachHistoryOn (memory_view disk) (λ s history durable. IfErr result IsCutOff) }
     ensures nothing { IfOk result (λ b. pending_of b ≡ []) }
+    ensures generation { IfOk result (HasGenerationOf (memory_view disk).content) }
     ensures opened { OnOk result (Recovers (memory_view disk).content) }
     ensures not_formatted { IfErr result (TellsNotFormatted (memory_view disk).content) }
     ensures damaged { IfErr result (TellsDamage (memory_view disk).content) }
@@ -36,6 +37,7 @@ fn stop(
 ) -> Result<Broker<MemDisk>, OpenError>
     ensures recovers { ForEachHistory memory_view broker (λ history.
         IfOk result (IsStarted (settings_of broker) history (durable_of broker))) }
+    ensures generation { ForEachHistory memory_view broker (λ history. IfOk result (KeepsGeneration broker)) }
     ensures refused { ForEachHistory memory_view broker (λ history. IfErr result IsCutOff) }
 {
     start(alloc, broker.close().stop(choice))
@@ -130,19 +132,22 @@ fn run_step(
 ///
 /// On a disk of which each image is a legal stop of a history, the answers are those of one history that goes on from
 /// what the opening recovered: a stop cuts it to a length from the durable number to its own, and after a fault nothing is
-/// issued or committed until the next stop. It fails only where memory runs out, also the disk's own, and gives the disk up
-/// then: where it failed at a step, those before it have such answers, and it opened the disk again or wanted memory.
+/// issued or committed until the next stop. A commit or a switch is worn out only where the generation has reached 2^62: the
+/// opening tells it, and each switch raises it by one. It fails only where memory runs out, also the disk's own, and gives the
+/// disk up then: where it failed at a step, those before it have such answers, and it opened the disk again or wanted memory.
 ///
 /// Of any other disk it says this: the first opening fails for the causes of `Broker::open`, and only a disk that recovers
 /// comes to a step.
 pub fn drill(alloc: Global, disk: MemDisk, steps: &[Step]) -> Result<Drill, DrillFailure>
     // claim: A whole script of issues, commits, switches, resumptions and crashes on a memory disk of legal stops has the
     // answers of one history, from which crashes cut only what was not durable.
-    ensures run { ForEachHistoryOn (memory_view disk) (λ s history durable. IfOk result (IsDrillOf s history durable steps.now)) }
+    ensures run { ForEachHistoryOn (memory_view disk) (λ s history durable.
+        IfOk result (IsDrillOf (memory_view disk).content s history durable steps.now)) }
     // claim: On legal stops only the device or want of memory cuts a script off, at a place that is told, behind steps with a
     // history's answers. [: refused, failed, place; drill_split]
     ensures refused { ForEachHistoryOn (memory_view disk) (λ s history durable. IfErr result (λ failure. IsCutOff (cause_in failure))) }
-    ensures failed { ForEachHistoryOn (memory_view disk) (λ s history durable. IfErr result (IsDrillFailure s history durable steps.now)) }
+    ensures failed { ForEachHistoryOn (memory_view disk) (λ s history durable.
+        IfErr result (IsDrillFailure (memory_view disk).content s history durable steps.now)) }
     ensures place { IfErr result (IsAtOneOf (length steps.now)) }
     ensures opened { OnOk result (Recovers (memory_view disk).content) }
     ensures opening { IfErr result (TellsOpening (memory_view disk).content) }

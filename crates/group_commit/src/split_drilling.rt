@@ -6,7 +6,7 @@ ghost use Rattle.broker_core.specs.Refusals.{TellsNotFormatted, TellsDamage, Tel
 ghost use Rattle.group_commit.specs.Drill.{cause_in, IsAtOneOf, Recovers, TellsOpening};
 ghost use Rattle.group_commit.specs.declared.split_script.SplitStep.TheVariants as split_step;
 ghost use Rattle.group_commit.specs.SplitDrill.{MayBeCutOff, IsSplitDrillOf, IsSplitDrillFailure};
-ghost use Rattle.group_commit.specs.SplitSteps.{ForEachLog, Leads, IsBegun, IsStopped, write_answer};
+ghost use Rattle.group_commit.specs.SplitSteps.{ForEachLog, Leads, IsBegun, HaveGenerationOf, IsStopped, write_answer};
 
 use crate::drilling::start;
 use crate::{DrillFailure, SplitAnswer, SplitDrill, SplitStep};
@@ -35,6 +35,7 @@ pub(crate) struct Halves {
 // Opens a disk and splits its broker.
 fn begin(alloc: Global, disk: MemDisk) -> Result<Halves, OpenError>
     ensures begins { ForEachHistoryOn (memory_view disk) (λ s history durable. IfOk result (IsBegun s history durable)) }
+    ensures generation { IfOk result (HaveGenerationOf (memory_view disk).content) }
     ensures refused { ForEachHistoryOn (memory_view disk) (λ s history durable. IfErr result IsCutOff) }
     ensures opened { OnOk result (Recovers (memory_view disk).content) }
     ensures not_formatted { IfErr result (TellsNotFormatted (memory_view disk).content) }
@@ -203,7 +204,8 @@ fn run_step(
 /// On a disk of which each image is a legal stop of a history, the answers are those of one list and three numbers: how many
 /// commands are durable, up to which the disk half has written, and up to which they were lent. Each begins as the number of
 /// commands that the opening recovered; a stop cuts the list to a length from the second number to the third. Once a fault
-/// of a write is settled, nothing is issued or lent until the next stop. It fails as `drill` does.
+/// of a write is settled, nothing is issued or lent until the next stop. A write is worn out only in generation 2^62. It fails
+/// as `drill` does.
 pub fn drill_split(
     alloc: Global,
     disk: MemDisk,
@@ -212,10 +214,11 @@ pub fn drill_split(
     // claim: A whole script of issues, loans, writes, settlements and crashes on a memory disk of legal stops has the answers
     // of one list and three numbers: durable, written, lent. From a settled fault to the next crash, issues and loans are
     // refused as broken. [: run]
-    ensures run { ForEachHistoryOn (memory_view disk) (λ s history durable. IfOk result (IsSplitDrillOf s history durable steps.now)) }
+    ensures run { ForEachHistoryOn (memory_view disk) (λ s history durable.
+        IfOk result (IsSplitDrillOf (memory_view disk).content s history durable steps.now)) }
     ensures refused { ForEachHistoryOn (memory_view disk) (λ s history durable. IfErr result (λ failure. IsCutOff (cause_in failure))) }
     ensures failed { ForEachHistoryOn (memory_view disk) (λ s history durable.
-        IfErr result (IsSplitDrillFailure s history durable steps.now)) }
+        IfErr result (IsSplitDrillFailure (memory_view disk).content s history durable steps.now)) }
     ensures place { IfErr result (IsAtOneOf (length steps.now)) }
     ensures opened { OnOk result (Recovers (memory_view disk).content) }
     ensures opening { IfErr result (TellsOpening (memory_view disk).content) }

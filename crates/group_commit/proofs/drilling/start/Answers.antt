@@ -28,6 +28,9 @@ returns-clause-refused c s history durable legal stops =
 pub returns-clause-nothing : goal.returns-clause-nothing
 returns-clause-nothing c = ok_from _ c.open.result c.without_disk.result c.without_disk.ensures.ok (if_ok _ _ c.open.result (λ b fresh. fresh.1) c.open.ensures.fresh)
 
+pub returns-clause-generation : goal.returns-clause-generation
+returns-clause-generation c = ok_from _ c.open.result c.without_disk.result c.without_disk.ensures.ok (if_ok _ _ c.open.result (λ b is. is) (c.open.ensures.generation tt))
+
 pub returns-clause-opened : goal.returns-clause-opened
 returns-clause-opened c =
     ok_from _ c.open.result c.without_disk.result c.without_disk.ensures.ok

@@ -1,6 +1,7 @@
 use Rattle.std.proofs.Common.{◌≡◌, take, refl, sym, ap, subst, ◌∙◌}
+use Rattle.sector_disk.specs.Memory.{memory_view}
 use Rattle.broker_core.specs.Broker.{settings_of, durable_of}
-use Rattle.group_commit.specs.DrillBroker.{IsStarted}
+use Rattle.group_commit.specs.DrillBroker.{IsStarted, HasGenerationOf}
 use Rattle.broker_core.specs.IssuerHalf.{half_view}
 use Rattle.broker_core.specs.Splitting.{broker_of}
 use Rattle.group_commit.specs.declared.split_drilling.Held.TheVariants as held
@@ -20,3 +21,6 @@ returns-in-Ok-split-clause-begins c s history durable legal stops =
     (splits.settings ∙ ap settings_of (sym is)) (splits.durable ∙ ap durable_of (sym is)) splits.broken splits.lent
     (subst (λ b. (half_view c.in-Ok-split.issue).stands (take (durable_of b) history)) (sym is)
     (c.in-Ok-split.ensures.stands (take (durable_of c.in-Ok.broker) history) facts.4))
+
+pub returns-in-Ok-split-clause-generation : goal.returns-in-Ok-split-clause-generation
+returns-in-Ok-split-clause-generation c = subst (λ b. HasGenerationOf (memory_view c.args.disk).content b) (sym c.in-Ok-split.ensures.ok.disk_is) c.in-Ok.ensures.generation

@@ -10,4 +10,4 @@ use Rattle.group_commit.proofs.split_drilling.drill_split.Given as goal
 abbrev pub invariant-loop-index : goal.invariant-loop-index
 invariant-loop-index l =
     (s : Settings) (history : List Command) (durable : ℕ) → IsLegal s history → ((image : List ℕ) → (memory_view l.fn.disk).may_leave image → IsLegalStop s history durable image)
-    → IsSplitDrilledOn s history durable (take l.index l.steps) l.answers.items l.halves
+    → IsSplitDrilledOn (memory_view l.fn.disk).content s history durable (take l.index l.steps) l.answers.items l.halves

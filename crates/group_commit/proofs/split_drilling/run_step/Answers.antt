@@ -3,7 +3,7 @@ use Rattle.group_commit.specs.declared.split_script.SplitStep.{SplitStep}
 use Rattle.group_commit.specs.declared.split_script.SplitAnswer.TheVariants as answer
 use Rattle.broker_core.specs.IssuerHalf.{half_view}
 use Rattle.group_commit.specs.SplitDrill.{SplitLog, IsSplitStep, recovered}
-use Rattle.group_commit.specs.SplitSteps.{Keeps}
+use Rattle.group_commit.specs.SplitSteps.{generation_in, Keeps}
 use Rattle.group_commit.proofs.split_drilling.run_step.Goals as goal
 
 pub returns-in-Ok-clause-step : goal.returns-in-Ok-clause-step
@@ -28,6 +28,6 @@ returns-in-Ok-stop-clause-step c s log keeps =
     let facts = c.in-Ok-stop.ensures.recovers s log keeps in
     let n : ℕ = c.number-recovered.result in
     let same : n ≡ (half_view new.issue).durable = c.number-recovered.ensures ∙ c.durable.ensures in
-    let next : ℕ → SplitLog = λ k. recovered (take k log.history) in
+    let next : ℕ → SplitLog = λ k. recovered (take k log.history) (generation_in new) in
     subst (λ (step : SplitStep). (next : SplitLog) × IsSplitStep s log step (answer.Number n) next × Keeps s next new) (sym c.in-Stop.is)
-    (next (half_view new.issue).durable, (omega (arith, same, facts.0), omega (arith, same, facts.1), omega (arith, same, facts.2), ap next (sym same)), facts.3)
+    (next (half_view new.issue).durable, (omega (arith, same, facts.0), omega (arith, same, facts.1), omega (arith, same, facts.2), facts.3, ap next (sym same)), facts.4)

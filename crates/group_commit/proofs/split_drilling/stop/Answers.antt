@@ -7,7 +7,8 @@ use Rattle.broker_core.specs.declared.broker.Broker.{Broker}
 use Rattle.broker_core.specs.History.{IsLegalStop}
 use Rattle.broker_core.specs.Broker.{disk_of, settings_of, issued_of, durable_of, Stands}
 use Rattle.broker_core.specs.Splitting.{broker_of}
-use Rattle.group_commit.proofs.Results.{if_ok}
+use Rattle.group_commit.proofs.Results.{if_ok_both}
+use Rattle.group_commit.proofs.Drilled.{kept_by}
 use Rattle.group_commit.proofs.SplitDrilled.{stopped}
 use Rattle.group_commit.proofs.split_drilling.stop.Goals as goal
 
@@ -25,9 +26,12 @@ returns-clause-recovers c s log keeps =
     let old = c.args.halves in
     let broker = broker_of old.disk in
     let before = take (issued_of broker) log.history in
-    if_ok _ _ c.begin.result (λ new begun. stopped s log old new keeps begun)
+    if_ok_both _ _ _ c.begin.result
+    (λ new begun has.
+    stopped s log old new keeps (kept_by broker (broker_of new.disk) c.close.result c.stop.result before c.close.ensures.disk c.stop.ensures.possible keeps.disk_stands has) begun)
     (c.begin.ensures.begins (settings_of broker) before (durable_of broker) keeps.disk_stands.legal
     (legal_stops broker c.close.result c.stop.result before c.close.ensures.disk c.stop.ensures.possible c.stop.ensures.settled keeps.disk_stands))
+    c.begin.ensures.generation
 
 pub returns-clause-refused : goal.returns-clause-refused
 returns-clause-refused c s log keeps =

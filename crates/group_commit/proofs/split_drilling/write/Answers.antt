@@ -17,5 +17,5 @@ returns-in-Lent c = record {
       let wrote = c.write-outcome.ensures in
       subst (λ (answer : SplitAnswer). (next : SplitLog) × IsSplitStep s log step.Write answer next × Keeps s next new) (sym c.answer_to-answer.ensures)
       (write_leads s log old new c.in-Lent.batch c.write-outcome.result keeps (subst (IsHeld log (lent_of old.issue)) c.in-Lent.is keeps.held_is) refl refl wrote.settings wrote.longer wrote.stands
-      wrote.sound wrote.front wrote.first wrote.last wrote.ok wrote.err);
+      wrote.sound wrote.front wrote.first wrote.last wrote.ok wrote.err wrote.switched);
 }

@@ -4,7 +4,9 @@ use Rattle.invoke_records.specs.declared.snapshot.Snapshot.{Snapshot}
 use Rattle.retry_rules.specs.declared.settings.Settings.{Settings}
 use Rattle.std.proofs.Math.ListN.{drop_of_length-le}
 use Rattle.async_core.specs.History.{table_of}
-use Rattle.checkpoint.specs.Live.{RecoversTo, IsLive, live_recovers}
+use Rattle.checkpoint.specs.Image.{HasGeneration}
+use Rattle.checkpoint.specs.Live.{RecoversTo, IsLive, generation_of, live_recovers}
+use Rattle.broker_core.specs.laws.Generations.{live_generation}
 use Rattle.broker_core.specs.History.{AreGood, IsLegalStop}
 use Rattle.broker_core.proofs.Reopening.{reopens, stops_at_end}
 use Rattle.broker_core.proofs.broker.Broker.open.Goals as goal
@@ -44,3 +46,8 @@ returns-in-Ok-clause-stands g c honest s history durable legal stops =
             (ap (table_of table.settings) (sym whole ∙ ap (λ (k : ℕ). take k (take t.number history)) (sym same))) there;
       },
     )
+
+pub returns-in-Ok-clause-generation : goal.returns-in-Ok-clause-generation
+returns-in-Ok-clause-generation g c honest =
+    subst (HasGeneration (generation_of c.in-Ok.opened)) (c.recover.ensures.content honest)
+    (live_generation _ _ c.in-Ok.opened c.in-Ok.table.table (c.in-Ok.ensures.live honest).1)

@@ -2,7 +2,9 @@ use Rattle.std.proofs.Common.{◌≡◌, ◌∙◌, ◌++◌, sym, ap, subst, ar
 use Rattle.invoke_records.specs.declared.snapshot.Snapshot.{Snapshot}
 use Rattle.broker_core.specs.declared.error.WriteError.{WriteError}
 use Rattle.broker_core.specs.declared.error.WriteError.TheVariants as write_error
+use Rattle.checkpoint.specs.Live.{generation_of}
 use Rattle.broker_core.specs.Broker.{table_in, issued_of}
+use Rattle.broker_core.specs.laws.Generations.{needs_or_not}
 use Rattle.broker_core.specs.Splitting.{broker_of}
 use Rattle.broker_core.specs.Batch.{cause_of}
 use Rattle.broker_core.specs.Taking.{commit_cause}
@@ -20,7 +22,15 @@ returns-in-Err-clause-front g c =
 pub returns-in-Err-clause-any_moment : goal.returns-in-Err-clause-any_moment
 returns-in-Err-clause-any_moment g c = leaves_at_first g.D.Disk.view (broker_of c.args.self.now) (broker_of c.take_batch.new.self) c.args.batch g.met.D.Disk.laws c.take_batch.ensures.takes.disk
 
+pub returns-in-Err-clause-switched : goal.returns-in-Err-clause-switched
+returns-in-Err-clause-switched g c = omega (arith, ap generation_of c.take_batch.ensures.takes.opened)
+
 -- ## It was committed
+
+pub returns-in-Ok-clause-switched : goal.returns-in-Ok-clause-switched
+returns-in-Ok-clause-switched g c =
+    let taken = ap generation_of c.take_batch.ensures.takes.opened in
+    ⊎_elim (λ needs. inr (omega (arith, taken, c.in-Ok.ensures.switches needs))) (λ none. inl (omega (arith, taken, c.in-Ok.ensures.stays none))) (needs_or_not (broker_of c.take_batch.new.self))
 
 pub returns-in-Ok-clause-untouched : goal.returns-in-Ok-clause-untouched
 returns-in-Ok-clause-untouched g c apart = absurd (c.in_default.ensures.ok.joined apart)
@@ -77,3 +87,9 @@ pub returns-in-Err-commit-clause-any_moment : goal.returns-in-Err-commit-clause-
 returns-in-Err-commit-clause-any_moment g c =
     leaves_on g.D.Disk.view (broker_of c.args.self.now) (broker_of c.take_batch.new.self) c.commit.new.self c.args.batch c.take_batch.ensures.takes (same g c) c.in-Err-commit.ensures.any_moment
     c.take_batch.ensures.stands
+
+pub returns-in-Err-commit-clause-switched : goal.returns-in-Err-commit-clause-switched
+returns-in-Err-commit-clause-switched g c =
+    let opened =
+    ⊎_elim (λ fault. (c.in-Err-commit.ensures.breaks fault).opened) (λ kept. kept.opened) c.in-Err-commit.ensures.kept in
+    omega (arith, ap generation_of c.take_batch.ensures.takes.opened, ap generation_of opened)
