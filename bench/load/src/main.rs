@@ -6,8 +6,9 @@
 //!     load floor ADDRESS FOLDER [start] [half]
 //!     load flushes FOLDER SECONDS
 //!
-//! SERVER is `broker` or `floor`. Each measurement prints one line of JSON. A reply that is no 2xx ends it with status 1, so
-//! nothing that was refused is ever counted.
+//! SERVER is `broker` or `floor`. Each measurement prints one line of JSON. A reply before its end that is no 2xx ends it with
+//! status 1, so nothing that was refused is counted. But with `oldest` a broker's DELETE may be told 404: another runtime has
+//! collected that record, and the oldest is read again.
 mod accepts;
 mod collects;
 mod connection;
