@@ -39,12 +39,12 @@ abbrev pub RefusesBody : Result (List ℕ) BodyError → Message → Type 0
 RefusesBody (Ok list) told = RefusesText list told
 RefusesBody (Err TooLarge) told = TellsOf 413 told
 RefusesBody (Err CutOff) told = told ≡ status_alone 400
-RefusesBody (Err OutOfMemory) told = told ≡ status_alone 503
+RefusesBody (Err OutOfMemory) told = TellsOf 503 told
 
--- a list is refused by the first of these that fails; where memory is wanting, with 503 alone
+-- a list is refused by the first of these that fails; where memory is wanting, with 503
 abbrev pub RefusesList : Parts → Result (List ℕ) BodyError → Message → Type 0
 RefusesList head body told =
-    (told ≡ status_alone 503) ⊎ RefusesAct head told ⊎ ((may_act head.headers ≡ true) × RefusesBody body told)
+    TellsOf 503 told ⊎ RefusesAct head told ⊎ ((may_act head.headers ≡ true) × RefusesBody body told)
 
 -- it names a record by what is no id
 abbrev pub RefusesId : Option (List ℕ) → Message → Type 0
@@ -53,7 +53,7 @@ RefusesId id told = (id ≡ None) × TellsOf 400 told
 -- so is a record that is to be tried again, before its event is looked at
 abbrev pub RefusesRetry : Parts → Option (List ℕ) → Message → Type 0
 RefusesRetry head id told =
-    (told ≡ status_alone 503) ⊎ RefusesAct head told ⊎ ((may_act head.headers ≡ true) × RefusesId id told)
+    TellsOf 503 told ⊎ RefusesAct head told ⊎ ((may_act head.headers ≡ true) × RefusesId id told)
 
 -- ## Any request
 

@@ -1,7 +1,7 @@
 -- Which requests the operator's port answers to, and which may have something done, by their headers.
-use Rattle.std.specs.Prelude.{ℕ, ◌==◌, ◌&&◌, ◌||◌, List, [], ◌∷◌, length, take, drop, Bool, true, Option, Some, None, is_some, codes, bytes_eq}
+use Rattle.std.specs.Prelude.{ℕ, ◌==◌, ◌&&◌, ◌||◌, List, [], ◌∷◌, length, take, drop, Bool, true, is_some, unwrap_or, option_map, codes, bytes_eq}
 use Rattle.std.specs.Str.{byte}
-use Rattle.http_header.specs.FieldValue.{FieldValue, is_visible_text}
+use Rattle.http_header.specs.FieldValue.{FieldValue}
 use Rattle.http_header.specs.HeaderMap.{get}
 use Rattle.http_port.specs.Headers.{Headers}
 
@@ -17,13 +17,9 @@ has_name host name = bytes_eq (take (length name) host) name && ends_name (drop 
 abbrev pub is_here : List ℕ → Bool
 is_here host = has_name host (codes "127.0.0.1") || has_name host (codes "localhost") || has_name host (codes "[::1]")
 
--- the host is this machine, in bytes that can be seen, or none is named
-abbrev pub is_local_host : Option FieldValue → Bool
-is_local_host None = true
-is_local_host (Some host) = is_visible_text host.bytes && is_here host.bytes
-
+-- the host is this machine, or none is named
 abbrev pub is_local : Headers → Bool
-is_local headers = is_local_host (get headers (codes "host"))
+is_local headers = unwrap_or (option_map (λ (v : FieldValue). is_here v.bytes) (get headers (codes "host"))) true
 
 -- it has the header that no form of a web page sends
 abbrev pub has_act : Headers → Bool

@@ -2,7 +2,7 @@
 ghost use Rattle.std.specs.Prelude.{◌≡◌, ◌⊎◌, true, Some, Ok, IfOk, IfErr, OnOk};
 ghost use Rattle.admin_port.specs.declared.step.Step.TheVariants as in_step;
 ghost use Rattle.http_port.specs.Answering.{status_alone};
-ghost use Rattle.admin_port.specs.Acting.{RefusesAct, RefusesBody, RefusesList, RefusesRetry, RefusesText};
+ghost use Rattle.admin_port.specs.Acting.{RefusesAct, RefusesBody, RefusesList, RefusesRetry, RefusesText, TellsOf};
 ghost use Rattle.admin_port.specs.Heads.{may_act};
 ghost use Rattle.admin_port.specs.Replying.{CollectsBody, CollectsIds};
 
@@ -91,7 +91,7 @@ impl<A: Drop> Acts<A> {
         T: Trace,
         A: Acting<R, L, T>,
         ensures ids { IfOk result (λ collecting. CollectsIds (λ entry. entry.id) list.now collecting.entries.items) }
-        ensures refused { IfErr result (λ told. (told ≡ status_alone 503) ⊎ RefusesText list.now told) }
+        ensures refused { IfErr result (λ told. TellsOf 503 told ⊎ RefusesText list.now told) }
     {
         let ids = match read_list(self.alloc, list) {
             Ok(ids) => ids,

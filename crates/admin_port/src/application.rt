@@ -162,14 +162,20 @@ where
     }
 
     fn answer(&self, head: &Parts, body: ReadBody) -> Result<Self::Future, Refused> {
-        if let Some(acts) = self.list_brought(head) {
-            let collecting = acts.take_list(self.rt, head, body)?;
-            return Ok(Either::Right(Either::Left(collecting)));
-        }
-        drop(body);
-        match self.record_named(head) {
-            Some((acts, id)) => Ok(Either::Right(Either::Right(self.retry(acts, head, id)?))),
-            None => Ok(Either::Left(self.show(head)?)),
+        match self.list_brought(head) {
+            Some(acts) => {
+                let collecting = acts.take_list(self.rt, head, body)?;
+                Ok(Either::Right(Either::Left(collecting)))
+            }
+            None => {
+                drop(body);
+                match self.record_named(head) {
+                    Some((acts, id)) => {
+                        Ok(Either::Right(Either::Right(self.retry(acts, head, id)?)))
+                    }
+                    None => Ok(Either::Left(self.show(head)?)),
+                }
+            }
         }
     }
 }

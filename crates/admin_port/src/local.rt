@@ -29,10 +29,9 @@ fn has_name(host: &[u8], name: &[u8]) -> bool
 }
 
 // Whether a host is this machine.
-fn is_here(host: &str) -> bool
+fn is_here(host: &[u8]) -> bool
     ensures { result ≡ meant.is_here host.now }
 {
-    let host = host.as_bytes();
     has_name(host, b"127.0.0.1") || has_name(host, b"localhost") || has_name(host, b"[::1]")
 }
 
@@ -41,11 +40,8 @@ fn is_here(host: &str) -> bool
 pub(crate) fn is_local(headers: &HeaderMap) -> bool
     ensures { result ≡ meant.is_local headers.now }
 {
-    let Some(host) = headers.get("host") else {
-        return true;
-    };
-    match host.to_str() {
-        Ok(host) => is_here(host),
-        Err(_) => false,
+    match headers.get("host") {
+        Some(host) => is_here(host.as_bytes()),
+        None => true,
     }
 }

@@ -12,4 +12,4 @@ returns-in-Err-clause-refused g c =
 
 pub returns-then-not-is_local-clause-refused : goal.returns-then-not-is_local-clause-refused
 returns-then-not-is_local-clause-refused g c =
-    elim c.refuse.ensures [ inl alone ↦ inl alone | inr line ↦ inr (403, codes "this port answers to the hosts 127.0.0.1, localhost and [::1] alone", line, inl refl) ]
+    elim c.refuse.ensures [ inl alone ↦ inl alone | inr line ↦ inr (403, codes "this port answers to the hosts 127.0.0.1, localhost and [::1] alone", line, inl (refl, sym c.is_local.ensures ∙ c.if-not-is_local.true)) ]
