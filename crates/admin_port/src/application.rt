@@ -137,10 +137,10 @@ where
         Either<Collecting<R, L, T, A>, Retrying<R, L, T, A>>,
     >;
 
-    // claim: A request is shown what its head asks for, has the records of just its body's ids collected, has the
-    // record that it names tried again, or is refused. Where it brings no list and names no record, it is refused only
-    // by its head's first failing check, or with 403 or 503. [: answers; refuse_words; refuse_list;
-    // AdminApplication::show: request, context, refused; Acts::take_list: ids, refused; Acts::named: id, refused;
+    // claim: A request is shown what its head asks for, has the records of just its body's ids collected, has the record
+    // that it names tried again, or is refused. Something is done only where acts are allowed, the host is this machine and
+    // the header for acts is there. A refusal is that of a check that fails, or 503. [: answers; refuse_words; refuse_list;
+    // AdminApplication::show: request, context, refused; Acts::take_list: may, ids, refused; Acts::named: may, id, refused;
     // AdminApplication::reply_to: request, context]
     ghost answers = { λ application head body answered.
         IfOk answered (ShowsOrActs

@@ -177,8 +177,9 @@ fn turn<G: Gate, C: Committing>(gate: &G, committer: &mut C) -> bool
 /// Where nothing is pending, or a commit failed, the committer sleeps, as `Committing::sleep` says; where the gate skips what
 /// is pending, it is asked again.
 pub fn commit_all<R: Wait, G: Gate, C: Committing>(rt: &R, gate: &G, committer: &mut C)
-    // claim: Each turn counts what is pending and does what its gate says. A commit's number is raised on the board, then rung
-    // for. After a failure the committer sleeps; where that broke the hall, it is first said, then rung for all.
+    // claim: Turns lead from what the committer was to what it is: each counts what is pending and does what its gate says.
+    // A commit's number is raised on the board, then rung for. After a failure it sleeps; where that broke the hall, it is
+    // first said, then rung for all.
     ensures { IsRun C.leads (G.says gate.now) committer.old committer.new }
 {
     for _ in rt.forever() {

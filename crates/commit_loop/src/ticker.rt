@@ -114,8 +114,8 @@ fn turn<R: Wait, G: Gate, T: Ticking>(rt: &R, gate: &G, ticker: &mut T) -> bool
 /// At each turn makes all moves that are due, where the gate says `Commit`, calls the committer if there was one, and sleeps; at
 /// `Skip` it only sleeps. It goes on until the gate ends the loop.
 pub fn tick_all<R: Wait, G: Gate, T: Ticking>(rt: &R, gate: &G, ticker: &mut T)
-    // claim: Where its gate says `Commit`, a turn makes moves until none is made, calls the committer if one was, and
-    // sleeps. At `Skip` it makes none and sleeps.
+    // claim: Turns lead from what the ticker was to what it is: where its gate says `Commit`, one makes moves until none is
+    // made, calls the committer if one was, and sleeps; at `Skip` it makes none and sleeps.
     ensures { IsRun T.leads (G.says gate.now) ticker.old ticker.new }
 {
     for _ in rt.forever() {

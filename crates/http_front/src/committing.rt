@@ -173,8 +173,8 @@ impl<L: Ledger, T: Trace, D: Disk + Drop> Committer<L, T, D> {
         front: &FrontState<L, T>,
         gate: &G,
     ) -> Committer<L, T, D>
-        // claim: A committer did at each turn what its gate said. Its desk was told no less than it committed, and its
-        // seat saw no less than it raised the board to.
+        // claim: As far as its desk and its seat show, a committer's steps are those of turns that its gate may have asked for.
+        // Its desk was told no less than it committed, and its seat saw no less than it raised the board to. [: learned]
         ensures learned { IsRun HasLearned (G.says gate.now)
             (known self.desk.told (seen_by self.seated))
             (known result.desk.told (seen_by result.seated)) }

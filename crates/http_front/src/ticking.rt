@@ -202,8 +202,8 @@ pub fn tick_all<R: Wait + Clock + Eprint, L: Ledger, T: Trace, G: Gate>(
     desk: Desk<L, T>,
     gate: &G,
 ) -> Desk<L, T>
-    // claim: A ticker did at each turn what its gate said. Its desk has as many marks more as it made moves.
-    // [make_move, tick: marked]
+    // claim: As far as its desk shows, a ticker's steps are those of turns that its gate may have asked for. The desk has as
+    // many marks more as moves were made. [make_move, tick: marked]
     ensures { IsRun HasMarked (G.says gate.now) (length (map T.mark desk.own.items)) (length (map T.mark result.own.items)) }
 {
     let mut at = AtFront {
