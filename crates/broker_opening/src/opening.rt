@@ -24,8 +24,8 @@ use std::time::{Clock, Instant};
 
 /// A disk that is open to be served: the hall over it, in which nothing has come yet and nothing runs, and what is listened on.
 #[derive(Drop)]
-pub struct OpenedDisk<D: Disk> {
-    pub hall: Hall<Broker<D>>,
+pub struct OpenedDisk<H> {
+    pub hall: H,
     /// The callers' port, and one for each environment behind it.
     pub listeners: Vec<Listening>,
     /// The operator's port over the hall.
@@ -68,7 +68,7 @@ pub fn open_to_serve<R, D, W>(
     at: &Address<'_>,
     start: &io::Result<Instant>,
     out: &mut W,
-) -> Result<OpenedDisk<D>, OpeningError>
+) -> Result<OpenedDisk<Hall<Broker<D>>>, OpeningError>
 where
     R: Files<File = File>
         + Clock
