@@ -1,7 +1,7 @@
 use Rattle.std.proofs.Common.{◌++◌}
 use Rattle.broker_core.specs.IssuerBroker.{issuer_of}
 use Rattle.hall_core.specs.Hall.{view_of}
-use Rattle.broker_opening.proofs.Resting.{if_ok_both, opens_at_rest}
+use Rattle.broker_opening.proofs.Interrupting.{if_ok_both, opens_at_rest}
 use Rattle.broker_opening.proofs.resting.hall_at_rest.Goals as goal
 
 pub returns-clause-rest : goal.returns-clause-rest

@@ -1,7 +1,7 @@
 use Rattle.std.proofs.Common.{◌∙◌, ◌++◌, sym, subst}
 use Rattle.std.proofs.lemmas.Bool.{true≢false}
 use Rattle.broker_opening.specs.Opening.{ComesToRest}
-use Rattle.broker_opening.proofs.Resting.{pushed_back, rested}
+use Rattle.broker_opening.proofs.Interrupting.{pushed_back, rested}
 use Rattle.broker_opening.proofs.resting.interrupt_attempts.Goals.{in-None, in-Some+in_ok-resume+then-is_none}
 use Rattle.broker_opening.proofs.resting.interrupt_attempts.Goals as goal
 

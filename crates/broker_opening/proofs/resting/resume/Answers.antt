@@ -1,4 +1,4 @@
-use Rattle.broker_opening.proofs.Resting.{rest_kept}
+use Rattle.broker_opening.proofs.Interrupting.{rest_kept}
 use Rattle.broker_opening.proofs.resting.resume.Goals as goal
 
 pub returns-in-Ok-clause-rest : goal.returns-in-Ok-clause-rest
