@@ -237,10 +237,14 @@ impl<R: Wait + Clock + Drop + Copy, L: Ledger, T: Trace> Collector<R, L, T> {
         Found::Records
     }
 
-    // One turn.
+    // One turn. Behind an older look it looks again: what ended since may be durable by the same commit.
     fn turn(&mut self) -> Found {
+        let is_old = self.seen.is_some();
         match self.view() {
-            Ok(Some(view)) => self.work_on(&view),
+            Ok(Some(view)) => {
+                let found = self.work_on(&view);
+                if is_old { Found::Records } else { found }
+            }
             Ok(None) => Found::Nothing,
             Err(_) => Found::Records,
         }
