@@ -1,5 +1,6 @@
 """Records that nobody wants, which the broker collects itself."""
 import threading
+import time
 
 from harness import Beside, case, same, until
 
@@ -69,6 +70,28 @@ def sixteen_environments_leave_no_record(broker):
     collected(broker, 320)
     same(broker.stop(), (202, 0, ""))
     same(broker.held(), 0)
+
+
+@case({"environments": 3, "timeout": 900})
+def what_ends_behind_a_look_that_waits_for_a_commit_is_collected_by_that(broker):
+    """While the collecting of one record is flushed, the collector looks, and then another event ends."""
+    watch = broker.watches_disk()
+    broker.serve("--discard", "success")
+    first, second = (broker.invoke("{}").id, broker.invoke("{}").id)
+    same({broker.next(1).id, broker.next(2).id}, {first, second})
+    runs = broker.send_next(3)
+    # Two flushes make the end of the first durable. The next one is that of its collecting.
+    watch.hold_flush = watch.flushes + 3
+    one = Beside(broker.respond, first, "1", 1)
+    until("a flush", lambda: watch.flushes == watch.hold_flush)
+    third = broker.send_invoke("{}")
+    time.sleep(0.5)  # the collector looks again each 0.1 s, and no number tells that it did
+    two = Beside(broker.respond, second, "1", 2)
+    time.sleep(0.2)
+    watch.let_go()
+    same((one.done().status, two.done().status, third.done().status), (202, 202, 202))
+    collected(broker, 2)
+    same((broker.respond(runs.done().id, "1", 3).status, broker.record().status), (202, 204))
 
 
 @case({"retries": 0})
