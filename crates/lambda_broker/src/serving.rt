@@ -104,7 +104,11 @@ where
 }
 
 // Serves a disk that is open, by what is discarded.
-fn serve_opened<R, T, D>(rt: R, opened: OpenedDisk<D>, at: &Address<'_>) -> Result<(), ServingError>
+fn serve_opened<R, T, D>(
+    rt: R,
+    opened: OpenedDisk<Hall<Broker<D>>>,
+    at: &Address<'_>,
+) -> Result<(), ServingError>
 where
     R: Machine,
     T: SharedTrace + 'static,
