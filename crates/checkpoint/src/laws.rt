@@ -5,9 +5,10 @@ ghost use Rattle.invoke_records.specs.declared.snapshot.Snapshot.{Snapshot};
 ghost use Rattle.checkpoint.specs.Held.{IsRecoveredAsWritten};
 
 /// What an image recovers to is exactly what a switch wrote there: a segment behind its open gate, beside one that is
-/// closed or older, on either side of the disk. It does nothing.
+/// closed, or older and read whole, on either side of the disk. It does nothing.
 pub fn what_is_recovered_is_what_was_written()
-    // claim: A segment that a switch wrote, behind an open gate and beside a closed or older one, recovers to its snapshot.
+    // claim: A segment that a switch wrote, behind an open gate and beside a closed one, or an older one that reads whole,
+    // recovers to its snapshot.
     ensures { (generation : ℕ) (settings : Settings) (snapshot : Snapshot) (base other : ℕ) (image : List ℕ)
         → IsRecoveredAsWritten generation settings snapshot base other image }
 {}
