@@ -16,10 +16,12 @@ use receipts::{Gone, SharedOpening, SharedTrace, desks};
 use sector_disk::{CountingDisk, Disk, Written};
 use std::alloc::AllocError;
 use std::fs::File;
+use std::io;
 use std::io::Write;
 use std::marker::Brand;
 use std::rt::Files;
 use std::sync::ledger::{Blank, Ledger};
+use std::time::Instant;
 use thiserror::Error;
 
 /// Why a disk was not served, or not to its end.
@@ -129,6 +131,26 @@ where
     serve_hall::<R, T, D>(rt, hall, listeners, admin, discard)
 }
 
+// Serves what is on a disk, once it is opened.
+fn serve_on<R, T, D, W>(
+    rt: R,
+    disk: D,
+    written: Written,
+    at: &Address<'_>,
+    start: &io::Result<Instant>,
+    out: &mut W,
+) -> Result<(), ServingError>
+where
+    R: Files<File = File> + Machine,
+    T: SharedTrace + 'static,
+    T::Opening: SharedOpening + 'static,
+    D: Disk + Drop,
+    W: Write,
+{
+    let opened = open_to_serve(&rt, disk, written, at, start, out)?;
+    serve_opened::<R, T, D>(rt, opened, at)
+}
+
 /// Serves a disk: callers on a port of this machine and environment n on the port n behind it, from the line that is
 /// printed on until the broker is stopped. The file is looked at first, as soon as it is this broker's turn, then what is on
 /// it, then the ports.
@@ -141,8 +163,7 @@ where
     warn(&rt, at);
     let written = Written::new(rt.alloc())?;
     let counting = CountingDisk::over(disk, written.another()?);
-    let opened = open_to_serve(&rt, counting, written, at, &start, out)?;
-    serve_opened::<R, Gone, CountingDisk<Device<R>>>(rt, opened, at)?;
+    serve_on::<R, Gone, CountingDisk<Device<R>>, W>(rt, counting, written, at, &start, out)?;
     note_stop(&rt, at);
     Ok(())
 }
