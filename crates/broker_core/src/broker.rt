@@ -51,7 +51,7 @@ impl<D: Disk> Broker<D> {
     /// A disk that is not opened is handed back with the cause: `Fault`, `OutOfMemory`, `NotFormatted`, `Damaged` with its
     /// sector, or `OldVersion` where nothing is damaged and the disk has to be migrated first. Nothing is written to the disk.
     pub fn open(alloc: Global, disk: D) -> Result<Broker<D>, OpenFailure<D>>
-        // claim: A disk not opened is handed back. Faults are told only where their count rose, or is at its greatest.
+        // claim: A disk not opened is handed back. An opening tells a fault only where the count rose, or is at its greatest.
         ensures same { IfOk result (λ b. IsSameDisk (D.view disk) (D.view (disk_of b))) }
         ensures same_failed { IfErr result (λ e. IsSameDisk (D.view disk) (D.view e.disk)) }
         ensures fault { IfErr result (λ e. TellsFault (D.fault_count disk) (D.fault_count e.disk) e.cause) }

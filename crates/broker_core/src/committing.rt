@@ -103,7 +103,7 @@ impl<D: Disk> Broker<D> {
     pub fn commit(&mut self) -> Result<Durable, CommitError>
         ensures same { IsSameDisk (D.view (disk_of self.old)) (D.view (disk_of self.new)) }
         ensures later { D.fault_count (disk_of self.old) ≤ D.fault_count (disk_of self.new) }
-        // claim: Faults are told only where their count rose, or is at its greatest. `Broken`, `WornOut` and `BadKind` have
+        // claim: A commit tells a fault only where the count rose, or is at its greatest. `Broken`, `WornOut` and `BadKind` have
         // their reason. [: fault, broken, worn_out, worn, bad; Broker::switch]
         ensures fault { IsErrOf result CommitError.Fault → FaultsHaveRisen D.fault_count self.old self.new }
         ensures broken { (result ≡ Err commit_error.Broken) ↔ (is_broken self.old ≡ true) }

@@ -126,7 +126,8 @@ pub fn switch<D: Disk>(
     ensures same { IsSameDisk (D.view disk.old) (D.view disk.new) }
     ensures later { D.fault_count disk.old ≤ D.fault_count disk.new }
     ensures fault { IsErrOf result SwitchError.Fault → HasRisen (D.fault_count disk.old) (D.fault_count disk.new) }
-    // claim: A snapshot is bad exactly where it may not stand on the disk. That, and want of memory, come before any call.
+    // claim: A snapshot is bad exactly where it may not stand on the disk. So it is told, as want of memory is,
+    // before any call of the disk.
     ensures bad { IsErrOf result SwitchError.BadKind ↔ (may_stand (settings_of opened.old) snapshot.now ≡ false) }
     ensures no_call { IsErrOf result SwitchError.BadKind → disk.new ≡ disk.old }
     ensures no_call_either { IsErrOf result SwitchError.OutOfMemory → disk.new ≡ disk.old }

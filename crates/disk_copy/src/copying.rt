@@ -66,8 +66,8 @@ pub fn copy<D: Disk, E: Disk>(
     ensures copied { (E.view disk.old).honest
         → OnOk result (IsSeeded (E.view disk.new) (settings_for broker.now change.now) (table_in broker.now)) }
 
-    // claim: After Ok the new disk goes on with each history that the broker stands for, all durable. No history's
-    // table is refused as bad.
+    // claim: After Ok the new disk goes on with each history that the broker stands for, all durable. A table
+    // that a history left is never told bad.
     ensures goes_on { (E.view disk.old).honest → ForEachHistory D.view broker.now (λ history.
         OnOk result (GoesOnWith (E.view disk.new) (settings_for broker.now change.now) history)) }
     ensures sound { ForEachHistory D.view broker.now (λ history. result ≡ Err copy_error.BadTable → ⊥) }

@@ -114,8 +114,8 @@ impl Journal {
         ensures same { IsSameDisk (D.view disk.old) (D.view disk.new) }
         ensures later { D.fault_count disk.old ≤ D.fault_count disk.new }
         ensures fault { IsErrOf result AppendError.Fault → HasRisen (D.fault_count disk.old) (D.fault_count disk.new) }
-        // claim: It is refused for room exactly where the frame does not fit. That, and want of memory, come before any
-        // call.
+        // claim: It is refused for room exactly where the frame does not fit. This refusal, and that for want of
+        // memory, are told before any call of the disk.
         ensures no_room { IsErrOf result AppendError.NoRoom ↔ (fits self.old (length (commands_text commands.now)) ≡ false) }
         ensures no_call { IsErrOf result AppendError.NoRoom → disk.new ≡ disk.old }
         ensures no_call_either { IsErrOf result AppendError.OutOfMemory → disk.new ≡ disk.old }

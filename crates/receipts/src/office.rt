@@ -255,8 +255,8 @@ impl<L: Ledger, T: Trace> Office<L, T> {
         ensures err { OnErr result.answer (desk.new.told ≡ desk.old.told) }
         ensures refused { IfErr result.answer (IsCommitRefusal desk.old.told) }
         // claim: A commit leaves the disk half alone, or hands it one batch, all durable at Ok. A crash at any moment
-        // leaves a legal stop of the half's history with what it took. Faults are told only where their count rose, or
-        // is at its greatest.
+        // leaves a legal stop of the half's history with what it took. It tells a fault only where the half's
+        // count of them rose, or is at its greatest.
         ensures disk { CommitsTo D.view D.fault_count (broker_of disk.old) (broker_of disk.new) result.answer }
         ensures fault { result.answer ≡ Err HallError.Fault → FaultsHaveRisen D.fault_count (broker_of disk.old) (broker_of disk.new) }
 
