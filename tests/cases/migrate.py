@@ -76,16 +76,21 @@ def each_event_stays_as_it_stands(broker):
 
 
 @case()
-def what_cannot_be_migrated_is_refused(broker):
-    same(broker.migrate(), (1, "refused: not an old version\n"))
+def what_cannot_be_migrated_is_refused_and_stays_as_it_is(broker):
+    def refuses(why):
+        before = broker.content()
+        same(broker.migrate(), (1, f"refused: {why}\n"))
+        assert broker.content() == before, "the disk was changed"
+
+    refuses("not an old version")
     for words in (), (broker.disk, "x"), (broker.disk, "--force"):
         same((words, broker.said("migrate", *words)[0]), (words, 2))
     same(broker.said("migrate", broker.disk + "x"), (1, "refused: no such file\n"))
     become(broker, bytes(64 * 512))
-    same(broker.migrate(), (1, "refused: not formatted\n"))
+    refuses("not formatted")
     become(broker, old_disk())
     broker.put(512 + 7, b"\3")
-    same(broker.migrate(), (1, "refused: damaged at sector 1\n"))
+    refuses("damaged at sector 1")
 
 
 @case()
