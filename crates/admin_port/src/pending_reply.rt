@@ -25,8 +25,8 @@ impl<R: Wait + Clock + Drop, L: Ledger, T: Trace> Future for PendingReply<R, L, 
     ghost use Rattle.long_poll.specs.PendingView.{unreleased_in};
     ghost use Rattle.admin_port.specs.Replying.{TellsOfUnreleased};
 
-    // claim: A reply tells of what its own future held back, for what was asked, or is 503. [: gives; AdminContext::tell;
-    // AdminResponse: tells]
+    // claim: Page and history aside, a reply tells of what its own future held back, for what was asked, or is 503. [: gives;
+    // AdminContext::tell; AdminResponse: tells]
     ghost gives = { λ pending shown. TellsOfUnreleased pending.context.value.baseline pending.request
         (unreleased_in pending.view.view) shown.reply };
 
