@@ -135,8 +135,8 @@ pub fn seed<D: Disk>(
     // claim: A crash meanwhile leaves what was there but for the gates, no formatted disk, or the whole table.
     ensures any_moment { LeavesSeeding (D.view disk.old) (D.view disk.new) settings.now snapshot.now }
 
-    // claim: Where no image was a formatted disk, none is but with the whole table. One that read as not formatted keeps
-    // its image, reads so still, or has the whole table.
+    // claim: Where no image was a formatted disk, none is but with the whole table. One that read as unformatted has an
+    // old image, reads so still, or has the whole table.
     ensures old_or_whole { LeavesOldOrWhole (D.view disk.old) (D.view disk.new) settings.now snapshot.now }
     ensures none_or_whole { LeavesNoneOrWhole (D.view disk.old) (D.view disk.new) settings.now snapshot.now }
 
