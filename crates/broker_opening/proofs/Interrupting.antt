@@ -1,6 +1,6 @@
 -- Interrupts after interrupts, until nothing runs.
 use Rattle.std.proofs.Common.{◌≡◌, ℕ, Bool, true, false, List, [], ◌∷◌, ◌++◌, Option, Some, None, Result, Ok, Err, refl, sym, ◌∙◌, ap, subst, append_assoc}
-use Rattle.std.specs.Prelude.{is_some, not, IfOk}
+use Rattle.std.specs.Prelude.{is_some, not, take, IfOk}
 use Rattle.std.proofs.lemmas.List.{append-nil}
 use Rattle.std.proofs.lemmas.Bool.{true≢false}
 use Rattle.std.proofs.lemmas.List.Elements.{All-append, All-cons, All-nil}
@@ -10,11 +10,12 @@ use Rattle.invoke_records.specs.declared.command.Command.{Command}
 use Rattle.retry_rules.specs.declared.settings.Settings.{Settings}
 use Rattle.broker_core.specs.declared.broker.Broker.{Broker}
 use Rattle.broker_core.specs.declared.error.IssueError.{IssueError}
-use Rattle.broker_core.specs.Broker.{settings_of, Stands}
+use Rattle.broker_core.specs.Broker.{settings_of, issued_of, Stands}
+use Rattle.broker_core.specs.Promises.{IsRecovered}
 use Rattle.broker_core.specs.Resume.{interrupt_of, Resumes, TellsRest, AllAtRest}
 use Rattle.hall_core.specs.Hall.{HallView, StandsFor}
 use Rattle.hall_plans.specs.Past.{opening}
-use Rattle.broker_opening.specs.Opening.{IsInterrupt, IsInterrupted, ComesToRest, OpensAtRest}
+use Rattle.broker_opening.specs.Opening.{IsInterrupt, IsInterrupted, ComesToRest, OpensAtRest, RecoversAtRest}
 
 -- before the first interrupt
 pub uninterrupted : {D : Type 0} {g : Ghosts D} (view : D → DiskView) (history : List Command) (broker : Broker D g)
@@ -94,3 +95,15 @@ pub opens_at_rest : {D : Type 0} {g : Ghosts D} (view : D → DiskView) (extensi
     → OpensAtRest view extensions history issuer hall
 opens_at_rest view extensions history broker issuer hall rest same stands =
     subst (λ (b : Broker _ _). OpensAtRest view extensions history b hall) (sym same) (record { rest = rest; stands = stands })
+
+-- a hall at rest over the broker that recovery gave
+pub recovers_at_rest : {D : Type 0} {g : Ghosts D} (view : D → DiskView) (extensions : ℕ) (s : Settings) (history : List Command) (durable : ℕ)
+    (recovered broker : Broker D g) (hall : HallView) → IsRecovered view s history durable recovered
+    → ((h : List Command) → Stands view recovered h → OpensAtRest view extensions h broker hall)
+    → RecoversAtRest view extensions history durable broker hall
+recovers_at_rest view extensions s history durable recovered broker hall is opens = record {
+  size = issued_of recovered;
+  at_least = is.0;
+  at_most = is.1;
+  rests = opens (take (issued_of recovered) history) is.3;
+}

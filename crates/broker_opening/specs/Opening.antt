@@ -1,5 +1,5 @@
 -- What is done before callers are served: for each attempt that the last stop cut off an Interrupt is issued.
-use Rattle.std.specs.Prelude.{◌≡◌, ℕ, List, ◌++◌, All}
+use Rattle.std.specs.Prelude.{◌≡◌, ◌≤◌, ℕ, List, ◌++◌, All, length, take}
 use Rattle.sector_disk.specs.Disk.{DiskView}
 use Rattle.sector_disk.specs.declared.disk.Disk.{Ghosts}
 use Rattle.invoke_records.specs.declared.command.Command.{Command}
@@ -30,3 +30,11 @@ pub record OpensAtRest {D : Type 0} {g : Ghosts D} (view : D → DiskView) (exte
     (broker : Broker D g) (hall : HallView) : Type 0 where
   pub rest : ComesToRest view history broker
   pub stands : StandsFor hall (opening extensions (history ++ rest.interrupted.interrupts))
+
+-- the hall came to rest behind a beginning of this history that has all that was durable
+pub record RecoversAtRest {D : Type 0} {g : Ghosts D} (view : D → DiskView) (extensions : ℕ) (history : List Command) (durable : ℕ)
+    (broker : Broker D g) (hall : HallView) : Type 0 where
+  pub size : ℕ
+  pub at_least : durable ≤ size
+  pub at_most : size ≤ length history
+  pub rests : OpensAtRest view extensions (take size history) broker hall

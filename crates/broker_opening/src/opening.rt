@@ -1,7 +1,11 @@
 // Opening what is on a disk, to be served.
 ghost use Rattle.std.specs.Prelude.{◌≡◌, [], IfOk, IfSome, is_some};
 ghost use Rattle.broker_core.specs.Broker.{pending_of, settings_of};
+ghost use Rattle.broker_core.specs.IssuerBroker.{issuer_of};
+ghost use Rattle.broker_core.specs.Promises.{ForEachHistoryOn};
 ghost use Rattle.hall_core.specs.Fresh.{IsFresh};
+ghost use Rattle.hall_core.specs.Hall.{view_of};
+ghost use Rattle.broker_opening.specs.Opening.{RecoversAtRest};
 
 use crate::error::OpeningError;
 use crate::listening::{Ports, listen_on_all};
@@ -82,6 +86,11 @@ where
     ensures fresh { IfOk result (λ opened. IsFresh (settings_of opened.hall.issuer) opened.hall) }
     ensures settings { IfOk result (λ opened.
         IfSome opened.admin (λ port. port.baseline.settings ≡ settings_of opened.hall.issuer)) }
+    // claim: An Ok hall over an honest disk stands for what recovery gives of each history there, with Interrupts alone behind
+    // it, in the dialect and for the extensions asked for.
+    ensures dialect { IfOk result (λ opened. (view_of (issuer_of D.view) opened.hall).dialect ≡ at.now.dialect) }
+    ensures rest { (D.view disk).honest → ForEachHistoryOn (D.view disk) (λ s history durable. IfOk result (λ opened.
+        RecoversAtRest D.view at.now.extensions history durable opened.hall.issuer (view_of (issuer_of D.view) opened.hall))) }
 {
     let broker = open(rt.alloc(), disk)?;
     let environments = broker.table().settings().environments;

@@ -15,9 +15,9 @@ ghost use Rattle.broker_core.specs.Splitting.{broker_of};
 ghost use Rattle.group_commit.specs.Migrating.{Migrates};
 ghost use Rattle.disk_copy.specs.Limits.{AllowsAll};
 ghost use Rattle.disk_copy.specs.Copying.{GoesOnWith};
-ghost use Rattle.hall_core.specs.Hall.{view_of, settings_in, words_in, StandsFor, Gives};
+ghost use Rattle.hall_core.specs.Hall.{view_of, settings_in, StandsFor, Gives};
 ghost use Rattle.promises.specs.Promises.{Life, done, Telling, issued, WasAnswered202, WasShown, IsToldOfPrefix, GoesOn, IsKept, IsShown, IsShownFirst, FollowsRules, Leaves, LeavesEvent};
-ghost use Rattle.promises.specs.Giving.{IsTold};
+ghost use Rattle.promises.specs.Giving.{IsToldBy};
 ghost use Rattle.promises.specs.Halves.{IsBehind};
 
 use broker_core::{Broker, DiskHalf, IssueHalf, Issuer};
@@ -148,7 +148,7 @@ pub fn what_is_given_was_told<I: Issuer>(hall: &Hall<I>, given: &Released)
     ensures { (life : Life (settings_in (view_of I.view hall.now))) (slot : ℕ)
         → StandsFor (view_of I.view hall.now) (done (settings_in (view_of I.view hall.now)) life)
         → Gives (view_of I.view hall.now) slot (Some given.now)
-        → IsTold (settings_in (view_of I.view hall.now)) (words_in (view_of I.view hall.now)) life slot given.now }
+        → IsToldBy (view_of I.view hall.now) life slot given.now }
 {
     let _ = hall;
     let _ = given;
