@@ -71,7 +71,7 @@ module _ {R L T O : Type 0} {l : LedgerGhosts L} {g : TraceGhosts T O} {o : Open
   abbrev pub TellsOfStep : List ℕ → Step R L T O l g o → AdminReply → Type 0
   TellsOfStep id (Looking view) reply = TellsOfLook l g o id (unreleased_in view.view) reply
   TellsOfStep id (Accepting asked) reply = TellsOfInvoke l g o asked.call.value id reply
-  TellsOfStep id (Collecting accepted new asked) reply = TellsOfDelete l g o asked.call.value id new reply
+  TellsOfStep id (Collecting accepted asked) reply = TellsOfDelete l g o asked.call.value id accepted.id reply
   TellsOfStep id Told reply = reply.status ≡ 503
 
   -- this is told, or is told in the end

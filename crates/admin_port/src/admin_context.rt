@@ -56,7 +56,7 @@ impl<L: Ledger, T: Trace> AdminContext<L, T> {
             memory,
             written_bytes: self.written.bytes(),
             resident_bytes: resident_bytes(self.memory.as_ref()),
-            has_fault: self.reader.bell().has_broken(),
+            has_fault: self.reader.bell().said_broken().is_some(),
         }
     }
 

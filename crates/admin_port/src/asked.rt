@@ -1,5 +1,5 @@
 // A call that an operator has the hall do, and the hall's reply to it.
-ghost use Rattle.std.specs.Prelude.{◌≡◌, IfOk, IfErr, IfSome, OnErr};
+ghost use Rattle.std.specs.Prelude.{◌≡◌, Some, None, IfOk, IfErr, IfSome, IfNone, OnErr};
 ghost use Rattle.futures.specs.Task.{IsArmed, Keeps};
 ghost use Rattle.admin_port.specs.Asking.{GivesReplyTo, IsReplyTo, accepted_by};
 
@@ -21,6 +21,21 @@ pub(crate) struct Answered<L: Ledger, T: Trace> {
     ghost tells: { ∥ IsReplyTo call.value told ∥₁ },
 }
 
+/// That the hall's reply told of an event that was accepted: which. Only such a reply makes one.
+#[derive(Drop)]
+pub(crate) struct Accepted {
+    id: [u8; 16],
+}
+
+impl Accepted {
+    /// The event's id.
+    pub(crate) fn id(&self) -> &[u8; 16]
+        ensures { result.now ≡ self.now.id }
+    {
+        &self.id
+    }
+}
+
 /// A call that was done, and whose reply is waited for.
 #[derive(Drop)]
 pub(crate) struct Asked<R: Wait, L: Ledger, T: Trace> {
@@ -37,8 +52,8 @@ impl<L: Ledger, T: Trace> Answered<L, T> {
         self.told.answer.status
     }
 
-    /// The id of the event that it tells to be accepted, if it does.
-    pub(crate) fn accepted(&self) -> Option<[u8; 16]>
+    // The id of the event that it tells to be accepted, if it does.
+    fn accepted_id(&self) -> Option<[u8; 16]>
         ensures { result ≡ accepted_by self.now.told.answer }
     {
         let reply = &self.told.answer;
@@ -50,6 +65,19 @@ impl<L: Ledger, T: Trace> Answered<L, T> {
             read_id(value)
         } else {
             None
+        }
+    }
+
+    /// Its status, and that it tells of an accepted event, if it does.
+    pub(crate) fn accepted(self) -> (u16, Option<Accepted>)
+        ensures status { result.0 ≡ self.told.answer.status }
+        ensures some { IfSome result.1 (λ accepted. accepted_by self.told.answer ≡ Some accepted.id) }
+        ensures none { IfNone result.1 (accepted_by self.told.answer ≡ None) }
+    {
+        let status = self.status();
+        match self.accepted_id() {
+            Some(id) => (status, Some(Accepted { id })),
+            None => (status, None),
         }
     }
 }

@@ -4,11 +4,10 @@ ghost use Rattle.futures.specs.Task.{Keeps};
 ghost use Rattle.api_core.specs.declared.call.Call.TheVariants.{Delete};
 ghost use Rattle.long_poll.specs.PendingView.{unreleased_in};
 ghost use Rattle.admin_replies.specs.Retrying.{failed_payload, status_by, status_of};
-ghost use Rattle.admin_port.specs.Asking.{accepted_by};
 ghost use Rattle.admin_port.specs.Retrying.{IsArmedIn, LeadsToDelete, LeadsToInvoke, LeadsToLook, LeadsToPayload, LeadsToStep, TellsOfReply, TellsOfStep};
 
 use crate::admin_response::{AdminResponse, device_fault, told};
-use crate::asked::{Answered, Asked};
+use crate::asked::{Accepted, Answered, Asked};
 use crate::step::{Step, Turn};
 use admin_replies::{
     RetryRefusal, ToldLine, Verdict, again_reply, failed_payload, left_reply, refusal_reply,
@@ -85,36 +84,29 @@ impl<R: Wait + Drop + Copy, L: Ledger, T: Trace, A: Acting<R, L, T>> Retrying<R,
     // Waits for the reply to the DELETE of the record.
     fn wait_collected(
         &self,
-        accepted: Answered<L, T>,
-        new: [u8; 16],
+        accepted: Accepted,
         asked: Asked<R, L, T>,
         cx: &mut Context<'_>,
     ) -> Turn<R, L, T>
-        ensures leads { LeadsToDelete asked.call.value self.now.id new result }
+        ensures leads { LeadsToDelete asked.call.value self.now.id accepted.id result }
         ensures armed { IsArmedIn cx.new result }
         ensures kept { Keeps cx.old cx.new }
     {
         match asked.wait(cx) {
-            Ok(answered) => Turn::Tells(self.collected(&new, &answered)),
-            Err(asked) => Turn::Waits(Step::Collecting(accepted, new, asked)),
+            Ok(answered) => Turn::Tells(self.collected(accepted.id(), &answered)),
+            Err(asked) => Turn::Waits(Step::Collecting(accepted, asked)),
         }
     }
 
-    // The payload was accepted as this event, by this reply: that is durable, and the record is collected.
-    fn collect(
-        &self,
-        accepted: Answered<L, T>,
-        new: [u8; 16],
-        cx: &mut Context<'_>,
-    ) -> Turn<R, L, T>
-        requires { accepted_by accepted.told.answer ≡ Some new }
-        ensures leads { LeadsToDelete (Delete (Some self.now.id)) self.now.id new result }
+    // The payload was accepted as an event, which is durable, and the record is collected.
+    fn collect(&self, accepted: Accepted, cx: &mut Context<'_>) -> Turn<R, L, T>
+        ensures leads { LeadsToDelete (Delete (Some self.now.id)) self.now.id accepted.id result }
         ensures armed { IsArmedIn cx.new result }
         ensures kept { Keeps cx.old cx.new }
     {
         match Asked::ask(self.rt, &*self.acting, Call::Delete(Some(self.id))) {
-            Some(asked) => self.wait_collected(accepted, new, asked, cx),
-            None => Turn::Tells(told(left_reply(self.alloc, &new))),
+            Some(asked) => self.wait_collected(accepted, asked, cx),
+            None => Turn::Tells(told(left_reply(self.alloc, accepted.id()))),
         }
     }
 
@@ -128,9 +120,10 @@ impl<R: Wait + Drop + Copy, L: Ledger, T: Trace, A: Acting<R, L, T>> Retrying<R,
             Ok(answered) => answered,
             Err(asked) => return Turn::Waits(Step::Accepting(asked)),
         };
-        match answered.accepted() {
-            Some(new) => self.collect(answered, new, cx),
-            None => Turn::Tells(unaccepted(self.alloc, answered.status())),
+        let (status, accepted) = answered.accepted();
+        match accepted {
+            Some(accepted) => self.collect(accepted, cx),
+            None => Turn::Tells(unaccepted(self.alloc, status)),
         }
     }
 
@@ -180,9 +173,7 @@ impl<R: Wait + Drop + Copy, L: Ledger, T: Trace, A: Acting<R, L, T>> Retrying<R,
         match step {
             Step::Looking(view) => self.look(view, cx),
             Step::Accepting(asked) => self.wait_accepted(asked, cx),
-            Step::Collecting(accepted, new, asked) => {
-                self.wait_collected(accepted, new, asked, cx)
-            }
+            Step::Collecting(accepted, asked) => self.wait_collected(accepted, asked, cx),
             Step::Told => Turn::Tells(unaccepted(self.alloc, 503)),
         }
     }

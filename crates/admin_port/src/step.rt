@@ -1,6 +1,6 @@
 // How far it is with a record that is tried again.
 use crate::admin_response::AdminResponse;
-use crate::asked::{Answered, Asked};
+use crate::asked::{Accepted, Asked};
 use long_poll::PendingView;
 use receipts::Trace;
 use std::sync::Wait;
@@ -13,8 +13,8 @@ pub(crate) enum Step<R: Wait, L: Ledger, T: Trace> {
     Looking(PendingView<R, L, T>),
     /// Its payload came as an event, and the reply to that is waited for.
     Accepting(Asked<R, L, T>),
-    /// It was accepted by this reply, under this id, and the reply to the DELETE of its record is waited for.
-    Collecting(Answered<L, T>, [u8; 16], Asked<R, L, T>),
+    /// It was accepted so, and the reply to the DELETE of its record is waited for.
+    Collecting(Accepted, Asked<R, L, T>),
     /// It was told what became of it.
     Told,
 }

@@ -1,16 +1,17 @@
 // The committer's loop.
-ghost use Rattle.std.specs.Prelude.{◌≡◌, ℕ, Bool, List, [], ◌∷◌, ◌++◌};
+ghost use Rattle.std.specs.Prelude.{◌≡◌, ℕ, Bool, true, List, [], ◌∷◌, ◌++◌};
 ghost use Rattle.std.specs.Bool.{OnTrue, OnFalse};
 ghost use Rattle.commit_loop.specs.Committer.{Step, counted, commit_step, raised, said_broken, rang, rang_all, slept};
 ghost use Rattle.commit_loop.specs.Committer.{said_of, steps_of_commit, steps_of_skip, Acts, IsTurn, IsEnd, IsRun};
 ghost use Rattle.commit_loop.specs.declared.gate.Turn.TheVariants.{End};
 
 use crate::gate::{Gate, Turn};
+use std::snapshot::Snapshot as Seen;
 use std::sync::Wait;
 use std::thread;
 
-/// What a committer works on, by the steps that it makes. A step of which no clause speaks answers what shows that it was made, so
-/// that one that does nothing cannot be written where only the real one gives that.
+/// What a committer works on, by the steps that it makes. A step answers what shows that it was made: clauses
+/// say of what it has to be.
 pub trait Committing {
     /// What a commit made durable.
     type Durable: Drop;
@@ -33,14 +34,29 @@ pub trait Committing {
     /// That one slept, or had been called.
     type Slept: Drop;
 
+    /// What is shown of it, where its loop ran.
+    type Shown;
+
     /// How many commands are durable.
     ghost number: { Self.Durable → ℕ };
 
     /// How many commands a look found pending.
     ghost count: { Self.Counted → ℕ };
 
-    /// The bell was rung for those that wait for so much, or less.
-    ghost up_to: { Self.Rung → ℕ };
+    /// Its bell was rung for those that wait for so much, or less.
+    ghost rings: { Self → ℕ → Self.Rung → Type 0 };
+
+    /// Its bell was rung for all.
+    ghost rings_all: { Self → Self.RungForAll → Type 0 };
+
+    /// It was said at its bell that the hall is broken, and the hall is.
+    ghost tells: { Self → Self.SaidBroken → Type 0 };
+
+    /// It slept for as long as it may, or less.
+    ghost rests: { Self → Self.Slept → Type 0 };
+
+    /// What is shown of it.
+    ghost view: { Self → Self.Shown };
 
     /// Whether nothing more becomes durable. Where it does not hold, a later commit may succeed.
     ghost breaks: { Self.Failure → Bool };
@@ -50,6 +66,9 @@ pub trait Committing {
 
     /// How many commands are issued and not durable.
     fn pending(&mut self) -> (usize, Self::Counted)
+        // claim: A step answers what shows that it was made, and how. [: steps, shown; Committing::ring, Committing::ring_all,
+        // Committing::say_broken, Committing::sleep: shown; Ticking::pending, Ticking::tick, Ticking::call, Ticking::sleep:
+        // shown]
         ensures steps { leads self.old (counted result.0 ∷ []) self.new }
         ensures shown { result.0 ≡ count result.1 };
 
@@ -65,23 +84,31 @@ pub trait Committing {
     fn raise(&mut self, durable: &Self::Durable)
         ensures { leads self.old (raised (number durable.now) ∷ []) self.new };
 
-    /// Says that the hall is broken.
-    fn say_broken(&mut self) -> Self::SaidBroken
-        ensures { leads self.old (said_broken ∷ []) self.new };
+    /// Says that the hall is broken, as this failure shows.
+    fn say_broken(&mut self, why: Self::Failure) -> Self::SaidBroken
+        requires { breaks why ≡ true }
+        ensures steps { leads self.old (said_broken ∷ []) self.new }
+        ensures shown { tells self.old result };
 
     /// Rings the bell for those whose reply may be told now: they wait for so much, or less.
     fn ring(&mut self, durable: &Self::Durable) -> Self::Rung
         ensures steps { leads self.old (rang (number durable.now) ∷ []) self.new }
-        ensures shown { up_to result ≡ number durable.now };
+        ensures shown { rings self.old (number durable.now) result };
 
     /// Rings the bell for all that wait for a reply.
     fn ring_all(&mut self) -> Self::RungForAll
-        ensures { leads self.old (rang_all ∷ []) self.new };
+        ensures steps { leads self.old (rang_all ∷ []) self.new }
+        ensures shown { rings_all self.old result };
 
     /// Sleeps until it is called, or has been since the last time. Where something is left to do that nobody calls for, it
     /// sleeps for a while at most.
     fn sleep(&mut self) -> Self::Slept
-        ensures { leads self.old (slept ∷ []) self.new };
+        ensures steps { leads self.old (slept ∷ []) self.new }
+        ensures shown { rests self.old result };
+
+    /// What is shown of it, where its loop ran.
+    fn shown(&self) -> &Self::Shown
+        ensures { result.now ≡ view self.now };
 
     /// No step leads to the same value.
     ghost stays: { (value : Self) → leads value [] value };
@@ -99,25 +126,26 @@ fn show<C: Committing>(committer: &mut C, durable: &C::Durable)
 }
 
 // Says that the hall is broken, and then rings for all.
-fn say_broken<C: Committing>(committer: &mut C)
+fn say_broken<C: Committing>(committer: &mut C, why: C::Failure)
+    requires { C.breaks why ≡ true }
     ensures { C.leads committer.old (said_broken ∷ rang_all ∷ []) committer.new }
 {
-    committer.say_broken();
+    committer.say_broken(why);
     committer.ring_all();
 }
 
 // Says that the hall is broken, if it is.
-fn say<C: Committing>(committer: &mut C, why: &C::Failure)
-    ensures { C.leads committer.old (said_of (C.breaks why.now)) committer.new }
+fn say<C: Committing>(committer: &mut C, why: C::Failure)
+    ensures { C.leads committer.old (said_of (C.breaks why)) committer.new }
 {
-    if committer.is_broken_by(why) {
-        say_broken(committer);
+    if committer.is_broken_by(&why) {
+        say_broken(committer, why);
     }
 }
 
 // Tells of a commit that failed, and sleeps.
-fn tell<C: Committing>(committer: &mut C, why: &C::Failure)
-    ensures { C.leads committer.old (said_of (C.breaks why.now) ++ slept ∷ []) committer.new }
+fn tell<C: Committing>(committer: &mut C, why: C::Failure)
+    ensures { C.leads committer.old (said_of (C.breaks why) ++ slept ∷ []) committer.new }
 {
     say(committer, why);
     committer.sleep();
@@ -129,7 +157,7 @@ fn commit<C: Committing>(committer: &mut C)
 {
     match committer.commit() {
         Ok(durable) => show(committer, &durable),
-        Err(why) => tell(committer, &why),
+        Err(why) => tell(committer, why),
     }
 }
 
@@ -172,19 +200,44 @@ fn turn<G: Gate, C: Committing>(gate: &G, committer: &mut C) -> bool
     act(committer, pending, said)
 }
 
-/// Commits as the gate says, until the gate ends the loop. What a commit made durable is shown on the board before the bell
-/// rings for those that wait for it; where it failed and the hall is broken, that is said before the bell rings for all.
-/// Where nothing is pending, or a commit failed, the committer sleeps, as `Committing::sleep` says; where the gate skips what
-/// is pending, it is asked again.
-pub fn commit_all<R: Wait, G: Gate, C: Committing>(rt: &R, gate: &G, committer: &mut C)
-    // claim: Turns lead from what the committer was to what it is: each counts what is pending and does what its gate says.
-    // A commit's number is raised on the board, then rung for. After a failure it sleeps; where that broke the hall, it is
-    // first said, then rung for all.
+// Makes turns, until the gate ends the loop.
+fn turn_all<R: Wait, G: Gate, C: Committing>(rt: &R, gate: &G, committer: &mut C)
     ensures { IsRun C.leads (G.says gate.now) committer.old committer.new }
 {
     for _ in rt.forever() {
         if !turn(gate, committer) {
             break;
         }
+    }
+}
+
+/// That a committer's loop ran until its gate ended it. Only the loop makes one. Proofs see in it what was shown before and after.
+#[derive(Drop)]
+pub struct CommitterRan<S> {
+    before: Seen<S>,
+    after: Seen<S>,
+}
+
+/// Commits as the gate says, until the gate ends the loop. What a commit made durable is shown on the board before the bell
+/// rings for those that wait for it; where it failed and the hall is broken, that is said before the bell rings for all.
+/// Where nothing is pending, or a commit failed, the committer sleeps, as `Committing::sleep` says; where the gate skips what
+/// is pending, it is asked again.
+pub fn commit_all<R: Wait, G: Gate, C: Committing>(
+    rt: &R,
+    gate: &G,
+    committer: &mut C,
+) -> CommitterRan<C::Shown>
+    // claim: Each turn counts what is pending and does what its gate says of that. A commit's number is raised on the
+    // board, then rung. A failure that broke the hall is said, then rung for all; then it sleeps. [: run]
+    ensures run { IsRun C.leads (G.says gate.now) committer.old committer.new }
+    // claim: A loop hands out what shows that it ran, from what to what. [: before, after; tick_all: before, after]
+    ensures before { result.before.value ≡ C.view committer.old }
+    ensures after { result.after.value ≡ C.view committer.new }
+{
+    let before = Seen::of(committer.shown());
+    turn_all(rt, gate, committer);
+    CommitterRan {
+        before,
+        after: Seen::of(committer.shown()),
     }
 }

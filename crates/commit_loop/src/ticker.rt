@@ -6,10 +6,11 @@ ghost use Rattle.commit_loop.specs.Ticker.{steps_of_moves, steps_of_call, Acts, 
 ghost use Rattle.commit_loop.specs.declared.gate.Turn.TheVariants.{End};
 
 use crate::gate::{Gate, Turn};
+use std::snapshot::Snapshot as Seen;
 use std::sync::Wait;
 
-/// What a ticker works on, by the steps that it makes. Each step answers what shows that it was made, so that a step that does
-/// nothing cannot be written where only the real one gives that.
+/// What a ticker works on, by the steps that it makes. Each step answers what shows that it was made: clauses say of what
+/// it has to be.
 pub trait Ticking {
     /// A look at what is pending.
     type Counted: Drop;
@@ -23,11 +24,23 @@ pub trait Ticking {
     /// That one slept.
     type Slept: Drop;
 
+    /// What is shown of it, where its loop ran.
+    type Shown;
+
     /// How many commands a look found pending.
     ghost count: { Self.Counted → ℕ };
 
-    /// The look shows that a move was made, or that none was due.
-    ghost shows: { Self.Looked → Bool → Type 0 };
+    /// The look, of which it keeps what it has to, shows that a move was made, or that none was due.
+    ghost shows: { Self → Self.Looked → Bool → Type 0 };
+
+    /// Its committer was called.
+    ghost calls: { Self → Self.Called → Type 0 };
+
+    /// It slept for as long as it may by what it knows, or less.
+    ghost rests: { Self → Self.Slept → Type 0 };
+
+    /// What is shown of it.
+    ghost view: { Self → Self.Shown };
 
     /// These steps, in this order, lead from the first value to the second.
     ghost leads: { Self → List Step → Self → Type 0 };
@@ -40,15 +53,21 @@ pub trait Ticking {
     /// Makes one move that is due: whether it made one.
     fn tick(&mut self) -> (bool, Self::Looked)
         ensures steps { leads self.old (ticked result.0 ∷ []) self.new }
-        ensures shown { shows result.1 result.0 };
+        ensures shown { shows self.new result.1 result.0 };
 
     /// Calls the committer.
     fn call(&mut self) -> Self::Called
-        ensures { leads self.old (called ∷ []) self.new };
+        ensures steps { leads self.old (called ∷ []) self.new }
+        ensures shown { calls self.old result };
 
     /// Sleeps until the next turn: as long as no move is due, or less.
     fn sleep(&mut self) -> Self::Slept
-        ensures { leads self.old (slept ∷ []) self.new };
+        ensures steps { leads self.old (slept ∷ []) self.new }
+        ensures shown { rests self.old result };
+
+    /// What is shown of it, where its loop ran.
+    fn shown(&self) -> &Self::Shown
+        ensures { result.now ≡ view self.now };
 
     /// No step leads to the same value.
     ghost stays: { (value : Self) → leads value [] value };
@@ -111,16 +130,41 @@ fn turn<R: Wait, G: Gate, T: Ticking>(rt: &R, gate: &G, ticker: &mut T) -> bool
     act(rt, ticker, said)
 }
 
-/// At each turn makes all moves that are due, where the gate says `Commit`, calls the committer if there was one, and sleeps; at
-/// `Skip` it only sleeps. It goes on until the gate ends the loop.
-pub fn tick_all<R: Wait, G: Gate, T: Ticking>(rt: &R, gate: &G, ticker: &mut T)
-    // claim: Turns lead from what the ticker was to what it is: where its gate says `Commit`, one makes moves until none is
-    // made, calls the committer if one was, and sleeps; at `Skip` it makes none and sleeps.
+// Makes turns, until the gate ends the loop.
+fn turn_all<R: Wait, G: Gate, T: Ticking>(rt: &R, gate: &G, ticker: &mut T)
     ensures { IsRun T.leads (G.says gate.now) ticker.old ticker.new }
 {
     for _ in rt.forever() {
         if !turn(rt, gate, ticker) {
             break;
         }
+    }
+}
+
+/// That a ticker's loop ran until its gate ended it. Only the loop makes one. Proofs see in it what was shown before and after.
+#[derive(Drop)]
+pub struct TickerRan<S> {
+    before: Seen<S>,
+    after: Seen<S>,
+}
+
+/// At each turn makes all moves that are due, where the gate says `Commit`, calls the committer if there was one, and sleeps; at
+/// `Skip` it only sleeps. It goes on until the gate ends the loop.
+pub fn tick_all<R: Wait, G: Gate, T: Ticking>(
+    rt: &R,
+    gate: &G,
+    ticker: &mut T,
+) -> TickerRan<T::Shown>
+    // claim: Where its gate says `Commit`, a turn makes moves until one is not made, calls the committer if one was, and
+    // sleeps. At `Skip` it sleeps. [: run]
+    ensures run { IsRun T.leads (G.says gate.now) ticker.old ticker.new }
+    ensures before { result.before.value ≡ T.view ticker.old }
+    ensures after { result.after.value ≡ T.view ticker.new }
+{
+    let before = Seen::of(ticker.shown());
+    turn_all(rt, gate, ticker);
+    TickerRan {
+        before,
+        after: Seen::of(ticker.shown()),
     }
 }

@@ -1,3 +1,3 @@
 pub mod Drafting
-pub mod Found
 pub mod Refusing
+pub mod Trying

@@ -1,8 +1,11 @@
+pub mod Calling
 pub mod Calls
 pub mod Discarding
+pub mod Ending
 pub mod Learning
 pub mod Marking
 pub mod Refusals
 pub mod Resting
 pub mod Telling
+pub mod Trying
 pub mod laws

@@ -1,9 +1,6 @@
 -- What a ticker has marked, beside the steps that it made.
-use Rattle.std.specs.Prelude.{◌≡◌, ◌⊎◌, ℕ, ◌+◌, Bool, true, false, List, sum_by, None}
-use Rattle.hall_plans.specs.declared.error.HallError.{HallError}
-use Rattle.hall_core.specs.Hall.{HallView}
-use Rattle.hall_plans.specs.Past.{tick}
-use Rattle.receipts.specs.UnderLock.{AnswersItsNumber, IsNotMoved}
+use Rattle.std.specs.Prelude.{◌≡◌, ℕ, ◌+◌, Bool, true, false, List, Option, sum_by}
+use Rattle.port_meters.specs.declared.moment.Moment.{Moment}
 use Rattle.commit_loop.specs.Ticker.{Step, counted, ticked, called, slept}
 use Rattle.http_front.specs.declared.tried.Tried.{Tried}
 use Rattle.http_front.specs.declared.tried.Tried.TheVariants.{Made}
@@ -24,10 +21,13 @@ moves_in slept = 0
 abbrev pub HasMarked : ℕ → List Step → ℕ → Type 0
 HasMarked old steps new = new ≡ old + sum_by moves_in steps
 
--- no move is made of this hall for a desk that was told so much: none is due, or it is refused
-abbrev pub FindsNothing : HallView → ℕ → ℕ → Type 0
-FindsNothing hall told now = AnswersItsNumber hall (tick now) None ⊎ ((why : HallError) × IsNotMoved hall told now why)
+-- ## The moment at which nothing was due
 
--- no move is made of this hall for some desk
-abbrev pub FindsNothingFor : HallView → ℕ → Type 0
-FindsNothingFor hall now = (told : ℕ) × FindsNothing hall told now
+-- how many moves a step looked for
+abbrev pub looks_in : Step → ℕ
+looks_in (ticked moved) = 1
+looks_in other = 0
+
+-- it is known still where no move was looked for since
+abbrev pub KeepsQuiet : Option Moment → List Step → Option Moment → Type 0
+KeepsQuiet old steps new = sum_by looks_in steps ≡ 0 → new ≡ old

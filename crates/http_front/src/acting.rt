@@ -1,11 +1,12 @@
 // How an operator's calls come to a front.
-ghost use Rattle.std.specs.Prelude.{IfOk};
+ghost use Rattle.std.specs.Prelude.{◌≡◌, IfOk, is_some};
 ghost use Rattle.long_poll.specs.Port.{IsDoneFor};
 ghost use Rattle.receipts.specs.Locked.{hall_in};
 
 use crate::arriving::{Handed, arrive};
 use crate::error::ArrivalError;
 use crate::front_state::FrontState;
+use crate::wake::Called;
 use api_core::Call;
 use long_poll::{Acting, Port, Waiting};
 use receipts::Trace;
@@ -29,7 +30,10 @@ impl<L: Ledger, T: Trace> CallersPort<L, T> {
     pub(crate) fn new(
         front: &Arc<FrontState<L, T>>,
         port: Option<&Arc<Port<L, T>>>,
-    ) -> Result<CallersPort<L, T>, AllocError> {
+    ) -> Result<CallersPort<L, T>, AllocError>
+        ensures front { IfOk result (λ callers. callers.front.value ≡ front.now.value) }
+        ensures port { IfOk result (λ callers. is_some callers.port ≡ is_some port.entry) }
+    {
         let port = match port {
             Some(port) => Some(Arc::try_clone(port)?),
             None => None,
@@ -73,6 +77,10 @@ where
     L: Ledger,
     T: Trace,
 {
+    type Called = Called;
+
+    ghost calls = { λ callers called. called.at.value ≡ callers.front.value.wake.source };
+
     fn act(&self, rt: R, call: Call) -> Option<Waiting<R, L, T>> {
         match ask(rt, &self.front, self.port.as_ref()?, call) {
             Ok(waiting) => Some(waiting),
@@ -80,7 +88,7 @@ where
         }
     }
 
-    fn commit(&self, rt: R) {
-        self.front.wake.call(&rt);
+    fn commit(&self, rt: R) -> Called {
+        self.front.wake.call(&rt)
     }
 }

@@ -1,9 +1,10 @@
 // A request comes to the hall.
-ghost use Rattle.std.specs.Prelude.{◌≤◌, IfOk, IfErr};
+ghost use Rattle.std.specs.Prelude.{◌≡◌, ◌≤◌, IfOk, IfErr};
 ghost use Rattle.invoke_records.specs.Spelling.{greatest_moment};
 ghost use Rattle.long_poll.specs.Port.{IsSlot, IsDoneFor, IsRequestRefusal};
 ghost use Rattle.receipts.specs.Locked.{hall_in};
 ghost use Rattle.http_front.specs.Refusals.{IsArrivalError};
+ghost use Rattle.http_front.specs.Calling.{puts_off, puts_one_off, CallFor};
 
 use crate::drawing::words;
 use crate::error::ArrivalError;
@@ -75,8 +76,20 @@ impl Moves {
 }
 
 // Whether an event waits since this was issued. It may grow too old before all else that is due.
-fn puts_off(issued: Issued) -> bool {
+fn puts_off(issued: Issued) -> bool
+    ensures { result ≡ puts_off issued }
+{
     matches!(issued.kind, Kind::Fail(_) | Kind::Throttle)
+}
+
+// Whether an event waits since this was issued, if something was.
+fn puts_one_off(issued: Option<Issued>) -> bool
+    ensures { result ≡ puts_one_off issued }
+{
+    match issued {
+        Some(issued) => puts_off(issued),
+        None => false,
+    }
 }
 
 // Makes one move that is due: whether it made one.
@@ -166,6 +179,7 @@ pub(crate) fn arrive<R: Wait + Clock + RandomSource + Eprint, L: Ledger, T: Trac
     ensures done { IfOk result (λ handed. IsDoneFor call (hall_in handed.arrived.seen.before.value.hall)
         (hall_in handed.arrived.seen.after.value.hall) handed.arrived.slot) }
     ensures refused { IfErr result IsArrivalError }
+    ensures calls { IfOk result (λ handed. CallFor handed.arrived.issued handed.has_command handed.is_move_near) }
 {
     let can_move = may_move(&call);
     let words = words_for(rt, &call)?;
@@ -177,14 +191,9 @@ pub(crate) fn arrive<R: Wait + Clock + RandomSource + Eprint, L: Ledger, T: Trac
     }
     let moves = follow(rt, port, now, can_move);
     let issued = arrived.issued();
-    let has_command = moves.any || issued.is_some();
-    let is_put_off = match issued {
-        Some(issued) => puts_off(issued),
-        None => false,
-    };
     Ok(Handed {
         arrived,
-        has_command,
-        is_move_near: moves.is_one_near || is_put_off,
+        has_command: moves.any || issued.is_some(),
+        is_move_near: moves.is_one_near || puts_one_off(issued),
     })
 }

@@ -1,31 +1,45 @@
 // Asking the office to commit.
-ghost use Rattle.std.specs.Prelude.{◌≡◌, IfOk, IfErr, OnErr, Ok, Err};
+ghost use Rattle.std.specs.Prelude.{◌≡◌, true, IfOk, IfErr, OnErr, Ok, Err, Some, is_some};
 ghost use Rattle.broker_core.specs.Splitting.{broker_of};
 ghost use Rattle.receipts.specs.Answers.{IsToldMore, IsCommitRefusal};
+ghost use Rattle.receipts.specs.Broken.{is_last, ShowsBroken, left_by};
 ghost use Rattle.receipts.specs.Serving.{HasServed};
 ghost use Rattle.receipts.specs.Committing.{CommitsBy};
 
 use broker_core::{DiskHalf, Durable};
 use hall_core::HallError;
-use receipts::{Committed, Desk, Office, Trace};
+use receipts::{BrokenHall, Committed, Desk, Office, Trace};
 use sector_disk::Disk;
 use std::sync::Wait;
 use std::sync::ledger::Ledger;
 
-/// Why an office did not commit. Only asking one makes it: nobody else can say that a commit was refused.
+/// Why an office did not commit. Only asking one makes it: nobody else can say that a commit was refused. Where the hall is broken,
+/// it shows that.
 #[derive(Drop)]
 pub(crate) struct NotCommitted {
     why: HallError,
+    broken: Option<BrokenHall>,
+    ghost shown: { is_last why ≡ true → is_some broken ≡ true },
 }
 
 impl NotCommitted {
-    ghost use Rattle.http_front.specs.Refusals.{is_last};
-
     /// Whether the hall is broken, so that nothing more becomes durable.
     pub(crate) fn is_last(&self) -> bool
         ensures { result ≡ is_last self.now.why }
     {
         matches!(self.why, HallError::Fault | HallError::Broken)
+    }
+
+    /// What shows that the hall is broken.
+    pub(crate) fn into_broken(self) -> BrokenHall
+        requires { is_last self.why ≡ true }
+        ensures { self.broken ≡ Some result }
+    {
+        let NotCommitted { broken, .. } = self;
+        match broken {
+            Some(broken) => broken,
+            None => unreachable!(),
+        }
     }
 }
 
@@ -36,17 +50,21 @@ pub(crate) fn ask<D: Disk, L: Ledger, T: Trace, R: Wait>(
     desk: &mut Desk<L, T>,
     half: &mut DiskHalf<D>,
 ) -> (Result<Durable, NotCommitted>, Committed<L, T>)
+    // claim: A commit is the office's: its answer, its steps, and what its desk is told. `Fault` and `Broken` end a hall. [:
+    // told, err, refused, ok, why, met, steps; NotCommitted: shown; NotCommitted::is_last]
     ensures told { IfOk result.0 (IsToldMore desk.old.told desk.new.told) }
     ensures err { OnErr result.0 (desk.new.told ≡ desk.old.told) }
     ensures refused { IfErr result.0 (λ refused. IsCommitRefusal desk.old.told refused.why) }
     ensures served { HasServed D.view D.fault_count (broker_of half.old) (broker_of half.new) }
     ensures ok { IfOk result.0 (λ durable. result.1.answer ≡ Ok durable) }
     ensures why { IfErr result.0 (λ refused. result.1.answer ≡ Err refused.why) }
+    ensures met { IfErr result.0 (λ refused. ShowsBroken (left_by result.1) refused.broken) }
     ensures steps { CommitsBy D.view D.fault_count result.1 desk.old desk.new (broker_of half.old) (broker_of half.new) }
 {
-    let committed = office.commit(rt, desk, half);
+    let mut committed = office.commit(rt, desk, half);
+    let broken = committed.broken.take();
     match committed.answer {
         Ok(durable) => (Ok(durable), committed),
-        Err(why) => (Err(NotCommitted { why }), committed),
+        Err(why) => (Err(NotCommitted { why, broken }), committed),
     }
 }

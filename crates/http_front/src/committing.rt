@@ -5,15 +5,18 @@ ghost use Rattle.front_board.specs.Seated.{seen_by};
 ghost use Rattle.broker_core.specs.Splitting.{broker_of};
 ghost use Rattle.hall_core.specs.Hall.{pending_in};
 ghost use Rattle.receipts.specs.Locked.{issuer_in};
+ghost use Rattle.receipts.specs.Broken.{is_last};
 ghost use Rattle.receipts.specs.Serving.{HasServed};
 ghost use Rattle.receipts.specs.laws.Serving.{served_at_first, served_both};
 ghost use Rattle.http_front.specs.Learning.{known, HasLearned};
-ghost use Rattle.http_front.specs.Refusals.{is_last};
+ghost use Rattle.http_front.specs.Ending.{IsSaidAt};
+ghost use Rattle.http_front.specs.Resting.{IsSleep, pause_for, RestsAt};
 ghost use Rattle.http_front.specs.laws.Learned.{learned_nothing, learned_more};
 
 use crate::asking::{NotCommitted, ask};
 use crate::front_state::FrontState;
-use crate::wake::Slept;
+use crate::resting::CommitterSlept;
+use crate::wake::{Slept, Wake};
 use broker_core::{DiskHalf, Durable};
 use commit_loop::{Committing, Gate, commit_all};
 use front_board::Seated;
@@ -46,23 +49,38 @@ pub(crate) fn state_of<D: Disk>(half: &DiskHalf<D>) -> DiskState {
 }
 
 // Sleeps until the committer is called. Where something is left to do that nobody calls for, not for long.
-fn sleep<R: Wait + Clock, L: Ledger, T: Trace>(rt: &R, front: &FrontState<L, T>) -> Slept {
-    if front.is_unfinished(rt) {
-        front.wake.wait_at_most(rt, PAUSE)
+fn sleep_for<R: Wait + Clock>(rt: &R, wake: &Wake, is_unfinished: bool) -> Slept
+    ensures { IsSleep wake.now.source (pause_for is_unfinished) result }
+{
+    if is_unfinished {
+        wake.wait_at_most(rt, PAUSE)
     } else {
-        front.wake.wait(rt)
+        wake.wait(rt)
     }
+}
+
+// The same, by a look at what is left.
+fn sleep_by_look<R: Wait + Clock, L: Ledger, T: Trace>(
+    rt: &R,
+    front: &FrontState<L, T>,
+) -> CommitterSlept<L, T>
+    ensures { RestsAt front.now.wake.source front.now.bell.value.source result }
+{
+    let look = front.look_at_rest(rt);
+    let slept = sleep_for(rt, &front.wake, look.is_unfinished());
+    CommitterSlept { look, slept }
 }
 
 // A committer at a front.
 #[derive(Drop)]
-struct AtFront<'a, R, L: Ledger, T: Trace, D: Disk> {
+struct CommitterAtFront<'a, R, L: Ledger, T: Trace, D: Disk> {
     rt: &'a R,
     front: &'a FrontState<L, T>,
     committer: Committer<L, T, D>,
 }
 
-impl<R: Wait + Clock, L: Ledger, T: Trace, D: Disk> Committing for AtFront<'_, R, L, T, D> {
+impl<R: Wait + Clock, L: Ledger, T: Trace, D: Disk> Committing
+    for CommitterAtFront<'_, R, L, T, D> {
     type Durable = Durable;
 
     type Failure = NotCommitted;
@@ -75,13 +93,23 @@ impl<R: Wait + Clock, L: Ledger, T: Trace, D: Disk> Committing for AtFront<'_, R
 
     type SaidBroken = SaidBroken;
 
-    type Slept = Slept;
+    type Slept = CommitterSlept<L, T>;
+
+    type Shown = DiskHalf<D>;
 
     ghost number = { λ durable. durable };
 
     ghost count = { λ seen. pending_in (issuer_in seen.before.value.hall) };
 
-    ghost up_to = { λ rung. rung.up_to };
+    ghost rings = { λ at number rung. (rung.up_to ≡ number) × (rung.at.value ≡ at.front.now.bell.value.source) };
+
+    ghost rings_all = { λ at all. all.rung.at.value ≡ at.front.now.bell.value.source };
+
+    ghost tells = { λ at said. IsSaidAt at.front.now.bell.value.source said };
+
+    ghost view = { λ at. at.committer.half };
+
+    ghost rests = { λ at slept. RestsAt at.front.now.wake.source at.front.now.bell.value.source slept };
 
     ghost breaks = { λ refused. is_last refused.why };
 
@@ -118,8 +146,8 @@ impl<R: Wait + Clock, L: Ledger, T: Trace, D: Disk> Committing for AtFront<'_, R
         self.committer.seated.raise(*durable);
     }
 
-    fn say_broken(&mut self) -> SaidBroken {
-        self.front.bell.say_broken()
+    fn say_broken(&mut self, why: NotCommitted) -> SaidBroken {
+        self.front.bell.say_broken(why.into_broken())
     }
 
     fn ring(&mut self, durable: &Durable) -> Rung {
@@ -131,8 +159,12 @@ impl<R: Wait + Clock, L: Ledger, T: Trace, D: Disk> Committing for AtFront<'_, R
         self.front.bell.ring_all(self.rt)
     }
 
-    fn sleep(&mut self) -> Slept {
-        sleep(self.rt, self.front)
+    fn sleep(&mut self) -> CommitterSlept<L, T> {
+        sleep_by_look(self.rt, self.front)
+    }
+
+    fn shown(&self) -> &DiskHalf<D> {
+        &self.committer.half
     }
 
     ghost stays = { λ value. (
@@ -173,22 +205,22 @@ impl<L: Ledger, T: Trace, D: Disk + Drop> Committer<L, T, D> {
         front: &FrontState<L, T>,
         gate: &G,
     ) -> Committer<L, T, D>
-        // claim: As far as its desk and its seat show, a committer's steps are those of turns that its gate may have asked for.
-        // Its desk was told no less than it committed, and its seat saw no less than it raised the board to. [: learned]
+        // claim: A committer did at each turn what its gate said. What was committed was told to its desk, and where it was
+        // raised its seat has seen no less.
         ensures learned { IsRun HasLearned (G.says gate.now)
             (known self.desk.told (seen_by self.seated))
             (known result.desk.told (seen_by result.seated)) }
-        // claim: A committer's disk half goes on from each history that it stood for. At each moment a crash leaves a
-        // prefix of that and what it took, with all that was durable at first. [: served; ask]
+        // claim: It hands its disk half back, which goes on from each history that it stood for. At each moment a crash
+        // leaves a prefix of that and what it took, with all that was durable before. [: served; ask]
         ensures served { HasServed D.view D.fault_count (broker_of self.half) (broker_of result.half) }
     {
-        let mut at = AtFront {
+        let mut at = CommitterAtFront {
             rt,
             front,
             committer: self,
         };
-        commit_all(rt, gate, &mut at);
-        let AtFront { committer, .. } = at;
+        let _ran = commit_all(rt, gate, &mut at);
+        let CommitterAtFront { committer, .. } = at;
         committer
     }
 

@@ -183,9 +183,9 @@ struct Collector<R, L: Ledger, T: Trace> {
     seen: Option<(Unreleased, Ticket)>,
 }
 
-// What a turn found.
+/// What a turn found.
 #[derive(Clone, Copy)]
-enum Found {
+pub(crate) enum Found {
     /// Nothing to collect, as far as is known: a commit changes that.
     Nothing,
     /// Records, of which some may be left.
@@ -193,6 +193,8 @@ enum Found {
 }
 
 impl<R: Wait + Clock + Drop + Copy, L: Ledger, T: Trace> Collector<R, L, T> {
+    ghost use Rattle.http_front.specs.Resting.{IsSleep, pause_for, may_be_left};
+
     // What it saw, or sees now.
     fn look(&mut self) -> Result<(Unreleased, Ticket), AllocError> {
         match self.seen.take() {
@@ -252,11 +254,13 @@ impl<R: Wait + Clock + Drop + Copy, L: Ledger, T: Trace> Collector<R, L, T> {
 
     // Whether nothing is collected any more.
     fn is_over(&self) -> bool {
-        self.front.look_at_ending().ends() || self.front.bell.has_broken()
+        self.front.look_at_ending().ends() || self.front.bell.said_broken().is_some()
     }
 
     // Sleeps until the next commit. Where records may be left, not for long.
-    fn sleep(&self, found: Found) -> Slept {
+    fn sleep(&self, found: Found) -> Slept
+        ensures { IsSleep self.now.front.value.discarding.wake.source (pause_for (may_be_left found)) result }
+    {
         let wake = &self.front.discarding.wake;
         match found {
             Found::Nothing => wake.wait(&self.rt),

@@ -1,18 +1,21 @@
 // When the loops of a front end, and what shows it.
-ghost use Rattle.std.specs.Prelude.{◌≡◌, true};
+ghost use Rattle.std.specs.Prelude.{◌≡◌, true, IfSome};
 ghost use Rattle.hall_core.specs.Hall.{pending_in, open_slot_count};
 ghost use Rattle.receipts.specs.Locked.{hall_in, issuer_in};
 
 use crate::front_state::FrontState;
 use long_poll::SaidBroken;
 use receipts::{Trace, Witnessed};
+use std::snapshot::Snapshot as Seen;
 use std::sync::Wait;
 use std::sync::ledger::Ledger;
+use tokio_util::sync::CancellationToken;
 
-/// A look at whether the threads of a front were told to end. Only a look gives one.
+/// A look at whether the threads of a front were told to end. Only a look gives one. Proofs see in it at what.
 #[derive(Drop)]
 pub(crate) struct LookAtEnding {
     ends: bool,
+    at: Seen<CancellationToken>,
 }
 
 impl LookAtEnding {
@@ -28,9 +31,9 @@ impl LookAtEnding {
 #[derive(Drop)]
 pub(crate) struct ToldToEnd {
     look: LookAtEnding,
-    // claim: What ends a front shows that it was told to, or that at one moment its hall was stopping, with nothing
-    // pending and no slot open, or, as `Failed`, that none was open. [: ends; Stopped: stops, nothing, none; Failed:
-    // none]
+    // claim: A loop that its front ends has what shows why: it was told to, or one look at a stopped hall with nothing
+    // pending and no open slot, or at one said to be broken with none open. [: ends; Stopped: stops, nothing, none; Failed:
+    // none; FrontState::ended]
     ghost ends: { look.ends ≡ true },
 }
 
@@ -51,43 +54,63 @@ pub(crate) struct Failed<L: Ledger, T: Trace> {
     ghost none: { open_slot_count (hall_in seen.before.value.hall) ≡ 0 },
 }
 
-/// That nothing more becomes durable, and that every open slot was answered or forgotten.
+/// That the committer's loop ends, whatever its gate says, and why: its threads were told to end, or nothing more becomes durable
+/// and every open slot was answered or forgotten.
 #[derive(Drop)]
-pub(crate) enum Over<L: Ledger, T: Trace> {
+pub(crate) enum FrontEnded<L: Ledger, T: Trace> {
+    Told(ToldToEnd),
     Failed(Failed<L, T>),
     Stopped(Stopped<L, T>),
 }
 
-/// That the committer's loop ends, whatever its gate says. Only what shows why gives it.
+/// That the committer's loop ends, without why. Only what shows why gives one.
 #[derive(Drop)]
-pub(crate) struct FrontEnded {
-    ended: (),
+pub(crate) struct FrontOver {
+    over: (),
 }
 
-impl FrontEnded {
-    // Its threads were told to end.
-    fn told(why: ToldToEnd) -> FrontEnded {
-        drop(why);
-        FrontEnded { ended: () }
+impl<L: Ledger, T: Trace> FrontEnded<L, T> {
+    /// That it ends.
+    pub(crate) fn over(self) -> FrontOver {
+        drop(self);
+        FrontOver { over: () }
     }
+}
 
-    // All is done.
-    fn over<L: Ledger, T: Trace>(why: Over<L, T>) -> FrontEnded {
-        drop(why);
-        FrontEnded { ended: () }
+/// A look at whether something is left to do that nobody calls for. Only a look gives one.
+#[derive(Drop)]
+pub(crate) struct LookAtRest<L: Ledger, T: Trace> {
+    is_unfinished: bool,
+    said: Option<SaidBroken>,
+    seen: Witnessed<(), L, T>,
+}
+
+impl<L: Ledger, T: Trace> LookAtRest<L, T> {
+    /// Whether something is.
+    pub(crate) fn is_unfinished(&self) -> bool
+        ensures { result ≡ self.now.is_unfinished }
+    {
+        self.is_unfinished
     }
 }
 
 impl<L: Ledger, T: Trace> FrontState<L, T> {
+    ghost use Rattle.http_front.specs.Ending.{IsLookAt, IsWhyItEnds, LooksAtRest};
+
     /// Whether its threads were told to end.
-    pub(crate) fn look_at_ending(&self) -> LookAtEnding {
+    pub(crate) fn look_at_ending(&self) -> LookAtEnding
+        ensures { IsLookAt self.now.ending result }
+    {
         LookAtEnding {
             ends: self.ending.is_cancelled(),
+            at: Seen::of(&self.ending),
         }
     }
 
     // That its threads were told to end, once they were.
-    fn told_to_end(&self) -> Option<ToldToEnd> {
+    fn told_to_end(&self) -> Option<ToldToEnd>
+        ensures { IfSome result (λ told. IsLookAt self.now.ending told.look) }
+    {
         let look = self.look_at_ending();
         if look.ends() {
             Some(ToldToEnd { look })
@@ -107,7 +130,9 @@ impl<L: Ledger, T: Trace> FrontState<L, T> {
     }
 
     // That no slot is open any more after it was said that the disk failed, once that is so.
-    fn failed<R: Wait>(&self, rt: &R, said: SaidBroken) -> Option<Failed<L, T>> {
+    fn failed<R: Wait>(&self, rt: &R, said: SaidBroken) -> Option<Failed<L, T>>
+        ensures { IfSome result (λ failed. failed.said ≡ said) }
+    {
         let (open, seen) = self.office.open_slots(rt).split();
         if open == 0 {
             Some(Failed { said, seen })
@@ -118,25 +143,36 @@ impl<L: Ledger, T: Trace> FrontState<L, T> {
 
     // That all is done, once it is: the broker was stopped and nothing is pending, or its disk failed, and every open slot was
     // answered or forgotten.
-    fn over<R: Wait>(&self, rt: &R) -> Option<Over<L, T>> {
+    fn over<R: Wait>(&self, rt: &R) -> Option<FrontEnded<L, T>>
+        ensures { IfSome result (IsWhyItEnds self.now.ending self.now.bell.value.source) }
+    {
         match self.bell.said_broken() {
-            Some(said) => Some(Over::Failed(self.failed(rt, said)?)),
-            None => Some(Over::Stopped(self.stopped(rt)?)),
+            Some(said) => Some(FrontEnded::Failed(self.failed(rt, said)?)),
+            None => Some(FrontEnded::Stopped(self.stopped(rt)?)),
         }
     }
 
     /// Whether something is left to do that nobody calls for: what is pending where no commit is under way, or the end of a front
     /// that is stopped or broken, once the last of its replies was told.
-    pub(crate) fn is_unfinished<R: Wait>(&self, rt: &R) -> bool {
-        let (rest, _seen) = self.office.rest(rt).split();
-        rest.stops || rest.pending > 0 || self.bell.has_broken()
+    pub(crate) fn look_at_rest<R: Wait>(&self, rt: &R) -> LookAtRest<L, T>
+        ensures { LooksAtRest self.now.bell.value.source result }
+    {
+        let (rest, seen) = self.office.rest(rt).split();
+        let said = self.bell.said_broken();
+        LookAtRest {
+            is_unfinished: rest.stops || rest.pending > 0 || said.is_some(),
+            said,
+            seen,
+        }
     }
 
-    /// That the committer's loop ends now, if it does: the threads were told to end, or all is done.
-    pub(crate) fn ended<R: Wait>(&self, rt: &R) -> Option<FrontEnded> {
+    /// That the committer's loop ends now, and why, if it does: the threads were told to end, or all is done.
+    pub(crate) fn ended<R: Wait>(&self, rt: &R) -> Option<FrontEnded<L, T>>
+        ensures { IfSome result (IsWhyItEnds self.now.ending self.now.bell.value.source) }
+    {
         match self.told_to_end() {
-            Some(why) => Some(FrontEnded::told(why)),
-            None => Some(FrontEnded::over(self.over(rt)?)),
+            Some(why) => Some(FrontEnded::Told(why)),
+            None => self.over(rt),
         }
     }
 }

@@ -2,12 +2,13 @@
 ghost use Rattle.std.specs.Prelude.{◌≡◌, ◌+◌, IfOk, IfErr, max};
 ghost use Rattle.long_poll.specs.Port.{IsSlot, IsDoneFor};
 ghost use Rattle.receipts.specs.Locked.{hall_in};
+ghost use Rattle.http_front.specs.Calling.{stops, CallsFor};
 ghost use Rattle.http_front.specs.Refusals.{IsArrivalError};
 
 use crate::arriving::{Handed, arrive};
 use crate::discarding::{Discard, Discarding};
 use crate::error::ArrivalError;
-use crate::wake::Wake;
+use crate::wake::{Called, Wake};
 use api_core::{Call, Dialect};
 use broker_core::Durable;
 use long_poll::{Arrived, Bell, Port};
@@ -78,6 +79,21 @@ pub struct FrontState<L: Ledger, T: Trace> {
     pub(crate) discarding: Discarding,
 }
 
+/// A call that came to a port of a front, and whom it called.
+#[derive(Drop)]
+pub(crate) struct Came<L: Ledger, T: Trace> {
+    pub(crate) arrived: Arrived<L, T>,
+    commits: Option<Called>,
+    moves: Option<Called>,
+}
+
+// Whether the call is to stop the broker.
+fn is_stop(call: &Call) -> bool
+    ensures { result ≡ stops call.now }
+{
+    matches!(call, Call::StopBroker)
+}
+
 impl<L: Ledger, T: Trace> FrontState<L, T> {
     /// A front over an office of a broker with these settings, of which so much is durable, which no thread serves yet. It reads
     /// requests in this dialect, and collects the records that are discarded.
@@ -123,25 +139,28 @@ impl<L: Ledger, T: Trace> FrontState<L, T> {
         rt: &R,
         port: &Port<L, T>,
         call: Call,
-    ) -> Result<Arrived<L, T>, ArrivalError>
-        ensures slot { IfOk result (λ arrived. IsSlot arrived.slot) }
+    ) -> Result<Came<L, T>, ArrivalError>
+        // claim: A request gets a slot of some desk, and is refused as an office refuses one, or since clock or random
+        // source failed.
+        ensures slot { IfOk result (λ came. IsSlot came.arrived.slot) }
         ensures refused { IfErr result IsArrivalError }
 
-        ensures done { IfOk result (λ arrived.
-            IsDoneFor call (hall_in arrived.seen.before.value.hall) (hall_in arrived.seen.after.value.hall) arrived.slot) }
+        ensures done { IfOk result (λ came.
+            IsDoneFor call (hall_in came.arrived.seen.before.value.hall) (hall_in came.arrived.seen.after.value.hall) came.arrived.slot) }
+        // claim: It calls the committer where it issued a command or stops the broker, and the ticker where an event was put off.
+        ensures calls { IfOk result (λ came. CallsFor self.now.wake.source self.now.ticker_wake.source
+            call came.arrived.issued came.commits came.moves) }
     {
-        let stops = matches!(call, Call::StopBroker);
+        let stops = is_stop(&call);
         let Handed {
             arrived,
             has_command,
             is_move_near,
         } = arrive(rt, port, call)?;
-        if stops || has_command {
-            self.wake.call(rt);
-        }
-        if is_move_near {
-            self.ticker_wake.call(rt);
-        }
-        Ok(arrived)
+        Ok(Came {
+            arrived,
+            commits: self.wake.call_if(rt, stops || has_command),
+            moves: self.ticker_wake.call_if(rt, is_move_near),
+        })
     }
 }

@@ -2,7 +2,7 @@
 ghost use Rattle.std.specs.Prelude.{◌≡◌, ◌⊎◌, IfOk, IfErr, if◌then◌else◌};
 ghost use Rattle.commit_loop.specs.declared.gate.Turn.TheVariants as turn;
 
-use crate::ending::{FrontEnded, LookAtEnding};
+use crate::ending::{FrontOver, LookAtEnding};
 use crate::front_state::FrontState;
 use commit_loop::{Gate, Turn};
 use receipts::Trace;
@@ -18,15 +18,15 @@ pub(crate) struct UntilOver<'a, R, L: Ledger, T: Trace, G> {
 }
 
 impl<R: Wait, L: Ledger, T: Trace, G: Gate> Gate for UntilOver<'_, R, L, T, G> {
-    type Seen = Result<G::Seen, FrontEnded>;
+    type Seen = Result<G::Seen, FrontOver>;
 
     ghost says = { λ gate pending said. (said ≡ turn.End) ⊎ G.says gate.inner.now pending said };
 
     ghost leads_to = { λ seen said. IfOk seen (λ inner. G.leads_to inner said) × IfErr seen (λ _. said ≡ turn.End) };
 
-    fn turn(&self, pending: usize) -> (Turn, Result<G::Seen, FrontEnded>) {
+    fn turn(&self, pending: usize) -> (Turn, Result<G::Seen, FrontOver>) {
         match self.front.ended(self.rt) {
-            Some(ended) => (Turn::End, Err(ended)),
+            Some(ended) => (Turn::End, Err(ended.over())),
             None => {
                 let (said, seen) = self.inner.turn(pending);
                 (said, Ok(seen))

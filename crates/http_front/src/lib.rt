@@ -20,6 +20,7 @@ mod opening;
 mod port_application;
 mod replying;
 mod resets;
+mod resting;
 mod serving;
 mod starting;
 mod ticking;

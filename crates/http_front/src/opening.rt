@@ -3,6 +3,7 @@ ghost use Rattle.std.specs.Prelude.{◌≡◌, ◌≤◌, [], vec_len, IsErrOf, 
 ghost use Rattle.broker_core.specs.Broker.{pending_of, settings_of};
 ghost use Rattle.broker_core.specs.Splitting.{broker_of};
 ghost use Rattle.hall_core.specs.Fresh.{IsFresh};
+ghost use Rattle.front_board.specs.Seated.{AreAtOneBoard};
 ghost use Rattle.receipts.specs.Desks.{desk_count};
 
 use crate::committing::Committer;
@@ -129,6 +130,7 @@ fn furnish<L: Ledger, T: Trace, D: Disk + Drop>(
 ) -> Result<OpenedFront<L, T, D>, ServeError>
     requires desks { 2 ≤ vec_len desks }
     requires seats { 3 ≤ vec_len seats }
+    requires one_board { AreAtOneBoard seats.items }
     ensures ports { IsErrOf result ServeError.TooManyPorts → ⊥ }
     ensures half { IfOk result (λ opened. opened.committer.half ≡ half) }
     ensures front { IfOk result (λ opened. opened.front ≡ front) }

@@ -9,7 +9,7 @@ ghost use Rattle.http_front.specs.Calls.{audience_at, read_as, IsBodyOf, IsCallO
 ghost use Rattle.http_front.specs.Telling.{TellsRefusal};
 
 use crate::drawing::new_id;
-use crate::front_state::FrontState;
+use crate::front_state::{Came, FrontState};
 use crate::replying::{Manner, Telling, refuse};
 use crate::resets::{ResetReport, note_report};
 use api_core::{Audience, Body, Call, Dialect, Refusal, RequestError, read_request};
@@ -175,7 +175,7 @@ impl<R: Wait + Clock + RandomSource + Eprint + Copy, L: Ledger, T: Trace> PortAp
         ensures err { IfErr result (λ why. why ≡ Unavailable) }
     {
         match self.front.arrive(&self.rt, &self.port, call) {
-            Ok(arrived) => Ok(arrived),
+            Ok(Came { arrived, .. }) => Ok(arrived),
             Err(_) => Err(Refusal::Unavailable),
         }
     }

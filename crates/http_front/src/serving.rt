@@ -44,7 +44,7 @@ pub enum Ending {
 impl Ending {
     // How a front has ended, once its threads have.
     fn of<L: Ledger, T: Trace>(front: &FrontState<L, T>) -> Ending {
-        if front.bell.has_broken() {
+        if front.bell.said_broken().is_some() {
             Ending::Broken
         } else {
             Ending::Stopped
@@ -60,6 +60,18 @@ pub struct Served<D: Disk, S> {
     pub half: DiskHalf<D>,
     /// What shows that something was served beside its ports, where there was something.
     pub beside: Option<S>,
+}
+
+// Runs the ticker until its front ends, and gives its desk back.
+fn tick_until_ending<R, L, T>(rt: &R, front: &FrontState<L, T>, ticker: Desk<L, T>) -> Desk<L, T>
+where
+    R: Wait + Clock + Eprint,
+    L: Ledger,
+    T: Trace,
+{
+    let gate = UntilEnding { front };
+    let (desk, _ran) = tick_all(rt, front, ticker, &gate);
+    desk
 }
 
 // Runs the ticker on a thread of its own and the committer on this one, until the gate or the front ends: the half over the
@@ -81,10 +93,7 @@ where
     ensures { IfOk result (λ half. HasServed D.view D.fault_count (broker_of committer.half) (broker_of half)) }
 {
     let theirs = Arc::try_clone(front)?;
-    let ticking = thread::spawn(&rt, move || {
-        let gate = UntilEnding { front: &theirs };
-        tick_all(&rt, &theirs, ticker, &gate)
-    })?;
+    let ticking = thread::spawn(&rt, move || tick_until_ending(&rt, &theirs, ticker))?;
     let until = UntilOver {
         rt: &rt,
         front,

@@ -1,18 +1,20 @@
 // The ticker: what its loop works on.
-ghost use Rattle.std.specs.Prelude.{◌≡◌, ◌≤◌, ◌+◌, [], ◌∷◌, ◌++◌, length, map, sum_by, false, IfOk};
+ghost use Rattle.std.specs.Prelude.{◌≡◌, ◌≤◌, ◌+◌, [], ◌∷◌, ◌++◌, length, map, sum_by, false, IfOk, IfErr};
 ghost use Rattle.hall_core.specs.Hall.{pending_in};
 ghost use Rattle.commit_loop.specs.Ticker.{Step, ticked, IsRun};
 ghost use Rattle.receipts.specs.Locked.{hall_in, issuer_in};
-ghost use Rattle.http_front.specs.Marking.{is_made, HasMarked, FindsNothing, FindsNothingFor};
-ghost use Rattle.http_front.specs.Resting.{pause_until, IsPauseAt};
+ghost use Rattle.http_front.specs.Marking.{is_made, HasMarked, KeepsQuiet};
+ghost use Rattle.http_front.specs.Trying.{quiet_of, Finds, IsStep, ShowsTry};
+ghost use Rattle.http_front.specs.Resting.{pause_until, IsPauseAt, IsRest};
 ghost use Rattle.port_meters.specs.Moments.{millis_in};
-ghost use Rattle.http_front.specs.laws.Marked.{marked_nothing, marked_more};
+ghost use Rattle.http_front.specs.laws.Marked.{marked_nothing, marked_more, quiet_at_first, quiet_more};
 
 use crate::front_state::FrontState;
 use crate::resets::note_timeout;
-use crate::tried::Tried;
-use crate::wake::{Called, Slept, pause};
-use commit_loop::{Gate, Ticking};
+use crate::resting::TickerSlept;
+use crate::tried::{Looked, Tried};
+use crate::wake::{Called, pause};
+use commit_loop::{Gate, TickerRan, Ticking};
 use port_meters::{Moment, NoClock};
 use receipts::{Desk, Trace, Witnessed};
 use std::io::Eprint;
@@ -29,7 +31,7 @@ const RETRY_PAUSE: u64 = 100;
 
 // A ticker at a front.
 #[derive(Drop)]
-struct AtFront<'a, R, L: Ledger, T: Trace> {
+struct TickerAtFront<'a, R, L: Ledger, T: Trace> {
     rt: &'a R,
     front: &'a FrontState<L, T>,
     desk: Desk<L, T>,
@@ -37,16 +39,10 @@ struct AtFront<'a, R, L: Ledger, T: Trace> {
     quiet_at: Option<Moment>,
 }
 
-/// What the office held when a move was looked for, at a moment that the clock showed, and what came of it.
-#[derive(Drop)]
-struct Looked<L: Ledger, T: Trace> {
-    seen: Witnessed<(), L, T>,
-    at: Moment,
-    tried: Tried,
-}
-
 // The moment of a look, where no move was due.
-fn quiet_at<L: Ledger, T: Trace>(looked: &Result<Looked<L, T>, NoClock>) -> Option<Moment> {
+fn quiet_at<L: Ledger, T: Trace>(looked: &Result<Looked<L, T>, NoClock>) -> Option<Moment>
+    ensures { result ≡ quiet_of looked.now }
+{
     match looked {
         Ok(looked) => match looked.tried {
             Tried::NothingDue => Some(looked.at),
@@ -87,16 +83,22 @@ fn sleep<R: Wait + Clock, L: Ledger, T: Trace>(
     rt: &R,
     front: &FrontState<L, T>,
     quiet: Option<Moment>,
-) -> Slept {
+) -> TickerSlept<L, T>
+    // claim: Where none was due, the ticker sleeps until the next moment by its look, a second at most; else a tenth of one.
+    // The committer sleeps until it is called; where its look finds something left, a tenth at most. [pause_at,
+    // sleep_for; sleep_by_look]
+    ensures { IsRest front.now.ticker_wake.source quiet result }
+{
     let Some(quiet) = quiet else {
-        return pause(rt, RETRY_PAUSE);
+        return TickerSlept::Unknown(pause(rt, RETRY_PAUSE));
     };
     match Moment::now(rt) {
         Ok(now) => {
-            let (millis, _seen) = pause_at(rt, front, quiet, now.millis()).split();
-            front.ticker_wake.wait_at_most(rt, millis)
+            let (millis, seen) = pause_at(rt, front, quiet, now.millis()).split();
+            let slept = front.ticker_wake.wait_at_most(rt, millis);
+            TickerSlept::Until(seen, now, slept)
         }
-        Err(_) => pause(rt, RETRY_PAUSE),
+        Err(none) => TickerSlept::Blind(none, pause(rt, RETRY_PAUSE)),
     }
 }
 
@@ -108,12 +110,13 @@ fn make_move<R: Wait + Eprint, L: Ledger, T: Trace>(
     desk: &mut Desk<L, T>,
     at: Moment,
 ) -> Witnessed<Tried, L, T>
-    // claim: Where the clock told a moment and no move is made, none was due in the hall that it met, or a reason is
-    // there. Where none was due, the pause lasts until an event moves otherwise, a second at most. [: nothing; tick;
-    // pause_at]
+    // claim: Where it makes no move though the clock told a moment, none was due in the hall that it met by one step, or
+    // there is a reason there. [: finds, step; tick: finds, step]
     ensures marked { HasMarked (length (map T.mark desk.old.own.items)) (ticked (is_made result.answer) ∷ [])
         (length (map T.mark desk.new.own.items)) }
-    ensures nothing { is_made result.answer ≡ false → FindsNothing (hall_in result.before.value.hall) desk.old.told (millis_in at.shown) }
+    ensures finds { Finds (hall_in result.before.value.hall) desk.old.told (millis_in at.shown) result.answer }
+    ensures step { IsStep desk.old.steps desk.new.steps result.from.value result.to.value }
+    ensures told { is_made result.answer ≡ false → desk.new.told ≡ desk.old.told }
 {
     let (answer, seen) = front.office.tick(rt, desk, at.millis()).split();
     match answer {
@@ -136,8 +139,12 @@ fn tick<R: Wait + Clock + Eprint, L: Ledger, T: Trace>(
 ) -> (bool, Result<Looked<L, T>, NoClock>)
     ensures marked { HasMarked (length (map T.mark desk.old.own.items)) (ticked result.0 ∷ [])
         (length (map T.mark desk.new.own.items)) }
-    ensures nothing { result.0 ≡ false → IfOk result.1 (λ looked.
-        FindsNothing (hall_in looked.seen.before.value.hall) desk.old.told (millis_in looked.at.shown)) }
+    ensures made { IfOk result.1 (λ looked. result.0 ≡ is_made looked.tried) }
+    ensures none { IfErr result.1 (λ _. result.0 ≡ false) }
+    ensures finds { IfOk result.1 (λ looked.
+        Finds (hall_in looked.seen.before.value.hall) desk.old.told (millis_in looked.at.shown) looked.tried) }
+    ensures step { IfOk result.1 (λ looked. IsStep desk.old.steps desk.new.steps looked.seen.from.value looked.seen.to.value) }
+    ensures told { result.0 ≡ false → desk.new.told ≡ desk.old.told }
 {
     match Moment::now(rt) {
         Ok(at) => {
@@ -148,22 +155,30 @@ fn tick<R: Wait + Clock + Eprint, L: Ledger, T: Trace>(
     }
 }
 
-impl<R: Wait + Clock + Eprint, L: Ledger, T: Trace> Ticking for AtFront<'_, R, L, T> {
+impl<R: Wait + Clock + Eprint, L: Ledger, T: Trace> Ticking for TickerAtFront<'_, R, L, T> {
     type Counted = Witnessed<(), L, T>;
 
     type Looked = Result<Looked<L, T>, NoClock>;
 
     type Called = Called;
 
-    type Slept = Slept;
+    type Slept = TickerSlept<L, T>;
+
+    type Shown = Desk<L, T>;
 
     ghost count = { λ seen. pending_in (issuer_in seen.before.value.hall) };
 
-    ghost shows = { λ looked moved. moved ≡ false → IfOk looked (λ looked.
-        FindsNothingFor (hall_in looked.seen.before.value.hall) (millis_in looked.at.shown)) };
+    ghost shows = { λ at looked moved. ShowsTry at.quiet_at at.desk.told at.desk.steps looked moved };
+
+    ghost calls = { λ at called. called.at.value ≡ at.front.now.wake.source };
+
+    ghost view = { λ at. at.desk };
+
+    ghost rests = { λ at slept. IsRest at.front.now.ticker_wake.source at.quiet_at slept };
 
     ghost leads = { λ old steps new.
-        HasMarked (length (map T.mark old.desk.own.items)) steps (length (map T.mark new.desk.own.items)) };
+        HasMarked (length (map T.mark old.desk.own.items)) steps (length (map T.mark new.desk.own.items))
+        × KeepsQuiet old.quiet_at steps new.quiet_at };
 
     fn pending(&mut self) -> (usize, Witnessed<(), L, T>) {
         self.front.office.pending(self.rt).split()
@@ -179,40 +194,52 @@ impl<R: Wait + Clock + Eprint, L: Ledger, T: Trace> Ticking for AtFront<'_, R, L
         self.front.wake.call(self.rt)
     }
 
-    fn sleep(&mut self) -> Slept {
+    fn sleep(&mut self) -> TickerSlept<L, T> {
         sleep(self.rt, self.front, self.quiet_at)
     }
 
-    ghost stays = { λ value. marked_nothing (length (map T.mark value.desk.own.items)) };
+    fn shown(&self) -> &Desk<L, T> {
+        &self.desk
+    }
 
-    ghost goes_on = { λ first second third before after.
-        marked_more
-        (length (map T.mark first.desk.own.items))
-        (length (map T.mark second.desk.own.items))
-        (length (map T.mark third.desk.own.items))
-        before after };
+    ghost stays = { λ value. (
+      marked_nothing (length (map T.mark value.desk.own.items)),
+      quiet_at_first value.quiet_at,
+    ) };
+
+    ghost goes_on = { λ first second third before after one two. (
+      marked_more
+          (length (map T.mark first.desk.own.items))
+          (length (map T.mark second.desk.own.items))
+          (length (map T.mark third.desk.own.items))
+          before after one.0 two.0,
+      quiet_more first.quiet_at second.quiet_at third.quiet_at before after one.1 two.1,
+    ) };
 }
 
 /// Makes the moves that are due, where the gate says `Commit`, calls the committer if there was one, and sleeps until the next
 /// moment at which one may be due, for a second at most; at `Skip` it only sleeps. At `End` it gives its desk back, with a mark of
-/// each move that it made. An environment that a move resets is told on standard error.
+/// each move that it made, and what shows that its loop ran. An environment that a move resets is told on standard error.
 pub fn tick_all<R: Wait + Clock + Eprint, L: Ledger, T: Trace, G: Gate>(
     rt: &R,
     front: &FrontState<L, T>,
     desk: Desk<L, T>,
     gate: &G,
-) -> Desk<L, T>
-    // claim: As far as its desk shows, a ticker's steps are those of turns that its gate may have asked for. The desk has as
-    // many marks more as moves were made. [make_move, tick: marked]
-    ensures { IsRun HasMarked (G.says gate.now) (length (map T.mark desk.own.items)) (length (map T.mark result.own.items)) }
+) -> (Desk<L, T>, TickerRan<Desk<L, T>>)
+    // claim: A ticker did at each turn what its gate said. Its desk has a mark more for each move, and no other.
+    // [: learned; make_move, tick: marked]
+    ensures learned { IsRun HasMarked (G.says gate.now) (length (map T.mark desk.own.items)) (length (map T.mark result.0.own.items)) }
+    // claim: It hands out what shows that its loop ran. [: before, after]
+    ensures before { result.1.before.value ≡ desk }
+    ensures after { result.1.after.value ≡ result.0 }
 {
-    let mut at = AtFront {
+    let mut at = TickerAtFront {
         rt,
         front,
         desk,
         quiet_at: None,
     };
-    commit_loop::tick_all(rt, gate, &mut at);
-    let AtFront { desk, .. } = at;
-    desk
+    let ran = commit_loop::tick_all(rt, gate, &mut at);
+    let TickerAtFront { desk, .. } = at;
+    (desk, ran)
 }

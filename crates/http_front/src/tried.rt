@@ -1,6 +1,10 @@
 // What came of a try to make a move.
 ghost use Rattle.std.specs.Prelude.{◌≡◌};
 
+use port_meters::Moment;
+use receipts::{Trace, Witnessed};
+use std::sync::ledger::Ledger;
+
 /// What came of a try to make a move.
 #[derive(Clone, Copy)]
 pub(crate) enum Tried {
@@ -21,4 +25,12 @@ impl Tried {
     {
         matches!(self, Tried::Made)
     }
+}
+
+/// What the office held when a move was looked for, at a moment that the clock showed, and what came of it.
+#[derive(Drop)]
+pub(crate) struct Looked<L: Ledger, T: Trace> {
+    pub(crate) seen: Witnessed<(), L, T>,
+    pub(crate) at: Moment,
+    pub(crate) tried: Tried,
 }

@@ -1,30 +1,72 @@
 // The bell: tasks register there, and a ring wakes those that can go on.
-ghost use Rattle.std.specs.Prelude.{◌≡◌};
+ghost use Rattle.std.specs.Prelude.{◌≡◌, ◌<◌, ◌+◌, length, slice_index, IfSome};
 ghost use Rattle.futures.specs.Task.{Hears, IsArmed, Keeps};
 
-use crate::waiters::{Parked, Registered, Waiters};
+use crate::waiters::{Left, Parked, ParkedWoken, Registered, Rung, Told, Waiters};
 use broker_core::Durable;
 use futures::task::{Context, Source};
+use receipts::BrokenHall;
 use std::alloc::Global;
+use std::snapshot::Snapshot as Seen;
 use std::sync::atomic::{AtomicBool, Ordering};
 use std::sync::{Mutex, Wait};
 
-/// That a bell was rung for those that wait for so much, or less. Only a ring gives it.
-#[derive(Drop)]
-pub struct Rung {
-    up_to: u64,
-}
-
-/// That a bell was rung for all that wait. Only such a ring gives it.
+/// That a bell was rung for all that wait, parked polls too. Only such a ring gives it.
 #[derive(Drop)]
 pub struct RungForAll {
     rung: Rung,
+    parked: ParkedWoken,
 }
 
-/// That it was said at a bell that the hall broke. Only the bell gives it.
+/// That it was said at a bell that the hall broke. Only the bell gives it, once a broken hall was shown there. Proofs see in it of
+/// which bell.
 #[derive(Drop)]
 pub struct SaidBroken {
-    said: (),
+    at: Seen<Source>,
+}
+
+/// That so many polls, one after the other, were told at a bell that they were answered, which may be told once this number is
+/// durable. Only telling each makes it.
+#[derive(Drop)]
+pub struct Answered {
+    count: usize,
+    number: u64,
+    at: Seen<Source>,
+}
+
+impl Answered {
+    // Nobody was told.
+    fn none(source: &Source, number: u64) -> Answered
+        ensures count { result.count ≡ 0 }
+        ensures number { result.number ≡ number }
+        ensures bell { result.at.value ≡ source.now }
+    {
+        Answered {
+            count: 0,
+            number,
+            at: Seen::of(source),
+        }
+    }
+
+    // The next of these slots was told too.
+    fn and(self, slots: &[u64], told: Told) -> Answered
+        requires more { self.count < length slots.now }
+        requires slot { told.slot ≡ slice_index slots.now self.count }
+        requires number { told.number ≡ self.number }
+        requires bell { told.at.value ≡ self.at.value }
+        ensures count { result.count ≡ self.count + 1 }
+        ensures number { result.number ≡ self.number }
+        ensures bell { result.at.value ≡ self.at.value }
+    {
+        let _ = slots;
+        drop(told);
+        let Answered { count, number, at } = self;
+        Answered {
+            count: count + 1,
+            number,
+            at,
+        }
+    }
 }
 
 /// Tasks wait here, each for a slot: for a number that has to be durable, or, where it is a parked poll, for its answer.
@@ -32,6 +74,7 @@ pub struct SaidBroken {
 #[derive(Drop)]
 pub struct Bell {
     source: Source,
+    /// Whether it was said that the hall broke. No clause says what an atomic holds.
     broke: AtomicBool,
     waiters: Mutex<Waiters>,
 }
@@ -89,62 +132,94 @@ impl Bell {
     }
 
     /// Nobody waits for the answer of this slot any more.
-    pub(crate) fn leave<R: Wait>(&self, rt: &R, slot: u64) {
-        let waker = self.waiters.lock(rt).leave(slot);
+    pub(crate) fn leave<R: Wait>(&self, rt: &R, slot: u64) -> Left
+        ensures slot { result.slot ≡ slot }
+        ensures bell { result.at.value ≡ self.now.source }
+    {
+        let (waker, left) = self.waiters.lock(rt).leave(&self.source, slot);
         drop(waker);
+        left
+    }
+
+    // The poll of this slot was answered, which may be told once this number is durable.
+    fn tell<R: Wait>(&self, rt: &R, slot: u64, number: u64) -> Told
+        ensures slot { result.slot ≡ slot }
+        ensures number { result.number ≡ number }
+        ensures bell { result.at.value ≡ self.now.source }
+    {
+        let (waker, told) = self.waiters.lock(rt).answer(&self.source, slot, number);
+        drop(waker);
+        told
     }
 
     /// The polls of these slots were answered, which may be told once this number is durable. Those of them that are parked
     /// here are woken by a ring of it, or now, if it was rung.
-    pub fn answer<R: Wait>(&self, rt: &R, slots: &[u64], number: u64) {
+    pub fn answer<R: Wait>(&self, rt: &R, slots: &[u64], number: u64) -> Answered
+        // claim: Each answered poll is told, in turn, with the number.
+        ensures all { result.count ≡ length slots.now }
+        ensures number { result.number ≡ number }
+        ensures bell { result.at.value ≡ self.now.source }
+    {
+        let mut answered = Answered::none(&self.source, number);
         for slot in slots {
-            let waker = self.waiters.lock(rt).answer(*slot, number);
-            drop(waker);
+            let told = self.tell(rt, *slot, number);
+            answered = answered.and(slots, told);
         }
+        answered
     }
 
     /// Wakes the tasks that wait for what is durable now. A waker wakes its task when it is dropped, which happens outside
     /// the lock.
     pub fn ring<R: Wait>(&self, rt: &R, durable: Durable) -> Rung
-        ensures { result.up_to ≡ durable }
+        // claim: What shows a ring, or that a hall was said to be broken, names its bell. [: number, bell; Bell::ring_all:
+        // number, bell; Bell::say_broken; Bell::said_broken]
+        ensures number { result.up_to ≡ durable }
+        ensures bell { result.at.value ≡ self.now.source }
     {
         self.ring_up_to(rt, durable.number())
     }
 
     /// Wakes all tasks. Each that registers from now on is polled again at once.
     pub fn ring_all<R: Wait>(&self, rt: &R) -> RungForAll
-        ensures { result.rung.up_to ≡ 18446744073709551615 }
+        ensures number { result.rung.up_to ≡ 18446744073709551615 }
+        ensures bell { result.rung.at.value ≡ self.now.source }
+        ensures parked { result.parked.at.value ≡ self.now.source }
     {
         let rung = self.ring_up_to(rt, u64::MAX);
-        self.waiters.lock(rt).wake_parked();
-        RungForAll { rung }
+        let parked = self.waiters.lock(rt).wake_parked(&self.source);
+        RungForAll { rung, parked }
     }
 
     // Wakes the tasks that wait for this number or one below.
     fn ring_up_to<R: Wait>(&self, rt: &R, number: u64) -> Rung
-        ensures { result.up_to ≡ number }
+        ensures number { result.up_to ≡ number }
+        ensures bell { result.at.value ≡ self.now.source }
     {
-        let mut wakers = self.waiters.lock(rt).take_wakers(number);
+        let (mut wakers, rung) = self.waiters.lock(rt).take_wakers(&self.source, number);
         wakers.clear();
         self.waiters.lock(rt).give_back(wakers);
-        Rung { up_to: number }
+        rung
     }
 
-    /// Says that the hall broke, before a ring: every poll then asks the office.
-    pub fn say_broken(&self) -> SaidBroken {
+    /// Says that the hall broke, which this shows, before a ring: every poll then asks the office.
+    pub fn say_broken(&self, broken: BrokenHall) -> SaidBroken
+        ensures { result.at.value ≡ self.now.source }
+    {
+        drop(broken);
         self.broke.store(true, Ordering::SeqCst);
-        SaidBroken { said: () }
-    }
-
-    /// Whether it was said that the hall broke.
-    pub fn has_broken(&self) -> bool {
-        self.broke.load(Ordering::SeqCst)
+        SaidBroken {
+            at: Seen::of(&self.source),
+        }
     }
 
     /// What shows that it was said that the hall broke, once it was.
-    pub fn said_broken(&self) -> Option<SaidBroken> {
-        if self.has_broken() {
-            Some(SaidBroken { said: () })
+    pub fn said_broken(&self) -> Option<SaidBroken>
+        ensures { IfSome result (λ said. said.at.value ≡ self.now.source) }
+    {
+        if self.broke.load(Ordering::SeqCst) {
+            Some(SaidBroken {
+                at: Seen::of(&self.source),
+            })
         } else {
             None
         }

@@ -15,7 +15,8 @@ mod waiting;
 
 pub use acting::Acting;
 pub use admin_reader::{AdminReader, TicketedView};
-pub use bell::{Bell, Rung, RungForAll, SaidBroken};
+pub use bell::{Answered, Bell, RungForAll, SaidBroken};
 pub use pending_view::{DurableView, PendingView, ViewError};
 pub use port::{Arrived, Port};
+pub use waiters::Rung;
 pub use waiting::Waiting;

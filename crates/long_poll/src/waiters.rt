@@ -8,6 +8,7 @@ use futures::task::{Context, Source, Waker};
 use std::alloc::Global;
 use std::collections::BTreeMap;
 use std::mem;
+use std::snapshot::Snapshot as Seen;
 
 /// That a task has registered for a slot: it waits for a number, or is polled again. Only registering makes one.
 #[derive(Drop)]
@@ -20,6 +21,35 @@ pub struct Registered {
 #[derive(Drop)]
 pub struct Parked {
     slot: u64,
+}
+
+/// That nobody waits for the answer of a slot any more. Only leaving makes one. Proofs see in it at which bell.
+#[derive(Drop)]
+pub struct Left {
+    slot: u64,
+    at: Seen<Source>,
+}
+
+/// That a bell was rung for those that wait for so much, or less. Only taking the wakers of those gives it. Proofs see in it of which
+/// bell.
+#[derive(Drop)]
+pub struct Rung {
+    up_to: u64,
+    at: Seen<Source>,
+}
+
+/// That the poll of a slot was told at a bell that it was answered. Only telling it gives it.
+#[derive(Drop)]
+pub(crate) struct Told {
+    slot: u64,
+    number: u64,
+    at: Seen<Source>,
+}
+
+/// That the polls that wait for an answer at a bell were woken. Only waking them gives it. Proofs see in it of which bell.
+#[derive(Drop)]
+pub struct ParkedWoken {
+    at: Seen<Source>,
 }
 
 /// The wakers of the tasks that wait. A waker wakes its task when it is dropped.
@@ -101,15 +131,19 @@ impl Waiters {
     }
 
     /// Takes away what waits for the answer of this slot.
-    pub(crate) fn leave(&mut self, slot: u64) -> Option<Waker>
-        ensures { tree.get nat_cmp self.new.parked slot ≡ None }
+    pub(crate) fn leave(&mut self, source: &Source, slot: u64) -> (Option<Waker>, Left)
+        ensures gone { tree.get nat_cmp self.new.parked slot ≡ None }
+        ensures slot { result.1.slot ≡ slot }
+        ensures bell { result.1.at.value ≡ source.now }
     {
-        self.parked.remove(&slot)
+        let waker = self.parked.remove(&slot);
+        let at = Seen::of(source);
+        (waker, Left { slot, at })
     }
 
-    /// The poll of this slot was answered, which may be told at this number: it waits for that from now on. Where the number
-    /// was rung, or there is no memory, its waker is handed out.
-    pub(crate) fn answer(&mut self, slot: u64, number: u64) -> Option<Waker>
+    // Whoever waits for the answer of this slot waits for this number from now on. Where that was rung, or there is no memory,
+    // the waker is handed out.
+    fn move_on(&mut self, slot: u64, number: u64) -> Option<Waker>
         ensures gone { tree.get nat_cmp self.new.parked slot ≡ None }
         ensures goes_on { GoesOn self.old self.new slot number result }
     {
@@ -123,13 +157,32 @@ impl Waiters {
         }
     }
 
+    /// The poll of this slot was answered, which may be told at this number: it waits for that from now on. Where the number
+    /// was rung, or there is no memory, its waker is handed out.
+    pub(crate) fn answer(
+        &mut self,
+        source: &Source,
+        slot: u64,
+        number: u64,
+    ) -> (Option<Waker>, Told)
+        ensures gone { tree.get nat_cmp self.new.parked slot ≡ None }
+        ensures goes_on { GoesOn self.old self.new slot number result.0 }
+        ensures slot { result.1.slot ≡ slot }
+        ensures number { result.1.number ≡ number }
+        ensures bell { result.1.at.value ≡ source.now }
+    {
+        let waker = self.move_on(slot, number);
+        let at = Seen::of(source);
+        (waker, Told { slot, number, at })
+    }
+
     /// The parked task waits for this number from now on, as `answer` says.
     pub(crate) fn go_on(&mut self, parked: Parked, number: u64) -> (Option<Waker>, Registered)
         ensures under { IsUnder result.1 parked.slot number }
         ensures goes_on { GoesOn self.old self.new parked.slot number result.0 }
     {
         let Parked { slot } = parked;
-        (self.answer(slot, number), Registered { slot, number })
+        (self.move_on(slot, number), Registered { slot, number })
     }
 
     // The next that waits for this number or one below.
@@ -147,11 +200,13 @@ impl Waiters {
     }
 
     /// Takes all wakers of this number and below. One for which there is no room wakes its task here.
-    pub(crate) fn take_wakers(&mut self, number: u64) -> Vec<Waker>
+    pub(crate) fn take_wakers(&mut self, source: &Source, number: u64) -> (Vec<Waker>, Rung)
         // claim: Once the wakers up to a number are taken, nobody waits for it or one below. [: above, rung]
         ensures above { AreAbove number (tree.keys self.new.numbered) }
         ensures rung { self.new.rung ≡ max self.old.rung number }
         ensures parked { self.new.parked ≡ self.old.parked }
+        ensures number { result.1.up_to ≡ number }
+        ensures bell { result.1.at.value ≡ source.now }
     {
         let mut wakers = mem::replace(&mut self.room, Vec::new(self.alloc));
         while let Some(waker) = self.next_up_to(number) {
@@ -160,14 +215,20 @@ impl Waiters {
             }
         }
         self.rung = self.rung.max(number);
-        wakers
+        let at = Seen::of(source);
+        let up_to = number;
+        (wakers, Rung { up_to, at })
     }
 
     /// Takes the wakers of all polls that wait for an answer, and wakes them.
-    pub(crate) fn wake_parked(&mut self)
-        ensures { self.new.parked.entries ≡ [] }
+    pub(crate) fn wake_parked(&mut self, source: &Source) -> ParkedWoken
+        ensures woken { self.new.parked.entries ≡ [] }
+        ensures bell { result.at.value ≡ source.now }
     {
         self.parked.clear();
+        ParkedWoken {
+            at: Seen::of(source),
+        }
     }
 
     /// Takes the room back that a ring had, where it is not less than what is here.

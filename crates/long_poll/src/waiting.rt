@@ -2,6 +2,7 @@
 ghost use Rattle.std.specs.Prelude.{◌≡◌, Some, None, IfSome, IfNone, OnSome};
 ghost use Rattle.futures.specs.Task.{Covers, Keeps};
 
+use crate::bell::SaidBroken;
 use crate::port::{Arrived, Port};
 use crate::waiters::{Parked, Registered};
 use broker_core::{Receipt, Ticket};
@@ -30,7 +31,7 @@ enum Progress {
 #[derive(Drop)]
 enum TakeReason {
     Durable(Receipt),
-    HallBroke,
+    HallBroke(SaidBroken),
 }
 
 /// Waits for the reply of one slot, and gives it once it may be told. Where it is dropped before, the slot is forgotten.
@@ -106,10 +107,8 @@ impl<R: Wait, L: Ledger, T: Trace> Waiting<R, L, T> {
             }
             Err(ticket) => {
                 self.progress = Progress::Issued(ticket);
-                self.port
-                    .bell()
-                    .has_broken()
-                    .then_some(TakeReason::HallBroke)
+                let said = self.port.bell().said_broken()?;
+                Some(TakeReason::HallBroke(said))
             }
         }
     }

@@ -7,3 +7,4 @@ pub mod Running
 pub mod Histories
 pub mod Lent
 pub mod Counted
+pub mod Broken

@@ -14,3 +14,4 @@ pub mod laws
 pub mod Told
 pub mod Witness
 pub mod Committing
+pub mod Broken

@@ -28,7 +28,7 @@ use Rattle.receipts.specs.Answers.{IsArrivalRefusal, IsTickRefusal}
 use Rattle.receipts.specs.Locked.{hall_in, issuer_in, IsToldByLoan, IsNotLentTo}
 use Rattle.receipts.specs.Marks.{KeepsHistories}
 use Rattle.receipts.specs.Serving.{IsToldOf}
-use Rattle.receipts.specs.Steps.{after_step}
+use Rattle.receipts.specs.Steps.{after_step, after_move}
 use Rattle.receipts.specs.UnderLock.{DoesAt, AnswersItsNumber, IssuedAt, AddBoth, LendsAs, Counts, IsNotMade, IsNotMoved, IsSameUnderLock, IsNoFault}
 
 -- the marks under the lock
@@ -97,7 +97,7 @@ pub record Moves {L T O : Type 0} {l : LedgerGhosts L} {g : TraceGhosts T O} {o 
     (before after : Locked L T O l g o) (from to : Steps) (desk desk' : Desk L T O g o) (now : ℕ) (result : Result (Option ℕ) HallError) : Type 0 where
   pub marks : IfOk result (AddsAnswered desk.number (own_of desk) (own_of desk'))
   pub told : IfOk result (IsToldIfAny desk.told desk'.told)
-  pub steps : desk'.steps ≡ after_step desk.steps
+  pub steps : desk'.steps ≡ after_move desk.steps
   pub from_is : from ≡ desk.steps
   pub to_is : to ≡ desk'.steps
   pub number : desk'.number ≡ desk.number

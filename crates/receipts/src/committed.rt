@@ -1,5 +1,6 @@
 // What a commit answers.
 
+use crate::broken_hall::BrokenHall;
 use crate::mark::{Mark, Trace};
 use crate::witness::Witnessed;
 use broker_core::Durable;
@@ -14,4 +15,6 @@ pub struct Committed<L: Ledger, T: Trace = Mark> {
     pub(crate) lent: Witnessed<(), L, T>,
     /// Around the step that settled what became of that, if something was lent.
     pub(crate) settled: Option<Witnessed<(), L, T>>,
+    /// The hall that the last step left, where it is broken.
+    pub broken: Option<BrokenHall>,
 }

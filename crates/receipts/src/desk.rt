@@ -1,5 +1,6 @@
 // The desks of an office, one for each thread that asks it.
-ghost use Rattle.std.specs.Prelude.{◌≡◌, ◌<◌, [], vec_len};
+ghost use Rattle.std.specs.Prelude.{◌≡◌, ◌<◌, ◌≤◌, [], map, All, vec_len, vec_capacity};
+ghost use Rattle.std.specs.List.{range_with_len};
 ghost use Rattle.receipts.specs.Desks.{desk_count};
 
 use crate::mark::{Mark, Trace};
@@ -7,6 +8,7 @@ use hall_core::Issued;
 use retry_rules::Settings;
 use std::alloc::Global;
 use std::mem;
+use std::snapshot::Snapshot as Seen;
 use std::sync::ledger::{Ledger, Share};
 
 /// How many desks an office has: for each environment's port one, and three for the callers' port, the committer and the
@@ -18,20 +20,29 @@ pub fn desks(settings: &Settings) -> u64
     if wanted < 8 { 8 } else { wanted }
 }
 
-/// How many steps a desk made under the lock of its office, modulo 2^64. A step counts itself, and nothing takes one back.
+/// How many steps a desk made under the lock of its office, and how many of those were to make a move, modulo 2^64. A step counts
+/// itself. Only a new desk has a value of this type, so that nothing takes a step back.
 #[derive(Drop)]
 pub(crate) struct Steps {
     count: u64,
+    moves: u64,
 }
 
 impl Steps {
-    ghost use Rattle.receipts.specs.Steps.{after_step};
+    ghost use Rattle.receipts.specs.Steps.{after_step, after_move, no_steps};
 
-    /// None.
-    pub(crate) fn none() -> Steps
-        ensures { result ≡ record { count = 0 } }
+    // None.
+    fn none() -> Steps
+        ensures { result ≡ no_steps }
     {
-        Steps { count: 0 }
+        Steps { count: 0, moves: 0 }
+    }
+
+    /// What a look shows, which is no step.
+    pub(crate) fn of_look() -> Seen<Steps>
+        ensures { result.value ≡ no_steps }
+    {
+        Seen::of(&Steps::none())
     }
 
     /// One more.
@@ -40,6 +51,15 @@ impl Steps {
         ensures { self.new ≡ after_step self.old }
     {
         self.count = self.count.wrapping_add(1);
+    }
+
+    /// One more, which is to make a move.
+    #[tactic(auto, unfolding(crate::specs::Steps::after_move))]
+    pub(crate) fn count_move(&mut self)
+        ensures { self.new ≡ after_move self.old }
+    {
+        self.count();
+        self.moves = self.moves.wrapping_add(1);
     }
 }
 
@@ -67,8 +87,8 @@ pub struct Desk<L: Ledger, T: Trace = Mark> {
 }
 
 impl<L: Ledger, T: Trace> Desk<L, T> {
-    /// A desk of this number, with this part of the share, that made no step.
-    pub(crate) fn new(alloc: Global, number: u64, share: Share<L>) -> Desk<L, T>
+    // A desk of this number, with this part of the share, that made no step.
+    fn new(alloc: Global, number: u64, share: Share<L>) -> Desk<L, T>
         requires few { number < 32 }
         requires one { share.parts ≡ 1 }
         requires none { share.amount ≡ 0 }
@@ -129,4 +149,30 @@ impl<L: Ledger, T: Trace> Desk<L, T> {
         let none = Vec::new(*self.answered.allocator());
         mem::replace(&mut self.answered, none)
     }
+}
+
+/// So many desks, each with one part of the whole share and no mark. There is room for them.
+pub(crate) fn make_desks<L: Ledger, T: Trace>(
+    alloc: Global,
+    room: Vec<Desk<L, T>>,
+    share: Share<L>,
+    count: u64,
+) -> Vec<Desk<L, T>>
+    requires none { room.items ≡ [] }
+    requires room { vec_capacity room ≡ count }
+    requires few { count ≤ 32 }
+    requires parts { share.parts ≡ count }
+    requires whole { share.parts ≡ L.parts }
+    requires amount { share.amount ≡ 0 }
+    ensures numbers { map (λ d. d.number) result.items ≡ range_with_len 0 count }
+    ensures none { All (λ d. d.own.items ≡ []) result.items }
+    ensures untold { All (λ d. d.told ≡ 0) result.items }
+{
+    let mut desks = room;
+    let mut rest = share;
+    for number in 0..count {
+        let share = rest.split_off(1, 0);
+        desks.push_reserved(Desk::new(alloc, number, share));
+    }
+    desks
 }

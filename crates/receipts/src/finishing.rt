@@ -147,6 +147,8 @@ impl<L: Ledger> Office<L> {
         ensures sum { IfOk result (λ r. sum_of_lists (λ d. d.own.items) desks.items ≡ length r.1.items) }
         ensures refused { IfErr result (λ failure. IsReason
             (AreAll (λ d. d.number) (λ d. d.own.items) L.parts failure.office.locked.marks.all.items desks.items) failure.cause) }
+        ensures not_joined { IfErr result (λ failure. IsWhyNotJoined
+            (IsNotJoined failure.office.locked.hall.issuer failure.office.locked.hall.issuer (broker_of disk) (broker_of failure.disk)) failure.cause) }
         ensures back { IfErr result (λ failure. failure.desks.items ≡ desks.items) }
     {
         self.unlock().finish(desks, disk)

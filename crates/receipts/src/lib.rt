@@ -9,6 +9,7 @@
 //! all of it is durable.
 #![tactic(auto)]
 
+mod broken_hall;
 mod command_counters;
 mod committed;
 mod desk;
@@ -27,6 +28,7 @@ mod unlocked;
 mod view;
 mod witness;
 
+pub use broken_hall::BrokenHall;
 pub use command_counters::CommandCounters;
 pub use committed::Committed;
 pub use desk::{Desk, desks};

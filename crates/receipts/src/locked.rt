@@ -45,7 +45,7 @@ pub(crate) struct Locked<L: Ledger, T: Trace> {
     pub(crate) opening: T::Opening,
     pub(crate) marks: Marks<L, T>,
     /// How many slots were counted.
-    pub(crate) slots: u64,
+    slots: u64,
     /// How many desks there are.
     pub(crate) desk_count: DeskCount<L>,
     // claim: Whenever the lock is free, the marks are numbered without a gap up to all that was issued, and counted by
@@ -212,7 +212,7 @@ impl<L: Ledger, T: Trace> Locked<L, T> {
         requires { now ≤ greatest_moment }
         ensures { Moves self.old self.new desk.old.steps desk.new.steps desk.old desk.new now result }
     {
-        desk.steps.count();
+        desk.steps.count_move();
         self.check(desk)?;
         self.marks.reserve(desk)?;
         let Locked { hall, marks, .. } = self;

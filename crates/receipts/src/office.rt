@@ -16,10 +16,12 @@ ghost use Rattle.receipts.specs.Locked.{hall_in};
 ghost use Rattle.receipts.specs.Told.{Arrives, Moves, LendsTo, Settles, Takes, TellsPoint, Forgets, MakesStep};
 ghost use Rattle.receipts.specs.Serving.{CommitsTo};
 ghost use Rattle.receipts.specs.Committing.{CommitsBy};
+ghost use Rattle.receipts.specs.Broken.{ShowsBroken, TellsBroken, left_by};
 ghost use Rattle.broker_core.specs.Batch.{last_in};
 
+use crate::broken_hall::BrokenHall;
 use crate::committed::Committed;
-use crate::desk::{Desk, desks};
+use crate::desk::{Desk, desks, make_desks};
 use crate::desk_count::DeskCount;
 use crate::error::OfficeFailure;
 use crate::locked::{Loan, Locked};
@@ -31,7 +33,7 @@ use broker_core::{Broker, DiskHalf, Durable, Failed, SplitError, Ticket, Written
 use hall_core::{Hall, HallError, Released};
 use sector_disk::Disk;
 use std::alloc::{AllocError, Global};
-use std::sync::ledger::{Blank, Ledger, Share};
+use std::sync::ledger::{Blank, Ledger};
 use std::sync::{Mutex, Wait};
 
 /// A hall under a lock. Threads share it by reference, each with a desk of its own.
@@ -73,31 +75,6 @@ fn prepare<D: Disk, L: Ledger, T: Trace>(
         Ok(prepared) => Ok(prepared),
         Err(_) => Err(SplitError::OutOfMemory),
     }
-}
-
-// So many desks, each with one part of the share and no mark. There is room for them.
-fn make_desks<L: Ledger, T: Trace>(
-    alloc: Global,
-    room: Vec<Desk<L, T>>,
-    share: Share<L>,
-    count: u64,
-) -> Vec<Desk<L, T>>
-    requires none { room.items ≡ [] }
-    requires room { vec_capacity room ≡ count }
-    requires few { count ≤ 32 }
-    requires parts { share.parts ≡ count }
-    requires amount { share.amount ≡ 0 }
-    ensures numbers { map (λ d. d.number) result.items ≡ range_with_len 0 count }
-    ensures none { All (λ d. d.own.items ≡ []) result.items }
-    ensures untold { All (λ d. d.told ≡ 0) result.items }
-{
-    let mut desks = room;
-    let mut rest = share;
-    for number in 0..count {
-        let share = rest.split_off(1, 0);
-        desks.push_reserved(Desk::new(alloc, number, share));
-    }
-    desks
 }
 
 impl<L: Ledger, T: Trace> Office<L, T> {
@@ -212,11 +189,18 @@ impl<L: Ledger, T: Trace> Office<L, T> {
         &self,
         rt: &R,
         desk: &mut Desk<L, T>,
-    ) -> (Result<Loan, HallError>, Witnessed<(), L, T>)
-        ensures { LendsTo result.1.before.value result.1.after.value result.1.from.value result.1.to.value
+    ) -> (
+        Result<Loan, HallError>,
+        Witnessed<(), L, T>,
+        Option<BrokenHall>,
+    )
+        ensures lends { LendsTo result.1.before.value result.1.after.value result.1.from.value result.1.to.value
             desk.old desk.new result.0 }
+        ensures broken { ShowsBroken result.1.after.value result.2 }
     {
-        self.locked.lock(rt).lend_seen(desk)
+        let mut locked = self.locked.lock(rt);
+        let (loan, seen) = locked.lend_seen(desk);
+        (loan, seen, BrokenHall::of(locked.hall()))
     }
 
     // Settles what became of the batch that is out, as `Locked::settle` says.
@@ -225,12 +209,19 @@ impl<L: Ledger, T: Trace> Office<L, T> {
         rt: &R,
         desk: &mut Desk<L, T>,
         outcome: Result<Written, Failed>,
-    ) -> (Result<Durable, HallError>, Witnessed<(), L, T>)
+    ) -> (
+        Result<Durable, HallError>,
+        Witnessed<(), L, T>,
+        Option<BrokenHall>,
+    )
         requires { desk.old.told ≤ last_in outcome }
-        ensures { Settles result.1.before.value result.1.after.value result.1.from.value result.1.to.value
+        ensures settles { Settles result.1.before.value result.1.after.value result.1.from.value result.1.to.value
             desk.old desk.new outcome result.0 }
+        ensures broken { ShowsBroken result.1.after.value result.2 }
     {
-        self.locked.lock(rt).settle_seen(desk, outcome)
+        let mut locked = self.locked.lock(rt);
+        let (settled, seen) = locked.settle_seen(desk, outcome);
+        (settled, seen, BrokenHall::of(locked.hall()))
     }
 
     /// Makes all that is pending durable: how many commands that is. The commands are lent under the lock, written outside
@@ -264,8 +255,12 @@ impl<L: Ledger, T: Trace> Office<L, T> {
         // was pending was lent, and what the disk half answered was settled, and is told, or `OtherHalf`. [: steps,
         // refused]
         ensures steps { CommitsBy D.view D.fault_count result desk.old desk.new (broker_of disk.old) (broker_of disk.new) }
+
+        // Where it tells `Fault` or `Broken`, it shows the hall, broken, that its last step left.
+        ensures broken { TellsBroken result.answer result.broken }
+        ensures left { ShowsBroken (left_by result) result.broken }
     {
-        let (lend, lent) = self.lend(rt, desk);
+        let (lend, lent, broken) = self.lend(rt, desk);
         let loan = match lend {
             Ok(loan) => loan,
             Err(why) => {
@@ -274,6 +269,7 @@ impl<L: Ledger, T: Trace> Office<L, T> {
                     answer,
                     lent,
                     settled: None,
+                    broken,
                 };
             }
         };
@@ -282,14 +278,16 @@ impl<L: Ledger, T: Trace> Office<L, T> {
                 answer: Ok(durable),
                 lent,
                 settled: None,
+                broken,
             },
             Loan::Out(batch) => {
                 let outcome = disk.write(batch);
-                let (answer, settled) = self.settle(rt, desk, outcome);
+                let (answer, settled, broken) = self.settle(rt, desk, outcome);
                 Committed {
                     answer,
                     lent,
                     settled: Some(settled),
+                    broken,
                 }
             }
         }

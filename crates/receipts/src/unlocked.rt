@@ -17,7 +17,6 @@ use crate::office::Office;
 use broker_core::{Broker, DiskHalf, IssueHalf};
 use hall_core::Hall;
 use sector_disk::Disk;
-use std::sync::Mutex;
 use std::sync::ledger::Ledger;
 
 /// An office that no thread shares, out of its lock.
@@ -47,14 +46,6 @@ impl<L: Ledger, T: Trace> Office<L, T> {
 }
 
 impl<L: Ledger, T: Trace> Unlocked<L, T> {
-    /// Puts the office under a lock again.
-    pub fn lock(self) -> Office<L, T> {
-        let Unlocked { locked } = self;
-        Office {
-            locked: Mutex::new(locked),
-        }
-    }
-
     /// The hall, which tells how many slots are open and commands pending, whether it stops, and whether it is broken.
     pub fn hall(&self) -> &Hall<IssueHalf>
         ensures { result.now ≡ self.now.locked.hall }

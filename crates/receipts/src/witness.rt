@@ -3,6 +3,7 @@ ghost use Rattle.std.specs.Prelude.{◌≡◌, ◌≤◌};
 ghost use Rattle.broker_core.specs.Batch.{last_in};
 ghost use Rattle.invoke_records.specs.Spelling.{greatest_moment};
 ghost use Rattle.receipts.specs.Told.{Arrives, Moves, LendsTo, Settles, Takes, Forgets, MakesStep};
+ghost use Rattle.receipts.specs.Steps.{no_steps};
 ghost use Rattle.receipts.specs.Witness.{IsOfStep};
 
 use crate::desk::{Desk, Steps};
@@ -31,15 +32,14 @@ impl<A: Drop, L: Ledger, T: Trace> Witnessed<A, L, T> {
         ensures answer { result.answer ≡ answer }
         ensures before { result.before.value ≡ locked.now }
         ensures after { result.after.value ≡ locked.now }
-        ensures no_step { (result.from.value ≡ record { count = 0 }) × (result.to.value ≡ record { count = 0 }) }
+        ensures no_step { (result.from.value ≡ no_steps) × (result.to.value ≡ no_steps) }
     {
-        let none = Steps::none();
         Witnessed {
             answer,
             before: Seen::of(locked),
             after: Seen::of(locked),
-            from: Seen::of(&none),
-            to: Seen::of(&none),
+            from: Steps::of_look(),
+            to: Steps::of_look(),
         }
     }
 

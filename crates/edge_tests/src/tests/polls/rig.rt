@@ -9,7 +9,7 @@ use futures::executor::LocalPool;
 use futures::task::{Context, Poll};
 use hall_core::HallError;
 use long_poll::{Arrived, Bell, Port, Waiting};
-use receipts::{Desk, Office};
+use receipts::{BrokenHall, Desk, Office};
 use sector_disk::Disk;
 use std::alloc::{AllocGlobal, Global};
 use std::random::RandomSource;
@@ -287,14 +287,24 @@ where
         }
     }
 
+    // Commits: the number that is durable, and the hall where it is broken.
+    fn try_commit(&mut self) -> (Result<u64, HallError>, Option<BrokenHall>) {
+        let office = self.port.office();
+        let mut committed = office.commit(&self.rt, &mut self.desk, &mut self.half);
+        let broken = committed.broken.take();
+        match committed.answer {
+            Ok(durable) => {
+                self.durable = durable;
+                (Ok(durable.number()), broken)
+            }
+            Err(why) => (Err(why), broken),
+        }
+    }
+
     /// Commits: the number that is durable.
     pub fn commit(&mut self) -> Result<u64, HallError> {
-        let office = self.port.office();
-        let durable = office
-            .commit(&self.rt, &mut self.desk, &mut self.half)
-            .answer?;
-        self.durable = durable;
-        Ok(durable.number())
+        let (told, _broken) = self.try_commit();
+        told
     }
 
     /// Shows on the board what is durable.
@@ -309,18 +319,13 @@ where
 
     /// Commits, raises the board and rings; after a fault it is said that the hall broke.
     pub fn commit_and_tell(&mut self) -> Result<u64, HallError> {
-        let told = self.commit();
-        match told {
-            Ok(_) => {
-                self.raise();
-                self.ring();
-            }
-            Err(why) => {
-                if matches!(why, HallError::Fault) {
-                    self.port.bell().say_broken();
-                    self.port.bell().ring_all(&self.rt);
-                }
-            }
+        let (told, broken) = self.try_commit();
+        if told.is_ok() {
+            self.raise();
+            self.ring();
+        } else if let Some(broken) = broken {
+            self.port.bell().say_broken(broken);
+            self.port.bell().ring_all(&self.rt);
         }
         told
     }

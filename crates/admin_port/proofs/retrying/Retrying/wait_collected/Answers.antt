@@ -4,7 +4,7 @@ use Rattle.admin_port.proofs.retrying.Retrying.wait_collected.Goals as goal
 
 pub returns-in-Ok-clause-leads : goal.returns-in-Ok-clause-leads
 returns-in-Ok-clause-leads g c =
-    of_some _ _ (λ reply tells. inr (c.in-Ok.answered, c.in-Ok.ensures.told, tells)) c.collected.result.reply c.collected.ensures
+    rw (← c.id.ensures) (of_some _ _ (λ reply tells. inr (c.in-Ok.answered, c.in-Ok.ensures.told, tells)) c.collected.result.reply c.collected.ensures)
 
 pub returns-in-Err-clause-leads : goal.returns-in-Err-clause-leads
 returns-in-Err-clause-leads g c = λ reply tells.

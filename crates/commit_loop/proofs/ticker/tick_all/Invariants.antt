@@ -1,5 +1,0 @@
-use Rattle.commit_loop.proofs.TickerTurns.{HaveTurned}
-use Rattle.commit_loop.proofs.ticker.tick_all.Given as goal
-
-abbrev pub invariant-loop : goal.invariant-loop
-invariant-loop g l = HaveTurned g.T.Ticking.leads (g.G.Gate.says l.gate) l.fn.ticker l.ticker
