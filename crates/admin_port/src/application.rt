@@ -138,7 +138,7 @@ where
     >;
 
     // claim: A request is shown what its head asks for, has the records of just its body's ids collected, has the record
-    // that it names tried again, or is refused. Something is done only where acts are allowed, the host is this machine and
+    // that it names tried again, or is refused. Something is done only where acts are allowed, no other host is named and
     // the header for acts is there. A refusal is that of a check that fails, or 503. [: answers; refuse_words; refuse_list;
     // AdminApplication::show: request, context, refused; Acts::take_list: may, ids, refused; Acts::named: may, id, refused;
     // AdminApplication::reply_to: request, context]

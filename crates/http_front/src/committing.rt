@@ -205,8 +205,8 @@ impl<L: Ledger, T: Trace, D: Disk + Drop> Committer<L, T, D> {
         front: &FrontState<L, T>,
         gate: &G,
     ) -> Committer<L, T, D>
-        // claim: A committer did at each turn what its gate said. What was committed was told to its desk, and where it was
-        // raised its seat has seen no less.
+        // claim: As far as its desk and its seat show, a committer did at each turn what its gate said: its desk was told
+        // no less than was committed, and its seat saw no less than was raised.
         ensures learned { IsRun HasLearned (G.says gate.now)
             (known self.desk.told (seen_by self.seated))
             (known result.desk.told (seen_by result.seated)) }

@@ -226,7 +226,7 @@ pub fn tick_all<R: Wait + Clock + Eprint, L: Ledger, T: Trace, G: Gate>(
     desk: Desk<L, T>,
     gate: &G,
 ) -> (Desk<L, T>, TickerRan<Desk<L, T>>)
-    // claim: A ticker did at each turn what its gate said. Its desk has a mark more for each move, and no other.
+    // claim: As far as its desk shows, a ticker did at each turn what its gate said. The desk has a mark more for each move.
     // [: learned; make_move, tick: marked]
     ensures learned { IsRun HasMarked (G.says gate.now) (length (map T.mark desk.own.items)) (length (map T.mark result.0.own.items)) }
     // claim: It hands out what shows that its loop ran. [: before, after]
