@@ -84,9 +84,9 @@ fn sleep<R: Wait + Clock, L: Ledger, T: Trace>(
     front: &FrontState<L, T>,
     quiet: Option<Moment>,
 ) -> TickerSlept<L, T>
-    // claim: Where none was due, the ticker sleeps until the next moment by its look, a second at most; else a tenth of one.
-    // The committer sleeps until it is called; where its look finds something left, a tenth at most. [pause_at,
-    // sleep_for; sleep_by_look]
+    // claim: Where none was due by a clock, the ticker sleeps at most to the next moment by its look, or a second; else a
+    // tenth of one. The committer sleeps until it is called; where its look finds something left, a tenth at most.
+    // [pause_at, sleep_for; sleep_by_look]
     ensures { IsRest front.now.ticker_wake.source quiet result }
 {
     let Some(quiet) = quiet else {
