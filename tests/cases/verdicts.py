@@ -91,7 +91,8 @@ def a_runtime_that_answered_and_hangs_is_told(broker):
     same("Attempts begun lately: 1." in words, True)
 
 
-@case({"events": 5})
+# The timeout is long: on a slow machine events wait for longer than the default one, and that would be told too.
+@case({"events": 5, "timeout": 900})
 def a_table_that_fills_and_callers_that_are_refused_are_told(broker):
     broker.serve()
     broker.live("{}", "1")
