@@ -31,7 +31,7 @@ impl LookAtEnding {
 #[derive(Drop)]
 pub(crate) struct ToldToEnd {
     look: LookAtEnding,
-    // claim: A loop that its front ends has what shows why: it was told to, or one look at a stopped hall with nothing
+    // claim: A loop that its front ends was shown why: it was told to, or one look at a stopped hall with nothing
     // pending and no open slot, or at one said to be broken with none open. [: ends; Stopped: stops, nothing, none; Failed:
     // none; FrontState::ended]
     ghost ends: { look.ends ≡ true },

@@ -28,9 +28,9 @@ use sector_disk::Disk;
 /// request, until a Collect of it. A stop leaves a later history, and so does each command.
 pub fn what_was_answered_202_is_kept()
     // claim: A 202 of an invocation tells of a durable acceptance. Later histories, by commands and crashes, begin with
-    // all up to it, and their tables have the event with its payload, until its Collect. [: answered, kept, stopped;
-    // calls_and_stops_go_on: at_first, issued, stopped; a_202_without_a_body_accepts; a_202_that_says_so_accepts;
-    // what_is_given_was_told]
+    // all up to it, and their tables have the event with its payload, until its Collect. [: answered, kept,
+    // stopped; calls_and_stops_go_on: at_first, issued,
+    // stopped; a_202_without_a_body_accepts; a_202_that_says_so_accepts; what_is_given_was_told]
     ensures answered { (s : Settings) (t : Telling s) (id : List ℕ) → (t.told ≡ accepted id) ⊎ (t.told ≡ accepted_async id)
         → (payload : List ℕ) × WasAnswered202 s t id payload }
     ensures kept { (s now : Settings) (t : Telling s) (id payload : List ℕ) (later : List Command) → WasAnswered202 s t id payload
