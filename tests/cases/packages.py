@@ -81,7 +81,7 @@ RUNTIMES = "runtime@my-function:1", "runtime@my-function:2"
 def a_function_is_added_once(broker):
     url = "http://127.0.0.1:1/x?a=$b"
     more = "--environments", 2, "--runtime", "/usr/bin/my-runtime --fast", "--task-root", "/srv/x", "--forward-failure", url, "--dialect", "aws"
-    more += "--discard", "success", "--handler", "a.b'$c"
+    more += "--threads", "2", "--discard", "success", "--handler", "a.b'$c"
     with a_root() as root:
         told = done(root, "add", "my-function", *ADD, *more)
         port = int(matches("my-function: callers ([0-9]+), .*", told[-1])[0])
@@ -95,7 +95,7 @@ def a_function_is_added_once(broker):
         same({name for name, what in there.items() if what}, {*envs, drop_in, *users, disk, *shared})
         same([text_of(root, name).splitlines()[1:] for name in users], 2 * [["[Service]", f"User=lambda_{port}"]])
         same({there[name][2] for name in (*envs, disk)}, {0o600})
-        wanted = {"PORT": str(port), "ADDRESS": "127.0.0.1", "ADMIN": str(port + 19), "WORDS": "--dialect aws --discard success"}
+        wanted = {"PORT": str(port), "ADDRESS": "127.0.0.1", "ADMIN": str(port + 19), "WORDS": "--dialect aws --threads 2 --discard success"}
         same(values_of(root, envs[0]), wanted)
         same(values_of(root, envs[1]), {"PORT": str(port), "SIDE": "failure", "URL": url, "WORDS": f"--admin {port + 19}"})
         wanted = {"RUNTIME": "/usr/bin/my-runtime --fast", "EXTENSIONS": "", "AWS_LAMBDA_RUNTIME_API": f"127.0.0.1:{port + 2}"}

@@ -52,6 +52,7 @@ def words_that_are_no_command_are_usage_faults(broker):
         ("serve", disk, "--port", "x"), ("serve", disk, "--port", 20000, "--admin", 80), ("serve", disk, "--port", 20000, "--admin", 65536),
         ("serve", disk, "--port", 20000, "--address", "here"), ("serve", disk, "--port", 20000, "--dialect", "azure"),
         ("serve", disk, "--port", 20000, "--extensions", 11), ("serve", disk, "--port", 20000, "--extensions", -1),
+        *(("serve", disk, "--port", 20000, "--threads", count) for count in (0, 33, "x")),
     ):
         done = broker.command(*words)
         same((words, done.returncode), (words, 2))

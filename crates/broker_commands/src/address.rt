@@ -19,6 +19,8 @@ pub struct Address<'a> {
     pub acts: bool,
     pub dialect: Dialect,
     pub extensions: u8,
+    /// How many threads serve the callers, 1 to 32; None where nobody said.
+    pub threads: Option<u8>,
     /// Whether it waits for a disk that another program has open.
     pub is_standby: bool,
     /// Whether the records of events that succeeded are collected at once, and those of the others.

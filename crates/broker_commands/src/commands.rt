@@ -118,6 +118,8 @@ pub(crate) fn serve_command<'a>(alloc: Global) -> Result<Command<'a>, AllocError
     let dialect = "Whose words errors and names are in";
     let extensions = "Extensions for which an environment waits before its first event, 0 to 10";
     let host = "A host name under which the ports are asked, beside localhost and addresses";
+    let threads =
+        "Threads that serve the callers, 1 to 32; where it is left out, one for each processor, 8 at most";
     let standby = "Wait for a disk that another program has open";
     let discard =
         "Whose records are collected as soon as they are durable, so that nobody reads them";
@@ -137,6 +139,7 @@ pub(crate) fn serve_command<'a>(alloc: Global) -> Result<Command<'a>, AllocError
         ),
         reach("IP address of the callers' and the environments' ports"),
         Argument::option("host", host).called("NAME"),
+        Argument::option("threads", threads).of(value_parser!(u8).range(1..33)),
         Argument::flag("standby", standby),
         Argument::option("discard", discard).of(sides),
         Argument::option("admin", admin).of(value_parser!(u16).range(1024..65536)),

@@ -189,6 +189,7 @@ fn address_at<'a>(matches: &ArgMatches<'a>, reach: IpAddr) -> Option<Address<'a>
         acts: matches.get_flag("acts"),
         dialect: dialect(matches.get_str("dialect")?),
         extensions: matches.get_one("extensions")?,
+        threads: matches.get_one("threads"),
         is_standby: matches.get_flag("standby"),
         discards_success: discards(matches, "success"),
         discards_failure: discards(matches, "failure"),

@@ -1,5 +1,5 @@
 // The committer's loop.
-ghost use Rattle.std.specs.Prelude.{◌≡◌, ℕ, Bool, true, List, [], ◌∷◌, ◌++◌};
+ghost use Rattle.std.specs.Prelude.{◌≡◌, ℕ, Bool, true, List, [], ◌∷◌, ◌++◌, None, IfSome};
 ghost use Rattle.std.specs.Bool.{OnTrue, OnFalse};
 ghost use Rattle.commit_loop.specs.Committer.{Step, counted, commit_step, raised, said_broken, rang, rang_all, slept};
 ghost use Rattle.commit_loop.specs.Committer.{said_of, steps_of_commit, steps_of_skip, Acts, IsTurn, IsEnd, IsRun};
@@ -190,32 +190,41 @@ fn act<C: Committing>(committer: &mut C, pending: usize, said: Turn) -> bool
     }
 }
 
-// One turn: whether the loop goes on.
-fn turn<G: Gate, C: Committing>(gate: &G, committer: &mut C) -> bool
-    ensures turned { OnTrue result (IsTurn C.leads (G.says gate.now) committer.old committer.new) }
-    ensures ended { OnFalse result (IsEnd C.leads (G.says gate.now) committer.old committer.new) }
+// One turn. Where the gate ends the loop, what it saw.
+fn turn<G: Gate, C: Committing>(gate: &G, committer: &mut C) -> Option<G::Seen>
+    ensures turned { result ≡ None → IsTurn C.leads (G.says gate.now) committer.old committer.new }
+    ensures ended { IfSome result (λ seen.
+        IsEnd C.leads (G.says gate.now) committer.old committer.new × G.leads_to seen End) }
 {
     let (pending, _counted) = committer.pending();
-    let (said, _seen) = gate.turn(pending);
-    act(committer, pending, said)
-}
-
-// Makes turns, until the gate ends the loop.
-fn turn_all<R: Wait, G: Gate, C: Committing>(rt: &R, gate: &G, committer: &mut C)
-    ensures { IsRun C.leads (G.says gate.now) committer.old committer.new }
-{
-    for _ in rt.forever() {
-        if !turn(gate, committer) {
-            break;
-        }
+    let (said, seen) = gate.turn(pending);
+    if act(committer, pending, said) {
+        None
+    } else {
+        Some(seen)
     }
 }
 
-/// That a committer's loop ran until its gate ended it. Only the loop makes one. Proofs see in it what was shown before and after.
+// Makes turns, until the gate ends the loop: what it saw then.
+fn turn_all<R: Wait, G: Gate, C: Committing>(rt: &R, gate: &G, committer: &mut C) -> G::Seen
+    ensures run { IsRun C.leads (G.says gate.now) committer.old committer.new }
+    ensures seen { G.leads_to result End }
+{
+    for _ in rt.forever() {
+        if let Some(seen) = turn(gate, committer) {
+            return seen;
+        }
+    }
+    unreachable!()
+}
+
+/// That a committer's loop ran until its gate ended it. Only the loop makes one. Proofs see in it what was shown before and after,
+/// and what the gate saw when it ended the loop.
 #[derive(Drop)]
-pub struct CommitterRan<S> {
+pub struct CommitterRan<S, E> {
     before: Seen<S>,
     after: Seen<S>,
+    seen: E,
 }
 
 /// Commits as the gate says, until the gate ends the loop. What a commit made durable is shown on the board before the bell
@@ -226,18 +235,21 @@ pub fn commit_all<R: Wait, G: Gate, C: Committing>(
     rt: &R,
     gate: &G,
     committer: &mut C,
-) -> CommitterRan<C::Shown>
+) -> CommitterRan<C::Shown, G::Seen>
     // claim: Each turn counts what is pending and does what its gate says of that. A commit's number is raised on the
     // board, then rung. A failure that broke the hall is said, then rung for all; then it sleeps. [: run]
     ensures run { IsRun C.leads (G.says gate.now) committer.old committer.new }
-    // claim: A loop hands out what shows that it ran, from what to what. [: before, after; tick_all: before, after]
+    // claim: A loop hands out what shows that it ran, from what to what, and what its gate saw when it ended it. [: before,
+    // after, seen; tick_all: before, after, seen]
     ensures before { result.before.value ≡ C.view committer.old }
     ensures after { result.after.value ≡ C.view committer.new }
+    ensures seen { G.leads_to result.seen End }
 {
     let before = Seen::of(committer.shown());
-    turn_all(rt, gate, committer);
+    let seen = turn_all(rt, gate, committer);
     CommitterRan {
         before,
         after: Seen::of(committer.shown()),
+        seen,
     }
 }

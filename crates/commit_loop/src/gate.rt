@@ -42,6 +42,8 @@ impl Gate for WhenPending {
 
     ghost says = { λ _ pending said. said ≡ (if nat_lt 0 pending then turn.Commit else turn.Skip) };
 
+    ghost leads_to = { λ _ said. said ≡ turn.End → ⊥ };
+
     fn turn(&self, pending: usize) -> (Turn, ()) {
         if pending > 0 {
             (Turn::Commit, ())

@@ -1,5 +1,5 @@
 // The ticker's loop.
-ghost use Rattle.std.specs.Prelude.{◌≡◌, ℕ, Bool, List, [], ◌∷◌, ◌++◌, nat_lt};
+ghost use Rattle.std.specs.Prelude.{◌≡◌, ℕ, Bool, List, [], ◌∷◌, ◌++◌, nat_lt, None, IfSome};
 ghost use Rattle.std.specs.Bool.{OnTrue, OnFalse};
 ghost use Rattle.commit_loop.specs.Ticker.{Step, counted, ticked, called, slept};
 ghost use Rattle.commit_loop.specs.Ticker.{steps_of_moves, steps_of_call, Acts, IsTurn, IsEnd, IsRun};
@@ -120,32 +120,41 @@ fn act<R: Wait, T: Ticking>(rt: &R, ticker: &mut T, said: Turn) -> bool
     }
 }
 
-// One turn: whether the loop goes on.
-fn turn<R: Wait, G: Gate, T: Ticking>(rt: &R, gate: &G, ticker: &mut T) -> bool
-    ensures turned { OnTrue result (IsTurn T.leads (G.says gate.now) ticker.old ticker.new) }
-    ensures ended { OnFalse result (IsEnd T.leads (G.says gate.now) ticker.old ticker.new) }
+// One turn. Where the gate ends the loop, what it saw.
+fn turn<R: Wait, G: Gate, T: Ticking>(rt: &R, gate: &G, ticker: &mut T) -> Option<G::Seen>
+    ensures turned { result ≡ None → IsTurn T.leads (G.says gate.now) ticker.old ticker.new }
+    ensures ended { IfSome result (λ seen.
+        IsEnd T.leads (G.says gate.now) ticker.old ticker.new × G.leads_to seen End) }
 {
     let (pending, _counted) = ticker.pending();
-    let (said, _seen) = gate.turn(pending);
-    act(rt, ticker, said)
-}
-
-// Makes turns, until the gate ends the loop.
-fn turn_all<R: Wait, G: Gate, T: Ticking>(rt: &R, gate: &G, ticker: &mut T)
-    ensures { IsRun T.leads (G.says gate.now) ticker.old ticker.new }
-{
-    for _ in rt.forever() {
-        if !turn(rt, gate, ticker) {
-            break;
-        }
+    let (said, seen) = gate.turn(pending);
+    if act(rt, ticker, said) {
+        None
+    } else {
+        Some(seen)
     }
 }
 
-/// That a ticker's loop ran until its gate ended it. Only the loop makes one. Proofs see in it what was shown before and after.
+// Makes turns, until the gate ends the loop: what it saw then.
+fn turn_all<R: Wait, G: Gate, T: Ticking>(rt: &R, gate: &G, ticker: &mut T) -> G::Seen
+    ensures run { IsRun T.leads (G.says gate.now) ticker.old ticker.new }
+    ensures seen { G.leads_to result End }
+{
+    for _ in rt.forever() {
+        if let Some(seen) = turn(rt, gate, ticker) {
+            return seen;
+        }
+    }
+    unreachable!()
+}
+
+/// That a ticker's loop ran until its gate ended it. Only the loop makes one. Proofs see in it what was shown before and after, and
+/// what the gate saw when it ended the loop.
 #[derive(Drop)]
-pub struct TickerRan<S> {
+pub struct TickerRan<S, E> {
     before: Seen<S>,
     after: Seen<S>,
+    seen: E,
 }
 
 /// At each turn makes all moves that are due, where the gate says `Commit`, calls the committer if there was one, and sleeps; at
@@ -154,17 +163,19 @@ pub fn tick_all<R: Wait, G: Gate, T: Ticking>(
     rt: &R,
     gate: &G,
     ticker: &mut T,
-) -> TickerRan<T::Shown>
+) -> TickerRan<T::Shown, G::Seen>
     // claim: Where its gate says `Commit`, a turn makes moves until one is not made, calls the committer if one was, and
     // sleeps. At `Skip` it sleeps. [: run]
     ensures run { IsRun T.leads (G.says gate.now) ticker.old ticker.new }
     ensures before { result.before.value ≡ T.view ticker.old }
     ensures after { result.after.value ≡ T.view ticker.new }
+    ensures seen { G.leads_to result.seen End }
 {
     let before = Seen::of(ticker.shown());
-    turn_all(rt, gate, ticker);
+    let seen = turn_all(rt, gate, ticker);
     TickerRan {
         before,
         after: Seen::of(ticker.shown()),
+        seen,
     }
 }

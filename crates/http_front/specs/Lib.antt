@@ -3,6 +3,7 @@ pub mod Calls
 pub mod Discarding
 pub mod Ending
 pub mod Learning
+pub mod Loops
 pub mod Marking
 pub mod Refusals
 pub mod Resting

@@ -1,6 +1,7 @@
 // The committer: what its loop works on.
 ghost use Rattle.std.specs.Prelude.{◌≡◌, [], ◌∷◌, ◌++◌};
 ghost use Rattle.commit_loop.specs.Committer.{Step, IsRun};
+ghost use Rattle.commit_loop.specs.declared.gate.Turn.TheVariants.{End};
 ghost use Rattle.front_board.specs.Seated.{seen_by};
 ghost use Rattle.broker_core.specs.Splitting.{broker_of};
 ghost use Rattle.hall_core.specs.Hall.{pending_in};
@@ -18,7 +19,7 @@ use crate::front_state::FrontState;
 use crate::resting::CommitterSlept;
 use crate::wake::{Slept, Wake};
 use broker_core::{DiskHalf, Durable};
-use commit_loop::{Committing, Gate, commit_all};
+use commit_loop::{CommitterRan, Committing, Gate, commit_all};
 use front_board::Seated;
 use long_poll::{Rung, RungForAll, SaidBroken};
 use port_meters::DiskState;
@@ -195,7 +196,8 @@ impl<L: Ledger, T: Trace, D: Disk + Drop> Committer<L, T, D> {
 
     /// Commits as the gate says, until it ends the loop, and gives the committer back: all that is pending at a turn
     /// becomes durable by one commit. Where nothing is pending, or a commit was refused, it sleeps until the next command, or
-    /// for a while, where something is left to do; where the gate skips what is pending, it is asked again.
+    /// for a while, where something is left to do; where the gate skips what is pending, it is asked again. Beside it is what
+    /// shows that its loop ran.
     ///
     /// On an honest disk a stop at any moment leaves a legal stop of the half's list with what it took: a beginning of that with
     /// all that was durable at the call.
@@ -204,24 +206,29 @@ impl<L: Ledger, T: Trace, D: Disk + Drop> Committer<L, T, D> {
         rt: &R,
         front: &FrontState<L, T>,
         gate: &G,
-    ) -> Committer<L, T, D>
+    ) -> (Committer<L, T, D>, CommitterRan<DiskHalf<D>, G::Seen>)
         // claim: As far as its desk and its seat show, a committer did at each turn what its gate said: its desk was told
         // no less than was committed, and its seat saw no less than was raised.
         ensures learned { IsRun HasLearned (G.says gate.now)
             (known self.desk.told (seen_by self.seated))
-            (known result.desk.told (seen_by result.seated)) }
+            (known result.0.desk.told (seen_by result.0.seated)) }
         // claim: It hands its disk half back, which goes on from each history that it stood for. At each moment a crash
         // leaves a prefix of that and what it took, with all that was durable before. [: served; ask]
-        ensures served { HasServed D.view D.fault_count (broker_of self.half) (broker_of result.half) }
+        ensures served { HasServed D.view D.fault_count (broker_of self.half) (broker_of result.0.half) }
+        // claim: It hands out what shows that its loop ran, over which halves, and what the gate saw that led to its end. [:
+        // before, after, seen; tick_all: before, after, seen]
+        ensures before { result.1.before.value ≡ self.half }
+        ensures after { result.1.after.value ≡ result.0.half }
+        ensures seen { G.leads_to result.1.seen End }
     {
         let mut at = CommitterAtFront {
             rt,
             front,
             committer: self,
         };
-        let _ran = commit_all(rt, gate, &mut at);
+        let ran = commit_all(rt, gate, &mut at);
         let CommitterAtFront { committer, .. } = at;
-        committer
+        (committer, ran)
     }
 
     /// The half of the broker over the disk.

@@ -4,6 +4,7 @@ ghost use Rattle.hall_core.specs.Hall.{pending_in, open_slot_count};
 ghost use Rattle.receipts.specs.Locked.{hall_in, issuer_in};
 
 use crate::front_state::FrontState;
+use commit_loop::TickerRan;
 use long_poll::SaidBroken;
 use receipts::{Trace, Witnessed};
 use std::snapshot::Snapshot as Seen;
@@ -65,7 +66,7 @@ pub(crate) enum FrontEnded<L: Ledger, T: Trace> {
 
 /// That the committer's loop ends, without why. Only what shows why gives one.
 #[derive(Drop)]
-pub(crate) struct FrontOver {
+pub struct FrontOver {
     over: (),
 }
 
@@ -74,6 +75,22 @@ impl<L: Ledger, T: Trace> FrontEnded<L, T> {
     pub(crate) fn over(self) -> FrontOver {
         drop(self);
         FrontOver { over: () }
+    }
+}
+
+/// That a ticker's loop ran until its front was told to end. Only what shows that it did gives one.
+#[derive(Drop)]
+pub struct TickerOver {
+    over: (),
+}
+
+impl TickerOver {
+    /// By a loop whose gate saw that.
+    pub(crate) fn of<S>(ran: TickerRan<S, LookAtEnding>) -> TickerOver
+        requires { ran.seen.ends ≡ true }
+    {
+        drop(ran);
+        TickerOver { over: () }
     }
 }
 

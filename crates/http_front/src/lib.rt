@@ -31,6 +31,7 @@ pub use acting::CallersPort;
 pub use commit_loop::{Gate, Turn, WhenPending};
 pub use committing::Committer;
 pub use discarding::Discard;
+pub use ending::{FrontOver, TickerOver};
 pub use error::ServeError;
 pub use front_state::FrontState;
 pub use serving::{Ending, Served, serve};

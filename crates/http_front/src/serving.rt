@@ -5,10 +5,12 @@ ghost use Rattle.broker_core.specs.Splitting.{broker_of};
 ghost use Rattle.hall_core.specs.Fresh.{IsFresh};
 ghost use Rattle.receipts.specs.Desks.{desk_count};
 ghost use Rattle.receipts.specs.Serving.{HasServed};
+ghost use Rattle.http_front.specs.Loops.{HasRun};
 
 use crate::acting::CallersPort;
 use crate::committing::{Committer, state_of};
 use crate::discarding::{Discard, start_collector};
+use crate::ending::{FrontOver, TickerOver};
 use crate::error::ServeError;
 use crate::front_state::FrontState;
 use crate::gates::{UntilEnding, UntilOver};
@@ -16,7 +18,7 @@ use crate::opening::{OpenedFront, open};
 use crate::starting::{PortThread, join_all, join_beside, start, start_beside};
 use crate::ticking::tick_all;
 use broker_core::{Broker, DiskHalf};
-use commit_loop::Gate;
+use commit_loop::{CommitterRan, Gate};
 use front_board::Seated;
 use hall_core::Hall;
 use http_port::Listening;
@@ -52,37 +54,48 @@ impl Ending {
     }
 }
 
-/// What a front that was served leaves.
+/// What a front that was served leaves, where its gate sees such.
 #[derive(Drop)]
-pub struct Served<D: Disk, S> {
+pub struct Served<D: Disk, S, E> {
     pub ending: Ending,
     /// The half of the broker over the disk.
     pub half: DiskHalf<D>,
+    /// What shows that the committer's loop ran, and by what it was ended: by its gate, or since the front was over.
+    pub committed: CommitterRan<DiskHalf<D>, Result<E, FrontOver>>,
+    /// What shows that the ticker's loop ran until the front was told to end.
+    pub ticked: TickerOver,
     /// What shows that something was served beside its ports, where there was something.
     pub beside: Option<S>,
 }
 
-// Runs the ticker until its front ends, and gives its desk back.
-fn tick_until_ending<R, L, T>(rt: &R, front: &FrontState<L, T>, ticker: Desk<L, T>) -> Desk<L, T>
+/// What came of the two loops of a front.
+#[derive(Drop)]
+struct Loops<D: Disk, E> {
+    half: DiskHalf<D>,
+    committed: CommitterRan<DiskHalf<D>, Result<E, FrontOver>>,
+    ticked: TickerOver,
+}
+
+// Runs the ticker until its front ends.
+fn tick_until_ending<R, L, T>(rt: &R, front: &FrontState<L, T>, ticker: Desk<L, T>) -> TickerOver
 where
     R: Wait + Clock + Eprint,
     L: Ledger,
     T: Trace,
 {
     let gate = UntilEnding { front };
-    let (desk, _ran) = tick_all(rt, front, ticker, &gate);
-    desk
+    let (_desk, ran) = tick_all(rt, front, ticker, &gate);
+    TickerOver::of(ran)
 }
 
-// Runs the ticker on a thread of its own and the committer on this one, until the gate or the front ends: the half over the
-// disk.
+// Runs the ticker on a thread of its own and the committer on this one, until the gate or the front ends.
 fn commit_and_tick<R, L, T, D, G>(
     rt: R,
     front: &Arc<FrontState<L, T>>,
     committer: Committer<L, T, D>,
     ticker: Desk<L, T>,
     gate: &G,
-) -> io::Result<DiskHalf<D>>
+) -> io::Result<Loops<D, G::Seen>>
 where
     R: Threads + Wait + Clock + Eprint + Copy + Drop + Send + 'static,
     L: Ledger + Send + Sync + 'static,
@@ -90,7 +103,9 @@ where
     T::Opening: SharedOpening + 'static,
     D: Disk + Drop,
     G: Gate,
-    ensures { IfOk result (λ half. HasServed D.view D.fault_count (broker_of committer.half) (broker_of half)) }
+    ensures served { IfOk result (λ loops. HasServed D.view D.fault_count (broker_of committer.half) (broker_of loops.half)) }
+    ensures ran { IfOk result (λ loops.
+        HasRun broker_of G.leads_to (broker_of committer.half) (broker_of loops.half) loops.committed) }
 {
     let theirs = Arc::try_clone(front)?;
     let ticking = thread::spawn(&rt, move || tick_until_ending(&rt, &theirs, ticker))?;
@@ -99,11 +114,16 @@ where
         front,
         inner: gate,
     };
-    let (_desk, half) = committer.run(&rt, front, &until).into_parts();
+    let (committer, committed) = committer.run(&rt, front, &until);
+    let (_desk, half) = committer.into_parts();
     front.ending.cancel();
     front.ticker_wake.call(&rt);
-    let _desk = ticking.join(&rt);
-    Ok(half)
+    let ticked = ticking.join(&rt);
+    Ok(Loops {
+        half,
+        committed,
+        ticked,
+    })
 }
 
 // Starts the threads of all ports, of who collects records, and then of what is served beside them, where there is something.
@@ -112,6 +132,7 @@ fn start_all<R, L, T, B>(
     front: &Arc<FrontState<L, T>>,
     ports: Vec<Arc<Port<L, T>>>,
     listeners: Vec<Listening>,
+    callers: u8,
     reader: AdminReader<L, T>,
     seat: Seated,
     beside: Option<B>,
@@ -128,39 +149,47 @@ where
 {
     start_collector(rt, front, ports.first(), seat, threads)?;
     let acting = CallersPort::new(front, ports.first())?;
-    start(rt, front, ports, listeners, threads)?;
+    start(rt, front, ports, listeners, callers, threads)?;
     start_beside(rt, front, reader, acting, beside)
 }
 
 // Ends a front, and waits for the threads of its ports and for the one beside them: what it leaves, where this is what came of
 // the committer.
-fn end<R, L, T, D, S>(
+fn end<R, L, T, D, S, E>(
     rt: &R,
     front: &FrontState<L, T>,
     threads: Vec<PortThread>,
     beside: Option<JoinHandle<io::Result<S>>>,
-    outcome: io::Result<DiskHalf<D>>,
-) -> io::Result<Served<D, S>>
+    outcome: io::Result<Loops<D, E>>,
+) -> io::Result<Served<D, S, E>>
 where
     R: Threads + Wait,
     L: Ledger,
     T: Trace,
     D: Disk + Drop,
     S: Drop,
-    ensures half { IfOk result (λ served. outcome ≡ Ok served.half) }
+    E: Drop,
+    ensures loops { IfOk result (λ served.
+        outcome ≡ Ok (record { half = served.half; committed = served.committed; ticked = served.ticked })) }
     ensures beside { IfOk result (λ served. is_some served.beside ≡ is_some beside) }
 {
     front.ending.cancel();
     front.discarding.call(rt);
     let joined = join_all(rt, threads);
     let beside = join_beside(rt, beside);
-    let half = outcome?;
+    let Loops {
+        half,
+        committed,
+        ticked,
+    } = outcome?;
     joined?;
     let beside = beside?;
     let ending = Ending::of(front);
     Ok(Served {
         ending,
         half,
+        committed,
+        ticked,
         beside,
     })
 }
@@ -170,9 +199,10 @@ fn run<R, L, T, D, G, B>(
     rt: R,
     opened: OpenedFront<L, T, D>,
     listeners: Vec<Listening>,
+    callers: u8,
     beside: Option<B>,
     gate: &G,
-) -> io::Result<Served<D, B::Served>>
+) -> io::Result<Served<D, B::Served, G::Seen>>
 where
     R: Machine,
     L: Ledger + Send + Sync + 'static,
@@ -183,6 +213,8 @@ where
     B: Beside<R, AdminReader<L, T>, CallersPort<L, T>> + Send + 'static,
     B::Served: Send + 'static,
     ensures served { IfOk result (λ served. HasServed D.view D.fault_count (broker_of opened.committer.half) (broker_of served.half)) }
+    ensures ran { IfOk result (λ served.
+        HasRun broker_of G.leads_to (broker_of opened.committer.half) (broker_of served.half) served.committed) }
     ensures beside { IfOk result (λ served. is_some served.beside ≡ is_some beside) }
 {
     let OpenedFront {
@@ -200,6 +232,7 @@ where
         &front,
         ports,
         listeners,
+        callers,
         reader,
         collector_seat,
         beside,
@@ -221,8 +254,8 @@ fn port_count(settings: &Settings) -> u64
 }
 
 /// Serves a hall, in which nothing has come yet and nothing is pending, with a ledger of as many parts as there are desks:
-/// the callers' port at the first listener, that of environment n at the listener n behind it. It returns once the broker
-/// was stopped or its device failed and every open request was answered or its client has gone. The committer, on the
+/// the callers' port at the first listener, on so many threads, that of environment n at the listener n behind it. It returns once
+/// the broker was stopped or its device failed and every open request was answered or its client has gone. The committer, on the
 /// calling thread, is asked by the gate beside that. What is beside the ports, where there is something, is served on a thread
 /// of its own, with a reader of the office and the callers' port to act at, until the front ends. On another one, records that
 /// are discarded are collected.
@@ -237,10 +270,11 @@ pub fn serve<R, L, T, D, G, B>(
     hall: Hall<Broker<D>>,
     blank: Blank,
     listeners: Vec<Listening>,
+    callers: u8,
     beside: Option<B>,
     discard: Discard,
     gate: &G,
-) -> Result<Served<D, B::Served>, ServeError>
+) -> Result<Served<D, B::Served, G::Seen>, ServeError>
 where
     R: Machine,
     L: Ledger + Send + Sync + 'static,
@@ -261,11 +295,14 @@ where
     ensures many { IsErrOf result ServeError.TooManyPorts → desk_count (settings_of hall.issuer) < vec_len listeners + 2 }
     // claim: An Ok hands the disk half back: the hall's broker, after any number of commits. [: served]
     ensures served { IfOk result (λ served. HasServed D.view D.fault_count hall.issuer (broker_of served.half)) }
+    // claim: What it hands out beside was made by the committer's loop, from the hall's broker to that half. It has what the gate
+    // saw that leads to `End`, or what shows that the front was over. [: ran]
+    ensures ran { IfOk result (λ served. HasRun broker_of G.leads_to hall.issuer (broker_of served.half) served.committed) }
     ensures beside { IfOk result (λ served. is_some served.beside ≡ is_some beside) }
 {
     if listeners.len() as u64 > port_count(hall.table().settings()) {
         return Err(ServeError::TooManyPorts);
     }
     let opened = open::<L, T, D>(rt.alloc(), hall, blank, discard)?;
-    Ok(run(rt, opened, listeners, beside, gate)?)
+    Ok(run(rt, opened, listeners, callers, beside, gate)?)
 }

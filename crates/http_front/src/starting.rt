@@ -16,26 +16,32 @@ use std::{io, thread};
 /// The thread of a port.
 pub(crate) type PortThread = JoinHandle<io::Result<()>>;
 
-// Serves a port to its end. Where it fails, the front ends.
+// Serves a port to its end, with at most so many connections. Where it fails, the front ends.
 fn serve_place<R: Machine, L: Ledger, T: Trace>(
     rt: R,
     place: PortApplication<R, L, T>,
     listening: Listening,
+    connections: usize,
 ) -> io::Result<()> {
     let front = Arc::try_clone(&place.front)?;
-    let served = http_port::serve(rt, place, listening, HttpLimits::default(), &front.ending);
+    let limits = HttpLimits {
+        connections,
+        ..HttpLimits::default()
+    };
+    let served = http_port::serve(rt, place, listening, limits, &front.ending);
     front.ending.cancel();
     front.wake.call(&rt);
     served
 }
 
-// Starts a thread that serves a port.
+// Starts a thread that serves a port, with at most so many connections.
 fn start_port<R, L, T>(
     rt: R,
     front: &Arc<FrontState<L, T>>,
     number: u16,
     port: Arc<Port<L, T>>,
     listening: Listening,
+    connections: usize,
 ) -> io::Result<PortThread>
 where
     R: Machine,
@@ -50,16 +56,60 @@ where
         front,
         port,
     };
-    let thread = thread::spawn(&rt, move || serve_place(rt, place, listening))?;
+    let thread = thread::spawn(&rt, move || serve_place(rt, place, listening, connections))?;
     Ok(thread)
 }
 
-/// Starts a thread for each listener, with the next port.
+// How many connections this one of so many threads has at most, the first of which is 0: all of them have as many as a port may.
+fn connections_of(thread: u8, count: u8) -> usize {
+    let most = HttpLimits::default().connections;
+    let count = usize::from(count.max(1));
+    let one_more = usize::from(thread) < most % count;
+    most / count + usize::from(one_more)
+}
+
+// The same listener once more.
+fn another(listening: &Listening) -> io::Result<Listening> {
+    Ok(Listening {
+        listener: listening.listener.try_clone()?,
+        hosts: Arc::try_clone(&listening.hosts)?,
+        meter: Arc::try_clone(&listening.meter)?,
+    })
+}
+
+// Starts so many threads that serve a port, and at least one. They share its listener, its desk and how many connections it has.
+fn start_threads<R, L, T>(
+    rt: R,
+    front: &Arc<FrontState<L, T>>,
+    number: u16,
+    port: Arc<Port<L, T>>,
+    listening: Listening,
+    count: u8,
+    threads: &mut Vec<PortThread>,
+) -> io::Result<()>
+where
+    R: Machine,
+    L: Ledger + Send + Sync + 'static,
+    T: SharedTrace + 'static,
+    T::Opening: SharedOpening + 'static,
+{
+    for thread in 1..count {
+        let (theirs, more) = (Arc::try_clone(&port)?, another(&listening)?);
+        let most = connections_of(thread, count);
+        threads.push(start_port(rt, front, number, theirs, more, most)?)?;
+    }
+    let most = connections_of(0, count);
+    threads.push(start_port(rt, front, number, port, listening, most)?)?;
+    Ok(())
+}
+
+/// Starts a thread for each listener, with the next port; for the first, that of the callers, so many.
 pub(crate) fn start<R, L, T>(
     rt: R,
     front: &Arc<FrontState<L, T>>,
     ports: Vec<Arc<Port<L, T>>>,
     listeners: Vec<Listening>,
+    callers: u8,
     threads: &mut Vec<PortThread>,
 ) -> io::Result<()>
 where
@@ -70,7 +120,8 @@ where
 {
     let mut number = 0u16;
     for (port, listening) in ports.into_iter().zip(listeners) {
-        threads.push(start_port(rt, front, number, port, listening)?)?;
+        let count = if number == 0 { callers } else { 1 };
+        start_threads(rt, front, number, port, listening, count, threads)?;
         number = number.wrapping_add(1);
     }
     Ok(())

@@ -2,6 +2,7 @@
 ghost use Rattle.std.specs.Prelude.{◌≡◌, ◌≤◌, ◌+◌, [], ◌∷◌, ◌++◌, length, map, sum_by, false, IfOk, IfErr};
 ghost use Rattle.hall_core.specs.Hall.{pending_in};
 ghost use Rattle.commit_loop.specs.Ticker.{Step, ticked, IsRun};
+ghost use Rattle.commit_loop.specs.declared.gate.Turn.TheVariants.{End};
 ghost use Rattle.receipts.specs.Locked.{hall_in, issuer_in};
 ghost use Rattle.http_front.specs.Marking.{is_made, HasMarked, KeepsQuiet};
 ghost use Rattle.http_front.specs.Trying.{quiet_of, Finds, IsStep, ShowsTry};
@@ -225,13 +226,13 @@ pub fn tick_all<R: Wait + Clock + Eprint, L: Ledger, T: Trace, G: Gate>(
     front: &FrontState<L, T>,
     desk: Desk<L, T>,
     gate: &G,
-) -> (Desk<L, T>, TickerRan<Desk<L, T>>)
+) -> (Desk<L, T>, TickerRan<Desk<L, T>, G::Seen>)
     // claim: As far as its desk shows, a ticker did at each turn what its gate said. The desk has a mark more for each move.
     // [: learned; make_move, tick: marked]
     ensures learned { IsRun HasMarked (G.says gate.now) (length (map T.mark desk.own.items)) (length (map T.mark result.0.own.items)) }
-    // claim: It hands out what shows that its loop ran. [: before, after]
     ensures before { result.1.before.value ≡ desk }
     ensures after { result.1.after.value ≡ result.0 }
+    ensures seen { G.leads_to result.1.seen End }
 {
     let mut at = TickerAtFront {
         rt,

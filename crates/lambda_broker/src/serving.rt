@@ -21,6 +21,8 @@ use std::io::Write;
 use std::marker::Brand;
 use std::rt::Files;
 use std::sync::ledger::{Blank, Ledger};
+use std::thread;
+use std::thread::Threads;
 use std::time::Instant;
 use thiserror::Error;
 
@@ -49,12 +51,27 @@ impl ServingError {
     }
 }
 
+/// How many threads serve the callers at most where nobody says how many.
+const MOST_THREADS: usize = 8;
+
+// How many threads serve the callers: as many as were asked for, else one for each processor, up to eight.
+fn caller_threads<R: Threads>(rt: &R, at: &Address<'_>) -> u8 {
+    if let Some(threads) = at.threads {
+        return threads;
+    }
+    match thread::available_parallelism(rt) {
+        Ok(found) => found.get().min(MOST_THREADS) as u8,
+        Err(_) => 1,
+    }
+}
+
 // Serves a hall by a ledger of the blank's, until the broker is stopped.
 fn serve_by<R, L, T, D>(
     rt: R,
     hall: Hall<Broker<D>>,
     blank: Blank,
     listeners: Vec<Listening>,
+    callers: u8,
     admin: Option<AdminPort>,
     discard: Discard,
 ) -> Result<(), ServingError>
@@ -75,6 +92,7 @@ where
         hall,
         blank,
         listeners,
+        callers,
         admin,
         discard,
         &WhenPending,
@@ -90,6 +108,7 @@ fn serve_hall<R, T, D>(
     rt: R,
     hall: Hall<Broker<D>>,
     listeners: Vec<Listening>,
+    callers: u8,
     admin: Option<AdminPort>,
     discard: Discard,
 ) -> Result<(), ServingError>
@@ -102,7 +121,7 @@ where
     requires fresh { IsFresh (settings_of hall.issuer) hall }
 {
     let blank = Blank::new(desks(hall.table().settings()));
-    serve_by::<R, Brand, T, D>(rt, hall, blank, listeners, admin, discard)
+    serve_by::<R, Brand, T, D>(rt, hall, blank, listeners, callers, admin, discard)
 }
 
 // Serves a disk that is open, by what is discarded.
@@ -128,7 +147,8 @@ where
         listeners,
         admin,
     } = opened;
-    serve_hall::<R, T, D>(rt, hall, listeners, admin, discard)
+    let callers = caller_threads(&rt, at);
+    serve_hall::<R, T, D>(rt, hall, listeners, callers, admin, discard)
 }
 
 // Serves what is on a disk, once it is opened.

@@ -1,22 +1,17 @@
-use Rattle.std.proofs.Common.{◌≡◌, []}
-use Rattle.commit_loop.specs.declared.gate.Turn.TheVariants as turn
-use Rattle.commit_loop.specs.Committer.{Acts, IsTurn, IsEnd}
-use Rattle.commit_loop.proofs.Answered.{on_true, on_false}
+use Rattle.std.proofs.Common.{subst}
+use Rattle.commit_loop.specs.declared.gate.Turn.{Turn}
 use Rattle.commit_loop.proofs.CommitterTurns.{one_turn, end_of_turns}
 use Rattle.commit_loop.proofs.committer.turn.Goals as goal
 
-pub returns : goal.returns
-returns g c =
-    let leads = g.C.Committing.leads in
-    let says = g.G.Gate.says c.args.gate.now in
-    let goes_on = g.met.C.Committing.goes_on in
-    let old = c.args.committer.now in
-    let now = c.pending-pending.new.self in
-    let new = c.act.new.committer in
-    let said = c.turn-said.result.0 in
-    let may = c.turn-said.ensures.says in
-    let count = c.pending-pending.ensures.steps in record {
-      turned = on_true c.act.result (Acts leads c.pending-pending.result.0 said now new) (IsTurn leads says old new) (one_turn leads says goes_on old now new c.pending-pending.result.0 said may count) c.act.ensures.turned;
-      ended =
-          on_false c.act.result ((said ≡ turn.End) × leads now [] new) (IsEnd leads says old new) (end_of_turns leads says goes_on old now new c.pending-pending.result.0 said may count) c.act.ensures.ended;
-    }
+pub returns-then-act-clause-turned : goal.returns-then-act-clause-turned
+returns-then-act-clause-turned g c = λ _.
+    one_turn g.C.Committing.leads (g.G.Gate.says c.args.gate.now) g.met.C.Committing.goes_on c.args.committer.now c.pending-pending.new.self c.act.new.committer
+        c.pending-pending.result.0 c.turn-said.result.0 c.turn-said.ensures.says c.pending-pending.ensures.steps c.if-act.ensures.turned
+
+pub returns-clause-ended : goal.returns-clause-ended
+returns-clause-ended g c =
+    let P : Turn → Type 0 = λ said. g.G.Gate.leads_to c.turn-said.result.1 said in (
+      end_of_turns g.C.Committing.leads (g.G.Gate.says c.args.gate.now) g.met.C.Committing.goes_on c.args.committer.now c.pending-pending.new.self c.act.new.committer
+          c.pending-pending.result.0 c.turn-said.result.0 c.turn-said.ensures.says c.pending-pending.ensures.steps c.if-act.ensures.ended,
+      subst P c.if-act.ensures.ended.0 c.turn-said.ensures.seen,
+    )

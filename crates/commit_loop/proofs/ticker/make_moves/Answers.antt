@@ -1,4 +1,4 @@
-use Rattle.std.proofs.Common.{◌≡◌, ◌+◌, List, [], ◌∷◌, ◌++◌, subst, sym, true, false, nat_lt, arith}
+use Rattle.std.proofs.Common.{◌+◌, List, [], ◌∷◌, subst, sym, true, arith}
 use Rattle.std.proofs.Math.ListN.{replicate}
 use Rattle.std.proofs.lemmas.Bool.{lt-ltb}
 use Rattle.std.proofs.lemmas.List.{replicate_more}
