@@ -1,5 +1,5 @@
 -- Why the loops of a front end, and what is left to do.
-use Rattle.std.specs.Prelude.{◌≡◌, ◌||◌, Bool, true, false, Option, Some, None, IfSome, is_some, nat_lt}
+use Rattle.std.specs.Prelude.{◌≡◌, ◌||◌, Bool, IfSome, is_some, nat_lt}
 use Rattle.std.specs.declared.sync.ledger.Ledger.{Ghosts as LedgerGhosts}
 use Rattle.futures.specs.declared.task.source.Source.{Source}
 use Rattle.tokio_util.specs.declared.sync.cancellation_token.CancellationToken.{CancellationToken}

@@ -16,14 +16,13 @@ use receipts::{Gone, SharedOpening, SharedTrace, desks};
 use sector_disk::{CountingDisk, Disk, Written};
 use std::alloc::AllocError;
 use std::fs::File;
-use std::io;
 use std::io::Write;
 use std::marker::Brand;
 use std::rt::Files;
 use std::sync::ledger::{Blank, Ledger};
-use std::thread;
 use std::thread::Threads;
 use std::time::Instant;
+use std::{io, thread};
 use thiserror::Error;
 
 /// Why a disk was not served, or not to its end.

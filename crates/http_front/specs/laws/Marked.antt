@@ -1,5 +1,5 @@
 -- Laws: the marks of a ticker add up, and it knows still when nothing was due.
-use Rattle.std.specs.Prelude.{◌≡◌, ℕ, List, [], ◌++◌, Option, sum_by, refl}
+use Rattle.std.specs.Prelude.{ℕ, List, [], ◌++◌, Option, refl}
 use Rattle.std.proofs.Common.{arith, ◌∙◌}
 use Rattle.std.proofs.lemmas.List.Sums.{sum_by-append}
 use Rattle.commit_loop.specs.Ticker.{Step}

@@ -6,7 +6,7 @@ use Rattle.commit_loop.proofs.ticker.turn.Goals as goal
 pub returns-then-act-clause-turned : goal.returns-then-act-clause-turned
 returns-then-act-clause-turned g c = λ _.
     one_turn g.T.Ticking.leads (g.G.Gate.says c.args.gate.now) g.met.T.Ticking.goes_on c.args.ticker.now c.pending-pending.new.self c.act.new.ticker
-        c.pending-pending.result.0 c.turn-said.result.0 c.turn-said.ensures.says c.pending-pending.ensures.steps c.if-act.ensures.turned
+    c.pending-pending.result.0 c.turn-said.result.0 c.turn-said.ensures.says c.pending-pending.ensures.steps c.if-act.ensures.turned
 
 pub returns-clause-ended : goal.returns-clause-ended
 returns-clause-ended g c =

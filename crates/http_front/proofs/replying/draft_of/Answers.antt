@@ -1,4 +1,4 @@
-use Rattle.std.proofs.Common.{◌≤◌, length, ap, sym, ◌∙◌, arith}
+use Rattle.std.proofs.Common.{◌≤◌, length, ap, arith}
 use Rattle.http_port.specs.Answering.{Message, status_alone, with_more}
 use Rattle.http_front.proofs.Drafting.{drafted_more, drafted_all}
 use Rattle.http_front.proofs.replying.draft_of.Goals as goal
