@@ -21,15 +21,12 @@ fn text(alloc: Global, bytes: &[u8]) -> Result<Text, AllocError> {
 }
 
 fn settings(alloc: Global) -> Result<Settings, AllocError> {
-    let name = text(alloc, b"my-function");
-    let handler = text(alloc, b"app.main");
+    let name = text(alloc, b"my-function")?;
+    let handler = text(alloc, b"app.main")?;
     let arn = text(
         alloc,
         b"arn:aws:lambda:us-east-2:123456789012:function:my-function",
-    );
-    let (Ok(name), Ok(handler), Ok(arn)) = (name, handler, arn) else {
-        return Err(AllocError);
-    };
+    )?;
     Ok(Settings {
         retries: 2,
         age: 21600,

@@ -59,10 +59,10 @@ pub enum Story {
 
 // The last three of some desks. None where there are fewer.
 fn pop_three<L: Ledger>(desks: &mut Vec<Desk<L>>) -> Option<(Desk<L>, Desk<L>, Desk<L>)> {
-    match (desks.pop(), desks.pop(), desks.pop()) {
-        (Some(one), Some(two), Some(three)) => Some((one, two, three)),
-        _ => None,
-    }
+    let one = desks.pop()?;
+    let two = desks.pop()?;
+    let three = desks.pop()?;
+    Some((one, two, three))
 }
 
 // A house over a hall. None where there is no memory for it.

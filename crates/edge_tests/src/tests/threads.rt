@@ -2,7 +2,7 @@
 use crate::tests::disks::{DiskWatch, MOST_TURNS, NO_TROUBLE, Trouble};
 use crate::tests::house::{House, NOW, Story, expect, invoke, tell};
 use broker_core::DiskHalf;
-use receipts::{Desk, FinishError, Office};
+use receipts::{Desk, FinishError, Mark, Office, UnlockedFailure};
 use sector_disk::Disk;
 use std::alloc::{AllocGlobal, Global};
 use std::process::Abort;
@@ -135,6 +135,36 @@ where
     }
 }
 
+// Closes an office to which a desk is missing: what is handed back, where it is refused.
+fn close_too_early<L: Ledger, D: Disk + Drop>(
+    office: Office<L>,
+    desks: Vec<Desk<L>>,
+    half: DiskHalf<D>,
+) -> Option<UnlockedFailure<D, L>> {
+    match office.finish(desks, half) {
+        Ok(_) => None,
+        Err(refused) => Some(refused),
+    }
+}
+
+// Closes it with its last desk, too: the marks.
+fn close_at_last<L: Ledger, D: Disk + Drop>(
+    refused: UnlockedFailure<D, L>,
+    last: Desk<L>,
+) -> Option<Vec<Mark>> {
+    let UnlockedFailure {
+        office,
+        mut desks,
+        disk,
+        ..
+    } = refused;
+    let _ = desks.push(last);
+    match office.finish(desks, disk) {
+        Ok((_, marks)) => Some(marks),
+        Err(_) => None,
+    }
+}
+
 // Closes an office without its last desk, which is refused, and then with all: whether the numbers of its marks are 1 and 2.
 fn close<L: Ledger, R: Abort, D: Disk + Drop>(
     rt: &R,
@@ -143,19 +173,14 @@ fn close<L: Ledger, R: Abort, D: Disk + Drop>(
     half: DiskHalf<D>,
     last: Desk<L>,
 ) -> bool {
-    let Err(failure) = office.finish(desks, half) else {
+    let Some(refused) = close_too_early(office, desks, half) else {
         return false;
     };
-    expect(
-        rt,
-        failure.cause == FinishError::Mismatch,
-        "a missing desk is missed",
-    );
-    let mut desks = failure.desks;
-    let _ = desks.push(last);
-    match failure.office.finish(desks, failure.disk) {
-        Ok((_, marks)) => marks.iter().map(|mark| mark.number).eq([1, 2]),
-        Err(_) => false,
+    let is_missed = refused.cause == FinishError::Mismatch;
+    expect(rt, is_missed, "a missing desk is missed");
+    match close_at_last(refused, last) {
+        Some(marks) => marks.iter().map(|mark| mark.number).eq([1, 2]),
+        None => false,
     }
 }
 

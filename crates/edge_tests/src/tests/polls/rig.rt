@@ -254,20 +254,19 @@ where
         self.follow(pool, self.arrive_invoke(n))
     }
 
+    // A request comes at the rig's own desk: its ticket and its slot.
+    fn arrive_here(&mut self) -> Option<(Ticket, u64)> {
+        let call = Call::Oldest(Side::Success);
+        let office = self.port.office();
+        let seen = office.arrive(&self.rt, &mut self.desk, call, NOW, [0, 0]);
+        seen.answer.ok()
+    }
+
     /// A ticket of all that was issued so far: that of a request whose reply is not wanted.
     pub fn ticket(&mut self) -> Option<Ticket> {
-        let office = self.port.office();
-        let call = Call::Oldest(Side::Success);
-        let arrived = office
-            .arrive(&self.rt, &mut self.desk, call, NOW, [0, 0])
-            .answer;
-        match arrived {
-            Ok((ticket, slot)) => {
-                office.forget(&self.rt, &mut self.desk, slot);
-                Some(ticket)
-            }
-            Err(_) => None,
-        }
+        let (ticket, slot) = self.arrive_here()?;
+        self.port.office().forget(&self.rt, &mut self.desk, slot);
+        Some(ticket)
     }
 
     /// What was told since the last time, once all that were woken have been polled.
