@@ -54,6 +54,26 @@ pub(crate) struct HttpDoor<R, A> {
 }
 
 impl<R: Clock + Copy + Drop, A: Application> HttpDoor<R, A> {
+    // What a new connection is in.
+    fn phase_cell(&self) -> Option<Rc<PhaseCell>> {
+        let meter = Arc::try_clone(&self.meter).ok()?;
+        Rc::new(self.alloc, PhaseCell::new(meter)).ok()
+    }
+
+    // What answers the requests of a connection.
+    fn requests(&self, phase_cell: &Rc<PhaseCell>) -> Option<Requests<R, A>> {
+        let application = Arc::try_clone(&self.application).ok()?;
+        let hosts = Arc::try_clone(&self.hosts).ok()?;
+        let phase_cell = Rc::clone(phase_cell).ok()?;
+        Some(Requests {
+            rt: self.rt,
+            alloc: self.alloc,
+            application,
+            hosts,
+            phase_cell,
+        })
+    }
+
     // A socket, as its connection reads and writes it.
     fn socket_of(&self, socket: TcpStream, phase_cell: &Rc<PhaseCell>) -> Option<Socket<R>> {
         let alarm = Rc::clone(&self.alarm).ok()?;
@@ -76,15 +96,8 @@ impl<R: Clock + Copy + Drop, A: Application> Door for HttpDoor<R, A> {
     type Served = ConnectionFuture<Ending<R, A>, R>;
 
     fn serve(&self, socket: TcpStream, permit: Permit) -> Option<Self::Served> {
-        let meter = Arc::try_clone(&self.meter).ok()?;
-        let phase_cell = Rc::new(self.alloc, PhaseCell::new(meter)).ok()?;
-        let requests = Requests {
-            rt: self.rt,
-            alloc: self.alloc,
-            application: Arc::try_clone(&self.application).ok()?,
-            hosts: Arc::try_clone(&self.hosts).ok()?,
-            phase_cell: Rc::clone(&phase_cell).ok()?,
-        };
+        let phase_cell = self.phase_cell()?;
+        let requests = self.requests(&phase_cell)?;
         let socket = self.socket_of(socket, &phase_cell)?;
         let ending = self.ending.cancelled().ok()?;
         let timer = Timer::new(self.rt, &self.timers, self.limits, phase_cell)?;
