@@ -27,8 +27,8 @@ pub trait Gate {
 
     /// What the loop does next, with so many commands issued and not durable.
     fn turn(&self, pending: usize) -> (Turn, Self::Seen)
-        // claim: What a gate saw leads to what it says. `WhenPending` says `Commit` exactly where something is pending. [:
-        // says, seen; WhenPending: says]
+        // claim: What a gate saw leads to what it says. `WhenPending` says `Commit` exactly where something is pending, and
+        // what it saw never leads to `End`. [: says, seen; WhenPending: says, leads_to]
         ensures says { says self.now pending result.0 }
         ensures seen { leads_to result.1 result.0 };
 }
