@@ -1,11 +1,11 @@
 // Switching to the other segment.
-ghost use Rattle.std.specs.Prelude.{◌≡◌, ◌↔◌, ◌+◌, ◌*◌, ◌<◌, ◌≤◌, ◌^◌, length, true, false, None, IsErrOf, IfErr, OnOk, OnErr};
+ghost use Rattle.std.specs.Prelude.{◌≡◌, ◌↔◌, ◌+◌, ◌*◌, ◌<◌, ◌≤◌, ◌^◌, length, true, false, None, IsErrOf, IfOk, OnOk, OnErr};
 ghost use Rattle.sector_disk.specs.Disk.{IsSameDisk, HasRisen, HasCause};
 ghost use Rattle.sector_disk.specs.Moments.{LeavesOnly};
 ghost use Rattle.retry_rules.specs.Settings.{bad_field};
-ghost use Rattle.invoke_records.specs.Spelling.{snapshot_text, snapshot_fault};
+ghost use Rattle.invoke_records.specs.Spelling.{snapshot_text, snapshot_fault, IsSnapshot};
 ghost use Rattle.gate_journal.specs.Frames.{is_open, sectors_for};
-ghost use Rattle.checkpoint.specs.Image.{sector_at};
+ghost use Rattle.checkpoint.specs.Image.{sector_at, header_text};
 ghost use Rattle.checkpoint.specs.Pieces.{StandsFrom, parts_text};
 ghost use Rattle.invoke_records.specs.declared.version.Version.TheVariants.{Two};
 ghost use Rattle.checkpoint.specs.Live.{version_of, settings_of, generation_of, number_of, HasRoom, may_stand};
@@ -21,6 +21,7 @@ use crate::writing::spell_header;
 use crate::{Opened, SwitchError};
 use gate_journal::{Area, Journal};
 use invoke_records::{Snapshot, Version};
+use retry_rules::Settings;
 use sector_disk::{Disk, Fault, SECTOR_SIZE};
 use std::alloc::Global;
 
@@ -105,6 +106,28 @@ pub(crate) fn write_live<D: Disk>(
     write_gate(disk, base, &open)
 }
 
+// The header of this generation, and memory for one piece, if a disk with these settings can hold this snapshot.
+fn prepare(
+    alloc: Global,
+    generation: u64,
+    settings: &Settings,
+    snapshot: &Snapshot,
+) -> Result<(Vec<u8>, Pieces), SwitchError>
+    requires { bad_field settings.now ≡ None }
+    ensures bad { IsErrOf result SwitchError.BadKind ↔ (may_stand settings.now snapshot.now ≡ false) }
+    ensures fault { IsErrOf result SwitchError.Fault → ⊥ }
+    ensures stands { OnOk result (may_stand settings.now snapshot.now ≡ true) }
+    ensures spelled { OnOk result (IsSnapshot snapshot.now) }
+    ensures header { IfOk result (λ r. r.0.items ≡ header_text generation (length (snapshot_text snapshot.now)) settings.now) }
+{
+    if !may_stand(settings, snapshot) {
+        return Err(SwitchError::BadKind);
+    }
+    let header = spell_header(alloc, generation, snapshot.size() as usize, settings)?;
+    let pieces = Pieces::new(alloc)?;
+    Ok((header, pieces))
+}
+
 /// Makes the other segment the live one, with this snapshot, no frames, and the generation one higher. What it writes is of
 /// version 2 of the format, of whichever version the live segment was.
 ///
@@ -149,13 +172,9 @@ pub fn switch<D: Disk>(
     ensures switched_either { SwitchesEither (D.view disk.old) (D.view disk.new) opened.old opened.new snapshot.now result }
     ensures any_moment_either { LeavesOldOrSnapshot (D.view disk.old) (D.view disk.new) opened.old snapshot.now }
 {
-    if !may_stand(&opened.settings, snapshot) {
-        return Err(SwitchError::BadKind);
-    }
-    let size = snapshot.size();
     let generation = opened.generation + 1;
-    let header = spell_header(alloc, generation, size as usize, &opened.settings)?;
-    let mut pieces = Pieces::new(alloc)?;
+    let (header, mut pieces) = prepare(alloc, generation, &opened.settings, snapshot)?;
+    let size = snapshot.size();
     let half = disk.sectors() / 2;
     let base = other_base(half, opened.base);
     write_live(

@@ -8,3 +8,4 @@ pub mod Decoding
 pub mod Next
 pub mod Spelled
 pub mod Taken
+pub mod Exits

@@ -43,6 +43,26 @@ impl<A: Drop, L: Ledger, T: Trace> Witnessed<A, L, T> {
         }
     }
 
+    // The answer of a step of this desk, which has just been made, and before which this was seen.
+    fn of_step(
+        answer: A,
+        before: Seen<Locked<L, T>>,
+        from: Seen<Steps>,
+        locked: &Locked<L, T>,
+        desk: &Desk<L, T>,
+    ) -> Witnessed<A, L, T>
+        ensures answer { result.answer ≡ answer }
+        ensures seen { IsOfStep result before.value locked.now from.value desk.now.steps }
+    {
+        Witnessed {
+            answer,
+            before,
+            after: Seen::of(locked),
+            from,
+            to: Seen::of(&desk.steps),
+        }
+    }
+
     /// The answer, and what was seen without it.
     pub fn split(self) -> (A, Witnessed<(), L, T>)
         ensures answer { result.0 ≡ self.answer }
@@ -93,41 +113,6 @@ impl<A: Drop, L: Ledger, T: Trace> Witnessed<A, L, T> {
     }
 }
 
-// What is seen before a step.
-#[derive(Drop)]
-struct Begun<L: Ledger, T: Trace> {
-    before: Seen<Locked<L, T>>,
-    from: Seen<Steps>,
-}
-
-impl<L: Ledger, T: Trace> Begun<L, T> {
-    // Before a step from this desk.
-    fn at(locked: &Locked<L, T>, desk: &Desk<L, T>) -> Begun<L, T>
-        ensures before { result.before.value ≡ locked.now }
-        ensures from { result.from.value ≡ desk.now.steps }
-    {
-        Begun {
-            before: Seen::of(locked),
-            from: Seen::of(&desk.steps),
-        }
-    }
-
-    // After it, with its answer.
-    fn end<A: Drop>(self, answer: A, locked: &Locked<L, T>, desk: &Desk<L, T>) -> Witnessed<A, L, T>
-        ensures answer { result.answer ≡ answer }
-        ensures seen { IsOfStep result self.before.value locked.now self.from.value desk.now.steps }
-    {
-        let Begun { before, from } = self;
-        Witnessed {
-            answer,
-            before,
-            after: Seen::of(locked),
-            from,
-            to: Seen::of(&desk.steps),
-        }
-    }
-}
-
 impl<L: Ledger, T: Trace> Locked<L, T> {
     /// `arrive`, and what was seen around it.
     pub(crate) fn arrive_seen(
@@ -141,9 +126,10 @@ impl<L: Ledger, T: Trace> Locked<L, T> {
             desk.old desk.new call now words result.answer }
         ensures seen { IsOfStep result self.old self.new desk.old.steps desk.new.steps }
     {
-        let begun = Begun::at(self, desk);
+        let before = Seen::of(self);
+        let from = Seen::of(&desk.steps);
         let answer = self.arrive(desk, call, now, words);
-        begun.end(answer, self, desk)
+        Witnessed::of_step(answer, before, from, self, desk)
     }
 
     /// `tick`, and what was seen around it.
@@ -157,9 +143,10 @@ impl<L: Ledger, T: Trace> Locked<L, T> {
             desk.old desk.new now result.answer }
         ensures seen { IsOfStep result self.old self.new desk.old.steps desk.new.steps }
     {
-        let begun = Begun::at(self, desk);
+        let before = Seen::of(self);
+        let from = Seen::of(&desk.steps);
         let answer = self.tick(desk, now);
-        begun.end(answer, self, desk)
+        Witnessed::of_step(answer, before, from, self, desk)
     }
 
     /// `lend`, and what was seen around it.
@@ -171,9 +158,10 @@ impl<L: Ledger, T: Trace> Locked<L, T> {
             desk.old desk.new result.0 }
         ensures seen { IsOfStep result.1 self.old self.new desk.old.steps desk.new.steps }
     {
-        let begun = Begun::at(self, desk);
+        let before = Seen::of(self);
+        let from = Seen::of(&desk.steps);
         let loan = self.lend(desk);
-        (loan, begun.end((), self, desk))
+        (loan, Witnessed::of_step((), before, from, self, desk))
     }
 
     /// `settle`, and what was seen around it.
@@ -187,9 +175,10 @@ impl<L: Ledger, T: Trace> Locked<L, T> {
             desk.old desk.new outcome result.0 }
         ensures seen { IsOfStep result.1 self.old self.new desk.old.steps desk.new.steps }
     {
-        let begun = Begun::at(self, desk);
+        let before = Seen::of(self);
+        let from = Seen::of(&desk.steps);
         let settled = self.settle(desk, outcome);
-        (settled, begun.end((), self, desk))
+        (settled, Witnessed::of_step((), before, from, self, desk))
     }
 
     /// `take`, and what was seen around it.
@@ -202,9 +191,10 @@ impl<L: Ledger, T: Trace> Locked<L, T> {
         ensures takes { Takes result.before.value result.after.value slot result.answer }
         ensures seen { IsOfStep result self.old self.new desk.old.steps desk.new.steps }
     {
-        let begun = Begun::at(self, desk);
+        let before = Seen::of(self);
+        let from = Seen::of(&desk.steps);
         let released = self.take(desk, slot);
-        begun.end(released, self, desk)
+        Witnessed::of_step(released, before, from, self, desk)
     }
 
     /// `forget`, and what was seen around it.
@@ -213,8 +203,9 @@ impl<L: Ledger, T: Trace> Locked<L, T> {
         ensures forgets { Forgets result.before.value result.after.value slot }
         ensures seen { IsOfStep result self.old self.new desk.old.steps desk.new.steps }
     {
-        let begun = Begun::at(self, desk);
+        let before = Seen::of(self);
+        let from = Seen::of(&desk.steps);
         self.forget(desk, slot);
-        begun.end((), self, desk)
+        Witnessed::of_step((), before, from, self, desk)
     }
 }

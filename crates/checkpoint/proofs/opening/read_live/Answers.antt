@@ -85,3 +85,12 @@ returns-clause-refused g c honest =
     let refused = rw (both.untouched honest).content at c.read_found.ensures.refused (both.same.honest.1 honest) in
     let same = read ∙ ap (segments_in half content) (sym c.in_ok-live.ensures.exact) in
     IfErr-weaker c.read_found.result _ _ (λ why is. refuses_along why _ (read_image content) (λ e err. same ∙ err) is) refused
+
+pub returns-in_err-a-clause-reads : goal.returns-in_err-a-clause-reads
+returns-in_err-a-clause-reads g c = c.open_header.ensures.reads
+
+pub returns-in_err-b-clause-reads : goal.returns-in_err-b-clause-reads
+returns-in_err-b-clause-reads g c = reads_more c.open_header.ensures.reads c.open_header-2.ensures.reads
+
+pub returns-in_err-live-clause-reads : goal.returns-in_err-live-clause-reads
+returns-in_err-live-clause-reads g c = reads_more c.open_header.ensures.reads c.open_header-2.ensures.reads

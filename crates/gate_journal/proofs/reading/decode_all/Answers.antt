@@ -1,8 +1,11 @@
-use Rattle.std.proofs.Common.{◌≡◌, ◌+◌, ◌-◌, ◌++◌, ℕ, suc, List, [], ◌∷◌, drop, sym, ◌∙◌, ap, arith, append_assoc}
+use Rattle.std.proofs.Common.{refl, ◌≡◌, ◌+◌, ◌-◌, ◌++◌, ℕ, suc, List, [], ◌∷◌, drop, sym, ◌∙◌, ap, arith, append_assoc}
 use Rattle.std.proofs.lemmas.List.{take_rest, length_push}
 use Rattle.invoke_records.specs.declared.command.Command.{Command}
+use Rattle.gate_journal.specs.declared.error.ReadError.TheVariants.{OutOfMemory}
 use Rattle.gate_journal.specs.Frames.{behind_gate, commands_at, whole}
 use Rattle.invoke_records.specs.laws.Fields.{first_fault}
+use Rattle.std.proofs.lemmas.Result.{IfOk-from_err}
+use Rattle.gate_journal.proofs.Exits.{only_error}
 use Rattle.gate_journal.proofs.Decoding.{after_these, one_more, at_fault, at_end, ended, behind_gate-push}
 use Rattle.gate_journal.proofs.reading.decode_all.Goals as goal
 
@@ -43,3 +46,24 @@ returns-in_default c =
           ∙ at_fault was.0 k rest c.in-Err.error (first_fault c.in-Err.error _ c.in_default.not-OutOfMemory c.in-Err.ensures.exact));
       count = tt;
     }
+
+pub returns-in_err-push-in-Ok-clause-memory : goal.returns-in_err-push-in-Ok-clause-memory
+returns-in_err-push-in-Ok-clause-memory c = only_error c.from_residual.result OutOfMemory c.from_residual.ensures.1
+
+pub returns-in_err-push-in-Ok-clause-decoded : goal.returns-in_err-push-in-Ok-clause-decoded
+returns-in_err-push-in-Ok-clause-decoded c = IfOk-from_err _ _ c.from_residual.ensures.0
+
+pub returns-in_err-push-in-Ok-clause-count : goal.returns-in_err-push-in-Ok-clause-count
+returns-in_err-push-in-Ok-clause-count c = IfOk-from_err _ _ c.from_residual.ensures.0
+
+pub returns-in-OutOfMemory-clause-memory : goal.returns-in-OutOfMemory-clause-memory
+returns-in-OutOfMemory-clause-memory c = refl
+
+pub returns-in-OutOfMemory-clause-decoded : goal.returns-in-OutOfMemory-clause-decoded
+returns-in-OutOfMemory-clause-decoded c = tt
+
+pub returns-in-OutOfMemory-clause-count : goal.returns-in-OutOfMemory-clause-count
+returns-in-OutOfMemory-clause-count c = tt
+
+pub returns-clause-memory : goal.returns-clause-memory
+returns-clause-memory c = tt

@@ -12,6 +12,8 @@ use Rattle.gate_journal.specs.Frames.{Frames, body_text, body_sectors}
 use Rattle.gate_journal.specs.Journal.{Holds, generation_of, number_of, next_of, end_of, fits}
 use Rattle.gate_journal.proofs.Written.{IsSpelled, spelled, body_length}
 use Rattle.gate_journal.proofs.Append.{Batch, body_run, body_settled, gate_run, gate_settled, appended}
+use Rattle.std.proofs.lemmas.Result.{IfOk-from_err}
+use Rattle.gate_journal.proofs.Exits.{no_other, no_other_where, with_error, no_error, no_error_where, fault_is_no_room, fault_is_no_memory, same_disk, same_more, later_more, then_risen}
 use Rattle.gate_journal.proofs.journal.Journal.append.Given.{Over}
 use Rattle.gate_journal.proofs.journal.Journal.append.Goals as goal
 use Rattle.gate_journal.proofs.journal.Journal.append.Goals.{After-deref}
@@ -128,3 +130,180 @@ returns-clause-acknowledged g c honest settled area frames holds =
       },
       now.2,
     )
+
+pub returns-in_err-frame-clause-same : goal.returns-in_err-frame-clause-same
+returns-in_err-frame-clause-same g c = same_disk (g.D.Disk.view c.args.disk.now)
+
+pub returns-in_err-frame-clause-err : goal.returns-in_err-frame-clause-err
+returns-in_err-frame-clause-err g c = with_error _ refl
+
+pub returns-in_err-frame-clause-end : goal.returns-in_err-frame-clause-end
+returns-in_err-frame-clause-end g c = refl
+
+pub returns-in_err-frame-clause-generation : goal.returns-in_err-frame-clause-generation
+returns-in_err-frame-clause-generation g c = refl
+
+pub returns-in_err-frame-clause-number : goal.returns-in_err-frame-clause-number
+returns-in_err-frame-clause-number g c = IfOk-from_err _ _ c.from_residual.ensures.0
+
+pub returns-in_err-frame-clause-acknowledged : goal.returns-in_err-frame-clause-acknowledged
+returns-in_err-frame-clause-acknowledged g c honest settled area frames holds = IfOk-from_err _ _ c.from_residual.ensures.0
+
+pub returns-in_err-write-clause-same : goal.returns-in_err-write-clause-same
+returns-in_err-write-clause-same g c = c.write.ensures.same
+
+pub returns-in_err-write-clause-later : goal.returns-in_err-write-clause-later
+returns-in_err-write-clause-later g c = c.write.ensures.cause.later
+
+pub returns-in_err-write-clause-fault : goal.returns-in_err-write-clause-fault
+returns-in_err-write-clause-fault g c is = c.in_err-write.ensures.cause.risen refl
+
+pub returns-in_err-write-clause-no_room : goal.returns-in_err-write-clause-no_room
+returns-in_err-write-clause-no_room g c = no_other_where _ fault_is_no_room c.from_residual-in_err-write.ensures.1 (ap (fits c.args.self.now) (sym c.batch_size-size.ensures.size) ∙ sym c.if-not-fits.ensures)
+
+pub returns-in_err-write-clause-no_call : goal.returns-in_err-write-clause-no_call
+returns-in_err-write-clause-no_call g c is = no_other _ fault_is_no_room c.from_residual-in_err-write.ensures.1 is
+
+pub returns-in_err-write-clause-no_call_either : goal.returns-in_err-write-clause-no_call_either
+returns-in_err-write-clause-no_call_either g c is = no_other _ fault_is_no_memory c.from_residual-in_err-write.ensures.1 is
+
+pub returns-in_err-write-clause-err : goal.returns-in_err-write-clause-err
+returns-in_err-write-clause-err g c = with_error _ refl
+
+pub returns-in_err-write-clause-end : goal.returns-in_err-write-clause-end
+returns-in_err-write-clause-end g c = refl
+
+pub returns-in_err-write-clause-generation : goal.returns-in_err-write-clause-generation
+returns-in_err-write-clause-generation g c = refl
+
+pub returns-in_err-write-clause-number : goal.returns-in_err-write-clause-number
+returns-in_err-write-clause-number g c = IfOk-from_err _ _ c.from_residual-in_err-write.ensures.0
+
+pub returns-in_err-write-clause-acknowledged : goal.returns-in_err-write-clause-acknowledged
+returns-in_err-write-clause-acknowledged g c honest settled area frames holds = IfOk-from_err _ _ c.from_residual-in_err-write.ensures.0
+
+pub returns-in_err-barrier-clause-same : goal.returns-in_err-barrier-clause-same
+returns-in_err-barrier-clause-same g c = same_more c.write.ensures.same c.barrier.ensures.same
+
+pub returns-in_err-barrier-clause-later : goal.returns-in_err-barrier-clause-later
+returns-in_err-barrier-clause-later g c = later_more c.write.ensures.cause.later c.barrier.ensures.cause.later
+
+pub returns-in_err-barrier-clause-fault : goal.returns-in_err-barrier-clause-fault
+returns-in_err-barrier-clause-fault g c is = then_risen c.write.ensures.cause.later (c.in_err-barrier.ensures.cause.risen refl)
+
+pub returns-in_err-barrier-clause-no_room : goal.returns-in_err-barrier-clause-no_room
+returns-in_err-barrier-clause-no_room g c = no_other_where _ fault_is_no_room c.from_residual-in_err-barrier.ensures.1 (ap (fits c.args.self.now) (sym c.batch_size-size.ensures.size) ∙ sym c.if-not-fits.ensures)
+
+pub returns-in_err-barrier-clause-no_call : goal.returns-in_err-barrier-clause-no_call
+returns-in_err-barrier-clause-no_call g c is = no_other _ fault_is_no_room c.from_residual-in_err-barrier.ensures.1 is
+
+pub returns-in_err-barrier-clause-no_call_either : goal.returns-in_err-barrier-clause-no_call_either
+returns-in_err-barrier-clause-no_call_either g c is = no_other _ fault_is_no_memory c.from_residual-in_err-barrier.ensures.1 is
+
+pub returns-in_err-barrier-clause-err : goal.returns-in_err-barrier-clause-err
+returns-in_err-barrier-clause-err g c = with_error _ refl
+
+pub returns-in_err-barrier-clause-end : goal.returns-in_err-barrier-clause-end
+returns-in_err-barrier-clause-end g c = refl
+
+pub returns-in_err-barrier-clause-generation : goal.returns-in_err-barrier-clause-generation
+returns-in_err-barrier-clause-generation g c = refl
+
+pub returns-in_err-barrier-clause-number : goal.returns-in_err-barrier-clause-number
+returns-in_err-barrier-clause-number g c = IfOk-from_err _ _ c.from_residual-in_err-barrier.ensures.0
+
+pub returns-in_err-barrier-clause-acknowledged : goal.returns-in_err-barrier-clause-acknowledged
+returns-in_err-barrier-clause-acknowledged g c honest settled area frames holds = IfOk-from_err _ _ c.from_residual-in_err-barrier.ensures.0
+
+pub returns-in_err-write-2-clause-same : goal.returns-in_err-write-2-clause-same
+returns-in_err-write-2-clause-same g c = same_more (same_more c.write.ensures.same c.barrier.ensures.same) c.write-2.ensures.same
+
+pub returns-in_err-write-2-clause-later : goal.returns-in_err-write-2-clause-later
+returns-in_err-write-2-clause-later g c = later_more (later_more c.write.ensures.cause.later c.barrier.ensures.cause.later) c.write-2.ensures.cause.later
+
+pub returns-in_err-write-2-clause-fault : goal.returns-in_err-write-2-clause-fault
+returns-in_err-write-2-clause-fault g c is = then_risen (later_more c.write.ensures.cause.later c.barrier.ensures.cause.later) (c.in_err-write-2.ensures.cause.risen refl)
+
+pub returns-in_err-write-2-clause-no_room : goal.returns-in_err-write-2-clause-no_room
+returns-in_err-write-2-clause-no_room g c = no_other_where _ fault_is_no_room c.from_residual-in_err-write-2.ensures.1 (ap (fits c.args.self.now) (sym c.batch_size-size.ensures.size) ∙ sym c.if-not-fits.ensures)
+
+pub returns-in_err-write-2-clause-no_call : goal.returns-in_err-write-2-clause-no_call
+returns-in_err-write-2-clause-no_call g c is = no_other _ fault_is_no_room c.from_residual-in_err-write-2.ensures.1 is
+
+pub returns-in_err-write-2-clause-no_call_either : goal.returns-in_err-write-2-clause-no_call_either
+returns-in_err-write-2-clause-no_call_either g c is = no_other _ fault_is_no_memory c.from_residual-in_err-write-2.ensures.1 is
+
+pub returns-in_err-write-2-clause-err : goal.returns-in_err-write-2-clause-err
+returns-in_err-write-2-clause-err g c = with_error _ refl
+
+pub returns-in_err-write-2-clause-end : goal.returns-in_err-write-2-clause-end
+returns-in_err-write-2-clause-end g c = refl
+
+pub returns-in_err-write-2-clause-generation : goal.returns-in_err-write-2-clause-generation
+returns-in_err-write-2-clause-generation g c = refl
+
+pub returns-in_err-write-2-clause-number : goal.returns-in_err-write-2-clause-number
+returns-in_err-write-2-clause-number g c = IfOk-from_err _ _ c.from_residual-in_err-write-2.ensures.0
+
+pub returns-in_err-write-2-clause-acknowledged : goal.returns-in_err-write-2-clause-acknowledged
+returns-in_err-write-2-clause-acknowledged g c honest settled area frames holds = IfOk-from_err _ _ c.from_residual-in_err-write-2.ensures.0
+
+pub returns-in_err-barrier-2-clause-same : goal.returns-in_err-barrier-2-clause-same
+returns-in_err-barrier-2-clause-same g c = same_more (same_more (same_more c.write.ensures.same c.barrier.ensures.same) c.write-2.ensures.same) c.barrier-2.ensures.same
+
+pub returns-in_err-barrier-2-clause-later : goal.returns-in_err-barrier-2-clause-later
+returns-in_err-barrier-2-clause-later g c = later_more (later_more (later_more c.write.ensures.cause.later c.barrier.ensures.cause.later) c.write-2.ensures.cause.later) c.barrier-2.ensures.cause.later
+
+pub returns-in_err-barrier-2-clause-fault : goal.returns-in_err-barrier-2-clause-fault
+returns-in_err-barrier-2-clause-fault g c is = then_risen (later_more (later_more c.write.ensures.cause.later c.barrier.ensures.cause.later) c.write-2.ensures.cause.later) (c.in_err-barrier-2.ensures.cause.risen refl)
+
+pub returns-in_err-barrier-2-clause-no_room : goal.returns-in_err-barrier-2-clause-no_room
+returns-in_err-barrier-2-clause-no_room g c = no_other_where _ fault_is_no_room c.from_residual-in_err-barrier-2.ensures.1 (ap (fits c.args.self.now) (sym c.batch_size-size.ensures.size) ∙ sym c.if-not-fits.ensures)
+
+pub returns-in_err-barrier-2-clause-no_call : goal.returns-in_err-barrier-2-clause-no_call
+returns-in_err-barrier-2-clause-no_call g c is = no_other _ fault_is_no_room c.from_residual-in_err-barrier-2.ensures.1 is
+
+pub returns-in_err-barrier-2-clause-no_call_either : goal.returns-in_err-barrier-2-clause-no_call_either
+returns-in_err-barrier-2-clause-no_call_either g c is = no_other _ fault_is_no_memory c.from_residual-in_err-barrier-2.ensures.1 is
+
+pub returns-in_err-barrier-2-clause-err : goal.returns-in_err-barrier-2-clause-err
+returns-in_err-barrier-2-clause-err g c = with_error _ refl
+
+pub returns-in_err-barrier-2-clause-end : goal.returns-in_err-barrier-2-clause-end
+returns-in_err-barrier-2-clause-end g c = refl
+
+pub returns-in_err-barrier-2-clause-generation : goal.returns-in_err-barrier-2-clause-generation
+returns-in_err-barrier-2-clause-generation g c = refl
+
+pub returns-in_err-barrier-2-clause-number : goal.returns-in_err-barrier-2-clause-number
+returns-in_err-barrier-2-clause-number g c = IfOk-from_err _ _ c.from_residual-in_err-barrier-2.ensures.0
+
+pub returns-in_err-barrier-2-clause-acknowledged : goal.returns-in_err-barrier-2-clause-acknowledged
+returns-in_err-barrier-2-clause-acknowledged g c honest settled area frames holds = IfOk-from_err _ _ c.from_residual-in_err-barrier-2.ensures.0
+
+pub returns-clause-same : goal.returns-clause-same
+returns-clause-same g c = same_more (same_more (same_more c.write.ensures.same c.barrier.ensures.same) c.write-2.ensures.same) c.barrier-2.ensures.same
+
+pub returns-clause-later : goal.returns-clause-later
+returns-clause-later g c = later_more (later_more (later_more c.write.ensures.cause.later c.barrier.ensures.cause.later) c.write-2.ensures.cause.later) c.barrier-2.ensures.cause.later
+
+pub returns-clause-fault : goal.returns-clause-fault
+returns-clause-fault g c is = no_error is
+
+pub returns-clause-no_call : goal.returns-clause-no_call
+returns-clause-no_call g c is = no_error is
+
+pub returns-clause-no_call_either : goal.returns-clause-no_call_either
+returns-clause-no_call_either g c is = no_error is
+
+pub returns-clause-no_room : goal.returns-clause-no_room
+returns-clause-no_room g c = no_error_where (ap (fits c.args.self.now) (sym c.batch_size-size.ensures.size) ∙ sym c.if-not-fits.ensures)
+
+pub returns-clause-err : goal.returns-clause-err
+returns-clause-err g c = tt
+
+pub returns-clause-end : goal.returns-clause-end
+returns-clause-end g c = refl
+
+pub returns-clause-generation : goal.returns-clause-generation
+returns-clause-generation g c = refl

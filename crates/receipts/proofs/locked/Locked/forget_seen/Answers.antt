@@ -3,16 +3,16 @@ use Rattle.receipts.proofs.locked.Locked.forget_seen.Goals as goal
 
 pub returns-clause-desk : goal.returns-clause-desk
 returns-clause-desk g c =
-    rw (c.end.ensures.seen.from_is, c.at-begun.ensures.from, c.end.ensures.seen.to_is) c.forget.ensures.desk
+    rw (c.of_step.ensures.seen.from_is, c.of-from.ensures, c.of_step.ensures.seen.to_is) c.forget.ensures.desk
 
 pub returns-clause-forgets : goal.returns-clause-forgets
 returns-clause-forgets g c =
-    rw (c.end.ensures.seen.before_is, c.at-begun.ensures.before, c.end.ensures.seen.after_is) c.forget.ensures.forgets
+    rw (c.of_step.ensures.seen.before_is, c.of-before.ensures, c.of_step.ensures.seen.after_is) c.forget.ensures.forgets
 
 pub returns-clause-seen : goal.returns-clause-seen
 returns-clause-seen g c = record {
-  before_is = c.end.ensures.seen.before_is ∙ c.at-begun.ensures.before;
-  after_is = c.end.ensures.seen.after_is;
-  from_is = c.end.ensures.seen.from_is ∙ c.at-begun.ensures.from;
-  to_is = c.end.ensures.seen.to_is;
+  before_is = c.of_step.ensures.seen.before_is ∙ c.of-before.ensures;
+  after_is = c.of_step.ensures.seen.after_is;
+  from_is = c.of_step.ensures.seen.from_is ∙ c.of-from.ensures;
+  to_is = c.of_step.ensures.seen.to_is;
 }

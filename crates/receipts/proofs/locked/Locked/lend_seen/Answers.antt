@@ -3,12 +3,12 @@ use Rattle.receipts.proofs.locked.Locked.lend_seen.Goals as goal
 
 pub returns-clause-lends : goal.returns-clause-lends
 returns-clause-lends g c =
-    rw (c.end.ensures.seen.before_is, c.at-begun.ensures.before, c.end.ensures.seen.after_is, c.end.ensures.seen.from_is, c.at-begun.ensures.from, c.end.ensures.seen.to_is) c.lend-loan.ensures
+    rw (c.of_step.ensures.seen.before_is, c.of-before.ensures, c.of_step.ensures.seen.after_is, c.of_step.ensures.seen.from_is, c.of-from.ensures, c.of_step.ensures.seen.to_is) c.lend-loan.ensures
 
 pub returns-clause-seen : goal.returns-clause-seen
 returns-clause-seen g c = record {
-  before_is = c.end.ensures.seen.before_is ∙ c.at-begun.ensures.before;
-  after_is = c.end.ensures.seen.after_is;
-  from_is = c.end.ensures.seen.from_is ∙ c.at-begun.ensures.from;
-  to_is = c.end.ensures.seen.to_is;
+  before_is = c.of_step.ensures.seen.before_is ∙ c.of-before.ensures;
+  after_is = c.of_step.ensures.seen.after_is;
+  from_is = c.of_step.ensures.seen.from_is ∙ c.of-from.ensures;
+  to_is = c.of_step.ensures.seen.to_is;
 }
