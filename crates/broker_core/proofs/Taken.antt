@@ -1,5 +1,5 @@
 -- What a broker stands for that takes commands, one after another.
-use Rattle.std.proofs.Common.{◌≡◌, ℕ, zero, suc, ◌+◌, ◌-◌, ◌<◌, None, Some, Option, List, [], ◌∷◌, ◌++◌, length, take, refl, sym, ap, subst, ◌∙◌, arith, append_assoc, length-append}
+use Rattle.std.proofs.Common.{◌≡◌, ℕ, zero, suc, ◌+◌, ◌-◌, ◌<◌, ◌≤◌, None, Some, Option, List, [], ◌∷◌, ◌++◌, length, take, drop, refl, sym, ap, subst, ◌∙◌, arith, inl, inr, append_assoc, length-append}
 use Rattle.std.specs.Prelude.{slice_get, IfSome, IsSome}
 use Rattle.std.proofs.Math.Seq.{take-append_seam, take-append-add, get_or-append_seam}
 use Rattle.std.proofs.lemmas.List.{append-nil}
@@ -14,7 +14,10 @@ use Rattle.async_core.specs.Rules.{refusal_at, table_after, where_legal, replay}
 use Rattle.broker_core.specs.declared.broker.Broker.{Broker}
 use Rattle.broker_core.specs.Broker.{settings_of, table_in, issued_of, pending_of, Stands, IsSameBroker, Issues}
 use Rattle.broker_core.specs.Splitting.{Takes}
-use Rattle.broker_core.specs.Taking.{IllegalNext}
+use Rattle.broker_core.specs.declared.batch.Batch.{Batch}
+use Rattle.broker_core.specs.Batch.{first_of, last_of, commands_of}
+use Rattle.broker_core.specs.Taking.{IllegalNext, TakesMissing}
+use Rattle.broker_core.specs.Writing.{IsApart, missing_in, taken_from}
 
 -- ## Replaying one command more
 
@@ -116,6 +119,15 @@ module _ {D : Type 0} {g : Ghosts D} (view : D → DiskView) (old mid new : Brok
       let same : issued_of new - issued_of old ≡ k = omega (arith, takes.issued) in
       subst (λ (n : ℕ). Stands view new (history ++ take n commands)) (sym same) stands
 
+  pub takes_by_count : Takes old new commands k → Takes old new commands (issued_of new - issued_of old)
+  takes_by_count takes =
+      let same : issued_of new - issued_of old ≡ k = omega (arith, takes.issued) in
+      subst (λ (n : ℕ). Takes old new commands n) (sym same) takes
+
+  -- some are left
+  pub stopped_before : (command : Command) → NextAt commands k command → Takes old mid commands k → IsSameBroker mid new → issued_of new - issued_of old < length commands
+  stopped_before command next takes same = omega (arith, next.within, takes.issued, ap (λ (t : Snapshot). t.number) same.table)
+
   -- the next is not legal, and nothing more was taken
   pub illegal_next : (command : Command) (why : Illegal) → NextAt commands k command → Takes old mid commands k → IsSameBroker mid new → refusal_at (settings_of mid) (table_in mid) command ≡ Some why
       → (issued_of new - issued_of old < length commands) × IllegalNext old new commands
@@ -150,3 +162,24 @@ pub stands_none : {D : Type 0} {g : Ghosts D} (view : D → DiskView) (broker : 
 stands_none view broker commands history stands =
     let zero_is : issued_of broker - issued_of broker ≡ 0 = omega arith in
     subst (λ (n : ℕ). Stands view broker (history ++ take n commands)) (sym zero_is) (subst (λ (l : List Command). Stands view broker l) (sym (append-nil history)) stands)
+
+pub same_broker : {D : Type 0} {g : Ghosts D} (broker : Broker D g) → IsSameBroker broker broker
+same_broker broker = record { disk = refl; settings = refl; table = refl; pending = refl; durable = refl; broken = refl; opened = refl }
+
+-- ## A batch
+
+module _ {D : Type 0} {g : Ghosts D} (view : D → DiskView) (old new : Broker D g) (batch : Batch) (issued : ℕ) (number : issued ≡ issued_of old) where
+  pub not_apart : first_of batch ≤ issued + 1 → issued ≤ last_of batch → IsApart old batch → ⊥
+  not_apart joined reaches (inl gap) = omega (arith, joined, number, gap)
+  not_apart joined reaches (inr short) = omega (arith, reaches, number, short)
+
+  -- what was left of the batch is what is missing
+  module _ (rest : List Command) (dropped : rest ≡ drop (issued + 1 - first_of batch) (commands_of batch)) where
+    rest_is : rest ≡ missing_in old batch
+    rest_is = dropped ∙ ap (λ (n : ℕ). drop (n + 1 - first_of batch) (commands_of batch)) number
+
+    pub takes_rest : Takes old new rest (issued_of new - issued_of old) → TakesMissing old batch new
+    takes_rest takes = subst (λ (l : List Command). Takes old new l (issued_of new - issued_of old)) rest_is takes
+
+    pub stands_rest : (history : List Command) → Stands view new (history ++ take (issued_of new - issued_of old) rest) → Stands view new (history ++ taken_from old new batch)
+    stands_rest history stands = subst (λ (l : List Command). Stands view new (history ++ take (issued_of new - issued_of old) l)) rest_is stands

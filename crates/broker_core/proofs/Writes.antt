@@ -1,9 +1,9 @@
 -- What a write of a batch makes of the half over the disk.
-use Rattle.std.proofs.Common.{◌≡◌, ◌⊎◌, ℕ, ◌+◌, ◌-◌, ◌^◌, ◌<◌, ◌≤◌, true, false, List, ◌++◌, length, take, drop, refl, sym, ap, subst, ◌∙◌, arith, inl, inr, ⊎_elim, length-append}
+use Rattle.std.proofs.Common.{◌≡◌, ◌⊎◌, ℕ, ◌+◌, ◌-◌, ◌^◌, ◌<◌, ◌≤◌, true, false, List, Result, Err, ◌++◌, length, take, drop, refl, sym, ap, subst, ◌∙◌, arith, inl, inr, ⊎_elim, length-append}
 use Rattle.std.proofs.Math.Seq.{take-add}
 use Rattle.std.proofs.lemmas.List.{append-nil, drop-drop, length-take}
 use Rattle.std.proofs.lemmas.Bool.{cases_lt, false≢true}
-use Rattle.sector_disk.specs.Disk.{DiskView, IsDisk}
+use Rattle.sector_disk.specs.Disk.{DiskView, IsDisk, IsSameDisk}
 use Rattle.sector_disk.specs.Moments.{LeavesOnly}
 use Rattle.sector_disk.specs.laws.Moments.{started}
 use Rattle.sector_disk.specs.declared.disk.Disk.{Ghosts}
@@ -18,12 +18,13 @@ use Rattle.broker_core.specs.declared.broker.Broker.{Broker}
 use Rattle.broker_core.specs.declared.batch.Batch.{Batch}
 use Rattle.broker_core.specs.declared.error.CommitError.{CommitError}
 use Rattle.broker_core.specs.declared.error.CommitError.TheVariants as commit_error
+use Rattle.broker_core.specs.declared.error.WriteError.{WriteError}
 use Rattle.broker_core.specs.declared.error.WriteError.TheVariants as write_error
 use Rattle.broker_core.specs.History.{IsLegalStop}
 use Rattle.broker_core.specs.Broker.{disk_of, settings_of, table_in, issued_of, durable_of, is_broken, Stands, IsSameBroker, Breaks}
 use Rattle.broker_core.specs.Refusals.{IsWornOut, NeedsSwitch, HasBadTable}
 use Rattle.broker_core.specs.Batch.{first_of}
-use Rattle.broker_core.specs.Taking.{TakesMissing, HasTaken, commit_cause}
+use Rattle.broker_core.specs.Taking.{TakesMissing, HasTaken, IsTakeReason, commit_cause}
 use Rattle.broker_core.specs.Writing.{IsApart, missing_in, taken_from, HasAll, IsNotWritten, EndsWith, IsFrontOf, StaysInFront, LeavesStopsWith}
 use Rattle.broker_core.proofs.Issued.{stop_of_more}
 
@@ -154,3 +155,32 @@ bad_of commit_error.WornOut is = cc
 bad_of commit_error.BadKind is = refl
 bad_of commit_error.OutOfMemory is = cc
 bad_of commit_error.Fault is = cc
+
+pub fault_of : (why : CommitError) → commit_cause why ≡ write_error.Fault → why ≡ commit_error.Fault
+fault_of commit_error.Broken is = cc
+fault_of commit_error.WornOut is = cc
+fault_of commit_error.BadKind is = cc
+fault_of commit_error.OutOfMemory is = cc
+fault_of commit_error.Fault is = refl
+
+pub same_error : {T E : Type 0} {a b : E} → ◌≡◌ {A = Result T E} (Err a) (Err b) → a ≡ b
+same_error is = cc
+
+-- ## Calls of the disk
+
+pub same_at_first : {D : Type 0} (view : D → DiskView) (old new : D) → new ≡ old → IsSameDisk (view old) (view new)
+same_at_first {D = D} view old new same = subst (λ (x : D). IsSameDisk (view old) (view x)) (sym same) (record { sectors = refl; honest = (λ h. h, λ h. h) })
+
+pub same_on : {D : Type 0} (view : D → DiskView) (old mid new : D) → mid ≡ old → IsSameDisk (view mid) (view new) → IsSameDisk (view old) (view new)
+same_on {D = D} view old mid new same disk = subst (λ (x : D). IsSameDisk (view x) (view new)) same disk
+
+-- ## Why nothing was committed
+
+pub not_taken : {D : Type 0} {g : Ghosts D} (old new : Broker D g) (batch : Batch) (why : WriteError) → TakesMissing old batch new → IsTakeReason old batch new why → IsNotWritten old batch new why
+not_taken old new batch write_error.Broken takes reason = record { reason = reason; broken = takes.broken ∙ reason; durable = takes.durable }
+not_taken old new batch write_error.Mismatch takes reason = record { reason = reason.1; broken = takes.broken ∙ reason.0; durable = takes.durable }
+not_taken old new batch write_error.WornOut takes reason = absurd reason
+not_taken old new batch write_error.Backlog takes reason = record { reason = (reason.1, reason.2); broken = takes.broken ∙ reason.0; durable = takes.durable }
+not_taken old new batch write_error.BadKind takes reason = absurd reason
+not_taken old new batch write_error.OutOfMemory takes reason = record { reason = takes.broken ∙ reason; broken = takes.broken ∙ reason; durable = takes.durable }
+not_taken old new batch write_error.Fault takes reason = absurd reason

@@ -61,6 +61,25 @@ fn admin_over<D: Disk>(
     }
 }
 
+// What is listened on for a hall, once the line of it is printed.
+fn announced<D: Disk, W: Write>(
+    hall: &Hall<Broker<D>>,
+    ports: Ports,
+    at: &Address<'_>,
+    out: &mut W,
+) -> Result<(Vec<Listening>, Option<AdminPort>), OpeningError>
+    ensures settings { IfOk result (λ r. IfSome r.1 (λ port. port.baseline.settings ≡ settings_of hall.now.issuer)) }
+{
+    let Ports {
+        listeners,
+        admin,
+        opening,
+    } = ports;
+    let admin = admin_over(hall, admin, opening)?;
+    announce(at, out)?;
+    Ok((listeners, admin))
+}
+
 /// Opens what is on a disk, listens on the ports, and then interrupts the attempts that the last stop cut off. The line from which on
 /// callers are served is printed.
 ///
@@ -96,13 +115,7 @@ where
     let environments = broker.table().settings().environments;
     let mut ports = listen_on_all(rt, at, environments, written)?;
     let hall = hall_at_rest(rt, broker, at, start, &mut ports.opening)?;
-    let Ports {
-        listeners,
-        admin,
-        opening,
-    } = ports;
-    let admin = admin_over(&hall, admin, opening)?;
-    announce(at, out)?;
+    let (listeners, admin) = announced(&hall, ports, at, out)?;
     Ok(OpenedDisk {
         hall,
         listeners,

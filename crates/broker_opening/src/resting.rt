@@ -61,6 +61,28 @@ fn resume<R: Clock + Wait, D: Disk>(
     }
 }
 
+// The same with what was found and done, which is noted.
+fn bring_to_rest<R, D>(
+    rt: &R,
+    broker: &mut Broker<D>,
+    at: &Address<'_>,
+    start: &io::Result<Instant>,
+    opening: &mut Opening,
+) -> Result<(), OpeningError>
+where
+    R: Clock + Wait + Eprint + AllocGlobal,
+    D: Disk,
+    ensures durable { OnOk result (pending_of broker.new ≡ []) }
+    ensures rest { ForEachHistory D.view broker.old (λ history. OnOk result (ComesToRest D.view history broker.new)) }
+{
+    let held = broker.table().snapshot()?.rows.as_slice().len();
+    let before = broker.table().number();
+    resume(rt, broker, opening)?;
+    opening.interrupted = broker.table().number().saturating_sub(before);
+    note_opening(rt, at, held, opening.interrupted, start);
+    Ok(())
+}
+
 // A hall over a broker, which tells its replies and waits for extensions as it is asked to.
 fn hall_over<D: Disk + Drop>(
     alloc: Global,
@@ -107,10 +129,6 @@ where
         IfOk result (λ hall. OpensAtRest D.view at.now.extensions history hall.issuer (view_of (issuer_of D.view) hall))) }
 {
     let mut broker = broker;
-    let held = broker.table().snapshot()?.rows.as_slice().len();
-    let before = broker.table().number();
-    resume(rt, &mut broker, opening)?;
-    opening.interrupted = broker.table().number().saturating_sub(before);
-    note_opening(rt, at, held, opening.interrupted, start);
+    bring_to_rest(rt, &mut broker, at, start, opening)?;
     hall_over(rt.alloc(), broker, at)
 }

@@ -22,12 +22,12 @@ use std::sync::{Arc, Mutex, Wait};
 #[derive(Drop)]
 pub struct Arrived<L: Ledger, T: Trace = Mark> {
     // Of all that its reply shows.
-    ticket: Ticket,
+    pub(crate) ticket: Ticket,
     // From which its reply is taken.
-    slot: u64,
+    pub(crate) slot: u64,
     // What it issued.
     issued: Option<Issued>,
-    seen: Witnessed<(), L, T>,
+    pub(crate) seen: Witnessed<(), L, T>,
 }
 
 impl<L: Ledger, T: Trace> Arrived<L, T> {
@@ -51,21 +51,6 @@ impl<L: Ledger, T: Trace> Arrived<L, T> {
     {
         let Arrived { ticket, .. } = self;
         ticket
-    }
-
-    /// Its ticket, and its slot, of which it was seen that the request has it.
-    pub(crate) fn into_parts(self) -> (Ticket, u64, Witnessed<(), L, T>)
-        ensures ticket { result.0 ≡ self.ticket }
-        ensures slot { result.1 ≡ self.slot }
-        ensures seen { result.2 ≡ self.seen }
-    {
-        let Arrived {
-            ticket,
-            slot,
-            seen,
-            ..
-        } = self;
-        (ticket, slot, seen)
     }
 }
 

@@ -56,12 +56,18 @@ impl<R: Wait, L: Ledger, T: Trace> Waiting<R, L, T> {
         ensures number { number_at result.progress ≡ Some arrived.ticket }
         ensures port { result.port ≡ port }
     {
-        let (ticket, slot, seen) = arrived.into_parts();
+        let Arrived {
+            ticket,
+            slot,
+            seen,
+            ..
+        } = arrived;
+        let progress = Progress::Issued(ticket);
         Waiting {
             rt,
             port,
             slot,
-            progress: Progress::Issued(ticket),
+            progress,
             seen,
         }
     }

@@ -36,14 +36,20 @@ pub fn expect<R: Abort>(rt: &R, holds: bool, what: &str) {
     assert!(rt; holds, "it does not hold that {what}");
 }
 
-/// An office with three of its desks, the half of its broker over the disk, and what is durable.
+/// The desks of an office, three of them by name.
 #[derive(Drop)]
-pub struct House<L: Ledger, D: Disk> {
-    pub office: Office<L>,
+pub struct Desks<L: Ledger> {
     pub one: Desk<L>,
     pub two: Desk<L>,
     pub three: Desk<L>,
     pub others: Vec<Desk<L>>,
+}
+
+/// An office with its desks, the half of its broker over the disk, and what is durable.
+#[derive(Drop)]
+pub struct House<L: Ledger, D: Disk> {
+    pub office: Office<L>,
+    pub desks: Desks<L>,
     pub half: DiskHalf<D>,
     pub durable: Durable,
 }
@@ -65,6 +71,38 @@ fn pop_three<L: Ledger>(desks: &mut Vec<Desk<L>>) -> Option<(Desk<L>, Desk<L>, D
     Some((one, two, three))
 }
 
+// Names three of an office's desks. None where there are fewer.
+fn named<L: Ledger>(desks: Vec<Desk<L>>) -> Option<Desks<L>> {
+    let mut others = desks;
+    match pop_three(&mut others) {
+        Some((one, two, three)) => Some(Desks {
+            one,
+            two,
+            three,
+            others,
+        }),
+        None => None,
+    }
+}
+
+// A house of an office. None where it has too few desks.
+fn house_of<L: Ledger, D: Disk + Drop>(
+    office: Office<L>,
+    desks: Vec<Desk<L>>,
+    half: DiskHalf<D>,
+    durable: Durable,
+) -> Option<House<L, D>> {
+    match named(desks) {
+        Some(desks) => Some(House {
+            office,
+            desks,
+            half,
+            durable,
+        }),
+        None => None,
+    }
+}
+
 // A house over a hall. None where there is no memory for it.
 fn house_over<L: Ledger, D: Disk + Drop>(
     alloc: Global,
@@ -78,21 +116,9 @@ fn house_over<L: Ledger, D: Disk + Drop>(
     requires count { L.parts ≡ desk_count (settings_of hall.issuer) }
 {
     let durable = hall.durable();
-    let Ok((office, desks, half)) = Office::<L, Mark>::new(alloc, hall, blank) else {
-        return None;
-    };
-    let mut others: Vec<Desk<L>> = desks;
-    match pop_three(&mut others) {
-        Some((one, two, three)) => Some(House {
-            office,
-            one,
-            two,
-            three,
-            others,
-            half,
-            durable,
-        }),
-        None => None,
+    match Office::<L, Mark>::new(alloc, hall, blank) {
+        Ok((office, desks, half)) => house_of(office, desks, half, durable),
+        Err(_) => None,
     }
 }
 

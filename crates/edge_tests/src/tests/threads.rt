@@ -1,6 +1,6 @@
 // Threads that ask one office, with a committer on a thread of its own.
 use crate::tests::disks::{DiskWatch, MOST_TURNS, NO_TROUBLE, Trouble};
-use crate::tests::house::{House, NOW, Story, expect, invoke, tell};
+use crate::tests::house::{Desks, House, NOW, Story, expect, invoke, tell};
 use broker_core::DiskHalf;
 use receipts::{Desk, FinishError, Mark, Office, UnlockedFailure};
 use sector_disk::Disk;
@@ -193,13 +193,16 @@ where
 {
     let House {
         office,
+        desks,
+        half,
+        ..
+    } = house;
+    let Desks {
         one,
         two,
         three,
         others,
-        half,
-        ..
-    } = house;
+    } = desks;
     let Done {
         committer: (one, half),
         first: (two, first),

@@ -1,5 +1,5 @@
 // A port of an office, a committer and a board, and the futures of replies, on one thread.
-use crate::tests::house::{House, NOW, invoke};
+use crate::tests::house::{Desks, House, NOW, invoke};
 use api_core::Call;
 use async_core::Side;
 use broker_core::{DiskHalf, Durable, Receipt, Ticket};
@@ -175,12 +175,11 @@ where
 {
     let House {
         office,
-        one,
-        two,
+        desks,
         half,
         durable,
-        ..
     } = house;
+    let Desks { one, two, .. } = desks;
     match placed(rt.alloc(), office, one, durable) {
         Some((port, props)) => Some(PollRig {
             rt,
@@ -213,11 +212,20 @@ where
         }
     }
 
+    // The future of the reply of a request.
+    fn wait_for(&self, arrived: Arrived<L>) -> Option<Waiting<R, L>> {
+        match Arc::try_clone(&self.port) {
+            Ok(port) => Some(Waiting::new(self.rt, port, arrived)),
+            Err(_) => None,
+        }
+    }
+
     /// The future of the reply of what has arrived.
     pub fn waiting(&self, arrived: Option<Arrived<L>>) -> Option<Waiting<R, L>> {
-        let arrived = arrived?;
-        let port = Arc::try_clone(&self.port).ok()?;
-        Some(Waiting::new(self.rt, port, arrived))
+        match arrived {
+            Some(arrived) => self.wait_for(arrived),
+            None => None,
+        }
     }
 
     // Lets the pool poll a future: whether it does.
