@@ -61,7 +61,7 @@ fn resume<R: Clock + Wait, D: Disk>(
     }
 }
 
-// The same with what was found and done, which is noted.
+// Brings a broker to rest, as `resume` says, and notes what was found and done.
 fn bring_to_rest<R, D>(
     rt: &R,
     broker: &mut Broker<D>,

@@ -25,7 +25,7 @@ pub struct Arrived<L: Ledger, T: Trace = Mark> {
     pub(crate) ticket: Ticket,
     // From which its reply is taken.
     pub(crate) slot: u64,
-    // What it issued.
+    // What it issued. It is private to this file, so that nobody else makes one.
     issued: Option<Issued>,
     pub(crate) seen: Witnessed<(), L, T>,
 }
