@@ -77,6 +77,7 @@ where
 {
     let held = broker.table().snapshot()?.rows.as_slice().len();
     let before = broker.table().number();
+    opening.generation = broker.generation();
     resume(rt, broker, opening)?;
     opening.interrupted = broker.table().number().saturating_sub(before);
     note_opening(rt, at, held, opening.interrupted, start);

@@ -56,7 +56,13 @@ committed counters took = record counters {
   buckets = raised_buckets took counters.buckets;
 }
 
--- with the commit of an opening, where that interrupted something
+-- with switches counted from what an opening found
+abbrev pub counted_from : Opening → Counters → Counters
+counted_from opening counters = record counters { first_generation = opening.generation }
+
+-- the same with its commit, where it interrupted something
 abbrev pub with_opening : Opening → Counters → Counters
 with_opening opening counters =
-    if nat_lt 0 opening.interrupted then committed counters opening.commit_microseconds else counters
+    if nat_lt 0 opening.interrupted
+    then committed (counted_from opening counters) opening.commit_microseconds
+    else counted_from opening counters
