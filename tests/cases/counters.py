@@ -14,7 +14,7 @@ FRAME, COMMAND = 32, 31
 ACCEPTED, STARTED, COLLECTED = "events_accepted_total", "attempts_started_total", "records_collected_total"
 FAILED, THROTTLED, INTERRUPTED = "attempts_failed_total", "attempts_throttled_total", "attempts_interrupted_total"
 ISSUED, DURABLE, COMMITS = "commands_issued_total", "commands_durable_total", "commit_seconds_count"
-WRITTEN, SWITCHES = "written_bytes_total", "switches_total"
+WRITTEN, SWITCHES, LIVES = "written_bytes_total", "switches_total", "event_seconds_count"
 
 
 def ended(outcome):
@@ -37,16 +37,17 @@ UNKNOWN = "00000000-0000-4000-8000-000000000009"
 
 # All counters that there are. Some case of this file moves each of them.
 ALL = {
-    ACCEPTED, STARTED, COLLECTED, FAILED, THROTTLED, INTERRUPTED, ISSUED, DURABLE, COMMITS, WRITTEN, SWITCHES, *OUTCOMES, *REFUSED, *UNREAD,
+    ACCEPTED, STARTED, COLLECTED, FAILED, THROTTLED, INTERRUPTED, ISSUED, DURABLE, COMMITS, LIVES, WRITTEN, SWITCHES, *OUTCOMES, *REFUSED,
+    *UNREAD,
 }
 
 
 def counters(broker):
-    """The counters of a broker, and how many times its histogram has, by name and labels."""
+    """The counters of a broker, and how many times two of its histograms have, by name and labels."""
     told = broker.look("/metrics").body.decode()
     kinds = dict(re.findall(r"^# TYPE lambda_broker_(\S+) (\S+)$", told, re.M))
     numbers = re.findall(r"^lambda_broker_(([^\s{]+)\S*) (\S+)$", told, re.M)
-    return {name: int(value) for name, family, value in numbers if name == COMMITS or kinds.get(family) == "counter"}
+    return {name: int(value) for name, family, value in numbers if name in (COMMITS, LIVES) or kinds.get(family) == "counter"}
 
 
 def moved_by(broker, act):
@@ -65,6 +66,11 @@ def committed(*contents):
     return {ISSUED: len(contents), DURABLE: len(contents), COMMITS: 1, WRITTEN: (body + 2) * SECTOR}
 
 
+def ends(outcome):
+    """What an end moves."""
+    return {outcome: 1, LIVES: 1}
+
+
 def together(*moved):
     """What acts move that are done one after another."""
     return {name: sum(one.get(name, 0) for one in moved) for name in {name for one in moved for name in one}}
@@ -81,7 +87,7 @@ def these_are_all_counters(broker):
 def each_step_of_an_event_moves_its_counters_alone(broker):
     broker.serve()
     events = []
-    for path, ending in ("response", {SUCCESS: 1}), ("error", {FAILED: 1, EXHAUSTED: 1}):
+    for path, ending in ("response", ends(SUCCESS)), ("error", {FAILED: 1} | ends(EXHAUSTED)):
         for name, act, size, moved in (
             ("accept", lambda: events.append(broker.invoke("{}").id), 2, {ACCEPTED: 1}),
             ("start", lambda: same(broker.next().id, events[-1]), 0, {STARTED: 1}),
@@ -99,7 +105,7 @@ def what_is_written_follows_the_size_of_what_is_kept(broker):
         payload = f'"{(size - 2) * "x"}"'
         same((size, moved_by(broker, lambda: broker.invoke(payload))), (size, committed(size) | {ACCEPTED: 1}))
         event = broker.next().id
-        same((size, moved_by(broker, lambda: broker.respond(event, payload))), (size, committed(size) | {SUCCESS: 1}))
+        same((size, moved_by(broker, lambda: broker.respond(event, payload))), (size, committed(size) | ends(SUCCESS)))
 
 
 @case({"retries": 1})
@@ -119,7 +125,7 @@ def an_attempt_that_times_out_is_one_that_failed(broker):
         same(broker.next().status, 200)
         broker.until_number('events{standing="retries_exhausted"}', 1)
 
-    same(moved_by(broker, attempt), together(committed(0), committed(1), {STARTED: 1, FAILED: 1, EXHAUSTED: 1}))
+    same(moved_by(broker, attempt), together(committed(0), committed(1), {STARTED: 1, FAILED: 1}, ends(EXHAUSTED)))
 
 
 @case({"retries": 0})
@@ -136,7 +142,7 @@ def an_attempt_whose_extension_ends_is_one_that_failed(broker):
         same(broker.ask("POST", f"{EXTENSION}/exit/error", "{}", gone, environment=1).status, 202)
         broker.until_number('events{standing="retries_exhausted"}', 1)
 
-    same(moved_by(broker, exit), committed(1) | {FAILED: 1, EXHAUSTED: 1})
+    same(moved_by(broker, exit), committed(1) | {FAILED: 1} | ends(EXHAUSTED))
 
 
 @case({"environments": 2, "concurrency": 1})
@@ -173,7 +179,7 @@ def an_event_that_becomes_too_old_ends_for_that(broker):
     def wait():
         until("its end", lambda: broker.number('events{standing="event_age_exceeded"}') == 1, 60 + DEADLINE)
 
-    same(moved_by(broker, wait), committed(0) | {TOO_OLD: 1})
+    same(moved_by(broker, wait), committed(0) | ends(TOO_OLD))
 
 
 @case()
@@ -189,6 +195,35 @@ def a_broker_that_is_served_anew_counts_anew_but_for_its_commands(broker):
         wanted = committed(0) | {name: before[name] + 1 for name in (ISSUED, DURABLE)} | {INTERRUPTED: 1}
         same(counters(broker), dict.fromkeys(ALL, 0) | wanted)
         broker.end()
+
+
+@case({"environments": 2, "sectors": 520})
+def a_switch_that_an_opening_makes_is_counted(broker):
+    broker.serve()
+    running = broker.invoke("{}").id
+    same(broker.next().id, running)
+
+    def lives():
+        """Lives of other events, a commit at a time."""
+        while True:
+            event = broker.invoke("{}").id
+            yield
+            same(broker.next(2).id, event)
+            yield
+            same(broker.respond(event, "1", 2).status, 202)
+            yield
+            same(broker.delete(event).status, 204)
+            yield
+
+    commits = lives()
+    # A frame of one sector wants a gate in front of it and one behind.
+    while broker.number("segment_free_bytes") >= 3 * SECTOR:
+        next(commits)
+    same(broker.number(SWITCHES), 0)
+    generation = broker.number("generation")
+    broker.kill()
+    broker.serve()
+    same((broker.number(SWITCHES), broker.number("generation")), (1, generation + 1))
 
 
 @case({"environments": 2})
@@ -425,6 +460,32 @@ def a_request_is_counted_with_its_time_under_its_kind(broker):
     same(moved[float("inf")], 1)
 
 
+def lives(broker):
+    """How many of the events that ended took at most so many seconds, and how long all of them took."""
+    told, start = broker.numbers(), 'event_seconds_bucket{le="'
+    found = {float(name[len(start):-2]): value for name, value in told.items() if name.startswith(start)}
+    same((len(found), found[float("inf")]), (9, told[LIVES]))
+    return found, told["event_seconds_sum"]
+
+
+@case({"retries": 0})
+def an_event_that_ends_is_counted_with_its_life_in_each_bucket_that_holds_it(broker):
+    broker.serve()
+    for path, least in ("response", 0), ("error", 0.02), ("response", 0.15), ("error", 1.1):
+        event = broker.invoke("{}").id
+        same(broker.next().id, event)
+        begun = time.monotonic()
+        until("a time", lambda: time.monotonic() - begun > least)
+        before, sum_before = lives(broker)
+        same(broker.respond(event, "1", path=path).status, 202)
+        row = broker.look(f"/events/{event}").json
+        took = row["moment"] - row["accepted"]
+        assert took >= 1000 * least, (took, least)
+        after, sum_after = lives(broker)
+        same({bound: after[bound] - before[bound] for bound in after}, {bound: int(took <= 1000 * bound) for bound in after})
+        same(round(1000 * (sum_after - sum_before)), took)
+
+
 def buckets(broker):
     """How many commits took at most so many seconds."""
     told = broker.numbers()
@@ -490,7 +551,7 @@ def each_switch_is_counted_with_what_it_writes(broker):
         for name, act, size, moved in (
             ("accept", accept, 2, {ACCEPTED: 1}),
             ("start", lambda: same(broker.next().id, events[-1]), 0, {STARTED: 1}),
-            ("end", lambda: same(broker.respond(events[-1], "1").status, 202), 1, {SUCCESS: 1}),
+            ("end", lambda: same(broker.respond(events[-1], "1").status, 202), 1, ends(SUCCESS)),
             ("collect", lambda: same(broker.delete(events[-1]).status, 204), 0, {COLLECTED: 1}),
         ):
             wanted = committed(size) | moved

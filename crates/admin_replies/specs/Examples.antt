@@ -53,6 +53,7 @@ numbers = record {
     throttled = 20;
     interrupted = 22;
   };
+  lives = record { buckets = 95 ∷ 96 ∷ 97 ∷ 98 ∷ 99 ∷ 100 ∷ 101 ∷ 102 ∷ []; all = 103; milliseconds = 104 };
   process = record {
     commits = 31;
     switches = 32;

@@ -183,6 +183,7 @@ pub record AreMetrics (baseline : Baseline) (view : View) (measures : Measures) 
   pub parked : metrics.parked_polls ≡ min (parked_in view.hall.environments.items) (2 ^ 64 - 1)
   pub environments : metrics.environments ≡ phases_of view.hall.environments.items
   pub events : metrics.events ≡ events_since baseline metrics.census view.counters
+  pub lives : metrics.lives ≡ view.lives
   pub process : metrics.process ≡ process_told measures view.hall.is_stopping
   pub ports : metrics.ports ≡ measures.ports
   pub limits : metrics.limits ≡ limits_of view.hall.table.policy baseline.settings

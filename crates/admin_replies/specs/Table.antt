@@ -101,6 +101,26 @@ life_lines =
     ∷ first (family "attempts_interrupted_total" "counter" "Attempts that were interrupted.") (plain "attempts_interrupted_total") (metric.Life life.Interrupted)
     ∷ []
 
+-- the events that took at most so long
+abbrev pub life_bucket : String → List ℕ
+life_bucket bound = labelled "event_seconds_bucket" "le" bound
+
+-- how long events took from their acceptance to their end
+abbrev pub duration_lines : List Line
+duration_lines =
+    first (family "event_seconds" "histogram" "Time from the acceptance of an event to its end.") (life_bucket "0.01") (metric.Event (time.Within 0))
+    ∷ more (life_bucket "0.1") (metric.Event (time.Within 1))
+    ∷ more (life_bucket "1") (metric.Event (time.Within 2))
+    ∷ more (life_bucket "10") (metric.Event (time.Within 3))
+    ∷ more (life_bucket "60") (metric.Event (time.Within 4))
+    ∷ more (life_bucket "300") (metric.Event (time.Within 5))
+    ∷ more (life_bucket "3600") (metric.Event (time.Within 6))
+    ∷ more (life_bucket "21600") (metric.Event (time.Within 7))
+    ∷ more (life_bucket "+Inf") (metric.Event time.All)
+    ∷ more (plain "event_seconds_sum") (metric.Event time.Time)
+    ∷ more (plain "event_seconds_count") (metric.Event time.All)
+    ∷ []
+
 -- the requests that were refused
 abbrev pub refusal_lines : List Line
 refusal_lines =
@@ -198,6 +218,7 @@ lines_of section.Held = held_lines
 lines_of section.Waits = wait_lines
 lines_of section.Environments = phase_lines
 lines_of section.Lives = life_lines
+lines_of section.Durations = duration_lines
 lines_of section.Refusals = refusal_lines
 lines_of section.Ports = port_lines
 lines_of section.Commits = commit_lines
@@ -205,4 +226,4 @@ lines_of section.Disk = disk_lines
 lines_of section.Limits = limit_lines
 
 abbrev pub sections : List Section
-sections = section.Problems ∷ section.Held ∷ section.Waits ∷ section.Environments ∷ section.Lives ∷ section.Refusals ∷ section.Ports ∷ section.Commits ∷ section.Disk ∷ section.Limits ∷ []
+sections = section.Problems ∷ section.Held ∷ section.Waits ∷ section.Environments ∷ section.Lives ∷ section.Durations ∷ section.Refusals ∷ section.Ports ∷ section.Commits ∷ section.Disk ∷ section.Limits ∷ []

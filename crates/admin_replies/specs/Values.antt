@@ -9,6 +9,7 @@ use Rattle.admin_replies.specs.declared.metrics.Phases.{Phases}
 use Rattle.admin_replies.specs.declared.metrics.Process.{Process}
 use Rattle.port_meters.specs.declared.counters.Refusals.{Refusals}
 use Rattle.port_meters.specs.declared.histogram.Spread.{Spread}
+use Rattle.receipts.specs.declared.lives.Lives.{Lives}
 use Rattle.port_meters.specs.declared.port_meter.UnreadCounts.{UnreadCounts}
 use Rattle.port_meters.specs.declared.ports.Ports.{Ports}
 use Rattle.admin_replies.specs.declared.metric.Metric.{Metric}
@@ -118,6 +119,11 @@ time_value s time.Time = Microseconds s.microseconds
 abbrev pub commit_value : Process → TimeMetric → Value
 commit_value p took = time_value (record { buckets = p.buckets; all = p.commits; microseconds = p.commit_microseconds }) took
 
+abbrev pub event_value : Lives → TimeMetric → Value
+event_value l (time.Within index) = Whole (slice_index l.buckets index)
+event_value l time.All = Whole l.all
+event_value l time.Time = Milliseconds l.milliseconds
+
 abbrev pub state_value : Process → StateMetric → Value
 state_value p state.Switches = Whole p.switches
 state_value p state.WrittenBytes = Whole p.written_bytes
@@ -152,6 +158,7 @@ value_of f (metric.Unread g) = Whole (unread_value f.ports.unread g)
 value_of f (metric.Open g) = Whole (open_value f.ports g)
 value_of f (metric.Reply g took) = time_value (spread_in f.ports g) took
 value_of f (metric.Commit g) = commit_value f.process g
+value_of f (metric.Event took) = event_value f.lives took
 value_of f (metric.State g) = state_value f.process g
 value_of f (metric.Limit g) = Whole (limit_value f.limits g)
 value_of f (metric.Problem place) = Whole (problem_value f.problems place)

@@ -8,6 +8,7 @@
 mod admin_refusal;
 mod admin_reply;
 mod admin_request;
+mod duration_table;
 pub mod examples;
 mod history;
 mod ids;

@@ -13,6 +13,8 @@ pub(crate) enum Metric {
     /// How long requests took, of which kind.
     Reply(ReplyMetric, TimeMetric),
     Commit(TimeMetric),
+    /// How long events took from their acceptance to their end.
+    Event(TimeMetric),
     State(StateMetric),
     Limit(LimitMetric),
     /// Whether something is wrong, by its place among the problems.

@@ -2,6 +2,7 @@
 
 use operator_view::{Census, Problem};
 use port_meters::{Ports, Refusals};
+use receipts::Lives;
 
 /// The numbers that a monitor collects, as they are at one moment.
 #[derive(Clone, Copy)]
@@ -23,6 +24,8 @@ pub struct Metrics {
     pub parked_polls: u64,
     pub environments: Phases,
     pub events: EventCounters,
+    /// Of the events that ended.
+    pub lives: Lives,
     pub process: Process,
     /// What was counted of connections and requests.
     pub ports: Ports,

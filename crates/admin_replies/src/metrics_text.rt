@@ -10,12 +10,13 @@ use crate::table::Section;
 use retry_rules::Settings;
 use std::alloc::{AllocError, Global};
 
-const SECTIONS: [Section; 10] = [
+const SECTIONS: [Section; 11] = [
     Section::Problems,
     Section::Held,
     Section::Waits,
     Section::Environments,
     Section::Lives,
+    Section::Durations,
     Section::Refusals,
     Section::Ports,
     Section::Commits,

@@ -3,6 +3,7 @@ ghost use Rattle.std.specs.Prelude.{◌≡◌, map};
 ghost use Rattle.admin_replies.specs.Lines.{line_of};
 ghost use Rattle.admin_replies.specs.Table.{lines_of};
 
+use crate::duration_table::DURATIONS;
 use crate::judged_table::{LIMITS, PROBLEMS};
 use crate::metric::{
     HeldMetric, LifeMetric, Metric, PhaseMetric, RefusalMetric, StateMetric, TimeMetric,
@@ -32,6 +33,8 @@ pub(crate) enum Section {
     Environments,
     /// What became of commands, events and attempts.
     Lives,
+    /// How long events took.
+    Durations,
     /// The requests that were refused.
     Refusals,
     /// The connections and the requests of ports.
@@ -376,6 +379,7 @@ impl Section {
             Section::Waits => &WAITS,
             Section::Environments => &ENVIRONMENTS,
             Section::Lives => &LIVES,
+            Section::Durations => &DURATIONS,
             Section::Refusals => &REFUSALS,
             Section::Ports => &PORTS,
             Section::Commits => &COMMITS,

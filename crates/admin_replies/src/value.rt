@@ -1,6 +1,6 @@
 // The number that a metric names.
 ghost use Rattle.std.specs.Prelude.{◌≡◌, slice_index};
-ghost use Rattle.admin_replies.specs.Values.{or_zero, indicator, held_value, wait_value, phase_value, life_value, refusal_value, unread_value, open_value, spread_in, time_value, commit_value, state_value, limit_value, problem_value, value_of};
+ghost use Rattle.admin_replies.specs.Values.{or_zero, indicator, held_value, wait_value, phase_value, life_value, refusal_value, unread_value, open_value, spread_in, time_value, event_value, commit_value, state_value, limit_value, problem_value, value_of};
 
 use crate::metric::{
     HeldMetric, LifeMetric, LimitMetric, Metric, OpenMetric, PhaseMetric, RefusalMetric,
@@ -9,6 +9,7 @@ use crate::metric::{
 use crate::metrics::{Limits, Metrics, Phases, Process};
 use operator_view::{Census, Problem};
 use port_meters::{Ports, Refusals, Spread, UnreadCounts};
+use receipts::Lives;
 
 /// A number, and how it is told.
 #[derive(Clone, Copy)]
@@ -135,6 +136,16 @@ fn commit_value(process: &Process, commit: TimeMetric) -> Value
     time_value(&spread, commit)
 }
 
+fn event_value(lives: &Lives, time: TimeMetric) -> Value
+    ensures { result ≡ event_value lives.now time }
+{
+    match time {
+        TimeMetric::Within(index) => Value::Whole(in_bucket(&lives.buckets, index)),
+        TimeMetric::All => Value::Whole(lives.all),
+        TimeMetric::Time => Value::Milliseconds(lives.milliseconds),
+    }
+}
+
 fn unread_value(counts: &UnreadCounts, unread: UnreadMetric) -> u64
     ensures { result ≡ unread_value counts.now unread }
 {
@@ -223,6 +234,7 @@ pub(crate) fn value_of(metrics: &Metrics, metric: Metric) -> Value
         Metric::Open(of) => Value::Whole(open_value(&metrics.ports, of)),
         Metric::Reply(reply, time) => time_value(&spread_in(&metrics.ports, reply), time),
         Metric::Commit(commit) => commit_value(&metrics.process, commit),
+        Metric::Event(time) => event_value(&metrics.lives, time),
         Metric::State(state) => state_value(&metrics.process, state),
         Metric::Limit(limit) => Value::Whole(limit_value(&metrics.limits, limit)),
         Metric::Problem(place) => Value::Whole(problem_value(&metrics.problems, place)),

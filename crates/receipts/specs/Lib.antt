@@ -8,6 +8,7 @@ pub mod UnderLock
 pub mod Running
 pub mod Serving
 pub mod Counters
+pub mod Lives
 pub mod Views
 pub mod NextMoment
 pub mod laws

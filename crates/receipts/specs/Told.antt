@@ -25,6 +25,7 @@ use Rattle.receipts.specs.declared.locked.Locked.{Locked}
 use Rattle.receipts.specs.declared.locked.Loan.{Loan}
 use Rattle.receipts.specs.Answers.{AddsAtMostOne, AddsAnswered, AddsAsked, IsToldMore, IsToldIfAny, IsSlotOf}
 use Rattle.receipts.specs.Answers.{IsArrivalRefusal, IsTickRefusal}
+use Rattle.receipts.specs.Lives.{lives_with}
 use Rattle.receipts.specs.Locked.{hall_in, issuer_in, IsToldByLoan, IsNotLentTo}
 use Rattle.receipts.specs.Marks.{KeepsHistories}
 use Rattle.receipts.specs.Serving.{IsToldOf}
@@ -90,6 +91,9 @@ pub record Arrives {L T O : Type 0} {l : LedgerGhosts L} {g : TraceGhosts T O} {
   -- the desk has the slots of just the polls that this request answered
   pub answered : IfOk result (λ r. AnswersPolls (hall_in before.hall) (request r.1 call now words) desk'.answered.items)
   pub kept_answered : OnErr result (desk'.answered.items ≡ desk.answered.items)
+  -- the event that this request ended, if it ended one, is counted with its life
+  pub lives : OnOk result (after.lives ≡ lives_with (issuer_in after.hall).table desk'.issued before.lives)
+  pub kept_lives : OnErr result (after.lives ≡ before.lives)
 
 -- one step made just this move, and its command was marked here and at the desk; a refusal is the first check that fails, and
 -- changes nothing
@@ -120,6 +124,9 @@ pub record Moves {L T O : Type 0} {l : LedgerGhosts L} {g : TraceGhosts T O} {o 
   -- the desk has the slots of just the polls that this move answered
   pub answered : OnOk result (AnswersPolls (hall_in before.hall) (tick now) desk'.answered.items)
   pub kept_answered : OnErr result (desk'.answered.items ≡ desk.answered.items)
+  -- the event that this move ended, if it ended one, is counted with its life
+  pub lives : OnOk result (after.lives ≡ lives_with (issuer_in after.hall).table desk'.issued before.lives)
+  pub kept_lives : OnErr result (after.lives ≡ before.lives)
 
 -- one step lent just all that is pending, or nothing, and then the desk is told how much is durable
 pub record LendsTo {L T O : Type 0} {l : LedgerGhosts L} {g : TraceGhosts T O} {o : OpeningGhosts O}
@@ -138,6 +145,7 @@ pub record LendsTo {L T O : Type 0} {l : LedgerGhosts L} {g : TraceGhosts T O} {
   pub kept : OnErr result (has_same_lent before.hall.issuer after.hall.issuer)
   pub same : IsLeftSame before after
   pub opening : after.opening ≡ before.opening
+  pub lives : after.lives ≡ before.lives
 
 -- by one step just the batch that was out is durable, which the desk is told, or there is a reason why it is not
 pub record Settles {L T O : Type 0} {l : LedgerGhosts L} {g : TraceGhosts T O} {o : OpeningGhosts O}
@@ -159,6 +167,7 @@ pub record Settles {L T O : Type 0} {l : LedgerGhosts L} {g : TraceGhosts T O} {
   pub all : after.marks.all.items ≡ before.marks.all.items
   pub counted : after.slots ≡ before.slots
   pub opening : after.opening ≡ before.opening
+  pub lives : after.lives ≡ before.lives
 
 -- the reply of this slot was taken, where all that it shows is durable
 pub record Takes {L T O : Type 0} {l : LedgerGhosts L} {g : TraceGhosts T O} {o : OpeningGhosts O}
@@ -172,6 +181,7 @@ pub record Takes {L T O : Type 0} {l : LedgerGhosts L} {g : TraceGhosts T O} {o 
   pub marks : after.marks.all.items ≡ before.marks.all.items
   pub counted : after.slots ≡ before.slots
   pub opening : after.opening ≡ before.opening
+  pub lives : after.lives ≡ before.lives
 
 -- how many commands have to be durable before the reply of this slot is told, where it is computed and still wanted
 pub record TellsPoint {L T O : Type 0} {l : LedgerGhosts L} {g : TraceGhosts T O} {o : OpeningGhosts O}
@@ -187,3 +197,4 @@ pub record Forgets {L T O : Type 0} {l : LedgerGhosts L} {g : TraceGhosts T O} {
   pub marks : after.marks.all.items ≡ before.marks.all.items
   pub counted : after.slots ≡ before.slots
   pub opening : after.opening ≡ before.opening
+  pub lives : after.lives ≡ before.lives

@@ -1,22 +1,23 @@
 // What the office keeps under its lock: the hall, and the marks of all that it issued.
-ghost use Rattle.std.specs.Prelude.{◌≡◌, ◌+◌, ◌<◌, ◌≤◌, ◌^◌, ◌++◌, [], map, length, vec_len, vec_capacity, IfOk, IfErr, OnOk, option_map};
+ghost use Rattle.std.specs.Prelude.{◌≡◌, ◌+◌, ◌<◌, ◌≤◌, ◌^◌, [], map, length, IfOk, IfErr, OnOk};
 ghost use Rattle.broker_core.specs.Issuer.{issued_in};
-ghost use Rattle.receipts.specs.Marks.{marks_by, AreNumbered};
+ghost use Rattle.receipts.specs.Marks.{AreNumbered};
 ghost use Rattle.receipts.specs.Following.{Follows};
-ghost use Rattle.receipts.specs.Locked.{hall_in, issuer_in, number_of, either_number};
+ghost use Rattle.receipts.specs.Locked.{hall_in, issuer_in};
 ghost use Rattle.receipts.specs.Running.{HasRuns};
-ghost use Rattle.hall_core.specs.Hall.{IsSameHall, answered_slots};
 
 use crate::desk::Desk;
 use crate::desk_count::DeskCount;
 use crate::error::FinishError;
 use crate::finishing::NotClosed;
+use crate::lives::Lives;
 use crate::mark::{Mark, Trace};
 use crate::marks::Marks;
+use crate::noting::{hand_out, note, told_by};
 use crate::view::{Unreleased, View};
 use api_core::Call;
 use broker_core::{Batch, Broker, DiskHalf, Durable, Failed, IssueHalf, Ticket, Written};
-use hall_core::{Hall, HallError, Issued, Released};
+use hall_core::{Hall, HallError, Released};
 use sector_disk::Disk;
 use std::alloc::{AllocError, Global};
 use std::sync::ledger::{Book, Ledger};
@@ -46,6 +47,8 @@ pub(crate) struct Locked<L: Ledger, T: Trace> {
     pub(crate) marks: Marks<L, T>,
     /// How many slots were counted.
     slots: u64,
+    /// How long the events took that ended.
+    lives: Lives,
     /// How many desks there are.
     pub(crate) desk_count: DeskCount<L>,
     // claim: Whenever the lock is free, the marks are numbered without a gap up to all that was issued, and counted by
@@ -58,48 +61,6 @@ pub(crate) struct Locked<L: Ledger, T: Trace> {
     // claim: Whenever the lock is free, the hall stands for a run, no call refused, on each history that leaves the
     // opening's table.
     ghost runs: { ∥ HasRuns (hall_in hall) (T.Opening.table opening) ∥₁ },
-}
-
-// Marks what a call issued, if it did, where there is room for a mark, and has the desk tell it.
-fn note<L: Ledger, T: Trace>(marks: &mut Marks<L, T>, desk: &mut Desk<L, T>, issued: Option<Issued>)
-    requires room_here { vec_len marks.old.all < vec_capacity marks.old.all }
-    requires room_there { vec_len desk.old.own < vec_capacity desk.old.own }
-    ensures all { map T.mark marks.new.all.items ≡ map T.mark marks.old.all.items ++ marks_by desk.old.number issued }
-    ensures own { map T.mark desk.new.own.items ≡ map T.mark desk.old.own.items ++ marks_by desk.old.number issued }
-    ensures desk { (desk.new.number ≡ desk.old.number) × (desk.new.told ≡ desk.old.told) × (desk.new.steps ≡ desk.old.steps) }
-    ensures issued { desk.new.issued ≡ issued }
-{
-    if let Some(issued) = issued {
-        let mark = Mark::of(issued, desk.number);
-        marks.add(desk, mark);
-    }
-    desk.issued = issued;
-}
-
-// The number of what a tick issued, if it did, which the desk is told.
-fn told_by<L: Ledger, T: Trace>(desk: &mut Desk<L, T>, issued: Option<Issued>) -> Option<u64>
-    ensures number { result ≡ option_map number_of issued }
-    ensures told { desk.new.told ≡ either_number desk.old.told issued }
-    ensures rest { (desk.new.number ≡ desk.old.number) × (desk.new.own.items ≡ desk.old.own.items) × (desk.new.steps ≡ desk.old.steps) }
-    ensures issued { desk.new.issued ≡ desk.old.issued }
-{
-    match issued {
-        Some(issued) => {
-            desk.told = issued.number;
-            Some(issued.number)
-        }
-        None => None,
-    }
-}
-
-// Puts here the slots of the polls that the hall's last request or move answered, while the lock is held: the next request of
-// another desk would put its own in their place. They are moved, so nothing fails once a command is issued.
-fn hand_out(hall: &mut Hall<IssueHalf>, answered: &mut Vec<u64>)
-    ensures slots { answered.new.items ≡ answered_slots hall.old }
-    ensures issuer { hall.new.issuer ≡ hall.old.issuer }
-    ensures same { IsSameHall (hall_in hall.old) (hall_in hall.new) }
-{
-    *answered = hall.take_answered();
 }
 
 impl<L: Ledger, T: Trace> Locked<L, T> {
@@ -132,6 +93,7 @@ impl<L: Ledger, T: Trace> Locked<L, T> {
             opening,
             marks: Marks::new(alloc, book),
             slots: 0,
+            lives: Lives::new(),
             desk_count,
         }
     }
@@ -192,12 +154,14 @@ impl<L: Ledger, T: Trace> Locked<L, T> {
             hall,
             marks,
             slots,
+            lives,
             ..
         } = self;
         match hall.arrive(slot, call, now, words) {
             Ok(issued) => {
                 *slots += 1;
                 note(marks, desk, issued);
+                lives.count_end(hall.table(), issued);
                 let ticket = hall.ticket();
                 hand_out(hall, &mut desk.answered);
                 desk.told = ticket.number();
@@ -215,10 +179,16 @@ impl<L: Ledger, T: Trace> Locked<L, T> {
         desk.steps.count_move();
         self.check(desk)?;
         self.marks.reserve(desk)?;
-        let Locked { hall, marks, .. } = self;
+        let Locked {
+            hall,
+            marks,
+            lives,
+            ..
+        } = self;
         match hall.tick(now) {
             Ok(issued) => {
                 note(marks, desk, issued);
+                lives.count_end(hall.table(), issued);
                 let told = told_by(desk, issued);
                 hand_out(hall, &mut desk.answered);
                 Ok(told)
@@ -313,12 +283,17 @@ impl<L: Ledger, T: Trace> Locked<L, T> {
 
     /// What an operator is shown of the hall and of the marks, unreleased until all of it is durable.
     pub(crate) fn look(&self) -> Result<Unreleased, AllocError>
-        ensures { IfOk result (IsViewOf (hall_in self.now.hall) (map T.mark self.now.marks.all.items)) }
+        ensures shows { IfOk result (IsViewOf (hall_in self.now.hall) (map T.mark self.now.marks.all.items)) }
+        ensures lives { IfOk result (λ unreleased. unreleased.view.lives ≡ self.now.lives) }
     {
         let hall = self.hall.look()?;
         let counters = self.marks.counters;
         Ok(Unreleased {
-            view: View { hall, counters },
+            view: View {
+                hall,
+                counters,
+                lives: self.lives,
+            },
             number: self.hall.issued(),
         })
     }
@@ -326,6 +301,7 @@ impl<L: Ledger, T: Trace> Locked<L, T> {
     /// The same with a ticket of all that was issued.
     pub(crate) fn look_with_ticket(&self) -> Result<(Unreleased, Ticket), AllocError>
         ensures shows { IfOk result (λ r. IsViewOf (hall_in self.now.hall) (map T.mark self.now.marks.all.items) r.0) }
+        ensures lives { IfOk result (λ r. r.0.view.lives ≡ self.now.lives) }
         ensures ticket { IfOk result (λ r. r.1 ≡ issued_in (issuer_in self.now.hall)) }
     {
         let unreleased = self.look()?;
@@ -368,6 +344,7 @@ impl<L: Ledger> Locked<L, Mark> {
             opening,
             marks,
             slots,
+            lives,
             desk_count,
         } = self;
         match hall.join(disk) {
@@ -378,6 +355,7 @@ impl<L: Ledger> Locked<L, Mark> {
                     opening,
                     marks,
                     slots,
+                    lives,
                     desk_count,
                 };
                 let cause = FinishError::NotJoined(failure.cause);

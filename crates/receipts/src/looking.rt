@@ -56,10 +56,11 @@ impl<L: Ledger, T: Trace> Office<L, T> {
     /// What an operator is shown of the office, unreleased until all of it is durable, with a ticket of that. It changes nothing,
     /// copies no byte of a payload, and is refused only for want of memory.
     pub fn look<R: Wait>(&self, rt: &R) -> Witnessed<Result<(Unreleased, Ticket), AllocError>, L, T>
-        // claim: An operator gets the hall under the lock and counts of its marks by kind, unreleased, with a ticket of
-        // all issued. Nothing changes.
+        // claim: An operator gets the hall under the lock, counts of its marks by kind, and how long events took that
+        // ended, unreleased, with a ticket of all issued. Nothing changes. [: shows, lives, ticket, same]
         ensures shows { IfOk result.answer (λ r.
             IsViewOf (hall_in result.before.value.hall) (map T.mark result.before.value.marks.all.items) r.0) }
+        ensures lives { IfOk result.answer (λ r. r.0.view.lives ≡ result.before.value.lives) }
         ensures ticket { IfOk result.answer (λ r. r.1 ≡ issued_in (issuer_in result.before.value.hall)) }
         ensures same { result.after.value ≡ result.before.value }
     {

@@ -159,6 +159,9 @@ impl<L: Ledger, T: Trace> Office<L, T> {
         // claim: A refusal is the first of these: fewer commands than the desk was told, no slot left, unfit; else want
         // of memory or the hall's own. A tick has the first and last two. Nothing under the lock changes. [: refused,
         // reason, same; Office::tick: refused, reason, same]
+        // claim: An event that a request or a tick ended is counted with the time from its acceptance to its end. Nothing
+        // else changes these counts. [: lives, kept_lives; Office::tick: lives, kept_lives; Office::take, Office::forget:
+        // lives]
         ensures { Arrives result.before.value result.after.value result.from.value result.to.value
             desk.old desk.new call now words result.answer }
     {

@@ -2,6 +2,7 @@
 ghost use Rattle.std.specs.Prelude.{◌≡◌, ◌<◌, ◌≤◌, IfSome, IfNone};
 
 use crate::command_counters::CommandCounters;
+use crate::lives::Lives;
 use front_board::Shown;
 use hall_core::HallStatus;
 
@@ -11,6 +12,8 @@ pub struct View {
     pub hall: HallStatus,
     /// Of the commands that were issued since the opening.
     pub counters: CommandCounters,
+    /// Of the events that ended since the opening.
+    pub lives: Lives,
 }
 
 /// What an operator may be shown once all that it shows is durable. Only a call of an office makes it.

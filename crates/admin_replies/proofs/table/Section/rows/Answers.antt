@@ -19,6 +19,10 @@ pub returns-in-Lives : goal.returns-in-Lives
 unfolding lines_of
 returns-in-Lives c = rw c.in-Lives.is refl
 
+pub returns-in-Durations : goal.returns-in-Durations
+unfolding lines_of
+returns-in-Durations c = rw c.in-Durations.is refl
+
 pub returns-in-Refusals : goal.returns-in-Refusals
 unfolding lines_of
 returns-in-Refusals c = rw c.in-Refusals.is refl

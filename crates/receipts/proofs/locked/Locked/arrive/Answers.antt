@@ -64,6 +64,8 @@ returns-in-Ok g c =
       kept_issued = search rules;
       answered = λ past stands. c.hand_out.ensures.slots ∙ c.in-Ok.ensures.answered past stands;
       kept_answered = search rules;
+      lives = search rules;
+      kept_lives = search rules;
     }
 
 -- ## Refusals
@@ -98,6 +100,8 @@ returns-then-not-fits g c =
       kept_issued = search rules;
       answered = search rules;
       kept_answered = search rules;
+      lives = search rules;
+      kept_lives = search rules;
     }
 
 pub returns-in-Err : goal.returns-in-Err
@@ -134,6 +138,8 @@ returns-in-Err g c =
       kept_issued = search rules;
       answered = search rules;
       kept_answered = search rules;
+      lives = search rules;
+      kept_lives = search rules;
     }
 
 pub returns-in_err-reserve : goal.returns-in_err-reserve
@@ -164,4 +170,6 @@ returns-in_err-reserve g c =
       kept_issued = search rules;
       answered = search rules;
       kept_answered = search rules;
+      lives = search rules;
+      kept_lives = search rules;
     }

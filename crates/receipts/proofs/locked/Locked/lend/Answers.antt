@@ -31,4 +31,5 @@ returns-in-Err g c =
       kept = search rules;
       same = search rules;
       opening = search rules;
+      lives = search rules;
     }

@@ -39,6 +39,7 @@ returns-in-Ok g c =
       all = search rules;
       counted = search rules;
       opening = search rules;
+      lives = search rules;
     }
 
 pub returns-in-Err : goal.returns-in-Err
@@ -60,4 +61,5 @@ returns-in-Err g c =
       all = search rules;
       counted = search rules;
       opening = search rules;
+      lives = search rules;
     }

@@ -60,6 +60,8 @@ returns-in-Ok g c =
       kept_issued = search rules;
       answered = λ past stands. c.hand_out.ensures.slots ∙ c.in-Ok.ensures.answered past stands;
       kept_answered = search rules;
+      lives = search rules;
+      kept_lives = search rules;
     }
 
 pub returns-in-Err : goal.returns-in-Err
@@ -88,4 +90,6 @@ returns-in-Err g c =
       kept_issued = search rules;
       answered = search rules;
       kept_answered = search rules;
+      lives = search rules;
+      kept_lives = search rules;
     }
