@@ -16,6 +16,7 @@ ghost use Rattle.http_front.specs.laws.Learned.{learned_nothing, learned_more};
 
 use crate::asking::{NotCommitted, ask};
 use crate::front_state::FrontState;
+use crate::gathering::Gathering;
 use crate::resting::CommitterSlept;
 use crate::wake::{Slept, Wake};
 use broker_core::{DiskHalf, Durable};
@@ -78,6 +79,7 @@ struct CommitterAtFront<'a, R, L: Ledger, T: Trace, D: Disk> {
     rt: &'a R,
     front: &'a FrontState<L, T>,
     committer: Committer<L, T, D>,
+    gathering: Gathering,
 }
 
 impl<R: Wait + Clock, L: Ledger, T: Trace, D: Disk> Committing
@@ -121,6 +123,8 @@ impl<R: Wait + Clock, L: Ledger, T: Trace, D: Disk> Committing
         × HasServed D.view D.fault_count (broker_of old.committer.half) (broker_of new.committer.half) };
 
     fn pending(&mut self) -> (usize, Witnessed<(), L, T>) {
+        let durable = self.committer.half.durable().number();
+        self.gathering.wait(self.rt, &self.front.office, durable);
         self.front.office.pending(self.rt).split()
     }
 
@@ -225,6 +229,7 @@ impl<L: Ledger, T: Trace, D: Disk + Drop> Committer<L, T, D> {
             rt,
             front,
             committer: self,
+            gathering: Gathering::NONE,
         };
         let ran = commit_all(rt, gate, &mut at);
         let CommitterAtFront { committer, .. } = at;

@@ -16,6 +16,7 @@ mod ending;
 mod error;
 mod front_state;
 mod gates;
+mod gathering;
 mod opening;
 mod port_application;
 mod replying;
