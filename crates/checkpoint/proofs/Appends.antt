@@ -1,5 +1,5 @@
 -- What an image reads that differs from another in the journal's area alone.
-use Rattle.std.proofs.Common.{◌≡◌, ◌⊎◌, inl, inr, ⊎_elim, ℕ, ◌+◌, ◌-◌, ◌*◌, ◌/◌, ◌≤◌, List, take, drop, Option, Some, None, Ok, refl, sym, ◌∙◌, ap, subst, arith}
+use Rattle.std.proofs.Common.{◌≡◌, ◌⊎◌, inl, inr, ⊎_elim, ℕ, ◌+◌, ◌-◌, ◌*◌, ◌/◌, ◌≤◌, List, [], take, drop, Option, Some, None, Ok, refl, sym, ◌∙◌, ap, subst, arith}
 use Rattle.sector_disk.specs.Disk.{DiskView, HasOneImage}
 use Rattle.sector_disk.specs.laws.Written.{same_part}
 use Rattle.retry_rules.specs.declared.settings.Settings.{Settings}
@@ -12,11 +12,14 @@ use Rattle.gate_journal.specs.declared.area.Area.{Area}
 use Rattle.gate_journal.specs.declared.journal.Journal.{Journal}
 use Rattle.gate_journal.specs.Frames.{is_open, sectors_for, Frames, frames_in, frames_with, SameOutside}
 use Rattle.gate_journal.specs.Journal as journal
+use Rattle.gate_journal.specs.declared.staged.Staged.{Staged}
+use Rattle.gate_journal.specs.Staged.{IsStaged}
 use Rattle.checkpoint.specs.declared.header.Header.{Header}
 use Rattle.checkpoint.specs.declared.opened.Opened.{Opened}
 use Rattle.checkpoint.specs.Image.{SegmentImage, DiskImage, half, header_at, snapshot_of, area_of, segment_at, open_header, read_image, folded, folded_in}
 use Rattle.checkpoint.specs.ReadSteps.{with_table}
 use Rattle.checkpoint.specs.Live.{IsLive, RecoversTo, settings_of, reads_as, as_new}
+use Rattle.checkpoint.specs.Ahead.{IsLiveAhead}
 use Rattle.checkpoint.proofs.Segments.{snapshot_same, behind_snapshot}
 use Rattle.checkpoint.specs.Held.{AreSides}
 use Rattle.checkpoint.proofs.Images.{is_open_at, IsBeside, IsDiskImage, disk_image, image_is, header_is, header_there}
@@ -167,3 +170,43 @@ module _ (disk : DiskView) (opened : Opened) (before after : Snapshot) (batch : 
     holds = holds;
     table_is = refl;
   }
+
+  -- and so it is where another is staged behind it
+  pub ahead_after : (new : DiskView) (journal_new : Journal) (settled : HasOneImage new) (holds : journal.Holds now.area longer journal_new new.content)
+      (outside : SameOutside now.area disk.content new.content) (more : List Command) (staged : Staged) → IsStaged now.area longer more staged new.content
+      → IsLiveAhead new (record opened { journal = journal_new }) after more staged
+  unfolding live_after
+  ahead_after new journal_new settled holds outside more staged ahead = record { live = live_after new journal_new settled holds outside; ahead = ahead }
+
+-- ## While a batch is staged
+
+module _ (disk : DiskView) (opened : Opened) (table : Snapshot) (live : IsLive disk opened table) where
+  nothing_replays : replay (settings_of opened) table [] ≡ Some table
+  nothing_replays = refl
+
+  pub table_still : (image : List ℕ) → SameOutside live.image.live.area disk.content image → frames_in live.image.live.area image ≡ Ok live.image.live.frames
+      → RecoversTo (settings_of opened) table image
+  table_still image outside reads =
+      recovers disk opened table table [] live nothing_replays image live.image.live.frames table
+      (reads_still disk opened table table [] live nothing_replays image live.image.live.frames table outside reads (is_folded disk opened table table [] live nothing_replays))
+
+  pub live_still : (new : DiskView) → HasOneImage new → journal.Holds live.image.live.area live.image.live.frames opened.journal new.content
+      → SameOutside live.image.live.area disk.content new.content → IsLive new opened table
+  live_still new settled holds outside = record {
+    settled = settled;
+    image = image_with live.image live.image.live.frames table;
+    reads = reads_still disk opened table table [] live nothing_replays new.content live.image.live.frames table outside holds.reads (is_folded disk opened table table [] live nothing_replays);
+    version_is = live.version_is;
+    base = live.base;
+    generation = live.generation;
+    settings = live.settings;
+    other = live.other;
+    holds = holds;
+    table_is = refl;
+  }
+
+  pub ahead_still : (new : DiskView) (settled : HasOneImage new) (holds : journal.Holds live.image.live.area live.image.live.frames opened.journal new.content)
+      (outside : SameOutside live.image.live.area disk.content new.content) (commands : List Command) (staged : Staged)
+      → IsStaged live.image.live.area live.image.live.frames commands staged new.content → IsLiveAhead new opened table commands staged
+  unfolding live_still
+  ahead_still new settled holds outside commands staged ahead = record { live = live_still new settled holds outside; ahead = ahead }

@@ -1,5 +1,5 @@
 -- The steps of judging a header.
-use Rattle.std.proofs.Common.{◌≡◌, ℕ, ◌^◌, ◌≤◌, min, true, nat_eq, List, length, take, drop, None, refl, sym, ◌∙◌, ap}
+use Rattle.std.proofs.Common.{◌≡◌, ℕ, ◌^◌, ◌≤◌, min, true, nat_eq, List, length, take, drop, None, sym, ◌∙◌, ap}
 use Rattle.std.proofs.lemmas.Bool.{and_from, le-leb, cond-true}
 use Rattle.std.proofs.lemmas.List.{drop_min}
 use Rattle.std.specs.List.{starts_with}

@@ -1,3 +1,4 @@
+pub mod Ahead
 pub mod Formatting
 pub mod FormatSteps
 pub mod Held

@@ -1,5 +1,5 @@
 -- The segment beside the live one, by the bytes of an image: its snapshot and the commands of its frames.
-use Rattle.std.specs.Prelude.{◌≡◌, ℕ, ◌/◌, List, map, Option, None, Some, option_map, Result, Ok, Err, IfOk, IfErr, Vec}
+use Rattle.std.specs.Prelude.{◌≡◌, ℕ, ◌/◌, List, Option, None, Some, option_map, Result, Ok, Err, IfOk, IfErr, Vec}
 use Rattle.std.specs.Global.{Global}
 use Rattle.sector_disk.specs.Disk.{DiskView}
 use Rattle.invoke_records.specs.declared.command.Command.{Command}

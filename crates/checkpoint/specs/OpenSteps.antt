@@ -1,5 +1,5 @@
 -- What the private steps of opening a disk give. No public contract cites it.
-use Rattle.std.specs.Prelude.{◌≡◌, ℕ, ◌+◌, ◌*◌, ◌^◌, ◌<◌, ◌≤◌, Bool, true, List, map, take, drop, Option, None, Some, is_some, Result, Ok, Err}
+use Rattle.std.specs.Prelude.{◌≡◌, ℕ, ◌+◌, ◌*◌, ◌^◌, ◌<◌, ◌≤◌, Bool, true, List, map, take, drop, Option, None, Some, is_some, Result, Ok}
 use Rattle.sector_disk.specs.Disk.{DiskView}
 use Rattle.async_core.specs.Rules.{replay}
 use Rattle.invoke_records.specs.declared.command.Command.{Command}

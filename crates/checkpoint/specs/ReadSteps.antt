@@ -1,5 +1,5 @@
 -- The steps of reading an image, each over what the one before it gave: for proofs and private steps. No public contract cites it.
-use Rattle.std.specs.Prelude.{ℕ, ◌+◌, List, Option, Some, None, is_none, ok_or, Result, Ok, Err, if◌then◌else◌}
+use Rattle.std.specs.Prelude.{ℕ, List, Option, Some, None, is_none, ok_or, Result, Ok, Err, if◌then◌else◌}
 use Rattle.invoke_records.specs.declared.snapshot.Snapshot.{Snapshot}
 use Rattle.invoke_records.specs.declared.version.Version.{Version}
 use Rattle.async_core.specs.declared.illegal.Illegal.{Illegal}

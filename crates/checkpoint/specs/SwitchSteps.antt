@@ -1,5 +1,5 @@
 -- What the private steps of a switch leave. No public contract cites it.
-use Rattle.std.specs.Prelude.{◌≡◌, ◌⊎◌, ℕ, ◌+◌, ◌==◌, Bool, true, false, List, Result, OnOk, if◌then◌else◌}
+use Rattle.std.specs.Prelude.{◌≡◌, ◌⊎◌, ℕ, ◌+◌, Bool, true, false, List, Result, OnOk}
 use Rattle.sector_disk.specs.declared.disk.Fault.{Fault}
 use Rattle.sector_disk.specs.Disk.{DiskView, HasOneImage}
 use Rattle.sector_disk.specs.Moments.{LeavesOnly}

@@ -22,12 +22,13 @@ mod seeding;
 mod segment;
 mod sizes;
 mod snapshot;
+mod staging;
 mod switching;
 mod writing;
 
 pub use error::{FormatError, OpenError, SeedError, SwitchError};
 pub use formatting::format;
-pub use gate_journal::AppendError;
+pub use gate_journal::{AppendError, Staged};
 pub use header::MOST_GENERATIONS;
 pub use laws::what_is_recovered_is_what_was_written;
 pub use older::read_older;

@@ -1,6 +1,6 @@
 // Steps on a disk that no broker has open.
 use crate::audits::tell_audit;
-use crate::journals::{append, fits, frames};
+use crate::journals::{append, append_groups, fits, frames};
 use crate::refusals;
 use crate::sizes::{tell_blank, tell_resized};
 use case_runner::{StepReply, TextBuffer, Words, number_of};
@@ -198,6 +198,7 @@ pub fn disk_step<D: Disk>(
         "frames" => frames(alloc, disk, words, answer),
         "fits" => fits(alloc, disk, words),
         "append" => append(alloc, disk, words),
+        "append-groups" => append_groups(alloc, disk, words),
         _ => StepReply::NoStep,
     }
 }

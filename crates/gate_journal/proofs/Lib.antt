@@ -9,3 +9,4 @@ pub mod Next
 pub mod Spelled
 pub mod Taken
 pub mod Exits
+pub mod Ahead

@@ -17,9 +17,9 @@ pub const MOST_IN_FRAME: usize = 256;
 /// The journal of a segment, at the closed gate after its last frame.
 #[derive(Drop)]
 pub struct Journal {
-    generation: u64,
-    number: u64,
-    next: u64,
+    pub(crate) generation: u64,
+    pub(crate) number: u64,
+    pub(crate) next: u64,
     end: u64,
 }
 

@@ -11,9 +11,12 @@ mod head;
 mod journal;
 mod laws;
 mod reading;
+mod staged;
+mod staging;
 mod writing;
 
 pub use area::Area;
 pub use error::{AppendError, ReadError};
 pub use journal::{Journal, MOST_IN_FRAME};
 pub use laws::what_is_read_is_what_was_written;
+pub use staged::Staged;

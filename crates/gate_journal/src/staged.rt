@@ -1,0 +1,10 @@
+// A frame that is written and not opened.
+
+/// A frame behind a journal's gate, which is closed: its commands are part of the log once that gate is opened.
+#[derive(Clone, Copy)]
+pub struct Staged {
+    /// How many sectors it takes: that of its gate, and those of its body.
+    pub(crate) sectors: u64,
+    /// How many commands it has.
+    pub(crate) count: u64,
+}
