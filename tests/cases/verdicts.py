@@ -39,9 +39,20 @@ def shows(broker, told):
         same(headline == "The broker is well.", not told)
 
 
+def is_slow(broker):
+    """The metrics show five slow commits and more: a tenth of a second on average, or one in twenty above half a second."""
+    numbers = broker.numbers()
+    commits = numbers["commit_seconds_count"]
+    late = commits - numbers['commit_seconds_bucket{le="0.5"}']
+    return commits >= 5 and (10 * numbers["commit_seconds_sum"] >= commits or 20 * late >= commits)
+
+
 def finds(broker, *reasons):
-    """Waits until just this is wrong: the words of each. The page shows it."""
-    until(reasons or "a broker that is well", lambda: set(found(broker)) == set(reasons))
+    """Waits until just this is wrong: the words of each. The page shows it. Where the machine is slow, that may be told besides."""
+    def just_this():
+        others = set(found(broker)) ^ set(reasons)
+        return not others or others == {"commits_are_slow"} and "commits_are_slow" not in reasons and is_slow(broker)
+    until(reasons or "a broker that is well", just_this)
     told = found(broker)
     shows(broker, told)
     return {reason: words for reason, (_, words) in told.items()}
@@ -68,20 +79,21 @@ def a_broker_whose_environments_are_polled_is_well(broker):
     second.leave()
 
 
-@case({"timeout": 1})
+# In four seconds a slow machine's runtime answers too.
+@case({"timeout": 4})
 def events_that_nobody_takes_are_told(broker):
     broker.serve()
     broker.invoke("{}")
     same(found(broker)["nobody_polls"][0], "bad")
     words = finds(broker, "nobody_polls", "nothing_ends")
-    same("while 1 events are due; the timeout is 1 s" in words["nothing_ends"], True)
+    same("while 1 events are due; the timeout is 4 s" in words["nothing_ends"], True)
     same(broker.look("/healthz").status, 200)
     event = broker.next()
     same(broker.respond(event.id, "1").status, 202)
     finds(broker)
 
 
-@case({"timeout": 1})
+@case({"timeout": 4})
 def a_runtime_that_answered_and_hangs_is_told(broker):
     broker.serve()
     broker.live("{}", "1")
