@@ -6,7 +6,7 @@ import time
 from cases.collecting import told as told_of_list
 from cases.limits import INVOKES, statuses_in, told_to_the_end
 from disks import SECTOR, sectors_of
-from harness import DEADLINE, EXTENSION, INVOKE, OPENING, REQUEST, RUNTIME, case, matches, same, statuses, until
+from harness import DEADLINE, EXTENSION, INVOKE, OPENING, REQUEST, RUNTIME, case, same, statuses, until
 
 # The head of a frame's body, and that of a command in it, in bytes.
 FRAME, COMMAND = 32, 31
@@ -405,13 +405,13 @@ def what_comes_too_late_moves_its_reason_alone(broker):
 # What is counted of times.
 
 
-def replies(broker, kind):
-    """How many requests of a kind took at most so many seconds, and all of them together."""
-    told, start = broker.numbers(), f'request_seconds_bucket{{kind="{kind}",le="'
+def spread(broker, family, kind=None):
+    """A histogram: how many took at most so many seconds, and how long all of them took."""
+    label, of = (f'kind="{kind}",', f'{{kind="{kind}"}}') if kind else ("", "")
+    told, start = broker.numbers(), f'{family}_bucket{{{label}le="'
     found = {float(name[len(start):-2]): value for name, value in told.items() if name.startswith(start)}
-    of = f'{{kind="{kind}"}}'
-    same(found[float("inf")], told["request_seconds_count" + of])
-    return found, told["request_seconds_sum" + of]
+    same((len(found), found[float("inf")]), (9, told[f"{family}_count{of}"]))
+    return found, told[f"{family}_sum{of}"]
 
 
 KINDS = "call", "report", "poll"
@@ -435,9 +435,9 @@ def a_request_is_counted_with_its_time_under_its_kind(broker):
 
     def took(kind, act):
         """By how much an act moves the counts of its kind alone, and how long that took."""
-        before, begun = {kind: replies(broker, kind) for kind in KINDS}, time.monotonic()
+        before, begun = {kind: spread(broker, "request_seconds", kind) for kind in KINDS}, time.monotonic()
         act()
-        most, after = time.monotonic() - begun, {kind: replies(broker, kind) for kind in KINDS}
+        most, after = time.monotonic() - begun, {kind: spread(broker, "request_seconds", kind) for kind in KINDS}
         same({other: after[other] for other in KINDS if other != kind}, {other: before[other] for other in KINDS if other != kind})
         moved = {bound: after[kind][0][bound] - before[kind][0][bound] for bound in before[kind][0]}
         return moved, after[kind][1] - before[kind][1], most
@@ -460,14 +460,6 @@ def a_request_is_counted_with_its_time_under_its_kind(broker):
     same(moved[float("inf")], 1)
 
 
-def lives(broker):
-    """How many of the events that ended took at most so many seconds, and how long all of them took."""
-    told, start = broker.numbers(), 'event_seconds_bucket{le="'
-    found = {float(name[len(start):-2]): value for name, value in told.items() if name.startswith(start)}
-    same((len(found), found[float("inf")]), (9, told[LIVES]))
-    return found, told["event_seconds_sum"]
-
-
 @case({"retries": 0})
 def an_event_that_ends_is_counted_with_its_life_in_each_bucket_that_holds_it(broker):
     broker.serve()
@@ -476,21 +468,14 @@ def an_event_that_ends_is_counted_with_its_life_in_each_bucket_that_holds_it(bro
         same(broker.next().id, event)
         begun = time.monotonic()
         until("a time", lambda: time.monotonic() - begun > least)
-        before, sum_before = lives(broker)
+        before, sum_before = spread(broker, "event_seconds")
         same(broker.respond(event, "1", path=path).status, 202)
         row = broker.look(f"/events/{event}").json
         took = row["moment"] - row["accepted"]
         assert took >= 1000 * least, (took, least)
-        after, sum_after = lives(broker)
+        after, sum_after = spread(broker, "event_seconds")
         same({bound: after[bound] - before[bound] for bound in after}, {bound: int(took <= 1000 * bound) for bound in after})
         same(round(1000 * (sum_after - sum_before)), took)
-
-
-def buckets(broker):
-    """How many commits took at most so many seconds."""
-    told = broker.numbers()
-    found = {name: value for name, value in told.items() if name.startswith("commit_seconds_bucket")}
-    return {float(matches('.*le="(.*)"}', name)[0]): value for name, value in found.items()}, told["commit_seconds_sum"]
 
 
 @case()
@@ -498,7 +483,7 @@ def a_commit_is_counted_with_its_time_in_each_bucket_that_holds_it(broker):
     watch = broker.watches_disk()
     broker.serve()
     for least in 0.03, 0.11, 0.6, 2.6:
-        (before, sum_before), began = buckets(broker), time.monotonic()
+        (before, sum_before), began = spread(broker, "commit_seconds"), time.monotonic()
         watch.release = 0
         watch.hold_flush = watch.flushes + 1
         invoke = broker.send_invoke("{}")
@@ -508,14 +493,12 @@ def a_commit_is_counted_with_its_time_in_each_bucket_that_holds_it(broker):
         least = time.monotonic() - held
         watch.let_go()
         same(invoke.done().status, 202)
-        (after, sum_after), most = buckets(broker), time.monotonic() - began
-        same(len(after), 9)
+        (after, sum_after), most = spread(broker, "commit_seconds"), time.monotonic() - began
         moved = {bound: after[bound] - before[bound] for bound in after}
         same({bound: by for bound, by in moved.items() if bound < least}, {bound: 0 for bound in after if bound < least})
         same({bound: by for bound, by in moved.items() if bound > most}, {bound: 1 for bound in after if bound > most})
         same((list(moved.values()), set(moved.values())), (sorted(moved.values()), {0, 1}))
         assert least <= sum_after - sum_before <= most, (least, sum_after - sum_before, most)
-        same(after[float("inf")], broker.number(COMMITS))
 
 
 @case()
