@@ -5,7 +5,7 @@ ghost use Rattle.invoke_records.specs.Spelling.{commands_text, command_fault};
 ghost use Rattle.gate_journal.specs.Journal.{generation_of, number_of, next_of, end_of, free_sectors_of, fits, IsFound, TellsDamage, Acknowledges, LeavesBeforeOrAfter};
 
 use crate::reading::read_frame;
-use crate::writing::{batch_size, spell_frame};
+use crate::writing::{batch_size, body_sectors, open_gate, spell_frame};
 use crate::{AppendError, Area, ReadError};
 use invoke_records::Command;
 use sector_disk::{Disk, SECTOR_SIZE};
@@ -51,8 +51,7 @@ impl Journal {
     pub fn fits(&self, size: u64) -> bool
         ensures { result ≡ fits self.now size }
     {
-        let sectors = size / 512 + (size % 512 + 543) / 512;
-        sectors + 2 <= self.free_sectors()
+        body_sectors(size) + 2 <= self.free_sectors()
     }
 
     /// Reads the frames of an area: each command with the sector of its frame's gate. It only reads.
@@ -137,8 +136,7 @@ impl Journal {
             return Err(AppendError::NoRoom);
         }
         let frame = spell_frame(alloc, self.generation, self.number, size, commands)?;
-        let mut gate = [0; SECTOR_SIZE];
-        gate[0] = 1;
+        let gate = open_gate();
         disk.write(self.next + 1, &frame)?;
         disk.barrier()?;
         disk.write(self.next, &gate)?;

@@ -1,35 +1,23 @@
 // A frame written before its gate is opened, so that one barrier settles that gate and the next frame's body.
-ghost use Rattle.std.specs.Prelude.{◌≡◌, ◌↔◌, ◌+◌, ◌≤◌, ◌^◌, length, true, false, All, None, IsErrOf, OnOk, OnErr, IfOk};
+ghost use Rattle.std.specs.Prelude.{◌≡◌, ◌↔◌, ◌+◌, ◌≤◌, ◌^◌, length, false, All, None, IsErrOf, OnOk, OnErr, IfOk};
 ghost use Rattle.sector_disk.specs.Disk.{IsSameDisk, HasRisen, HasCause};
 ghost use Rattle.invoke_records.specs.Spelling.{commands_text, command_fault};
-ghost use Rattle.gate_journal.specs.Frames.{is_open};
 ghost use Rattle.gate_journal.specs.Journal.{generation_of, number_of, end_of, fits};
 ghost use Rattle.gate_journal.specs.Staged.{count_of, fits_behind, LiesIn, LeavesBefore, Stages, LeavesWithStaged, Advances, Opens};
 
 use crate::staged::Staged;
-use crate::writing::{batch_size, spell_frame};
+use crate::writing::{batch_size, body_sectors, open_gate, spell_frame};
 use crate::{AppendError, Journal};
 use invoke_records::Command;
 use sector_disk::{Disk, Fault, SECTOR_SIZE};
 use std::alloc::Global;
-
-// A gate that is open.
-fn open_gate() -> [u8; SECTOR_SIZE]
-    ensures whole { length result ≡ 512 }
-    ensures opened { is_open result ≡ true }
-{
-    let mut gate = [0; SECTOR_SIZE];
-    gate[0] = 1;
-    gate
-}
 
 impl Journal {
     /// Whether a frame of commands that fill so many bytes fits behind a staged one.
     pub fn fits_behind(&self, staged: Staged, size: u64) -> bool
         ensures { result ≡ fits_behind self.now staged size }
     {
-        let sectors = size / 512 + (size % 512 + 543) / 512;
-        sectors + 2 <= self.free_sectors().saturating_sub(staged.sectors)
+        body_sectors(size) + 2 <= self.free_sectors().saturating_sub(staged.sectors)
     }
 
     /// Writes a batch as a frame behind the journal's gate, which stays closed: its body with a closed gate behind it, and a

@@ -1,9 +1,9 @@
 // The bytes of a frame.
-ghost use Rattle.std.specs.Prelude.{◌≡◌, ◌*◌, ◌+◌, ◌-◌, ◌<◌, ◌≤◌, ◌^◌, ◌++◌, List, length, replicate, All, None, IfOk, IfErr, OnOk};
+ghost use Rattle.std.specs.Prelude.{◌≡◌, ◌*◌, ◌+◌, ◌-◌, ◌<◌, ◌≤◌, ◌^◌, ◌++◌, List, length, replicate, true, All, None, IfOk, IfErr, OnOk};
 ghost use Rattle.std.specs.Int.{w32, w64, to_be_bytes};
 ghost use Rattle.invoke_records.specs.Spelling.{IsCommand, command_text, commands_text, command_fault};
 ghost use Rattle.gate_journal.specs.declared.error.AppendError.TheVariants.{OutOfMemory};
-ghost use Rattle.gate_journal.specs.Frames.{body_text};
+ghost use Rattle.gate_journal.specs.Frames.{is_open, body_sectors, body_text};
 ghost use Rattle.gate_journal.specs.Steps.{with_head};
 
 use crate::AppendError;
@@ -45,6 +45,24 @@ pub(crate) fn batch_size(commands: &[Command]) -> u64
         size += command_size(command);
     }
     size
+}
+
+// How many sectors a body fills, of commands that fill so many bytes.
+pub(crate) fn body_sectors(size: u64) -> u64
+    ensures sectors { result ≡ body_sectors size }
+    ensures most { result ≤ 2 ^ 55 + 1 }
+{
+    size / 512 + (size % 512 + 543) / 512
+}
+
+// A gate that is open.
+pub(crate) fn open_gate() -> [u8; SECTOR_SIZE]
+    ensures whole { length result ≡ 512 }
+    ensures opened { is_open result ≡ true }
+{
+    let mut gate = [0; SECTOR_SIZE];
+    gate[0] = 1;
+    gate
 }
 
 // Appends the fields of a body's head.

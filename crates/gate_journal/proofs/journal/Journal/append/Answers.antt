@@ -88,7 +88,7 @@ returns-in_err-write-2-clause-any_moment g c honest settled area frames holds =
     (gate_run g.D.Disk.view g.met.D.Disk.laws c.args.disk.now (made g s honest area frames holds) honest settled
     c.write.new.self c.write.result c.write.ensures.same (framed g s c.write.new.self c.write.result c.write.ensures.honest)
     c.barrier.new.self c.barrier.result c.barrier.ensures.same c.barrier.ensures.honest
-    (framed g s c.write.new.self (Ok tt) c.in_ok-write.ensures.honest) c.in_ok-barrier.ensures.honest _ refl
+    (framed g s c.write.new.self (Ok tt) c.in_ok-write.ensures.honest) c.in_ok-barrier.ensures.honest _ c.open_gate-gate.ensures.whole
     c.write-2.new.self c.write-2.result c.write-2.ensures.same c.write-2.ensures.honest).leaves
 
 pub returns-in_err-barrier-2-clause-any_moment : goal.returns-in_err-barrier-2-clause-any_moment
@@ -97,7 +97,7 @@ returns-in_err-barrier-2-clause-any_moment g c honest settled area frames holds 
     (gate_settled g.D.Disk.view g.met.D.Disk.laws c.args.disk.now (made g s honest area frames holds) honest settled
     c.write.new.self c.write.result c.write.ensures.same (framed g s c.write.new.self c.write.result c.write.ensures.honest)
     c.barrier.new.self c.barrier.result c.barrier.ensures.same c.barrier.ensures.honest
-    (framed g s c.write.new.self (Ok tt) c.in_ok-write.ensures.honest) c.in_ok-barrier.ensures.honest _ refl
+    (framed g s c.write.new.self (Ok tt) c.in_ok-write.ensures.honest) c.in_ok-barrier.ensures.honest _ c.open_gate-gate.ensures.whole
     c.write-2.new.self c.write-2.result c.write-2.ensures.same c.write-2.ensures.honest
     c.barrier-2.new.self c.barrier-2.result c.barrier-2.ensures.same c.barrier-2.ensures.honest).leaves
 
@@ -107,7 +107,7 @@ returns-clause-any_moment g c honest settled area frames holds =
     (gate_settled g.D.Disk.view g.met.D.Disk.laws c.args.disk.now (made g s honest area frames holds) honest settled
     c.write.new.self c.write.result c.write.ensures.same (framed g s c.write.new.self c.write.result c.write.ensures.honest)
     c.barrier.new.self c.barrier.result c.barrier.ensures.same c.barrier.ensures.honest
-    (framed g s c.write.new.self (Ok tt) c.in_ok-write.ensures.honest) c.in_ok-barrier.ensures.honest _ refl
+    (framed g s c.write.new.self (Ok tt) c.in_ok-write.ensures.honest) c.in_ok-barrier.ensures.honest _ c.open_gate-gate.ensures.whole
     c.write-2.new.self c.write-2.result c.write-2.ensures.same c.write-2.ensures.honest
     c.barrier-2.new.self c.barrier-2.result c.barrier-2.ensures.same c.barrier-2.ensures.honest).leaves
 
@@ -117,9 +117,9 @@ returns-clause-acknowledged g c honest settled area frames holds =
     let now = appended g.D.Disk.view g.met.D.Disk.laws c.args.disk.now (made g s honest area frames holds) honest settled
     c.write.new.self c.write.result c.write.ensures.same (framed g s c.write.new.self c.write.result c.write.ensures.honest)
     c.barrier.new.self c.barrier.result c.barrier.ensures.same c.barrier.ensures.honest
-    (framed g s c.write.new.self (Ok tt) c.in_ok-write.ensures.honest) c.in_ok-barrier.ensures.honest _ refl
+    (framed g s c.write.new.self (Ok tt) c.in_ok-write.ensures.honest) c.in_ok-barrier.ensures.honest _ c.open_gate-gate.ensures.whole
     c.write-2.new.self c.write-2.result c.write-2.ensures.same c.write-2.ensures.honest
-    c.barrier-2.new.self refl c.in_ok-write-2.ensures.honest c.in_ok-barrier-2.ensures.honest in (
+    c.barrier-2.new.self c.open_gate-gate.ensures.opened c.in_ok-write-2.ensures.honest c.in_ok-barrier-2.ensures.honest in (
       now.0,
       record {
         reads = now.1;
