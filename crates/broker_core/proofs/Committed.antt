@@ -1,5 +1,5 @@
 -- What a commit makes of a broker that stands for a history.
-use Rattle.std.proofs.Common.{◌≡◌, ◌⊎◌, ℕ, ◌≤◌, true, false, is_none, Some, List, [], length, take, Result, Ok, Err, refl, sym, ap, subst, ◌∙◌, arith, inl, inr, ⊎_elim}
+use Rattle.std.proofs.Common.{◌≡◌, ◌⊎◌, ℕ, ◌≤◌, true, false, is_none, None, Some, List, [], length, take, Result, Ok, Err, refl, sym, ap, subst, ◌∙◌, arith, inl, inr, ⊎_elim}
 use Rattle.std.specs.Prelude.{IfOk, OnOk, OnErr}
 use Rattle.std.proofs.lemmas.List.{take_all}
 use Rattle.std.proofs.lemmas.Bool.{and_from, false≢true}
@@ -82,7 +82,7 @@ module _ {D : Type 0} {g : Ghosts D} (view : D → DiskView) (laws : (disk : D) 
       let there = λ (honest : (view (disk_of new)).honest). live (same.honest.0 honest) in
       let all : take (issued_of old) history ≡ history = take_all (issued_of old) history (omega (arith, number)) in
       let kept : s ≡ (opened_of new).settings = sym commits.settings ∙ new.settings in
-      let was : BrokerState = record (state_of view old) { disk = view (disk_of new); opened = opened_of new; pending = []; durable = issued_of old } in
+      let was : BrokerState = record (state_of view old) { disk = view (disk_of new); opened = opened_of new; pending = []; durable = issued_of old; staged = None } in
       let base : StandsFor was history =
       record {
         good = stands.good;
@@ -94,8 +94,10 @@ module _ {D : Type 0} {g : Ghosts D} (view : D → DiskView) (laws : (disk : D) 
             stop_after s history (issued_of old) image (omega (arith, number))
             (subst (λ (r : Settings). RecoversTo r (table_of s history) image) (sym kept) (live_recovers _ _ _ (there honest) image left));
         live = λ sound honest. subst (λ (h : List Command). IsLive (view (disk_of new)) (opened_of new) (table_of s h)) (sym all) (there honest);
+        front = tt;
+        ahead = λ sound honest. tt;
       } in
-      stands_along was (state_of view new) history refl refl commits.settings commits.table commits.pending commits.all commits.broken base
+      stands_along was (state_of view new) history refl refl commits.settings commits.table commits.pending commits.all commits.broken commits.staged base
 
   -- a fault leaves a legal stop
   pub stands_broken : IsSameDisk (view (disk_of old)) (view (disk_of new)) → Breaks old new
@@ -113,12 +115,14 @@ module _ {D : Type 0} {g : Ghosts D} (view : D → DiskView) (laws : (disk : D) 
             let moments = leaves (same.honest.0 honest) in
             moments.each image ((laws (disk_of new) honest).counts_now (view (disk_of old)).moment image moments.later left);
         live = λ sound honest. absurd cc;
+        front = stands.front;
+        ahead = λ sound honest. absurd cc;
       } in
-      stands_along was (state_of view new) history refl refl breaks.settings breaks.table breaks.pending breaks.durable breaks.broken base
+      stands_along was (state_of view new) history refl refl breaks.settings breaks.table breaks.pending breaks.durable breaks.broken breaks.staged base
 
   pub stands_same : IsSameBroker old new → Stands view new history
   stands_same same =
-      stands_along (state_of view old) (state_of view new) history (ap view same.disk) same.opened same.settings same.table same.pending same.durable same.broken stands
+      stands_along (state_of view old) (state_of view new) history (ap view same.disk) same.opened same.settings same.table same.pending same.durable same.broken same.staged stands
 
   -- whatever the commit answers
   pub stands_after : (result : Result ℕ CommitError) → IsSameDisk (view (disk_of old)) (view (disk_of new)) → IfOk result (λ durable. Commits old new durable) → (result ≡ Err Fault → Breaks old new)

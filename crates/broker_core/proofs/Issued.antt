@@ -1,6 +1,6 @@
 -- What one command more does to a broker that stands for a history.
-use Rattle.std.proofs.Common.{◌≡◌, ℕ, None, List, [], ◌∷◌, ◌++◌, Result, Ok, Err, sym, ap, subst, ◌∙◌, arith, length-append}
-use Rattle.std.specs.Prelude.{IfOk}
+use Rattle.std.proofs.Common.{◌≡◌, ℕ, ◌≤◌, Option, None, Some, List, length, take, [], ◌∷◌, ◌++◌, Result, Ok, Err, sym, ap, subst, ◌∙◌, arith, length-append}
+use Rattle.std.specs.Prelude.{IfOk, IfSome}
 use Rattle.std.proofs.lemmas.List.{take-append-le, drop-append-le}
 use Rattle.retry_rules.specs.declared.settings.Settings.{Settings}
 use Rattle.invoke_records.specs.declared.snapshot.Snapshot.{Snapshot}
@@ -8,7 +8,12 @@ use Rattle.invoke_records.specs.declared.command.Command.{Command}
 use Rattle.async_core.specs.Rules.{refusal_at, table_after}
 use Rattle.async_core.specs.History.{refusal_of, table_of}
 use Rattle.async_core.specs.laws.Tables.{refusal-of_table, table_of-more, IsLegal-more}
+use Rattle.sector_disk.specs.Disk.{DiskView}
+use Rattle.gate_journal.specs.declared.staged.Staged.{Staged}
+use Rattle.gate_journal.specs.Staged.{count_of}
+use Rattle.checkpoint.specs.declared.opened.Opened.{Opened}
 use Rattle.checkpoint.specs.Live.{IsLive, RecoversTo}
+use Rattle.checkpoint.specs.Ahead.{IsLiveAhead}
 use Rattle.broker_core.specs.History.{IsLegalStop}
 use Rattle.broker_core.specs.Broker.{BrokerState, StandsFor}
 
@@ -38,6 +43,20 @@ with_command broker command = record broker {
   pending = broker.pending ++ command ∷ [];
 }
 
+-- what is staged stays the front of what is pending
+front_more : (staged : Option Staged) (pending : List Command) (command : Command) → IfSome staged (λ group. count_of group ≤ length pending)
+    → IfSome staged (λ group. count_of group ≤ length (pending ++ command ∷ []))
+front_more None pending command is = tt
+front_more (Some group) pending command is = omega (arith, is, length-append pending (command ∷ []))
+
+ahead_more : (disk : DiskView) (opened : Opened) (before after : Snapshot) (pending : List Command) (command : Command) (staged : Option Staged) → before ≡ after
+    → IfSome staged (λ group. count_of group ≤ length pending) → IfSome staged (λ group. IsLiveAhead disk opened before (take (count_of group) pending) group)
+    → IfSome staged (λ group. IsLiveAhead disk opened after (take (count_of group) (pending ++ command ∷ [])) group)
+ahead_more disk opened before after pending command None same front is = tt
+ahead_more disk opened before after pending command (Some group) same front is =
+    subst (λ (t : Snapshot). IsLiveAhead disk opened t (take (count_of group) (pending ++ command ∷ [])) group) same
+    (subst (λ (l : List Command). IsLiveAhead disk opened before l group) (sym (take-append-le (count_of group) pending (command ∷ []) front)) is)
+
 -- and what it stands for with one that it accepts
 pub stands_more : {broker : BrokerState} (history : List Command) → StandsFor broker history → (command : Command) → refusal_at broker.settings broker.table command ≡ None
     → StandsFor (with_command broker command) (history ++ command ∷ [])
@@ -53,12 +72,16 @@ stands_more {broker} history stands command accepted =
       stops = λ honest image left. stop_of_more s history (command ∷ []) broker.durable image (stands.stops honest image left);
       live = λ whole honest.
           subst (λ (h : List Command). IsLive broker.disk broker.opened (table_of s h)) (sym (take-append-le broker.durable history (command ∷ []) stands.durable_is)) (stands.live whole honest);
+      front = front_more broker.staged broker.pending command stands.front;
+      ahead = λ whole honest.
+          ahead_more broker.disk broker.opened _ _ broker.pending command broker.staged
+          (ap (table_of s) (sym (take-append-le broker.durable history (command ∷ []) stands.durable_is))) stands.front (stands.ahead whole honest);
     }
 
 -- a broker of equal parts stands for the same history
 pub stands_along : (was now : BrokerState) (history : List Command) → now.disk ≡ was.disk → now.opened ≡ was.opened → now.settings ≡ was.settings → now.table ≡ was.table
-    → now.pending ≡ was.pending → now.durable ≡ was.durable → now.broken ≡ was.broken → StandsFor was history → StandsFor now history
-stands_along was now history disk opened settings table pending durable broken stands =
+    → now.pending ≡ was.pending → now.durable ≡ was.durable → now.broken ≡ was.broken → now.staged ≡ was.staged → StandsFor was history → StandsFor now history
+stands_along was now history disk opened settings table pending durable broken staged stands =
     let same : was ≡ now = λ i. record {
       disk = sym disk i;
       opened = sym opened i;
@@ -67,5 +90,6 @@ stands_along was now history disk opened settings table pending durable broken s
       pending = sym pending i;
       durable = sym durable i;
       broken = sym broken i;
+      staged = sym staged i;
     } in
     subst (λ (b : BrokerState). StandsFor b history) same stands

@@ -41,6 +41,8 @@ stands_broken stands = record {
   pending_is = stands.pending_is;
   stops = stands.stops;
   live = λ sound honest. absurd cc;
+  front = stands.front;
+  ahead = λ sound honest. absurd cc;
 }
 
 module _ {D : Type 0} {g : Ghosts D} (view : D → DiskView) (issue : IssueHalf) (old new : Broker D g) (takes : Takes old new (ahead_of issue old) (issued_of new - issued_of old)) where

@@ -7,3 +7,4 @@ pub mod Memory
 pub mod Taken
 pub mod Writes
 pub mod Joined
+pub mod Advanced

@@ -36,6 +36,24 @@ replay_more s before after (x ∷ commands) c is legal =
     ap (λ (r : Option Illegal). where_legal r (replay s (table_after s before x) (commands ++ c ∷ []))) first.0
     ∙ replay_more s (table_after s before x) after commands c first.1 legal
 
+-- the table on the way, behind so many of them
+pub record SplitAt (s : Settings) (before end : Snapshot) (commands : List Command) (n : ℕ) : Type 0 where
+  pub middle : Snapshot
+  pub first : replay s before (take n commands) ≡ Some middle
+  pub rest : replay s middle (drop n commands) ≡ Some end
+
+pub replay_split : (s : Settings) (before end : Snapshot) (commands : List Command) (n : ℕ) → replay s before commands ≡ Some end → SplitAt s before end commands n
+replay_split s before end commands zero is = record { middle = before; first = refl; rest = is }
+replay_split s before end [] (suc n) is = record { middle = before; first = refl; rest = is }
+replay_split s before end (c ∷ commands) (suc n) is =
+    let next = legal_first (refusal_at s before c) (replay s (table_after s before c) commands) end is in
+    let later = replay_split s (table_after s before c) end commands n next.1 in
+    record {
+      middle = later.middle;
+      first = ap (λ (r : Option Illegal). where_legal r (replay s (table_after s before c) (take n commands))) next.0 ∙ later.first;
+      rest = later.rest;
+    }
+
 -- a command that is refused on the way stops them
 stopped : {A : Type 0} (refusal : Option Illegal) (rest : Option A) → IsSome refusal → where_legal refusal rest ≡ None
 stopped None rest is = absurd cc
@@ -89,6 +107,7 @@ module _ {D : Type 0} {g : Ghosts D} (view : D → DiskView) (old mid new : Brok
     pending = issues.pending ∙ ap (λ (l : List Command). l ++ command ∷ []) takes.pending ∙ append_assoc (pending_of old) (take k commands) (command ∷ []) ∙ ap (λ (l : List Command). pending_of old ++ l) (sym next.front);
     durable = issues.durable ∙ takes.durable;
     broken = issues.broken ∙ takes.broken;
+    staged = issues.staged ∙ takes.staged;
   }
 
   pub takes_same : Takes old mid commands k → IsSameBroker mid new → Takes old new commands k
@@ -102,6 +121,7 @@ module _ {D : Type 0} {g : Ghosts D} (view : D → DiskView) (old mid new : Brok
     pending = same.pending ∙ takes.pending;
     durable = same.durable ∙ takes.durable;
     broken = same.broken ∙ takes.broken;
+    staged = same.staged ∙ takes.staged;
   }
 
   -- how many were taken
@@ -155,6 +175,7 @@ takes_none broker commands =
       pending = sym (append-nil (pending_of broker));
       durable = refl;
       broken = refl;
+      staged = refl;
     })
 
 pub stands_none : {D : Type 0} {g : Ghosts D} (view : D → DiskView) (broker : Broker D g) (commands history : List Command) → Stands view broker history
@@ -164,7 +185,7 @@ stands_none view broker commands history stands =
     subst (λ (n : ℕ). Stands view broker (history ++ take n commands)) (sym zero_is) (subst (λ (l : List Command). Stands view broker l) (sym (append-nil history)) stands)
 
 pub same_broker : {D : Type 0} {g : Ghosts D} (broker : Broker D g) → IsSameBroker broker broker
-same_broker broker = record { disk = refl; settings = refl; table = refl; pending = refl; durable = refl; broken = refl; opened = refl }
+same_broker broker = record { disk = refl; settings = refl; table = refl; pending = refl; durable = refl; broken = refl; opened = refl; staged = refl }
 
 -- ## A batch
 

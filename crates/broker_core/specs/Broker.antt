@@ -1,5 +1,5 @@
 -- A broker as contracts see it, and the history that it stands for.
-use Rattle.std.specs.Prelude.{◌≡◌, ℕ, ◌+◌, [], ◌∷◌, ◌++◌, ◌^◌, ◌≤◌, Bool, true, false, None, Some, List, length, take, drop}
+use Rattle.std.specs.Prelude.{◌≡◌, ℕ, ◌+◌, [], ◌∷◌, ◌++◌, ◌^◌, ◌≤◌, Bool, true, false, Option, None, Some, IfSome, List, length, take, drop}
 use Rattle.sector_disk.specs.Disk.{DiskView}
 use Rattle.sector_disk.specs.declared.disk.Disk.{Ghosts}
 use Rattle.retry_rules.specs.declared.settings.Settings.{Settings}
@@ -7,8 +7,11 @@ use Rattle.invoke_records.specs.declared.snapshot.Snapshot.{Snapshot}
 use Rattle.invoke_records.specs.declared.command.Command.{Command}
 use Rattle.async_core.specs.Rules.{refusal_at, table_after}
 use Rattle.async_core.specs.History.{IsLegal, table_of}
+use Rattle.gate_journal.specs.declared.staged.Staged.{Staged}
+use Rattle.gate_journal.specs.Staged.{count_of}
 use Rattle.checkpoint.specs.declared.opened.Opened.{Opened}
 use Rattle.checkpoint.specs.Live.{IsLive}
+use Rattle.checkpoint.specs.Ahead.{IsLiveAhead}
 use Rattle.broker_core.specs.declared.broker.Broker.{Broker}
 use Rattle.broker_core.specs.declared.error.IssueError.{IssueError}
 use Rattle.broker_core.specs.declared.error.IssueError.TheVariants as issue_error
@@ -46,6 +49,10 @@ is_broken broker = broker.broken
 abbrev pub opened_of : {D : Type 0} {g : Ghosts D} → Broker D g → Opened
 opened_of broker = broker.opened
 
+-- what of the pending commands is written behind the log and not opened
+abbrev pub staged_of : {D : Type 0} {g : Ghosts D} → Broker D g → Option Staged
+staged_of broker = broker.staged
+
 -- a broker, with its disk at a moment
 pub record BrokerState : Type 1 where
   pub disk : DiskView
@@ -55,6 +62,7 @@ pub record BrokerState : Type 1 where
   pub pending : List Command
   pub durable : ℕ
   pub broken : Bool
+  pub staged : Option Staged
 
 -- what this broker is, where its disk is seen so
 abbrev pub state_of : {D : Type 0} {g : Ghosts D} → (D → DiskView) → Broker D g → BrokerState
@@ -66,10 +74,12 @@ state_of view broker = record {
   pending = pending_of broker;
   durable = durable_of broker;
   broken = is_broken broker;
+  staged = staged_of broker;
 }
 
 -- It stands for a history: its table is the history's, what is pending is the end of it behind the durable commands, every image
--- of an honest disk is a legal stop, and unless it is broken its disk is settled.
+-- of an honest disk is a legal stop, and unless it is broken its disk is settled, with the first of what is pending behind its log,
+-- if they are staged.
 pub record StandsFor (broker : BrokerState) (history : List Command) : Type 0 where
   pub good : AreGood broker.settings
   pub legal : IsLegal broker.settings history
@@ -78,6 +88,9 @@ pub record StandsFor (broker : BrokerState) (history : List Command) : Type 0 wh
   pub pending_is : broker.pending ≡ drop broker.durable history
   pub stops : broker.disk.honest → (image : List ℕ) → broker.disk.may_leave image → IsLegalStop broker.settings history broker.durable image
   pub live : broker.broken ≡ false → broker.disk.honest → IsLive broker.disk broker.opened (table_of broker.settings (take broker.durable history))
+  pub front : IfSome broker.staged (λ group. count_of group ≤ length broker.pending)
+  pub ahead : broker.broken ≡ false → broker.disk.honest → IfSome broker.staged (λ group.
+      IsLiveAhead broker.disk broker.opened (table_of broker.settings (take broker.durable history)) (take (count_of group) broker.pending) group)
 
 -- the broker stands for this history
 abbrev pub Stands : {D : Type 0} {g : Ghosts D} → (D → DiskView) → Broker D g → List Command → Type 0
@@ -92,6 +105,7 @@ pub record IsSameBroker {D : Type 0} {g : Ghosts D} (old new : Broker D g) : Typ
   pub durable : durable_of new ≡ durable_of old
   pub broken : is_broken new ≡ is_broken old
   pub opened : opened_of new ≡ opened_of old
+  pub staged : staged_of new ≡ staged_of old
 
 -- this command was applied and is pending, and nothing else changed
 pub record Issues {D : Type 0} {g : Ghosts D} (old new : Broker D g) (command : Command) (ticket : ℕ) : Type 0 where
@@ -104,6 +118,7 @@ pub record Issues {D : Type 0} {g : Ghosts D} (old new : Broker D g) (command : 
   pub durable : durable_of new ≡ durable_of old
   pub broken : is_broken new ≡ is_broken old
   pub opened : opened_of new ≡ opened_of old
+  pub staged : staged_of new ≡ staged_of old
   pub number : ticket ≡ issued_of new
 
 -- all that was pending is durable
@@ -113,6 +128,7 @@ pub record Commits {D : Type 0} {g : Ghosts D} (old new : Broker D g) (durable :
   pub pending : pending_of new ≡ []
   pub all : durable_of new ≡ issued_of old
   pub broken : is_broken new ≡ is_broken old
+  pub staged : staged_of new ≡ None
   pub number : durable ≡ durable_of new
 
 -- the device failed, and nothing is taken for durable that was not before
@@ -123,6 +139,7 @@ pub record Breaks {D : Type 0} {g : Ghosts D} (old new : Broker D g) : Type 0 wh
   pub durable : durable_of new ≡ durable_of old
   pub broken : is_broken new ≡ true
   pub opened : opened_of new ≡ opened_of old
+  pub staged : staged_of new ≡ staged_of old
 
 -- why a command was refused
 abbrev pub IsReason : {D : Type 0} {g : Ghosts D} → Broker D g → Command → IssueError → Type 0

@@ -13,3 +13,6 @@ pub mod Taking
 pub mod Resume
 pub mod Steps
 pub mod laws
+pub mod Advancing
+pub mod AdvanceSteps
+pub mod LendingMore

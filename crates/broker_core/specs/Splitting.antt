@@ -11,7 +11,7 @@ use Rattle.broker_core.specs.declared.error.SplitError.{SplitError}
 use Rattle.broker_core.specs.declared.error.SplitError.TheVariants as split_error
 use Rattle.broker_core.specs.declared.error.JoinError.{JoinError}
 use Rattle.broker_core.specs.declared.error.JoinError.TheVariants as join_error
-use Rattle.broker_core.specs.Broker.{disk_of, settings_of, table_in, issued_of, pending_of, durable_of, is_broken, opened_of, Stands}
+use Rattle.broker_core.specs.Broker.{disk_of, settings_of, table_in, issued_of, pending_of, durable_of, is_broken, opened_of, staged_of, Stands}
 use Rattle.broker_core.specs.IssuerHalf.{half_view, lent_of}
 
 -- the broker of the half over the disk
@@ -64,6 +64,7 @@ pub record Takes {D : Type 0} {g : Ghosts D} (old new : Broker D g) (commands : 
   pub pending : pending_of new ≡ pending_of old ++ take count commands
   pub durable : durable_of new ≡ durable_of old
   pub broken : is_broken new ≡ is_broken old
+  pub staged : staged_of new ≡ staged_of old
 
 -- the halves are whole and agree, and the broker is the disk half's with all that it did not have
 pub record JoinsWhole {D : Type 0} {g : Ghosts D} (issue : IssueHalf) (disk broker : Broker D g) : Type 0 where

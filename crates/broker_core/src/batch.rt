@@ -34,8 +34,8 @@ impl Batch {
     }
 }
 
-/// That a batch was written: each command up to its last is durable on the disk. Only a `DiskHalf::write` that answers Ok
-/// makes one.
+/// That commands were written: each up to the last of them is durable on the disk. Only a `DiskHalf::write` or `advance` that
+/// answers Ok makes one.
 #[derive(Clone, Copy)]
 pub struct Written {
     first: u64,
@@ -67,7 +67,7 @@ impl Written {
     }
 }
 
-/// That a batch was not written, and why. Only a `DiskHalf::write` that is refused makes one.
+/// That commands were not written, and why. Only a `DiskHalf::write` or `advance` that is refused makes one.
 #[derive(Clone, Copy)]
 pub struct Failed {
     first: u64,

@@ -2,13 +2,16 @@
 ghost use Rattle.std.specs.Prelude.{◌≡◌, ◌+◌, ◌<◌, ◌≤◌, ◌^◌, [], length, false, All, None, Some, Ok, Err, IfOk, IfErr, MatchOption, is_ok};
 ghost use Rattle.sector_disk.specs.Disk.{IsSameDisk};
 ghost use Rattle.invoke_records.specs.Spelling.{command_fault};
+ghost use Rattle.gate_journal.specs.declared.staged.Staged.{Staged};
+ghost use Rattle.gate_journal.specs.Staged.{count_of};
 ghost use Rattle.checkpoint.specs.Live as live;
+ghost use Rattle.checkpoint.specs.Ahead.{LiesIn};
 ghost use Rattle.broker_core.specs.History.{AreGood};
 
 use crate::recovery::recover;
 use crate::{Durable, OpenFailure, Receipt, Ticket};
 use async_core::Table;
-use checkpoint::{OpenError, Opened};
+use checkpoint::{OpenError, Opened, Staged};
 use gate_journal::MOST_IN_FRAME;
 use invoke_records::{Command, GREATEST_NUMBER};
 use sector_disk::Disk;
@@ -30,6 +33,8 @@ pub struct Broker<D: Disk> {
     pub(crate) pending: Vec<Command>,
     pub(crate) durable: u64,
     pub(crate) broken: bool,
+    /// What of the pending commands is written behind the log and not opened: the first ones.
+    pub(crate) staged: Option<Staged>,
     ghost room: { live.HasRoom (D.view disk).sectors opened },
     ghost settings: { table.settings ≡ live.settings_of opened },
     ghost good: { AreGood table.settings },
@@ -38,6 +43,8 @@ pub struct Broker<D: Disk> {
     ghost below: { table.table.number ≤ 2 ^ 62 },
     ghost few: { length pending.items ≤ 256 },
     ghost spelled: { All (λ c. command_fault c ≡ None) pending.items },
+    ghost lies: { (group : Staged) → staged ≡ Some group → LiesIn opened group },
+    ghost front: { (group : Staged) → staged ≡ Some group → (1 ≤ count_of group) × (count_of group ≤ length pending.items) },
 }
 
 impl<D: Disk> Broker<D> {
@@ -89,6 +96,7 @@ impl<D: Disk> Broker<D> {
                     pending: Vec::new(alloc),
                     durable,
                     broken: false,
+                    staged: None,
                 })
             }
             Err(cause) => Err(OpenFailure { cause, disk }),

@@ -14,7 +14,7 @@ use sector_disk::Disk;
 
 impl<D: Disk> Broker<D> {
     // `switch` of a broker that is not broken: the table goes to the other segment.
-    fn write_table(&mut self) -> Result<Durable, CommitError>
+    pub(crate) fn write_table(&mut self) -> Result<Durable, CommitError>
         requires { is_broken self.old ≡ false }
         ensures same { IsSameDisk (D.view (disk_of self.old)) (D.view (disk_of self.new)) }
         ensures later { D.fault_count (disk_of self.old) ≤ D.fault_count (disk_of self.new) }
@@ -41,6 +41,7 @@ impl<D: Disk> Broker<D> {
             Ok(()) => {
                 self.durable = snapshot.number;
                 self.pending.clear();
+                self.staged = None;
                 Ok(Durable::new(self.durable))
             }
             Err(SwitchError::BadKind) => Err(CommitError::BadKind),
@@ -83,6 +84,7 @@ impl<D: Disk> Broker<D> {
             Ok(()) => {
                 self.durable = self.table.number();
                 self.pending.clear();
+                self.staged = None;
                 Ok(Durable::new(self.durable))
             }
             Err(AppendError::NoRoom) => self.write_table(),

@@ -8,6 +8,7 @@ ghost use Rattle.broker_core.specs.Batch.{first_of, last_of, first_in, last_in, 
 ghost use Rattle.broker_core.specs.Splitting.{broker_of};
 ghost use Rattle.broker_core.specs.declared.error.WriteError.TheVariants as write_error;
 ghost use Rattle.broker_core.specs.Taking.{TakesMissing, HasTaken, IsTakeReason, commit_cause};
+ghost use Rattle.broker_core.specs.Advancing.{Advances, HasNumbers, IsNotAdvancedAs, HasSwitchedIn};
 ghost use Rattle.broker_core.specs.Writing.{taken_from, IsApart, IsRefusedAs, IsNotWritten, Writes, HasSwitchedFor, StaysInFront, LeavesStopsWith};
 
 use crate::batch::{Batch, Failed, Written};
@@ -109,6 +110,55 @@ impl<D: Disk> DiskHalf<D> {
         }
         match self.broker.commit() {
             Ok(_) => Ok(Written::new(first, last)),
+            Err(why) => Err(Failed::new(first, last, cause_of(why))),
+        }
+    }
+
+    /// Issues the commands of a batch that it does not have, and makes one barrier at most, so that groups that follow each
+    /// other share their barriers: what an earlier call left written behind the log is opened, and durable after Ok, and what
+    /// else is pending is written behind it, and durable after the next call. Where that does not fit behind what is opened,
+    /// the next call writes it. Where nothing was left and it does not fit, the half switches, and all is durable. The batch may
+    /// be empty: then what was left is opened alone.
+    ///
+    /// At Ok it answers what was made durable, if something was: `Written`, with the numbers of these commands. It is refused
+    /// as `write` is, with the number behind the durable ones and the batch's last, and then nothing more is durable.
+    pub fn advance(&mut self, batch: Batch) -> Result<Option<Written>, Failed>
+        ensures same { IsSameDisk (D.view (disk_of (broker_of self.old))) (D.view (disk_of (broker_of self.new))) }
+        ensures later { D.fault_count (disk_of (broker_of self.old)) ≤ D.fault_count (disk_of (broker_of self.new)) }
+        ensures fault { IsNotAdvancedAs result write_error.Fault → FaultsHaveRisen D.fault_count (broker_of self.old) (broker_of self.new) }
+        ensures numbers { HasNumbers (broker_of self.old) batch (broker_of self.new) result }
+
+        // claim: After Ok the whole batch is taken, and what an earlier advance staged is durable; where that left nothing, all that
+        // is pending is staged, or durable. A refusal makes nothing durable, and has its reason, memory aside.
+        ensures ok { OnOk result (Advances (broker_of self.old) batch (broker_of self.new)) }
+        ensures broken { is_broken (broker_of self.old) ≡ true → IsNotAdvancedAs result write_error.Broken }
+        ensures apart { is_broken (broker_of self.old) ≡ false → IsApart (broker_of self.old) batch
+            → IsNotAdvancedAs result write_error.Mismatch }
+        ensures untouched { IsApart (broker_of self.old) batch → IsSameBroker (broker_of self.old) (broker_of self.new) }
+        ensures err { IfErr result (λ failed. IsNotWritten (broker_of self.old) batch (broker_of self.new) (cause_of failed)) }
+        ensures settings { settings_of (broker_of self.new) ≡ settings_of (broker_of self.old) }
+        ensures longer { issued_of (broker_of self.old) ≤ issued_of (broker_of self.new) }
+        ensures switched { HasSwitchedIn (broker_of self.old) (broker_of self.new) result }
+
+        // claim: The half stands for its history with what it took, of which no more is durable than it says. Where its history
+        // began one that ends with the batch, it still does.
+        ensures stands { ForEachHistory D.view (broker_of self.old) (λ history.
+            Stands D.view (broker_of self.new) (history ++ taken_from (broker_of self.old) (broker_of self.new) batch)) }
+        ensures sound { ForEachHistory D.view (broker_of self.old) (λ history. IsNotAdvancedAs result write_error.BadKind → ⊥) }
+        ensures front { StaysInFront D.view (broker_of self.old) (broker_of self.new) batch }
+
+        // claim: A crash at any moment leaves a legal stop of its history with what it took.
+        ensures any_moment { LeavesStopsWith D.view (broker_of self.old) (broker_of self.new) batch }
+    {
+        let (first, last) = (self.broker.durable + 1, batch.last);
+        if let Err(cause) = self.take_batch(batch) {
+            return Err(Failed::new(first, last, cause));
+        }
+        match self.broker.advance() {
+            Ok(()) if self.broker.durable >= first => {
+                Ok(Some(Written::new(first, self.broker.durable)))
+            }
+            Ok(()) => Ok(None),
             Err(why) => Err(Failed::new(first, last, cause_of(why))),
         }
     }

@@ -1,5 +1,5 @@
 // The half of a broker that issues: its table and what is pending. It calls no disk.
-ghost use Rattle.std.specs.Prelude.{◌≡◌, ℕ, ◌+◌, ◌<◌, ◌≤◌, ◌^◌, length, drop, false, Some, Err, IsTrue, IsSome, IsOkUnless, OnErr, IfOk, IfErr};
+ghost use Rattle.std.specs.Prelude.{◌≡◌, ℕ, ◌+◌, ◌<◌, ◌≤◌, ◌^◌, length, drop, false, Some, Err, IsTrue, IsSome, IsOkUnless, OnOk, OnErr, IfOk, IfErr};
 ghost use Rattle.async_core.specs.declared.illegal.Illegal.{Illegal};
 ghost use Rattle.broker_core.specs.declared.error.IssueError.TheVariants as issue_error;
 ghost use Rattle.broker_core.specs.History.{AreGood};
@@ -166,6 +166,68 @@ impl IssueHalf {
                 Err(SettleError::NotWritten(cause))
             }
         }
+    }
+}
+
+impl IssueHalf {
+    ghost use Rattle.broker_core.specs.IssuerHalf.{half_view, has_same_lent};
+    ghost use Rattle.broker_core.specs.LendingMore.{LendsMore, IsNoMoreReason, SettlesFront, IsFrontNotSettled};
+
+    /// A copy of all that is pending and not lent, with its numbers, or None where nothing is pending. It is then out beside
+    /// what was, until a result is settled. Where all that is pending is out, the batch is empty.
+    ///
+    /// It is refused, and then changes nothing: `Broken`, `OutOfMemory`, in that order.
+    pub fn lend_more(&mut self) -> Result<Option<Batch>, LendError>
+        // claim: All that is pending and not lent is lent, with its numbers, beside what is out. Refusals have their reason.
+        ensures same { IsSameIssuer (half_view self.old) (half_view self.new) }
+        ensures could { OnOk result ((half_view self.old).broken ≡ false) }
+        ensures ok { IfOk result (LendsMore self.old self.new) }
+        ensures reason { IfErr result (IsNoMoreReason self.old) }
+        ensures kept { OnErr result (has_same_lent self.old self.new) }
+    {
+        if self.broken {
+            return Err(LendError::Broken);
+        }
+        if self.pending.is_empty() {
+            return Ok(None);
+        }
+        let known = match self.lent {
+            Some(last) => last,
+            None => self.durable,
+        };
+        let rest = &self.pending[(known - self.durable) as usize..];
+        let Ok(commands) = copy_commands(self.alloc, rest) else {
+            return Err(LendError::OutOfMemory);
+        };
+        let last = self.table.number();
+        self.lent = Some(last);
+        Ok(Some(Batch {
+            first: known + 1,
+            last,
+            commands,
+        }))
+    }
+
+    /// Takes that the first commands that are out were written, and answers how many commands are durable: all up to the last
+    /// of these. What else is out stays out, and what else is pending stays pending. It takes no memory.
+    ///
+    /// `Mismatch`: those are not the first that are out; nothing changes.
+    pub fn settle_front(&mut self, written: Written) -> Result<Durable, SettleError>
+        // claim: The durable number moves to the last of commands that were written, the first that are out, or not at all.
+        ensures ok { IfOk result (SettlesFront self.old self.new written) }
+        ensures err { IfErr result (IsFrontNotSettled self.old self.new written) }
+    {
+        let (first, last) = (written.first(), written.last());
+        let Some(out) = self.lent else {
+            return Err(SettleError::Mismatch);
+        };
+        if first != self.durable + 1 || last < first || out < last {
+            return Err(SettleError::Mismatch);
+        }
+        forget_first(&mut self.pending, (last - self.durable) as usize);
+        self.durable = last;
+        self.lent = if last == out { None } else { Some(out) };
+        Ok(Durable::new(last))
     }
 }
 

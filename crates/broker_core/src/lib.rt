@@ -19,6 +19,7 @@ mod joining;
 mod recovery;
 mod resuming;
 mod splitting;
+mod staging;
 mod taking;
 mod token;
 

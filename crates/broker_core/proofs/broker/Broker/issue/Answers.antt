@@ -20,7 +20,7 @@ returns-in-Ok-clause-stands g c history stands =
       sym (refusal_is history stands command) ∙ issued.legal,
       omega (arith, c.number.ensures, c.new.ensures, issued.number, ap (λ (t : Snapshot). t.number) stands.table_is, number-table_of (settings_of old) history),
       stands_along (with_command was command) (record was { settings = state.settings; table = state.table; pending = c.take.new.pending.items }) (history ++ command ∷ [])
-          refl refl settings (ap (λ (t : State). t.table) issued.applied) issued.kept refl refl (stands_more history stands command issued.legal),
+          refl refl settings (ap (λ (t : State). t.table) issued.applied) issued.kept refl refl refl (stands_more history stands command issued.legal),
     )
 
 pub returns-in-Err-clause-refused : goal.returns-in-Err-clause-refused

@@ -44,6 +44,8 @@ returns-in-Ok-clause-stands g c honest s history durable legal stops =
         live = λ whole_broker honest_now.
             subst (λ (u : Snapshot). IsLive (view c.recover.new.disk) opened u)
             (ap (table_of table.settings) (sym whole ∙ ap (λ (k : ℕ). take k (take t.number history)) (sym same))) there;
+        front = tt;
+        ahead = λ whole_broker honest_now. tt;
       },
     )
 
