@@ -11,6 +11,7 @@ use Rattle.broker_core.specs.declared.error.SettleError.{SettleError}
 use Rattle.broker_core.specs.declared.error.SettleError.TheVariants as settle_error
 use Rattle.broker_core.specs.Batch.{is_lasting}
 use Rattle.broker_core.specs.Lending.{IsLendReason, IsNotSettled}
+use Rattle.broker_core.specs.LendingMore.{IsNoMoreReason, IsFrontNotSettled}
 use Rattle.hall_plans.specs.declared.error.HallError.{HallError}
 use Rattle.hall_plans.specs.declared.error.HallError.TheVariants as error
 use Rattle.hall_core.specs.OpenSlots.{KeepFor}
@@ -61,3 +62,11 @@ IsNotLent half told = (why : LendError) × (told ≡ lend_error_of why) × IsLen
 -- the half refused what was settled, or answered why the batch was not written, as it is told
 abbrev pub IsNotDurable : IssueHalf → IssueHalf → Result Written Failed → HallError → Type 0
 IsNotDurable old new outcome told = (why : SettleError) × (told ≡ settle_error_of why) × IsNotSettled old new outcome why
+
+-- nothing was lent beside what is out, and the half has a reason for what is told
+abbrev pub IsNoMoreLent : IssueHalf → HallError → Type 0
+IsNoMoreLent half told = (why : LendError) × (told ≡ lend_error_of why) × IsNoMoreReason half why
+
+-- the half refused to settle that these were written, as it is told
+abbrev pub IsFrontNotDurable : IssueHalf → IssueHalf → Written → HallError → Type 0
+IsFrontNotDurable old new written told = (why : SettleError) × (told ≡ settle_error_of why) × IsFrontNotSettled old new written why

@@ -1,12 +1,13 @@
 // A hall over an issue half: it lends what is pending, and settles what became of it, while a disk half writes.
-ghost use Rattle.std.specs.Prelude.{◌≡◌, [], false, take, IfOk, IfErr, OnErr};
+ghost use Rattle.std.specs.Prelude.{◌≡◌, [], false, take, IfOk, IfErr, OnOk, OnErr};
 ghost use Rattle.broker_core.specs.Broker.{pending_of, is_broken, issued_of, Stands};
 ghost use Rattle.broker_core.specs.IssuerBroker.{issuer_of};
 ghost use Rattle.broker_core.specs.IssuerHalf.{half_view, has_same_lent};
 ghost use Rattle.broker_core.specs.Lending.{Lends, CanLend, SettlesBy};
+ghost use Rattle.broker_core.specs.LendingMore.{LendsMore, SettlesFront};
 ghost use Rattle.broker_core.specs.Splitting.{broker_of, Splits, IsSplitReason, Joins, IsNotJoined};
 ghost use Rattle.hall_core.specs.Hall.{view_of, answered_slots, StandsFor, ForEachPast, IsSameHall};
-ghost use Rattle.hall_core.specs.Halves.{HasSameParts, KeepsSlotsOf, IsNotLent, IsNotDurable};
+ghost use Rattle.hall_core.specs.Halves.{HasSameParts, KeepsSlotsOf, IsNotLent, IsNotDurable, IsNoMoreLent, IsFrontNotDurable};
 ghost use Rattle.hall_core.specs.Halves as meant;
 
 use crate::hall::Hall;
@@ -187,6 +188,46 @@ impl Hall<IssueHalf> {
                 }
                 Err(settle_error_of(why))
             }
+        }
+    }
+
+    /// A copy of all commands that are pending and not lent, to be written behind what is out, or None where nothing is pending.
+    /// It is then out beside what was, until a result is settled. Where all that is pending is out, the batch is empty.
+    ///
+    /// It is refused, and then changes nothing: `Broken`, `OutOfMemory`, in this order.
+    pub fn lend_more(&mut self) -> Result<Option<Batch>, HallError>
+        // claim: Lending beside what is out changes just what is lent. A refusal has its reason.
+        ensures same { IsSameHall (view_of half_view self.old) (view_of half_view self.new) }
+        ensures could { OnOk result ((half_view self.old.issuer).broken ≡ false) }
+        ensures ok { IfOk result (LendsMore self.old.issuer self.new.issuer) }
+        ensures reason { IfErr result (IsNoMoreLent self.old.issuer) }
+        ensures kept { OnErr result (has_same_lent self.old.issuer self.new.issuer) }
+        ensures kept_answered { answered_slots self.new ≡ answered_slots self.old }
+    {
+        match self.issuer.lend_more() {
+            Ok(batch) => Ok(batch),
+            Err(why) => Err(lend_error_of(why)),
+        }
+    }
+
+    /// Takes that the first commands that are out were written: how many commands are durable. Replies that show no more can
+    /// then be told. It takes no memory.
+    ///
+    /// It is refused by `OtherHalf`, where those are not the first that are out, and then nothing changes.
+    pub fn settle_front(&mut self, written: Written) -> Result<Durable, HallError>
+        // claim: A settlement of what came first keeps the run, and makes just that durable.
+        ensures stands { ForEachPast (view_of half_view self.old) (λ past. StandsFor (view_of half_view self.new) past) }
+        ensures parts { HasSameParts (view_of half_view self.old) (view_of half_view self.new) }
+        ensures ok { IfOk result (SettlesFront self.old.issuer self.new.issuer written) }
+        ensures err { IfErr result (IsFrontNotDurable self.old.issuer self.new.issuer written) }
+        ensures kept_answered { answered_slots self.new ≡ answered_slots self.old }
+    {
+        match self.issuer.settle_front(written) {
+            Ok(durable) => {
+                self.receipt = durable.receipt();
+                Ok(durable)
+            }
+            Err(why) => Err(settle_error_of(why)),
         }
     }
 

@@ -8,3 +8,4 @@ pub mod Histories
 pub mod Lent
 pub mod Counted
 pub mod Broken
+pub mod Advanced

@@ -100,12 +100,12 @@ by_write write_error.BadKind is = cc
 by_write write_error.OutOfMemory is = cc
 by_write write_error.Fault is = refl
 
-failed_fault : (failed : Failed) (why : HallError) → (why ≡ write_error_of (cause_of failed)) ⊎ (why ≡ error.OtherHalf) → why ≡ error.Fault
+pub failed_fault : (failed : Failed) (why : HallError) → (why ≡ write_error_of (cause_of failed)) ⊎ (why ≡ error.OtherHalf) → why ≡ error.Fault
     → cause_of failed ≡ write_error.Fault
 failed_fault failed why (inl told) is = by_write (cause_of failed) (sym told ∙ is)
 failed_fault failed why (inr told) is = cc
 
-error_in : (why : HallError) (result : Result ℕ HallError) → result ≡ Err why → result ≡ Err error.Fault → why ≡ error.Fault
+pub error_in : (why : HallError) (result : Result ℕ HallError) → result ≡ Err why → result ≡ Err error.Fault → why ≡ error.Fault
 error_in why result was is = cc
 
 -- a fault that is told comes of the write
@@ -120,7 +120,7 @@ fault_told (Err failed) (Err why) told is = failed_fault failed why told (error_
 pub never_told : (why : HallError) (result : Result ℕ HallError) → result ≡ Err why → IsNoFault why → result ≡ Err error.Fault → ⊥
 never_told why result was never is = subst IsNoFault (error_in why result was is) never
 
-no_lend_fault : (why : LendError) → IsNoFault (lend_error_of why)
+pub no_lend_fault : (why : LendError) → IsNoFault (lend_error_of why)
 no_lend_fault lend_error.Broken = tt
 no_lend_fault lend_error.Lent = tt
 no_lend_fault lend_error.OutOfMemory = tt

@@ -16,3 +16,4 @@ pub mod Told
 pub mod Witness
 pub mod Committing
 pub mod Broken
+pub mod Advancing

@@ -9,6 +9,7 @@
 //! all of it is durable.
 #![tactic(auto)]
 
+mod advancing;
 mod broken_hall;
 mod command_counters;
 mod committed;

@@ -6,6 +6,8 @@ ghost use Rattle.receipts.specs.Following.{Follows};
 ghost use Rattle.receipts.specs.Locked.{hall_in, issuer_in};
 ghost use Rattle.receipts.specs.Running.{HasRuns};
 
+mod sharing;
+
 use crate::desk::Desk;
 use crate::desk_count::DeskCount;
 use crate::error::FinishError;

@@ -43,8 +43,8 @@ impl<A: Drop, L: Ledger, T: Trace> Witnessed<A, L, T> {
         }
     }
 
-    // The answer of a step of this desk, which has just been made, and before which this was seen.
-    fn of_step(
+    /// The answer of a step of this desk, which has just been made, and before which this was seen.
+    pub(crate) fn of_step(
         answer: A,
         before: Seen<Locked<L, T>>,
         from: Seen<Steps>,

@@ -1,5 +1,5 @@
 -- A serving is any number of commits: none at first, and one more after others.
-use Rattle.std.proofs.Common.{◌≡◌, ℕ, ◌+◌, ◌≤◌, true, false, List, [], ◌++◌, length, Result, Ok, Err, inl, inr, ⊎_elim, refl, sym, subst, ◌∙◌, arith, append_assoc, length-append}
+use Rattle.std.proofs.Common.{◌≡◌, ℕ, ◌+◌, ◌≤◌, true, false, List, [], ◌++◌, length, Option, Some, None, Result, Ok, Err, inl, inr, ⊎_elim, refl, sym, subst, ◌∙◌, arith, append_assoc, length-append}
 use Rattle.std.specs.Prelude.{OnOk, IfErr}
 use Rattle.std.proofs.lemmas.Bool.{true≢false, cases_Bool}
 use Rattle.std.proofs.lemmas.List.{append-nil, take-append-le}
@@ -21,7 +21,9 @@ use Rattle.broker_core.specs.Refusals.{FaultsHaveRisen}
 use Rattle.broker_core.specs.Batch.{cause_of, is_lasting}
 use Rattle.broker_core.specs.Writing.{taken_from, IsWriteReason, IsRefusedAs, IsNotWritten, Writes}
 use Rattle.hall_plans.specs.declared.error.HallError.{HallError}
+use Rattle.broker_core.specs.Advancing.{Advances, HasNumbers, IsNotAdvancedAs}
 use Rattle.receipts.specs.Serving.{WritesBatch, CommitsTo, GoesOnFrom, HasServed}
+use Rattle.receipts.specs.Advancing.{AdvancesBatch, AdvancesTo}
 
 -- ## Legal stops
 
@@ -165,7 +167,47 @@ module _ {D : Type 0} {g : Ghosts D} (view : D → DiskView) (count : D → ℕ)
     };
   }
 
+-- ## One advance
+
+module _ {D : Type 0} {g : Ghosts D} (view : D → DiskView) (count : D → ℕ) (old new : Broker D g) (batch : Batch) where
+  kept_durable : (outcome : Result (Option Written) Failed) → HasNumbers old batch new outcome → IfErr outcome (λ failed. IsNotWritten old batch new (cause_of failed))
+      → durable_of old ≤ durable_of new
+  kept_durable (Ok None) numbers refused = omega (arith, numbers)
+  kept_durable (Ok (Some written)) numbers refused = omega (arith, numbers.0)
+  kept_durable (Err failed) numbers refused = omega (arith, refused.durable)
+
+  by_advance_fault : (outcome : Result (Option Written) Failed) → OnOk outcome (Advances old batch new) → IfErr outcome (λ failed. IsNotWritten old batch new (cause_of failed))
+      → (IsNotAdvancedAs outcome write_error.Fault → FaultsHaveRisen count old new) → is_broken old ≡ false → is_broken new ≡ true → FaultsHaveRisen count old new
+  by_advance_fault (Ok written) done refused fault sound broken = absurd (true≢false (sym broken ∙ done.whole))
+  by_advance_fault (Err failed) done refused fault sound broken = by_cause view count old new batch (cause_of failed) refused.broken refused.reason fault sound broken
+
+  -- an advance that went on with a batch
+  advanced_serves : (result : Result ℕ HallError) → AdvancesBatch view count old new batch result → HasServed view count old new
+  advanced_serves result advances = record {
+    same = advances.same;
+    settings = advances.settings;
+    longer = advances.longer;
+    durable = kept_durable advances.outcome advances.numbers advances.refused;
+    later = advances.later;
+    fault = by_advance_fault advances.outcome advances.done advances.refused advances.fault;
+    each = λ history stands. record {
+      taken = taken_from old new batch;
+      stands = advances.stands history stands;
+      any_moment = λ honest. advances.any_moment honest history stands;
+    };
+  }
+
 module _ {D : Type 0} {g : Ghosts D} (view : D → DiskView) (laws : (disk : D) → (view disk).honest → IsDisk (view disk)) (count : D → ℕ) where
+  -- an advance is a serving
+  pub served_by_advance : (old new : Broker D g) (result : Result ℕ HallError) → AdvancesTo view count old new result → HasServed view count old new
+  served_by_advance old new result (inl same) = subst (λ (x : Broker D g). HasServed view count old x) (sym same) (served_at_first view laws count old)
+  served_by_advance old new result (inr advances) = advanced_serves view count old new advances.0 result advances.1
+
+  -- one more advance
+  pub served_advanced : (old mid new : Broker D g) (result : Result ℕ HallError) → HasServed view count old mid → AdvancesTo view count mid new result
+      → HasServed view count old new
+  served_advanced old mid new result before advances = served_both view count old mid new before (served_by_advance mid new result advances)
+
   -- a commit is a serving
   pub served_by_one : (old new : Broker D g) (result : Result ℕ HallError) → CommitsTo view count old new result → HasServed view count old new
   served_by_one old new result (inl same) = subst (λ (x : Broker D g). HasServed view count old x) (sym same) (served_at_first view laws count old)

@@ -1,5 +1,5 @@
 use Rattle.broker_core.specs.Splitting.{broker_of}
-use Rattle.receipts.specs.laws.Serving.{served_at_first, served_both, served_more}
+use Rattle.receipts.specs.laws.Serving.{served_at_first, served_both, served_more, served_advanced}
 use Rattle.receipts.proofs.laws.a_serving_is_its_commits.Goals as goal
 
 pub returns : goal.returns
@@ -13,5 +13,6 @@ returns g c =
     record {
       none = served_at_first view laws count first;
       more = served_more view laws count first then last c.args.told.now;
+      advanced = served_advanced view laws count first then last c.args.told.now;
       both = served_both view count first then last;
     }
