@@ -1,10 +1,10 @@
-// Asking the office to commit.
-ghost use Rattle.std.specs.Prelude.{◌≡◌, true, IfOk, IfErr, OnErr, Ok, Err, Some, is_some};
+// Asking the office to commit: by one barrier, or by the two that a command needs where none was under way.
+ghost use Rattle.std.specs.Prelude.{◌≡◌, ◌≤◌, true, IfOk, IfErr, OnErr, Ok, Err, Some, is_some};
 ghost use Rattle.broker_core.specs.Splitting.{broker_of};
-ghost use Rattle.receipts.specs.Answers.{IsToldMore, IsCommitRefusal};
+ghost use Rattle.receipts.specs.Advancing.{IsToldUpTo, AdvancesBy};
+ghost use Rattle.receipts.specs.Answers.{IsCommitRefusal};
 ghost use Rattle.receipts.specs.Broken.{is_last, ShowsBroken, left_by};
 ghost use Rattle.receipts.specs.Serving.{HasServed};
-ghost use Rattle.receipts.specs.Committing.{CommitsBy};
 
 use broker_core::{DiskHalf, Durable};
 use hall_core::HallError;
@@ -43,28 +43,49 @@ impl NotCommitted {
     }
 }
 
-/// Makes all that is pending durable, as `Office::commit` says.
+/// Makes one barrier at most for what is pending, as `Office::advance` says.
 pub(crate) fn ask<D: Disk, L: Ledger, T: Trace, R: Wait>(
     rt: &R,
     office: &Office<L, T>,
     desk: &mut Desk<L, T>,
     half: &mut DiskHalf<D>,
 ) -> (Result<Durable, NotCommitted>, Committed<L, T>)
-    // claim: A commit is the office's: its answer, its steps, and what its desk is told. `Fault` and `Broken` end a hall. [:
+    // claim: An advance is the office's: its answer, its steps, and what its desk is told. `Fault` and `Broken` end a hall. [:
     // told, err, refused, ok, why, met, steps; NotCommitted: shown; NotCommitted::is_last]
-    ensures told { IfOk result.0 (IsToldMore desk.old.told desk.new.told) }
+    ensures told { IfOk result.0 (IsToldUpTo desk.old.told desk.new.told) }
     ensures err { OnErr result.0 (desk.new.told ≡ desk.old.told) }
     ensures refused { IfErr result.0 (λ refused. IsCommitRefusal desk.old.told refused.why) }
     ensures served { HasServed D.view D.fault_count (broker_of half.old) (broker_of half.new) }
     ensures ok { IfOk result.0 (λ durable. result.1.answer ≡ Ok durable) }
     ensures why { IfErr result.0 (λ refused. result.1.answer ≡ Err refused.why) }
     ensures met { IfErr result.0 (λ refused. ShowsBroken (left_by result.1) refused.broken) }
-    ensures steps { CommitsBy D.view D.fault_count result.1 desk.old desk.new (broker_of half.old) (broker_of half.new) }
+    ensures steps { AdvancesBy D.view D.fault_count result.1 desk.old desk.new (broker_of half.old) (broker_of half.new) }
 {
-    let mut committed = office.commit(rt, desk, half);
+    let mut committed = office.advance(rt, desk, half);
     let broken = committed.broken.take();
     match committed.answer {
         Ok(durable) => (Ok(durable), committed),
         Err(why) => (Err(NotCommitted { why, broken }), committed),
     }
+}
+
+/// Makes some of what is pending durable: what an earlier call left written behind the log, while what came since is written there.
+/// Where none was left, it makes a barrier for what is pending, and then one more, which makes that durable.
+pub(crate) fn commit_some<D: Disk, L: Ledger, T: Trace, R: Wait>(
+    rt: &R,
+    office: &Office<L, T>,
+    desk: &mut Desk<L, T>,
+    half: &mut DiskHalf<D>,
+) -> Result<Durable, NotCommitted>
+    ensures told { IfOk result (λ durable. durable ≤ desk.new.told) }
+    ensures later { desk.old.told ≤ desk.new.told }
+    ensures served { HasServed D.view D.fault_count (broker_of half.old) (broker_of half.new) }
+{
+    let before = half.durable().number();
+    let (first, _) = ask(rt, office, desk, half);
+    if first.is_ok() && half.durable().number() == before && before < half.issued() {
+        let (second, _) = ask(rt, office, desk, half);
+        return second;
+    }
+    first
 }

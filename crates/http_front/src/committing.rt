@@ -14,7 +14,7 @@ ghost use Rattle.http_front.specs.Ending.{IsSaidAt};
 ghost use Rattle.http_front.specs.Resting.{IsSleep, pause_for, RestsAt};
 ghost use Rattle.http_front.specs.laws.Learned.{learned_nothing, learned_more};
 
-use crate::asking::{NotCommitted, ask};
+use crate::asking::{NotCommitted, commit_some};
 use crate::front_state::FrontState;
 use crate::gathering::Gathering;
 use crate::resting::CommitterSlept;
@@ -130,7 +130,7 @@ impl<R: Wait + Clock, L: Ledger, T: Trace, D: Disk> Committing
 
     fn commit(&mut self) -> Result<Durable, NotCommitted> {
         let begun = Instant::now(self.rt);
-        let (committed, _) = ask(
+        let committed = commit_some(
             self.rt,
             &self.front.office,
             &mut self.committer.desk,
@@ -198,8 +198,8 @@ impl<L: Ledger, T: Trace, D: Disk + Drop> Committer<L, T, D> {
         Committer { desk, half, seated }
     }
 
-    /// Commits as the gate says, until it ends the loop, and gives the committer back: all that is pending at a turn
-    /// becomes durable by one commit. Where nothing is pending, or a commit was refused, it sleeps until the next command, or
+    /// Commits as the gate says, until it ends the loop, and gives the committer back: what is pending at a turn becomes durable
+    /// by that commit or by the next one, with which it shares a barrier. Where nothing is pending, or a commit was refused, it sleeps until the next command, or
     /// for a while, where something is left to do; where the gate skips what is pending, it is asked again. Beside it is what
     /// shows that its loop ran.
     ///

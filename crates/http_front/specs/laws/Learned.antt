@@ -2,7 +2,6 @@
 use Rattle.std.specs.Prelude.{◌≡◌, ℕ, ◌≤◌, Bool, List, [], ◌∷◌, ◌++◌, Result, Ok, Err, IfOk, OnErr}
 use Rattle.std.proofs.Common.{arith, get_or}
 use Rattle.std.proofs.lemmas.List.Elements.{All-nil, All-cons, All-append}
-use Rattle.receipts.specs.Answers.{IsToldMore}
 use Rattle.commit_loop.specs.Committer.{Step, counted, committed, failed, commit_step, raised, said_broken, rang, rang_all, slept}
 use Rattle.http_front.specs.Learning.{Known, known, IsKnown, HasLearned}
 
@@ -37,7 +36,7 @@ learned_more first second third before after one two =
     }
 
 -- a commit, of which the desk was told
-pub learned_commit : {F : Type 0} (breaks : F → Bool) (old new seen : ℕ) (result : Result ℕ F) → IfOk result (IsToldMore old new) → OnErr result (new ≡ old)
+pub learned_commit : {F : Type 0} (breaks : F → Bool) (old new seen : ℕ) (result : Result ℕ F) → IfOk result (λ durable. durable ≤ new) → old ≤ new
     → HasLearned (known old seen) (commit_step (λ durable. durable) breaks result ∷ []) (known new seen)
-learned_commit breaks old new seen (Ok durable) told same = learned_one (known old seen) (known new seen) (committed durable) (omega (arith, told)) (omega arith) (omega (arith, told))
-learned_commit breaks old new seen (Err why) told same = learned_one (known old seen) (known new seen) (failed (breaks why)) (omega (arith, same)) (omega arith) tt
+learned_commit breaks old new seen (Ok durable) told later = learned_one (known old seen) (known new seen) (committed durable) later (omega arith) told
+learned_commit breaks old new seen (Err why) told later = learned_one (known old seen) (known new seen) (failed (breaks why)) later (omega arith) tt

@@ -5,7 +5,7 @@ use Rattle.http_front.proofs.committing.CommitterAtFrontCommitting.commit.Goals 
 
 pub returns : goal.returns
 returns g c = (
-  learned_commit (λ refused. is_last refused.why) c.args.self.now.committer.desk.told c.ask-committed.new.desk.told (seen_by c.args.self.now.committer.seated)
-      c.ask-committed.result.0 c.ask-committed.ensures.told c.ask-committed.ensures.err,
-  c.ask-committed.ensures.served,
+  learned_commit (λ refused. is_last refused.why) c.args.self.now.committer.desk.told c.commit_some-committed.new.desk.told (seen_by c.args.self.now.committer.seated)
+      c.commit_some-committed.result c.commit_some-committed.ensures.told c.commit_some-committed.ensures.later,
+  c.commit_some-committed.ensures.served,
 )
