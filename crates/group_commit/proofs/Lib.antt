@@ -1,4 +1,6 @@
 pub mod Drilled
 pub mod Results
 pub mod SplitDrilled
+pub mod SplitAdvanced
+pub mod SplitRun
 pub mod Migrated

@@ -14,7 +14,7 @@ use Rattle.async_core.specs.declared.illegal.Illegal.{Illegal}
 use Rattle.async_core.specs.Rules.{refusal_at}
 use Rattle.async_core.specs.History.{IsLegal, refusal_of}
 use Rattle.async_core.specs.laws.Tables.{number-table_of}
-use Rattle.checkpoint.specs.declared.error.OpenError.{OpenError}
+use Rattle.gate_journal.specs.declared.staged.Staged.{Staged}
 use Rattle.broker_core.specs.declared.broker.Broker.{Broker}
 use Rattle.broker_core.specs.declared.batch.Batch.{Batch}
 use Rattle.broker_core.specs.declared.batch.Written.{Written}
@@ -28,15 +28,13 @@ use Rattle.broker_core.specs.declared.error.WriteError.{WriteError}
 use Rattle.broker_core.specs.declared.error.WriteError.TheVariants as write_error
 use Rattle.broker_core.specs.declared.error.SettleError.{SettleError}
 use Rattle.broker_core.specs.declared.error.SettleError.TheVariants as settle_error
-use Rattle.group_commit.specs.declared.split_script.SplitStep.{SplitStep}
 use Rattle.group_commit.specs.declared.split_script.SplitStep.TheVariants as step
-use Rattle.group_commit.specs.declared.split_script.SplitAnswer.{SplitAnswer}
 use Rattle.group_commit.specs.declared.split_script.SplitAnswer.TheVariants as answer
 use Rattle.group_commit.specs.declared.split_drilling.Halves.{Halves}
 use Rattle.group_commit.specs.declared.split_drilling.Held.{Held}
 use Rattle.group_commit.specs.declared.split_drilling.Held.TheVariants as held
 use Rattle.checkpoint.specs.Live.{generation_of}
-use Rattle.broker_core.specs.Broker.{settings_of, table_in, issued_of, durable_of, is_broken, opened_of, Stands}
+use Rattle.broker_core.specs.Broker.{settings_of, table_in, issued_of, durable_of, is_broken, opened_of, staged_of, Stands}
 use Rattle.group_commit.specs.DrillBroker.{IsStarted, KeepsGeneration}
 use Rattle.broker_core.specs.Issuer.{issued_in, IsSameIssuer, IsReason}
 use Rattle.broker_core.specs.laws.Issuer.{refusal_is}
@@ -46,14 +44,36 @@ use Rattle.broker_core.specs.Lending.{CanLend, Lends, IsLendReason, IsOut, Settl
 use Rattle.broker_core.specs.Splitting.{broker_of}
 use Rattle.broker_core.specs.Writing.{taken_from, missing_in, EndsWith, IsFrontOf, IsRefusedAs, IsWriteReason, NextIsIllegal, StaysInFront, Writes, HasSwitchedFor, IsNotWritten}
 use Rattle.group_commit.specs.Drill.{IsRefused}
-use Rattle.group_commit.specs.SplitDrill.{SplitLog, IsSplitStep, IsSplitRun, MayBeCutOff, MayLend, HasLent, IsNotLent, IsWriteFailure, IsSplitCutOffAt, issue_log, recovered, is_disk_broken}
-use Rattle.group_commit.specs.SplitSteps.{generation_in, IsHeld, Keeps, IsBegun, HaveGenerationOf, IsStopped, Leads, IsSplitDrilledOn, told, write_answer}
+use Rattle.group_commit.specs.SplitDrill.{SplitLog, IsSplitStep, MayLend, HasLent, IsNotLent, IsWriteFailure, IsStagedBehind, issue_log, recovered, is_disk_broken}
+use Rattle.group_commit.specs.SplitSteps.{generation_in, IsHeld, Keeps, IsBegun, IsStopped, told, write_answer, out_alone, staged_to}
 use Rattle.group_commit.proofs.Drilled.{unbroken}
 use Rattle.broker_core.specs.IssuerBroker.{issuer_of, issuer_laws}
 
 -- how many commands a broker has that stands for a list
 pub number : {g : Ghosts MemDisk} (broker : Broker MemDisk g) (history : List Command) → Stands memory_view broker history → issued_of broker ≡ length history
 number broker history stands = ap (λ (t : Snapshot). t.number) stands.table_is ∙ number-table_of (settings_of broker) history
+
+-- what is staged comes behind what is written, and is not more than what was issued
+staged_by : {g : Ghosts MemDisk} (broker : Broker MemDisk g) (group : Option Staged) → staged_of broker ≡ group → (n : ℕ) → durable_of broker ≡ n
+    → IsStagedBehind n (issued_of broker) (staged_to n group)
+staged_by broker None is n written = tt
+staged_by broker (Some group) is n written =
+    let front = broker.front group is in (omega (arith, front.0), omega (arith, front.1, broker.counted, written))
+
+behind_most : (n issued lent : ℕ) (staged : Option ℕ) → issued ≤ lent → IsStagedBehind n issued staged → IsStagedBehind n lent staged
+behind_most n issued lent None most is = tt
+behind_most n issued lent (Some staged) most is = (is.0, omega (arith, is.1, most))
+
+pub staged_behind : {g : Ghosts MemDisk} (broker : Broker MemDisk g) (n lent : ℕ) → durable_of broker ≡ n → issued_of broker ≤ lent → IsStagedBehind n lent (staged_to n (staged_of broker))
+staged_behind broker n lent written most = behind_most n (issued_of broker) lent (staged_to n (staged_of broker)) most (staged_by broker (staged_of broker) refl n written)
+
+none_behind : (n : ℕ) (staged : Option ℕ) → IsStagedBehind n n staged → staged ≡ None
+none_behind n None is = refl
+none_behind n (Some staged) is = absurd (omega (arith, is.0, is.1))
+
+-- where all is durable nothing is staged
+pub none_staged : {g : Ghosts MemDisk} (broker : Broker MemDisk g) (n : ℕ) → durable_of broker ≡ n → issued_of broker ≡ n → staged_to n (staged_of broker) ≡ None
+none_staged broker n written all = none_behind n (staged_to n (staged_of broker)) (staged_behind broker n n written (omega (arith, all)))
 
 -- ## An opening
 
@@ -83,7 +103,9 @@ begun s history durable halves started nothing settings same whole unlent stands
       disk_stands = subst (λ (x : List Command). Stands memory_view broker x) (sym all) started.4;
       settled = omega arith;
       lent = omega arith;
-      held_is = subst (IsHeld (recovered l (generation_in halves)) (lent_of halves.issue)) (sym nothing) (refl, refl, unlent);
+      held_is = subst (IsHeld (recovered l (generation_in halves)) (lent_of halves.issue)) (sym nothing) (refl, refl, unlent, refl);
+      staged = sym (none_staged broker (length l) (sym size) (issued ∙ sym size));
+      all_out = λ out. absurd (false≢true out);
     } in
     (omega (arith, same, started.0), omega (arith, same, started.1), subst (λ (x : List Command). Keeps s (recovered x (generation_in halves)) halves) (sym front) keeps)
 
@@ -91,8 +113,16 @@ begun s history durable halves started nothing settings same whole unlent stands
 
 held_longer : (log : SplitLog) (c : Command) (out : Option ℕ) (held : Held) → log.lent ≤ length log.history → IsHeld log out held → IsHeld (record log { history = log.history ++ c ∷ [] }) out held
 held_longer log c out held.Nothing within is = is
-held_longer log c out (held.Lent batch) within is =
-    (is.0, is.1, is.2, is.3, is.4, is.5 ∙ ap (λ (l : List Command). drop log.durable l) (sym (take-append-le log.lent log.history (c ∷ []) within)))
+held_longer log c out (held.Lent batch) within is = (
+  is.0,
+  is.1,
+  is.2,
+  is.3,
+  is.4,
+  is.5 ∙ ap (λ (l : List Command). drop log.durable l) (sym (take-append-le log.lent log.history (c ∷ []) within)),
+  is.6,
+  is.7,
+)
 held_longer log c out (held.Done outcome) within is = is
 
 pub keeps_issued : (s : Settings) (log : SplitLog) (old : Halves) (issue : IssueHalf) (c : Command) → Keeps s log old → (half_view issue).settings ≡ (half_view old.issue).settings
@@ -116,6 +146,8 @@ keeps_issued s log old issue c keeps settings durable broken out stands = record
   held_is =
       subst (λ (o : Option ℕ). IsHeld (record log { history = log.history ++ c ∷ [] }) o old.held) (sym out)
       (held_longer log c (lent_of old.issue) old.held keeps.lent keeps.held_is);
+  staged = keeps.staged;
+  all_out = keeps.all_out;
 }
 
 -- the issue half has changed in nothing that counts
@@ -135,6 +167,8 @@ keeps_same s log old issue keeps same out = record {
   settled = keeps.settled;
   lent = keeps.lent;
   held_is = subst (λ (o : Option ℕ). IsHeld log o old.held) (sym out) keeps.held_is;
+  staged = keeps.staged;
+  all_out = keeps.all_out;
 }
 
 -- another reason than that it is broken
@@ -170,20 +204,29 @@ reason_is s log halves keeps c why first reason =
 -- ## What is out
 
 -- a half of which a batch is out is whole
-whole_while : (issue : IssueHalf) (last : ℕ) → lent_of issue ≡ Some last → (half_view issue).broken ≡ false
+pub whole_while : (issue : IssueHalf) (last : ℕ) → lent_of issue ≡ Some last → (half_view issue).broken ≡ false
 whole_while issue last out = issue.sound (ap (λ (o : Option ℕ). is_some o) out)
 
--- where none is out, none is held
-none_held : (log : SplitLog) (out : Option ℕ) (held : Held) → out ≡ None → IsHeld log out held → (log.has_batch ≡ false) × (log.unsettled ≡ None)
-none_held log out held.Nothing none is = (is.0, is.1)
+-- where none is out, none is held, and none is out by advances
+pub none_alone : (is_out : Bool) (lent : ℕ) → out_alone is_out lent ≡ None → is_out ≡ false
+none_alone true lent none = absurd (none-some lent (sym none))
+none_alone false lent none = refl
+
+pub some_alone : (is_out : Bool) (lent : ℕ) → IsSome (out_alone is_out lent) → is_out ≡ true
+some_alone true lent some = refl
+some_alone false lent some = absurd (false≢true some)
+
+none_held : (log : SplitLog) (out : Option ℕ) (held : Held) → out ≡ None → IsHeld log out held
+    → (log.has_batch ≡ false) × (log.unsettled ≡ None) × (log.out ≡ false) × (log.durable ≡ log.written)
+none_held log out held.Nothing none is = (is.0, is.1, none_alone log.out log.lent (sym is.2 ∙ none), is.3)
 none_held log out (held.Lent batch) none is = absurd (none-some log.lent (sym none ∙ is.2))
 none_held log out (held.Done outcome) none is = absurd (none-some log.lent (sym none ∙ is.2))
 
--- and where one is, it is held, or its result is
+-- and where one is, it is held, or its result is, or it is out by advances
 one_held : (log : SplitLog) (out : Option ℕ) (held : Held) → IsSome out → IsHeld log out held → HasLent log
-one_held log out held.Nothing some is = absurd (false≢true (sym (ap (λ (o : Option ℕ). is_some o) is.2) ∙ some))
-one_held log out (held.Lent batch) some is = inl is.0
-one_held log out (held.Done outcome) some is = inr (ap (λ (o : Option (Result ℕ WriteError)). is_some o) is.1)
+one_held log out held.Nothing some is = inr (some_alone log.out log.lent (subst (λ (o : Option ℕ). IsSome o) is.2 some))
+one_held log out (held.Lent batch) some is = inl (inl is.0)
+one_held log out (held.Done outcome) some is = inl (inr (ap (λ (o : Option (Result ℕ WriteError)). is_some o) is.1))
 
 -- ## Lending
 
@@ -191,7 +234,7 @@ module _ (s : Settings) (log : SplitLog) (old : Halves) (issue : IssueHalf) (kee
   may_lend : CanLend old.issue → MayLend log
   may_lend can =
       let none = none_held log (lent_of old.issue) old.held can.unlent keeps.held_is in
-      record { whole = sym keeps.broken ∙ can.whole; no_batch = none.0; no_result = none.1 }
+      record { whole = sym keeps.broken ∙ can.whole; no_batch = none.0; no_result = none.1; none_out = none.2 }
 
   -- the list ends where the half's does
   end_is : issued_in (half_view old.issue) ≡ length log.history
@@ -231,7 +274,11 @@ module _ (s : Settings) (log : SplitLog) (old : Halves) (issue : IssueHalf) (kee
             refl,
             all.commands ∙ pending ∙ ap (λ (k : ℕ). drop k log.history) keeps.durable
                 ∙ ap (λ (l : List Command). drop log.durable l) (sym (take_all n log.history (omega (arith, size)))),
+            may.none_out,
+            (none_held log (lent_of old.issue) old.held can.unlent keeps.held_is).3,
           );
+          staged = keeps.staged;
+          all_out = λ out. absurd (false≢true (sym may.none_out ∙ out));
         },
       )
 
@@ -344,9 +391,10 @@ pub keeps_written : (s : Settings) (log : SplitLog) (old new : Halves) (batch : 
     → new.issue ≡ old.issue → new.held ≡ held.Done outcome → settings_of (broker_of new.disk) ≡ settings_of (broker_of old.disk) → first_in outcome ≡ first_of batch → last_in outcome ≡ last_of batch
     → (issued_of (broker_of new.disk) ≤ log.lent) × Stands memory_view (broker_of new.disk) (take (issued_of (broker_of new.disk)) log.history)
     → (n : ℕ) → durable_of (broker_of new.disk) ≡ n → log.durable ≤ n → IfOk outcome (λ written. last_written written ≡ n)
-    → is_broken (broker_of new.disk) ≡ is_disk_broken log.broken (Some (told outcome)) → (generation : ℕ) → generation_in new ≡ generation
-    → Keeps s (record log { written = n; generation = generation; has_batch = false; unsettled = Some (told outcome) }) new
-keeps_written s log old new batch outcome keeps is issue held settings first last there n durable settled written broken generation same =
+    → is_broken (broker_of new.disk) ≡ is_disk_broken log.broken (Some (told outcome)) → (generation : ℕ) → generation_in new ≡ generation → IfErr outcome (λ failed. log.durable ≡ n)
+    → (staged : Option ℕ) → staged ≡ staged_to n (staged_of (broker_of new.disk))
+    → Keeps s (record log { written = n; generation = generation; has_batch = false; unsettled = Some (told outcome); staged = staged }) new
+keeps_written s log old new batch outcome keeps is issue held settings first last there n durable settled written broken generation same even staged staged_is =
     record {
       settings = ap (λ (i : IssueHalf). (half_view i).settings) issue ∙ keeps.settings;
       durable = ap (λ (i : IssueHalf). (half_view i).durable) issue ∙ keeps.durable;
@@ -361,8 +409,10 @@ keeps_written s log old new batch outcome keeps is issue held settings first las
       settled = settled;
       lent = keeps.lent;
       held_is =
-          subst (IsHeld (record log { written = n; generation = generation; has_batch = false; unsettled = Some (told outcome) }) (lent_of new.issue)) (sym held)
-          (refl, refl, ap (λ (i : IssueHalf). lent_of i) issue ∙ is.2, first ∙ is.3, last ∙ is.4, written);
+          subst (IsHeld (record log { written = n; generation = generation; has_batch = false; unsettled = Some (told outcome); staged = staged }) (lent_of new.issue)) (sym held)
+          (refl, refl, ap (λ (i : IssueHalf). lent_of i) issue ∙ is.2, first ∙ is.3, last ∙ is.4, written, is.6, even);
+      staged = staged_is;
+      all_out = λ out. absurd (false≢true (sym is.6 ∙ out));
     }
 
 -- whatever the write answers
@@ -379,10 +429,11 @@ write_leads s log old new batch (Ok written) keeps is issue held settings longer
     let whole : log.broken ≡ false = sym keeps.broken ∙ whole_while old.issue log.lent is.2 in
     let generation : (generation_in new ≡ log.generation) ⊎ (generation_in new ≡ log.generation + 1) =
     ⊎_elim (λ never. inl (omega (arith, never, keeps.generation))) (λ once. inr (omega (arith, once, keeps.generation))) switched in (
-      record log { written = n; generation = generation_in new; has_batch = false; unsettled = Some (Ok n) },
+      record log { written = n; generation = generation_in new; has_batch = false; unsettled = Some (Ok n); staged = None },
       (is.0, last ∙ is.4, generation, refl),
       keeps_written s log old new batch (Ok written) keeps is issue held settings first last there n (ok.durable ∙ sym last)
-          (omega (arith, last, is.4, keeps.settled, keeps.disk_durable, keeps.disk_most, (broker_of old.disk).counted)) refl (ok.whole ∙ sym whole) (generation_in new) refl,
+          (omega (arith, last, is.4, keeps.settled, keeps.disk_durable, keeps.disk_most, (broker_of old.disk).counted)) refl (ok.whole ∙ sym whole) (generation_in new) refl tt
+          None (sym (none_staged (broker_of new.disk) n (ok.durable ∙ sym last) (ok.issued ∙ sym last))),
     )
 write_leads s log old new batch (Err failed) keeps is issue held settings longer goes good front first last ok err switched =
     let there = front_on (broker_of old.disk) (broker_of new.disk) batch log.history log.durable log.lent keeps.disk_most keeps.lent is.3 is.4 is.5 keeps.disk_stands goes front in
@@ -398,10 +449,13 @@ write_leads s log old new batch (Err failed) keeps is issue held settings longer
     let generation : generation_in new ≡ log.generation = omega (arith, switched, keeps.generation) in
     let failure : IsWriteFailure log (cause_of failed) =
     failure_is (broker_of old.disk) (broker_of new.disk) batch log.history log.durable log.lent is.3 is.4 is.5 least keeps.disk_most keeps.lent (cause_of failed) err.reason disk_whole legal there.1
-    longer (λ bad. good (take (issued_of (broker_of old.disk)) log.history) keeps.disk_stands bad) few log generation in (
-      record log { has_batch = false; unsettled = Some (Err (cause_of failed)) },
-      (is.0, failure, refl),
-      keeps_written s log old new batch (Err failed) keeps is issue held settings first last there log.written (err.durable ∙ keeps.disk_durable) keeps.settled tt err.broken log.generation generation,
+    longer (λ bad. good (take (issued_of (broker_of old.disk)) log.history) keeps.disk_stands bad) few log generation in
+    let written : durable_of (broker_of new.disk) ≡ log.written = err.durable ∙ keeps.disk_durable in
+    let staged = staged_to log.written (staged_of (broker_of new.disk)) in (
+      record log { has_batch = false; unsettled = Some (Err (cause_of failed)); staged = staged },
+      (is.0, failure, staged_behind (broker_of new.disk) log.written log.lent written there.0, refl),
+      keeps_written s log old new batch (Err failed) keeps is issue held settings first last there log.written written keeps.settled tt err.broken log.generation generation is.7
+          staged refl,
     )
 
 -- ## Settling
@@ -416,9 +470,9 @@ refused_for why = Some (Err why)
 module _ (s : Settings) (log : SplitLog) (old : Halves) (issue : IssueHalf) (keeps : Keeps s log old) where
   -- the issue half has changed, and nothing is held
   keeps_settled : (n : ℕ) (broken : Bool) → log.has_batch ≡ false → (half_view issue).settings ≡ (half_view old.issue).settings → (half_view issue).durable ≡ n → (half_view issue).broken ≡ broken
-      → lent_of issue ≡ None → (half_view issue).stands log.history → n ≤ log.written → is_broken (broker_of old.disk) ≡ broken
+      → lent_of issue ≡ None → (half_view issue).stands log.history → n ≡ log.written → is_broken (broker_of old.disk) ≡ broken → log.out ≡ false
       → Keeps s (record log { durable = n; broken = broken; unsettled = None }) (record old { issue = issue; held = held.Nothing })
-  keeps_settled n broken unlent settings durable is_whole out stands settled disk_broken = record {
+  keeps_settled n broken unlent settings durable is_whole lent stands settled disk_broken none_out = record {
     settings = settings ∙ keeps.settings;
     durable = durable;
     broken = is_whole;
@@ -429,9 +483,11 @@ module _ (s : Settings) (log : SplitLog) (old : Halves) (issue : IssueHalf) (kee
     disk_broken = disk_broken;
     disk_most = keeps.disk_most;
     disk_stands = keeps.disk_stands;
-    settled = settled;
+    settled = omega (arith, settled);
     lent = keeps.lent;
-    held_is = (unlent, refl, out);
+    held_is = (unlent, refl, lent ∙ sym (ap (λ (o : Bool). out_alone o log.lent) none_out), settled);
+    staged = keeps.staged;
+    all_out = keeps.all_out;
   }
 
   -- the result that is held is that of the batch that is out
@@ -445,7 +501,7 @@ module _ (s : Settings) (log : SplitLog) (old : Halves) (issue : IssueHalf) (kee
       let facts = settles.1 in (
         is.1 ∙ ap up_to (sym facts.number),
         keeps_settled n log.broken is.0 facts.settings (facts.durable_is ∙ sym facts.number) (facts.whole ∙ sym facts.sound ∙ keeps.broken) facts.lent (facts.stands log.history keeps.stands)
-            (omega (arith, facts.number, is.5)) (keeps.disk_broken ∙ ap (is_disk_broken log.broken) is.1),
+            (facts.number ∙ is.5) (keeps.disk_broken ∙ ap (is_disk_broken log.broken) is.1) is.6,
       )
 
   pub settle_refused : (outcome : Result Written Failed) (why : SettleError) → IsHeld log (lent_of old.issue) (held.Done outcome) → IsNotSettled old.issue issue outcome why
@@ -457,8 +513,8 @@ module _ (s : Settings) (log : SplitLog) (old : Halves) (issue : IssueHalf) (kee
       let back = refused.2 in (
         record log { broken = is_lasting why; unsettled = None },
         (is.1 ∙ ap refused_for (sym refused.1), refl),
-        keeps_settled log.durable (is_lasting why) is.0 back.settings (back.durable ∙ keeps.durable) back.broken back.lent ((back.stands log.history).1 keeps.stands) keeps.settled
-            (keeps.disk_broken ∙ ap (is_disk_broken log.broken) is.1 ∙ ap is_lasting (sym refused.1)),
+        keeps_settled log.durable (is_lasting why) is.0 back.settings (back.durable ∙ keeps.durable) back.broken back.lent ((back.stands log.history).1 keeps.stands) is.7
+            (keeps.disk_broken ∙ ap (is_disk_broken log.broken) is.1 ∙ ap is_lasting (sym refused.1)) is.6,
       )
 
 -- ## Stopping
@@ -478,60 +534,3 @@ stopped s log old new keeps kept begun =
       subst (λ (r : Settings). Keeps r (recovered (take n log.history) (generation_in new)) new) keeps.disk_settings
           (subst (λ (l : List Command). Keeps (settings_of (broker_of old.disk)) (recovered l (generation_in new)) new) front begun.2),
     )
-
--- ## A run
-
--- a script with one step more
-pub run_more : (s : Settings) (steps : List SplitStep) (answers : List SplitAnswer) (start mid end : SplitLog) (step : SplitStep) (answer : SplitAnswer) → IsSplitRun s start steps answers mid
-    → IsSplitStep s mid step answer end → IsSplitRun s start (steps ++ step ∷ []) (answers ++ answer ∷ []) end
-run_more s [] [] start mid end step answer run is = (end, subst (λ (log : SplitLog). IsSplitStep s log step answer end) run is, refl)
-run_more s [] (a ∷ answers) start mid end step answer run is = absurd run
-run_more s (x ∷ steps) [] start mid end step answer run is = absurd run
-run_more s (x ∷ steps) (a ∷ answers) start mid end step answer run is = (run.0, run.1, run_more s steps answers run.0 mid end step answer run.2 is)
-
-module _ (content : List ℕ) (s : Settings) (history : List Command) (durable : ℕ) where
-  -- before the first step
-  pub drilled_none : (halves : Halves) (answers : List SplitAnswer) → answers ≡ [] → IsBegun s history durable halves → HaveGenerationOf content halves → IsSplitDrilledOn content s history durable [] answers halves
-  drilled_none halves answers none begun has =
-      subst (λ (l : List SplitAnswer). IsSplitDrilledOn content s history durable [] l halves) (sym none)
-      (record {
-        opened = (half_view halves.issue).durable;
-        least = begun.0;
-        most = begun.1;
-        generation = generation_in halves;
-        generation_is = has;
-        end = recovered (take (half_view halves.issue).durable history) (generation_in halves);
-        run = refl;
-        keeps = begun.2;
-      })
-
-  -- after one step more
-  pub drilled_more : (steps : List SplitStep) (answers : List SplitAnswer) (old new : Halves) (step : SplitStep) (answer : SplitAnswer) → IsSplitDrilledOn content s history durable steps answers old
-      → Leads old step answer new → IsSplitDrilledOn content s history durable (steps ++ step ∷ []) (answers ++ answer ∷ []) new
-  drilled_more steps answers old new step answer was leads =
-      let led = leads s was.end was.keeps in
-      record {
-        opened = was.opened;
-        least = was.least;
-        most = was.most;
-        generation = was.generation;
-        generation_is = was.generation_is;
-        end = led.0;
-        run = run_more s steps answers _ was.end led.0 step answer was.run led.1;
-        keeps = led.2;
-      }
-
-  -- a script cut off at its next step
-  pub cut_off : (steps : List SplitStep) (index : ℕ) (answers : List SplitAnswer) (halves : Halves) → IsSplitDrilledOn content s history durable (take index steps) answers halves → (step : SplitStep)
-      → index < length steps → step ≡ get_or steps index step → (cause : OpenError) → MayBeCutOff step cause → IsSplitCutOffAt content s history durable steps index cause
-  cut_off steps index answers halves was step within is cause may = record {
-    opened = was.opened;
-    least = was.least;
-    most = was.most;
-    generation = was.generation;
-    generation_is = was.generation_is;
-    answers = answers;
-    end = was.end;
-    run = was.run;
-    needs = subst (λ (found : Option SplitStep). IfSome found (λ step. MayBeCutOff step cause)) (sym (slice_get_read steps (length steps) index step refl within is)) may;
-  }

@@ -1,9 +1,11 @@
 -- The two halves of a script between its steps. Names only steps of private functions: a reader of the public contracts need
 -- not believe it.
-use Rattle.std.specs.Prelude.{◌≡◌, ℕ, ◌+◌, ◌≤◌, true, false, List, length, take, drop, Option, None, Some, IfOk, Result, Ok, Err}
+use Rattle.std.specs.Prelude.{◌≡◌, ℕ, ◌+◌, ◌≤◌, Bool, true, false, List, length, take, drop, Option, None, Some, IfOk, IfErr, Result, Ok, Err}
 use Rattle.sector_disk.specs.Memory.{memory_view}
 use Rattle.retry_rules.specs.declared.settings.Settings.{Settings}
 use Rattle.invoke_records.specs.declared.command.Command.{Command}
+use Rattle.gate_journal.specs.declared.staged.Staged.{Staged}
+use Rattle.gate_journal.specs.Staged.{count_of}
 use Rattle.checkpoint.specs.Image.{HasGeneration}
 use Rattle.checkpoint.specs.Live.{generation_of}
 use Rattle.group_commit.specs.declared.split_script.SplitStep.{SplitStep}
@@ -15,7 +17,7 @@ use Rattle.broker_core.specs.declared.error.WriteError.{WriteError}
 use Rattle.group_commit.specs.declared.split_drilling.Halves.{Halves}
 use Rattle.group_commit.specs.declared.split_drilling.Held.{Held}
 use Rattle.group_commit.specs.declared.split_drilling.Held.TheVariants as held
-use Rattle.broker_core.specs.Broker.{settings_of, issued_of, durable_of, is_broken, opened_of, Stands}
+use Rattle.broker_core.specs.Broker.{settings_of, issued_of, durable_of, is_broken, opened_of, staged_of, Stands}
 use Rattle.broker_core.specs.IssuerHalf.{half_view, lent_of}
 use Rattle.broker_core.specs.Batch.{first_of, last_of, commands_of, last_written, cause_of, first_in, last_in}
 use Rattle.broker_core.specs.Splitting.{broker_of}
@@ -26,15 +28,29 @@ abbrev pub told : Result Written Failed → Result ℕ WriteError
 told (Ok written) = Ok (last_written written)
 told (Err failed) = Err (cause_of failed)
 
--- a batch that is held has what was lent, a result that is held is that of what was lent, and only then is a batch out
+-- up to which is out while nothing is held: all that was lent, by advances, or nothing
+abbrev pub out_alone : Bool → ℕ → Option ℕ
+out_alone true lent = Some lent
+out_alone false lent = None
+
+-- a batch that is held has what was lent, a result that is held is that of what was lent, and else a batch is out only by advances.
+-- What was written is durable, unless its result is held
 abbrev pub IsHeld : SplitLog → Option ℕ → Held → Type 0
-IsHeld log out held.Nothing = (log.has_batch ≡ false) × (log.unsettled ≡ None) × (out ≡ None)
+IsHeld log out held.Nothing =
+    (log.has_batch ≡ false) × (log.unsettled ≡ None) × (out ≡ out_alone log.out log.lent) × (log.durable ≡ log.written)
 IsHeld log out (held.Lent batch) =
     (log.has_batch ≡ true) × (log.unsettled ≡ None) × (out ≡ Some log.lent)
     × (first_of batch ≡ log.durable + 1) × (last_of batch ≡ log.lent) × (commands_of batch ≡ drop log.durable (take log.lent log.history))
+    × (log.out ≡ false) × (log.durable ≡ log.written)
 IsHeld log out (held.Done outcome) =
     (log.has_batch ≡ false) × (log.unsettled ≡ Some (told outcome)) × (out ≡ Some log.lent)
     × (first_in outcome ≡ log.durable + 1) × (last_in outcome ≡ log.lent) × IfOk outcome (λ written. last_written written ≡ log.written)
+    × (log.out ≡ false) × IfErr outcome (λ failed. log.durable ≡ log.written)
+
+-- up to which a group goes that is staged behind so many commands
+abbrev pub staged_to : ℕ → Option Staged → Option ℕ
+staged_to written None = None
+staged_to written (Some group) = Some (written + count_of group)
 
 -- the generation of the live segment
 abbrev pub generation_in : Halves → ℕ
@@ -55,6 +71,9 @@ pub record Keeps (s : Settings) (log : SplitLog) (halves : Halves) : Type 0 wher
   pub settled : log.durable ≤ log.written
   pub lent : log.lent ≤ length log.history
   pub held_is : IsHeld log (lent_of halves.issue) halves.held
+  pub staged : log.staged ≡ staged_to log.written (staged_of (broker_of halves.disk))
+  -- the half over the disk has all that is out by advances
+  pub all_out : log.out ≡ true → issued_of (broker_of halves.disk) ≡ log.lent
 
 -- this holds of each list and what else is said of the halves that stand for it
 abbrev pub ForEachLog : Halves → (Settings → SplitLog → Type 0) → Type 0

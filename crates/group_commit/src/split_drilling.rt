@@ -4,13 +4,16 @@ ghost use Rattle.sector_disk.specs.Memory.{memory_view};
 ghost use Rattle.broker_core.specs.Promises.{ForEachHistoryOn};
 ghost use Rattle.broker_core.specs.Refusals.{TellsNotFormatted, TellsDamage, TellsOld, IsCutOff};
 ghost use Rattle.group_commit.specs.Drill.{cause_in, IsAtOneOf, Recovers, TellsOpening};
+ghost use Rattle.group_commit.specs.declared.split_drilling.Held.TheVariants as held;
 ghost use Rattle.group_commit.specs.declared.split_script.SplitStep.TheVariants as split_step;
 ghost use Rattle.group_commit.specs.SplitDrill.{MayBeCutOff, IsSplitDrillOf, IsSplitDrillFailure};
 ghost use Rattle.group_commit.specs.SplitSteps.{ForEachLog, Leads, IsBegun, HaveGenerationOf, IsStopped, write_answer};
 
 use crate::drilling::start;
 use crate::{DrillFailure, SplitAnswer, SplitDrill, SplitStep};
-use broker_core::{Batch, DiskHalf, Failed, IssueHalf, SplitFailure, Written, copy_command};
+use broker_core::{
+    Batch, DiskHalf, Failed, IssueHalf, SettleError, SplitFailure, Written, copy_command,
+};
 use checkpoint::OpenError;
 use invoke_records::Command;
 use sector_disk::MemDisk;
@@ -167,6 +170,64 @@ fn settle(halves: Halves) -> (Halves, SplitAnswer)
     }
 }
 
+// Lends what is pending and not lent, advances by it, and settles what came of that.
+fn advance_on(halves: Halves) -> (Halves, SplitAnswer)
+    requires { halves.held ≡ held.Nothing }
+    ensures step { Leads halves split_step.Advance result.1 result.0 }
+{
+    let Halves {
+        mut issue,
+        mut disk,
+        held,
+    } = halves;
+    let batch = match issue.lend_more() {
+        Ok(Some(batch)) => batch,
+        Ok(None) => return (Halves { issue, disk, held }, SplitAnswer::Idle),
+        Err(why) => return (Halves { issue, disk, held }, SplitAnswer::LendRefused(why)),
+    };
+    match disk.advance(batch) {
+        Ok(Some(written)) => match issue.settle_front(written) {
+            Ok(durable) => {
+                let answer = SplitAnswer::Number(durable.number());
+                (Halves { issue, disk, held }, answer)
+            }
+            Err(why) => (
+                Halves { issue, disk, held },
+                SplitAnswer::SettleRefused(why),
+            ),
+        },
+        Ok(None) => {
+            let answer = SplitAnswer::Number(issue.durable().number());
+            (Halves { issue, disk, held }, answer)
+        }
+        Err(failed) => match issue.settle(Err(failed)) {
+            Ok(durable) => {
+                let answer = SplitAnswer::Number(durable.number());
+                (Halves { issue, disk, held }, answer)
+            }
+            Err(SettleError::NotWritten(why)) => (
+                Halves { issue, disk, held },
+                SplitAnswer::WriteRefused(why),
+            ),
+            Err(why) => (
+                Halves { issue, disk, held },
+                SplitAnswer::SettleRefused(why),
+            ),
+        },
+    }
+}
+
+// Advances, where nothing is held.
+fn advance(halves: Halves) -> (Halves, SplitAnswer)
+    ensures step { Leads halves split_step.Advance result.1 result.0 }
+{
+    match &halves.held {
+        Held::Nothing => advance_on(halves),
+        Held::Lent(_) => (halves, SplitAnswer::Idle),
+        Held::Done(_) => (halves, SplitAnswer::Idle),
+    }
+}
+
 // Runs one step.
 fn run_step(
     alloc: Global,
@@ -188,6 +249,7 @@ fn run_step(
         SplitStep::Lend => Ok(lend(halves)),
         SplitStep::Write => Ok(write(halves)),
         SplitStep::Settle => Ok(settle(halves)),
+        SplitStep::Advance => Ok(advance(halves)),
         SplitStep::Stop(choice) => {
             let halves = match stop(alloc, halves, choice) {
                 Ok(halves) => halves,
@@ -203,17 +265,19 @@ fn run_step(
 ///
 /// On a disk of which each image is a legal stop of a history, the answers are those of one list and three numbers: how many
 /// commands are durable, up to which the disk half has written, and up to which they were lent. Each begins as the number of
-/// commands that the opening recovered; a stop cuts the list to a length from the second number to the third. Once a fault
-/// of a write is settled, nothing is issued or lent until the next stop. A write is worn out only in generation 2^62. It fails
-/// as `drill` does.
+/// commands that the opening recovered; a stop cuts the list to a length from the second number to the third. An advance
+/// lends the list to its end and makes durable what was staged; where nothing was, it stages what is not durable, or switches
+/// and all is durable. Once a fault of a write or an advance is settled, nothing is issued or lent until the next stop. Both
+/// are worn out only in generation 2^62. It fails as `drill` does.
 pub fn drill_split(
     alloc: Global,
     disk: MemDisk,
     steps: &[SplitStep],
 ) -> Result<SplitDrill, DrillFailure>
-    // claim: A whole script of issues, loans, writes, settlements and crashes on a memory disk of legal stops has the answers
-    // of one list and three numbers: durable, written, lent. From a settled fault to the next crash, issues and loans are
-    // refused as broken. [: run]
+    // claim: A whole script of issues, loans, writes, settlements, advances and crashes on a memory disk of legal stops has
+    // the answers of one list and three numbers: durable, written, lent. An advance makes durable what was staged before, and
+    // where nothing was, it stages all or switches. From a settled fault to the next crash, issues and loans are refused as
+    // broken. [: run]
     ensures run { ForEachHistoryOn (memory_view disk) (λ s history durable.
         IfOk result (IsSplitDrillOf (memory_view disk).content s history durable steps.now)) }
     ensures refused { ForEachHistoryOn (memory_view disk) (λ s history durable. IfErr result (λ failure. IsCutOff (cause_in failure))) }

@@ -13,6 +13,9 @@ pub enum SplitStep {
     Write,
     /// The issue half settles the result that is held.
     Settle,
+    /// The issue half lends what is pending and not lent, the half over the disk advances by it, and what came of that is
+    /// settled. Where a batch or a result is held, nothing is done.
+    Advance,
     /// Both halves are given up, and the disk stops: an unsettled sector that is listed takes the listed bytes. Then it is
     /// opened and split again.
     Stop(Vec<(u64, [u8; 512])>),
@@ -22,9 +25,10 @@ pub enum SplitStep {
 #[derive(Clone, Copy)]
 pub enum SplitAnswer {
     /// The number of the command that was issued, the last number of the batch that was lent or written, how many commands
-    /// are durable after it was settled, or how many were recovered after a stop.
+    /// are durable after it was settled or after an advance, or how many were recovered after a stop.
     Number(u64),
-    /// Nothing is pending that could be lent, no batch is held that could be written, or no result that could be settled.
+    /// Nothing is pending that could be lent, no batch is held that could be written, no result that could be settled, or one
+    /// of both is held before an advance.
     Idle,
     IssueRefused(IssueError),
     LendRefused(LendError),

@@ -4,7 +4,7 @@ use Rattle.sector_disk.specs.Memory.{memory_view}
 use Rattle.group_commit.specs.declared.split_script.SplitStep.{SplitStep}
 use Rattle.group_commit.specs.declared.split_script.SplitAnswer.{SplitAnswer}
 use Rattle.group_commit.specs.SplitSteps.{IsSplitDrilledOn}
-use Rattle.group_commit.proofs.SplitDrilled.{drilled_none, drilled_more, cut_off}
+use Rattle.group_commit.proofs.SplitRun.{drilled_none, drilled_more, cut_off}
 use Rattle.checkpoint.specs.declared.error.OpenError.TheVariants as open_error
 use Rattle.group_commit.proofs.split_drilling.drill_split.Goals as goal
 

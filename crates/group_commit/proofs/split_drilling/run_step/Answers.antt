@@ -31,3 +31,7 @@ returns-in-Ok-stop-clause-step c s log keeps =
     let next : ℕ → SplitLog = λ k. recovered (take k log.history) (generation_in new) in
     subst (λ (step : SplitStep). (next : SplitLog) × IsSplitStep s log step (answer.Number n) next × Keeps s next new) (sym c.in-Stop.is)
     (next (half_view new.issue).durable, (omega (arith, same, facts.0), omega (arith, same, facts.1), omega (arith, same, facts.2), facts.3, ap next (sym same)), facts.4)
+
+pub returns-in-Advance-clause-step : goal.returns-in-Advance-clause-step
+returns-in-Advance-clause-step c s log keeps =
+    subst (λ (step : SplitStep). (next : SplitLog) × IsSplitStep s log step c.advance.result.1 next × Keeps s next c.advance.result.0) (sym c.in-Advance.is) (c.advance.ensures.step s log keeps)
