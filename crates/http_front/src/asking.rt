@@ -69,6 +69,21 @@ pub(crate) fn ask<D: Disk, L: Ledger, T: Trace, R: Wait>(
     }
 }
 
+// The same, and what it learned alone.
+fn advance<D: Disk, L: Ledger, T: Trace, R: Wait>(
+    rt: &R,
+    office: &Office<L, T>,
+    desk: &mut Desk<L, T>,
+    half: &mut DiskHalf<D>,
+) -> Result<Durable, NotCommitted>
+    ensures told { IfOk result (λ durable. durable ≤ desk.new.told) }
+    ensures later { desk.old.told ≤ desk.new.told }
+    ensures served { HasServed D.view D.fault_count (broker_of half.old) (broker_of half.new) }
+{
+    let (answer, _) = ask(rt, office, desk, half);
+    answer
+}
+
 /// Makes some of what is pending durable: what an earlier call left written behind the log, while what came since is written there.
 /// Where none was left, it makes a barrier for what is pending, and then one more, which makes that durable.
 pub(crate) fn commit_some<D: Disk, L: Ledger, T: Trace, R: Wait>(
@@ -82,10 +97,9 @@ pub(crate) fn commit_some<D: Disk, L: Ledger, T: Trace, R: Wait>(
     ensures served { HasServed D.view D.fault_count (broker_of half.old) (broker_of half.new) }
 {
     let before = half.durable().number();
-    let (first, _) = ask(rt, office, desk, half);
+    let first = advance(rt, office, desk, half);
     if first.is_ok() && half.durable().number() == before && before < half.issued() {
-        let (second, _) = ask(rt, office, desk, half);
-        return second;
+        return advance(rt, office, desk, half);
     }
     first
 }
