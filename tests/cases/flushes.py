@@ -93,8 +93,8 @@ def what_comes_during_a_flush_shares_the_next_commit(broker):
     watch.let_go()
     same([invoke.done().status for invoke in (first, *others)], 9 * [202])
     same(broker.stop(), (202, 0, ""))
-    # Behind the opening's two are those of the first invoke, and two those of the other eight.
-    same(watch.flushed, OPENING + 4)
+    # Behind the opening's two, one takes the first invoke, one opens it and takes the other eight, and one opens these.
+    same(watch.flushed, OPENING + 3)
 
 
 @case({"events": 400, "sectors": 8192})
