@@ -64,6 +64,14 @@ class Apart(Skipped):
     """The same, for want of what no machine has to have."""
 
 
+def build(folder, name):
+    """Builds a library that is preloaded into the program."""
+    made = os.path.join(folder, f"{name}.so")
+    words = ["cc", "-O1", "-Wall", "-Werror", "-shared", "-fPIC", "-o", made, os.path.join(HERE, f"{name}.c"), "-ldl"]
+    subprocess.run(words, check=True)
+    return made
+
+
 def same(found, wanted):
     assert found == wanted, f"{found!r}, not {wanted!r}"
 
@@ -151,7 +159,7 @@ class Watch:
 
     WORDS = (
         "flushes flushed writes written folder_flushes prints hold_flush release fail_flush fail_write kill_flush kill_write "
-        "torn kill_print keep reads fail_read"
+        "torn kill_print keep reads fail_read record"
     ).split()
 
     def __init__(self, folder, disk):

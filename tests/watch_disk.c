@@ -31,6 +31,7 @@ struct share {
     volatile uint64_t keep;              /* after each flush the disk is copied to WATCH_DISK.flushed */
     volatile uint64_t reads;             /* how many reads began */
     volatile uint64_t fail_read;         /* from this read on each fails */
+    volatile uint64_t record;            /* each write and flush is noted in WATCH_DISK.calls */
 };
 
 static struct share *share;
@@ -75,6 +76,18 @@ static void keep_copy(void) {
     rename(made, kept);
 }
 
+/* Notes a write, or a flush, as three numbers, and behind them what is written. */
+static void note(uint64_t kind, uint64_t at, const void *bytes, uint64_t count) {
+    static ssize_t (*put)(int, const void *, size_t);
+    static int notes = -1;
+    char name[4096];
+    uint64_t head[] = {kind, at, count};
+    if (!put) put = dlsym(RTLD_NEXT, "write");
+    snprintf(name, sizeof name, "%s.calls", disk);
+    if (notes < 0) notes = open(name, O_WRONLY | O_CREAT | O_APPEND | O_CLOEXEC, 0600);
+    if (put(notes, head, sizeof head) != sizeof head || put(notes, bytes, count) != (ssize_t)count) abort();
+}
+
 static int flush(int file, const char *name) {
     int (*next)(int) = dlsym(RTLD_NEXT, name);
     if (!share) return next(file);
@@ -92,6 +105,7 @@ static int flush(int file, const char *name) {
     int result = next(file);
     if (result == 0) {
         if (share->keep) keep_copy();
+        if (share->record) note(0, 0, "", 0);
         next_of(&share->flushed);
     }
     return result;
@@ -114,6 +128,7 @@ static ssize_t write_at(int file, const void *bytes, size_t count, off_t at) {
         errno = EIO;
         return -1;
     }
+    if (share->record) note(1, at, bytes, count);
     ssize_t result = next(file, bytes, count, at);
     if (result >= 0) next_of(&share->written);
     return result;

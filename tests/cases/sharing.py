@@ -1,5 +1,8 @@
 """Groups of changes that follow each other: each flush opens one and takes the next. What it makes durable, and what a kill, a power
 failure or a fault at any write or flush leaves."""
+import random
+
+import torn_groups
 from harness import OPENING, case, same, statuses, until
 
 GROUPS = 5
@@ -96,3 +99,20 @@ def a_fault_at_each_write_and_flush_keeps_what_was_told(broker):
         same(other.ended(), (3, "device fault\n"))
         holds_what_was_told(other, asked)
         other.close()
+
+
+@case()
+def no_image_that_a_stop_leaves_of_many_groups_is_wrong(broker):
+    # The second disk is so small that segments are switched.
+    for sectors in 16384, 200:
+        before, calls = torn_groups.serve_many(sectors)
+        same(torn_groups.judge(before, calls, 4000, random.Random(sectors)), [])
+
+
+@case()
+def an_image_is_seen_to_be_wrong_where_a_body_was_not_flushed(broker):
+    before, calls = torn_groups.serve_many(16384)
+    flushes = [at for at, call in enumerate(calls) if call is None]
+    # Behind the opening's flushes each other one is that of a body alone, where no group came meanwhile.
+    without = [call for at, call in enumerate(calls) if at not in set(flushes[OPENING::2])]
+    assert torn_groups.judge(before, without, 4000, random.Random(1)), "no image was wrong"
