@@ -34,9 +34,9 @@ def follow(broker):
     return asked
 
 
-def holds_what_was_told(broker, asked):
+def holds_what_was_told(broker, asked, told):
     """Behind the end of what was served, its disk holds each event that was told 202, and none that was not asked for."""
-    told = [one.done().id for one, status in zip(asked, statuses(asked)) if status == 202]
+    told = [one.done().id for one, status in zip(asked, told) if status == 202]
     broker.watch.clear()
     broker.serve()
     held = [event["id"] for event in broker.look("/events").json["events"]]
@@ -55,8 +55,9 @@ def each_flush_opens_a_group_and_takes_the_next(broker):
         until("a flush", lambda: watch.flushes == OPENING + number)
         asked.append(broker.send_invoke("{}"))
         broker.until_read()
-        # Who came two flushes ago was told behind the last one.
-        same([one.is_answered() for one in asked], (number - 1) * [True] + 2 * [False])
+        # Whom a flush takes, the next one opens: then he is told.
+        told = max(0, number - 2)
+        same([one.is_answered() for one in asked], told * [True] + (number + 1 - told) * [False])
         watch.release = OPENING + number
         until("the next flush", lambda: watch.flushes == OPENING + number + 1)
         same([asked[at].done().status for at in range(number - 1)], (number - 1) * [202])
@@ -80,11 +81,11 @@ def a_kill_at_each_write_and_flush_keeps_what_was_told(broker):
         watch.keep, watch.torn = 1, torn
         setattr(watch, word, number)
         asked = follow(other)
-        statuses(asked)
+        told = statuses(asked)
         same(other.ended()[0], -9)
         if loses:
             other.lose_what_was_not_flushed()
-        holds_what_was_told(other, asked)
+        holds_what_was_told(other, asked, told)
         other.close()
 
 
@@ -95,9 +96,10 @@ def a_fault_at_each_write_and_flush_keeps_what_was_told(broker):
         other = type(broker)()
         setattr(other.watches_disk(), word, number)
         asked = follow(other)
-        same([told for told in statuses(asked) if told not in (202, 503)], [])
+        told = statuses(asked)
+        same([status for status in told if status not in (202, 503)], [])
         same(other.ended(), (3, "device fault\n"))
-        holds_what_was_told(other, asked)
+        holds_what_was_told(other, asked, told)
         other.close()
 
 
