@@ -1,5 +1,5 @@
 // Steps of the two halves of a broker.
-use broker_core::{Batch, DiskHalf, Failed, IssueHalf, Ticket, Written};
+use broker_core::{Batch, DiskHalf, Durable, Failed, IssueHalf, SettleError, Ticket, Written};
 use case_runner::{StepReply, TextBuffer, Words};
 use disk_steps::{issuer_step, refusals};
 use sector_disk::Disk;
@@ -72,6 +72,14 @@ fn write<D: Disk>(halves: &mut Halves<D>) -> StepReply {
     reply
 }
 
+// What is answered for a settlement.
+fn told(settled: Result<Durable, SettleError>) -> StepReply {
+    match settled {
+        Ok(durable) => StepReply::Number(durable.number()),
+        Err(why) => StepReply::Refused(refusals::settle(why)),
+    }
+}
+
 // How many commands are durable after the settlement, or `idle`.
 fn settle<D: Disk>(halves: &mut Halves<D>) -> StepReply {
     let outcome = match mem::replace(&mut halves.held, BatchState::Nothing) {
@@ -81,9 +89,24 @@ fn settle<D: Disk>(halves: &mut Halves<D>) -> StepReply {
             return StepReply::Word("idle");
         }
     };
-    match halves.issue.settle(outcome) {
-        Ok(durable) => StepReply::Number(durable.number()),
-        Err(why) => StepReply::Refused(refusals::settle(why)),
+    told(halves.issue.settle(outcome))
+}
+
+// Lends what is not lent, advances by it and settles that: how many commands are durable then, or `idle`.
+fn advance<D: Disk>(halves: &mut Halves<D>) -> StepReply {
+    let BatchState::Nothing = &halves.held else {
+        return StepReply::Word("idle");
+    };
+    let batch = match halves.issue.lend_more() {
+        Ok(Some(batch)) => batch,
+        Ok(None) => return StepReply::Word("idle"),
+        Err(why) => return StepReply::Refused(refusals::lend(why)),
+    };
+    halves.lent = batch.last();
+    match halves.disk.advance(batch) {
+        Ok(Some(written)) => told(halves.issue.settle_front(written)),
+        Ok(None) => StepReply::Number(halves.issue.durable().number()),
+        Err(failed) => told(halves.issue.settle(Err(failed))),
     }
 }
 
@@ -100,6 +123,7 @@ pub fn halves_step<D: Disk>(
         "lend" => lend(halves),
         "write" => write(halves),
         "settle" => settle(halves),
+        "advance" => advance(halves),
         "written" => StepReply::Number(halves.written()),
         _ => issuer_step(alloc, &mut halves.issue, tickets, word, words, answer),
     }

@@ -1,7 +1,7 @@
 // What a case of halves has of a disk: the disk, a broker that is open on it, or the two halves of one.
 use crate::halves::{Halves, halves_step};
 use crate::placing::set;
-use crate::split_drilling::{drill_split_step, split_orders_step};
+use crate::split_drilling::{OrdersOf, drill_split_step, split_orders_step};
 use broker_core::{Broker, JoinFailure, Ticket};
 use case_runner::{StepReply, TextBuffer, Words};
 use disk_steps::{Base, CaseDisk, Stage, broker_step, disk_step, open_broker, refusals};
@@ -212,7 +212,12 @@ impl Stage for HalvesStage {
                 split(alloc, &mut self.place, base, answer)
             }
             "join" => join(&mut self.place),
-            "split-orders" => split_orders_step(alloc, &base.settings, words, answer),
+            "split-orders" => {
+                split_orders_step(alloc, &base.settings, OrdersOf::Writes, words, answer)
+            }
+            "advance-orders" => {
+                split_orders_step(alloc, &base.settings, OrdersOf::Advances, words, answer)
+            }
             _ => step_on(
                 alloc,
                 &mut self.place,

@@ -1,4 +1,6 @@
 // A drill of the two halves of a broker, run whole.
+ghost use Rattle.std.specs.Prelude.{◌<◌};
+
 use case_runner::{StepReply, TextBuffer, Words, id_of, read_command};
 use disk_steps::{format_disk, read_choice, refusals};
 use group_commit::{DrillFailure, SplitAnswer, SplitDrill, SplitStep, drill_split};
@@ -24,6 +26,9 @@ fn read_step(alloc: Global, disk: &mut MemDisk, line: &str) -> Result<SplitStep,
     }
     if words.takes("settle") {
         return Ok(SplitStep::Settle);
+    }
+    if words.takes("advance") {
+        return Ok(SplitStep::Advance);
     }
     if words.takes("stop") {
         return read_stop(alloc, disk, words.rest());
@@ -121,19 +126,46 @@ fn accept(event: u64) -> Command {
     }
 }
 
-// The steps of one order, whose digits to the base of 5 say which they are.
-fn steps_of_order(alloc: Global, order: u64, length: u64) -> Option<Vec<SplitStep>> {
+/// Of which steps orders are made.
+#[derive(Clone, Copy)]
+pub enum OrdersOf {
+    /// An issue, a lend, a write, a settlement and a stop.
+    Writes,
+    /// An issue, an advance and a stop.
+    Advances,
+}
+
+impl OrdersOf {
+    // How many steps there are to choose from.
+    fn choices(self) -> u64
+        ensures { 0 < result }
+    {
+        match self {
+            OrdersOf::Writes => 5,
+            OrdersOf::Advances => 3,
+        }
+    }
+
+    // The step that a digit says.
+    fn chosen(self, alloc: Global, digit: u64, event: u64) -> SplitStep {
+        match (self, digit) {
+            (_, 0) => SplitStep::Issue(accept(event)),
+            (OrdersOf::Writes, 1) => SplitStep::Lend,
+            (OrdersOf::Writes, 2) => SplitStep::Write,
+            (OrdersOf::Writes, 3) => SplitStep::Settle,
+            (OrdersOf::Advances, 1) => SplitStep::Advance,
+            _ => SplitStep::Stop(Vec::new(alloc)),
+        }
+    }
+}
+
+// The steps of one order, whose digits say which they are.
+fn steps_of_order(alloc: Global, of: OrdersOf, order: u64, length: u64) -> Option<Vec<SplitStep>> {
     let mut steps = Vec::new(alloc);
     let mut rest = order;
     for event in 0..length {
-        let step = match rest % 5 {
-            0 => SplitStep::Issue(accept(event.saturating_add(1))),
-            1 => SplitStep::Lend,
-            2 => SplitStep::Write,
-            3 => SplitStep::Settle,
-            _ => SplitStep::Stop(Vec::new(alloc)),
-        };
-        rest /= 5;
+        let step = of.chosen(alloc, rest % of.choices(), event.saturating_add(1));
+        rest /= of.choices();
         if steps.push(step).is_err() {
             return None;
         }
@@ -141,8 +173,10 @@ fn steps_of_order(alloc: Global, order: u64, length: u64) -> Option<Vec<SplitSte
     Some(steps)
 }
 
-// Whether each length that a stop names lies between what was written last and what was lent last.
+// Whether each length that a stop names lies between what was written last and what was lent last. An advance lends all that
+// was issued.
 fn is_within(steps: &[SplitStep], answers: &[SplitAnswer]) -> bool {
+    let mut issued = 0;
     let mut written = 0;
     let mut lent = 0;
     for (step, answer) in steps.iter().zip(answers) {
@@ -150,16 +184,22 @@ fn is_within(steps: &[SplitStep], answers: &[SplitAnswer]) -> bool {
             continue;
         };
         match step {
+            SplitStep::Issue(_) => issued = number,
             SplitStep::Lend => lent = number,
             SplitStep::Write => written = number,
+            SplitStep::Settle => {}
+            SplitStep::Advance => {
+                lent = issued;
+                written = number;
+            }
             SplitStep::Stop(_) => {
                 if number < written || number > lent {
                     return false;
                 }
+                issued = number;
                 written = number;
                 lent = number;
             }
-            _ => {}
         }
     }
     true
@@ -208,11 +248,12 @@ fn run_steps(
 fn run_order(
     alloc: Global,
     settings: &Settings,
+    of: OrdersOf,
     order: u64,
     length: u64,
     answer: &mut TextBuffer,
 ) -> StepReply {
-    let Some(steps) = steps_of_order(alloc, order, length) else {
+    let Some(steps) = steps_of_order(alloc, of, order, length) else {
         return StepReply::NoMemory;
     };
     match own_disk(alloc, settings, answer) {
@@ -222,19 +263,20 @@ fn run_order(
 }
 
 // How many orders of so many steps there are.
-fn count_orders(length: u64) -> u64 {
+fn count_orders(of: OrdersOf, length: u64) -> u64 {
     let mut orders = 1u64;
     for _ in 0..length {
-        orders = orders.saturating_mul(5);
+        orders = orders.saturating_mul(of.choices());
     }
     orders
 }
 
-/// `LENGTH`: runs a drill of each order of an issue, a lend, a write, a settlement and a stop that is so long, and tells how
-/// many there are where each stop names a length between what was written and what was lent; else the first that does not.
+/// `LENGTH`: runs a drill of each order of these steps that is so long, and tells how many there are where each stop names a
+/// length between what was written and what was lent; else the first that does not.
 pub fn split_orders_step(
     alloc: Global,
     settings: &Settings,
+    of: OrdersOf,
     words: &mut Words,
     answer: &mut TextBuffer,
 ) -> StepReply {
@@ -242,9 +284,9 @@ pub fn split_orders_step(
     if words.are_bad() {
         return StepReply::Unreadable;
     }
-    let orders = count_orders(length);
+    let orders = count_orders(of, length);
     for order in 0..orders {
-        match run_order(alloc, settings, order, length, answer) {
+        match run_order(alloc, settings, of, order, length, answer) {
             StepReply::Done => {}
             reply => return reply,
         }
