@@ -46,7 +46,7 @@ class Image:
         return b"".join(map(self.sector, range(at, at + count)))
 
     def segment(self, first):
-        """The generation of a segment, and the number of the changes in its snapshot, if its gate is open, and where its frames begin."""
+        """The generation of a segment, how many changes its snapshot has, and where its frames begin; None where its gate is closed."""
         if self.sector(first)[0] != 1:
             return None
         header = self.sector(first + 1)
@@ -129,7 +129,7 @@ def bodies_in(calls):
     bodies = collections.defaultdict(set)
     for call in filter(None, calls):
         content = call[1]
-        generation, first, count, size = number(content, 0, 8), number(content, 8, 8), number(content, 16, 4), number(content, 20, 4)
+        generation, first, size = number(content, 0, 8), number(content, 8, 8), number(content, 20, 4)
         length = SECTOR * -(-(32 + size) // SECTOR)
         # (a snapshot or a gate is taken for one too, which no image reads as a frame)
         bodies[generation, first].add(content[:length])

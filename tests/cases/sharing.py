@@ -1,4 +1,4 @@
-"""Groups of changes that follow each other: each flush opens one and takes the next. What it makes durable, and what a kill, a power
+"""Groups of changes that follow each other: each flush opens one and writes the next. What it makes durable, and what a kill, a power
 failure or a fault at any write or flush leaves."""
 import random
 
@@ -6,7 +6,7 @@ import torn_groups
 from harness import OPENING, case, same, statuses, until
 
 GROUPS = 5
-# One opens no group before it, and one takes none behind it.
+# The first flush opens no group, and the last one writes none.
 FLUSHES, WRITES = GROUPS + 1, 2 * GROUPS
 
 
@@ -35,7 +35,7 @@ def follow(broker):
 
 
 def holds_what_was_told(broker, asked, told):
-    """Behind the end of what was served, its disk holds each event that was told 202, and none that was not asked for."""
+    """Opened again, its disk holds each event that was told 202, and none that was not asked for."""
     told = [one.done().id for one, status in zip(asked, told) if status == 202]
     broker.watch.clear()
     broker.serve()
@@ -55,7 +55,7 @@ def each_flush_opens_a_group_and_takes_the_next(broker):
         until("a flush", lambda: watch.flushes == OPENING + number)
         asked.append(broker.send_invoke("{}"))
         broker.until_read()
-        # Whom a flush takes, the next one opens: then he is told.
+        # What one flush writes, the next one opens: then its caller is told.
         told = max(0, number - 2)
         same([one.is_answered() for one in asked], told * [True] + (number + 1 - told) * [False])
         watch.release = OPENING + number
@@ -115,6 +115,6 @@ def no_image_that_a_stop_leaves_of_many_groups_is_wrong(broker):
 def an_image_is_seen_to_be_wrong_where_a_body_was_not_flushed(broker):
     before, calls = torn_groups.serve_many(16384)
     flushes = [at for at, call in enumerate(calls) if call is None]
-    # Behind the opening's flushes each other one is that of a body alone, where no group came meanwhile.
+    # Where no group came meanwhile, each other flush behind those of the opening is that of a body alone.
     without = [call for at, call in enumerate(calls) if at not in set(flushes[OPENING::2])]
     assert torn_groups.judge(before, without, 4000, random.Random(1)), "no image was wrong"

@@ -56,7 +56,7 @@ abbrev pub LeavesOneOf : {D : Type 0} {g : Ghosts D} → (D → DiskView) → Br
 LeavesOneOf view old new before after =
     LeavesOnly (view (disk_of old)) (view (disk_of new)) (RecoversToEither (settings_of old) before after)
 
--- one barrier at most was made for what is pending: what was staged is durable, what is staged now comes behind it
+-- what was staged is durable, and what is staged now comes behind it
 pub record GoesOn {D : Type 0} {g : Ghosts D} (old new : Broker D g) : Type 0 where
   pub settings : settings_of new ≡ settings_of old
   pub table : table_in new ≡ table_in old

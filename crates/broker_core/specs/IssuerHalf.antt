@@ -44,11 +44,11 @@ half_laws half = record {
   };
 }
 
--- the last number of the batch that is out, if one is
+-- the last number that is out, if one is
 abbrev pub lent_of : IssueHalf → Option ℕ
 lent_of half = half.lent
 
--- the same batch is out, or none
+-- the same is out, or nothing
 abbrev pub has_same_lent : IssueHalf → IssueHalf → Type 0
 has_same_lent old new = lent_of new ≡ lent_of old
 

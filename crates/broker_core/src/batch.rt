@@ -4,8 +4,8 @@ ghost use Rattle.std.specs.Prelude.{◌≡◌, ◌+◌, ◌≤◌, ◌^◌, leng
 use crate::WriteError;
 use invoke_records::Command;
 
-/// The commands that were pending when an issue half lent them, in order. The first has the number `first`, the last the
-/// number `last`.
+/// Commands that an issue half lent, in order. The first has the number `first`, the last the number `last`. Where there are none,
+/// `first` is the number behind `last`.
 #[derive(Drop)]
 pub struct Batch {
     pub(crate) first: u64,
@@ -19,14 +19,14 @@ pub struct Batch {
 impl Batch {
     ghost use Rattle.broker_core.specs.Batch.{first_of, last_of};
 
-    /// The number of its first command.
+    /// The number of its first command, or that behind `last` where it has none.
     pub fn first(&self) -> u64
         ensures { result ≡ first_of self.now }
     {
         self.first
     }
 
-    /// The number of its last command.
+    /// The number of its last command, or of the one before where it has none.
     pub fn last(&self) -> u64
         ensures { result ≡ last_of self.now }
     {

@@ -114,14 +114,15 @@ impl<D: Disk> DiskHalf<D> {
         }
     }
 
-    /// Issues the commands of a batch that it does not have, and makes one barrier at most, so that groups that follow each
-    /// other share their barriers: what an earlier call left written behind the log is opened, and durable after Ok, and what
-    /// else is pending is written behind it, and durable after the next call. Where that does not fit behind what is opened,
-    /// the next call writes it. Where nothing was left and it does not fit, the half switches, and all is durable. The batch may
-    /// be empty: then what was left is opened alone.
+    /// Issues the commands of a batch that it does not have, and makes one barrier at most, unless it switches. So groups that
+    /// follow each other share their barriers: what an earlier call left written behind the log is opened, and durable after Ok,
+    /// and what else is pending is written behind it, and durable after the next call. Where that does not fit behind what is
+    /// opened, the next call switches. Where nothing was left and it does not fit, this one does, and all is durable. The batch
+    /// may be empty: then what was left is opened alone.
     ///
     /// At Ok it answers what was made durable, if something was: `Written`, with the numbers of these commands. It is refused
-    /// as `write` is, with the number behind the durable ones and the batch's last, and then nothing more is durable.
+    /// as `write` is, and then nothing more is durable. A `Failed` goes from the first command that is not durable to the
+    /// batch's last.
     pub fn advance(&mut self, batch: Batch) -> Result<Option<Written>, Failed>
         ensures same { IsSameDisk (D.view (disk_of (broker_of self.old))) (D.view (disk_of (broker_of self.new))) }
         ensures later { D.fault_count (disk_of (broker_of self.old)) ≤ D.fault_count (disk_of (broker_of self.new)) }

@@ -55,7 +55,7 @@ pub struct OpenFailure<D> {
 /// Why nothing was lent.
 #[derive(Clone, Copy, Debug, Error)]
 pub enum LendError {
-    /// The device failed in an earlier write; the disk has to be opened again.
+    /// The device failed in an earlier write or advance; the disk has to be opened again.
     #[error("the issue half is broken")]
     Broken,
     /// A batch is out.

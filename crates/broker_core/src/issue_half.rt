@@ -24,7 +24,7 @@ pub struct IssueHalf {
     pub(crate) table: Table,
     pub(crate) pending: Vec<Command>,
     pub(crate) durable: u64,
-    /// The last number of the batch that is out.
+    /// The last number of what is out.
     pub(crate) lent: Option<u64>,
     pub(crate) broken: bool,
     ghost good: { AreGood table.settings },
@@ -105,7 +105,8 @@ impl IssueHalf {
     ///
     /// It is refused, and then changes nothing: `Broken`, `Lent` (a batch is out), `OutOfMemory`, in that order.
     pub fn lend(&mut self) -> Result<Option<Batch>, LendError>
-        // claim: All that is pending is lent, with its numbers, and nothing else while it is out. Refusals have their reason.
+        // claim: `lend` lends all that is pending, with its numbers, and is refused while something is out. Refusals have their
+        // reason.
         ensures same { IsSameIssuer (half_view self.old) (half_view self.new) }
         ensures could { IfOk result (λ batch. CanLend self.old) }
         ensures ok { IfOk result (Lends self.old self.new) }
@@ -139,8 +140,8 @@ impl IssueHalf {
     /// `Mismatch`: no batch is out, or the numbers are not those of the batch that is out; nothing changes. `NotWritten`: the
     /// batch was not written; after `Fault` or `Broken` the half is broken, else the commands are pending and not lent.
     pub fn settle(&mut self, outcome: Result<Written, Failed>) -> Result<Durable, SettleError>
-        // claim: The durable number moves only where a written batch is settled, to its last number. What came since stays
-        // pending. [: ok, err]
+        // claim: By `settle` the durable number moves only where a written batch is settled, to its last number. What came since
+        // stays pending. [: ok, err]
         ensures ok { IfOk result (SettlesBy self.old self.new outcome) }
         // claim: A settled fault, or a broken disk half, breaks the half. After another failed write all stays pending, and may
         // be lent again.
@@ -174,7 +175,7 @@ impl IssueHalf {
     ghost use Rattle.broker_core.specs.LendingMore.{LendsMore, IsNoMoreReason, SettlesFront, IsFrontNotSettled};
 
     /// A copy of all that is pending and not lent, with its numbers, or None where nothing is pending. It is then out beside
-    /// what was, until a result is settled. Where all that is pending is out, the batch is empty.
+    /// what was, until it is settled, or a refusal is. Where all that is pending is out, the batch is empty.
     ///
     /// It is refused, and then changes nothing: `Broken`, `OutOfMemory`, in that order.
     pub fn lend_more(&mut self) -> Result<Option<Batch>, LendError>

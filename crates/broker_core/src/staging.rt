@@ -138,8 +138,8 @@ impl<D: Disk> Broker<D> {
         }
     }
 
-    /// Makes one barrier at most for what is pending: what is staged is opened, and then durable, and what else is pending is
-    /// staged behind it, where it fits. Where nothing was staged and it does not fit, the broker switches.
+    /// Makes one barrier at most for what is pending, unless it switches: what is staged is opened, and then durable, and what else
+    /// is pending is staged behind it, where it fits. Where nothing was staged and it does not fit, the broker switches.
     ///
     /// It is refused as `commit` is, and then nothing more is durable.
     pub(crate) fn advance(&mut self) -> Result<(), CommitError>

@@ -72,7 +72,7 @@ pub trait Committing {
         ensures steps { leads self.old (counted result.0 ∷ []) self.new }
         ensures shown { result.0 ≡ count result.1 };
 
-    /// Makes all that is pending durable.
+    /// Makes some of what is pending durable, or all.
     fn commit(&mut self) -> Result<Self::Durable, Self::Failure>
         ensures { leads self.old (commit_step number breaks result ∷ []) self.new };
 
@@ -151,7 +151,7 @@ fn tell<C: Committing>(committer: &mut C, why: C::Failure)
     committer.sleep();
 }
 
-// Commits all that is pending, and says what became of it.
+// Commits, and says what became of it.
 fn commit<C: Committing>(committer: &mut C)
     ensures { (outcome : _) × C.leads committer.old (steps_of_commit outcome) committer.new }
 {

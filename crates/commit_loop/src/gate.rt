@@ -6,7 +6,7 @@ ghost use Rattle.commit_loop.specs.declared.gate.Turn.TheVariants as turn;
 /// What a loop does next.
 #[derive(Clone, Copy)]
 pub enum Turn {
-    /// The committer commits all that is pending; the ticker makes all moves that are due.
+    /// The committer commits; the ticker makes all moves that are due.
     Commit,
     /// Nothing, until the next turn.
     Skip,

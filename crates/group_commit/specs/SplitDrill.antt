@@ -24,7 +24,7 @@ use Rattle.broker_core.specs.IssuerHalf.{half_view}
 use Rattle.broker_core.specs.Refusals.{IsCutOff}
 use Rattle.group_commit.specs.Drill.{Log, IsRefused}
 
--- a list of commands, how many are durable, up to which the disk half has written, and up to which they were lent; the generation of
+-- a list of commands, how many are durable, up to which they are durable in the disk half, and up to which they were lent; the generation of
 -- the live segment; whether the issue half is broken, whether a batch is held that was not written, and the result that is held and
 -- not settled, if one is: up to which was written, or why not; up to which the disk half has staged what it has not opened, if it
 -- has staged something, and whether commands are out that advances lent
@@ -130,8 +130,8 @@ IsSplitStep s log step.Lend (answer.Number n) next =
     MayLend log × (log.durable < length log.history) × (n ≡ length log.history) × (next ≡ record log { lent = n; has_batch = true })
 IsSplitStep s log step.Lend answer.Idle next = MayLend log × (length log.history ≡ log.durable) × (next ≡ log)
 IsSplitStep s log step.Lend (answer.LendRefused why) next = IsNotLent log why × (next ≡ log)
--- a write goes up to what was lent, and may be by a switch to the next generation. It leaves nothing staged; what one leaves that
--- was refused, the half over the disk does not say
+-- a write goes up to what was lent, and may be by a switch to the next generation. It leaves nothing staged. The half over the disk
+-- does not say what a refused one leaves staged
 IsSplitStep s log step.Write (answer.Number n) next =
     (log.has_batch ≡ true) × (n ≡ log.lent) × ((next.generation ≡ log.generation) ⊎ (next.generation ≡ log.generation + 1))
     × (next ≡ record log { written = n; generation = next.generation; has_batch = false; unsettled = Some (Ok n); staged = None })

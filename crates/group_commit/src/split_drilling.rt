@@ -264,7 +264,7 @@ fn run_step(
 /// Opens a disk in memory, splits its broker, and runs a script on the halves, stops among its steps.
 ///
 /// On a disk of which each image is a legal stop of a history, the answers are those of one list and three numbers: how many
-/// commands are durable, up to which the disk half has written, and up to which they were lent. Each begins as the number of
+/// commands are durable, up to which they are durable in the disk half, and up to which they were lent. Each begins as the number of
 /// commands that the opening recovered; a stop cuts the list to a length from the second number to the third. An advance
 /// lends the list to its end and makes durable what was staged; where nothing was, it stages what is not durable, or switches
 /// and all is durable. Once a fault of a write or an advance is settled, nothing is issued or lent until the next stop. Both

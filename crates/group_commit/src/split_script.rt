@@ -27,8 +27,8 @@ pub enum SplitAnswer {
     /// The number of the command that was issued, the last number of the batch that was lent or written, how many commands
     /// are durable after it was settled or after an advance, or how many were recovered after a stop.
     Number(u64),
-    /// Nothing is pending that could be lent, no batch is held that could be written, no result that could be settled, or one
-    /// of both is held before an advance.
+    /// Nothing is pending that could be lent, no batch is held that could be written, no result that could be settled; or a batch or
+    /// a result is held, so that no advance is made.
     Idle,
     IssueRefused(IssueError),
     LendRefused(LendError),

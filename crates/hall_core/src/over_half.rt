@@ -192,7 +192,7 @@ impl Hall<IssueHalf> {
     }
 
     /// A copy of all commands that are pending and not lent, to be written behind what is out, or None where nothing is pending.
-    /// It is then out beside what was, until a result is settled. Where all that is pending is out, the batch is empty.
+    /// It is then out beside what was, until it is settled, or a refusal is. Where all that is pending is out, the batch is empty.
     ///
     /// It is refused, and then changes nothing: `Broken`, `OutOfMemory`, in this order.
     pub fn lend_more(&mut self) -> Result<Option<Batch>, HallError>

@@ -1,4 +1,4 @@
-// Asking the office to commit: by one barrier, or by the two that a command needs where none was under way.
+// Asking the office to advance: once, or twice where the first call made nothing durable.
 ghost use Rattle.std.specs.Prelude.{◌≡◌, ◌≤◌, true, IfOk, IfErr, OnErr, Ok, Err, Some, is_some};
 ghost use Rattle.broker_core.specs.Splitting.{broker_of};
 ghost use Rattle.receipts.specs.Advancing.{IsToldUpTo, AdvancesBy};
@@ -43,7 +43,7 @@ impl NotCommitted {
     }
 }
 
-/// Makes one barrier at most for what is pending, as `Office::advance` says.
+/// Advances once, as `Office::advance` says.
 pub(crate) fn ask<D: Disk, L: Ledger, T: Trace, R: Wait>(
     rt: &R,
     office: &Office<L, T>,
@@ -85,7 +85,7 @@ fn advance<D: Disk, L: Ledger, T: Trace, R: Wait>(
 }
 
 /// Makes some of what is pending durable: what an earlier call left written behind the log, while what came since is written there.
-/// Where none was left, it makes a barrier for what is pending, and then one more, which makes that durable.
+/// Where none was left, it advances once, which writes what is pending, and once more, which makes that durable.
 pub(crate) fn commit_some<D: Disk, L: Ledger, T: Trace, R: Wait>(
     rt: &R,
     office: &Office<L, T>,

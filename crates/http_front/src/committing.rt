@@ -199,7 +199,7 @@ impl<L: Ledger, T: Trace, D: Disk + Drop> Committer<L, T, D> {
     }
 
     /// Commits as the gate says, until it ends the loop, and gives the committer back: what is pending at a turn becomes durable
-    /// by that commit or by the next one, with which it shares a barrier. Where nothing is pending, or a commit was refused, it
+    /// by that commit or by the next one that succeeds. Where nothing is pending, or a commit was refused, it
     /// sleeps until the next command, or for a while, where something is left to do; where the gate skips what is pending, it
     /// is asked again. Beside it is what shows that its loop ran.
     ///

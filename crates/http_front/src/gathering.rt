@@ -21,9 +21,9 @@ const MOST_LOOKS: u64 = 1000;
 const MOST_PASSES: u8 = 8;
 
 /// What the last commit tells of the next one. Those who were answered by it ask again soon, each once its reply has come. Those who
-/// came meanwhile are pending already: where these alone were committed at once, the others would wait for their whole commit and
-/// for the own one. So a commit waits for both, for an eighth of the last one's time at most, and not where one was waited for in
-/// vain.
+/// came meanwhile are pending already: where these alone were committed at once, whoever asks again would miss that flush, and wait
+/// for three in place of two. So a commit waits for both, for an eighth of the last one's time at most, and not where one was waited
+/// for in vain.
 #[derive(Clone, Copy)]
 pub(crate) struct Gathering {
     /// When the last commit may have begun, as far as the clock says.

@@ -293,7 +293,7 @@ where
     // only where not.
     ensures ports { OnOk result (vec_len listeners + 2 ≤ desk_count (settings_of hall.issuer)) }
     ensures many { IsErrOf result ServeError.TooManyPorts → desk_count (settings_of hall.issuer) < vec_len listeners + 2 }
-    // claim: An Ok hands the disk half back: the hall's broker, after any number of commits. [: served]
+    // claim: An Ok hands the disk half back: the hall's broker, after any number of commits and advances. [: served]
     ensures served { IfOk result (λ served. HasServed D.view D.fault_count hall.issuer (broker_of served.half)) }
     // claim: What it hands out beside was made by the committer's loop, from the hall's broker to that half. It has what the gate
     // saw that leads to `End`, or what shows that the front was over. [: ran]

@@ -1,5 +1,5 @@
--- What an advance does: it lends what is pending beside what is out, has the half over the disk go on by one barrier, and settles
--- what that made durable.
+-- What an advance does: it lends what is pending beside what is out, has the half over the disk advance, and settles what that made
+-- durable.
 use Rattle.std.specs.Prelude.{◌≡◌, ◌⊎◌, ℕ, ◌≤◌, ◌++◌, max, Option, Some, None, Result, Ok, Err, OnOk, OnErr, IfOk, IfErr, MatchOption}
 use Rattle.std.specs.declared.sync.ledger.Ledger.{Ghosts as LedgerGhosts}
 use Rattle.sector_disk.specs.Disk.{DiskView, IsSameDisk}

@@ -1,4 +1,4 @@
--- When a commit tells that its hall is broken, and what shows it.
+-- When a commit or an advance tells that its hall is broken, and what shows it.
 use Rattle.std.specs.Prelude.{◌≡◌, ℕ, Bool, true, false, Option, Some, None, Result, IfErr, IfSome, is_some}
 use Rattle.std.specs.declared.sync.ledger.Ledger.{Ghosts as LedgerGhosts}
 use Rattle.hall_plans.specs.declared.error.HallError.{HallError}
@@ -29,11 +29,11 @@ abbrev pub left_after : {A L T O : Type 0} {l : LedgerGhosts L} {g : TraceGhosts
 left_after lent None = lent.after.value
 left_after lent (Some settled) = settled.after.value
 
--- the same after the last step of a commit
+-- the same after the last step of a commit or an advance
 abbrev pub left_by : {L T O : Type 0} {l : LedgerGhosts L} {g : TraceGhosts T O} {o : OpeningGhosts O}
     → Committed L T O l g o → Locked L T O l g o
 left_by committed = left_after committed.lent committed.settled
 
--- where a commit tells that its hall is broken, it shows that
+-- where a commit or an advance tells that its hall is broken, it shows that
 abbrev pub TellsBroken : Result ℕ HallError → Option BrokenHall → Type 0
 TellsBroken answer shown = IfErr answer (λ why. is_last why ≡ true → is_some shown ≡ true)

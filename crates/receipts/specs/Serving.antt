@@ -1,4 +1,4 @@
--- What the half over the disk becomes: by one commit of an office, and by all commits of a serving.
+-- What the half over the disk becomes: by one commit of an office, and by all commits and advances of a serving.
 use Rattle.std.specs.Prelude.{◌≡◌, ◌⊎◌, ℕ, ◌≤◌, true, false, List, ◌++◌, Result, Ok, Err, OnOk, IfErr}
 use Rattle.sector_disk.specs.Disk.{DiskView, IsSameDisk}
 use Rattle.sector_disk.specs.Moments.{LeavesOnly}
@@ -61,8 +61,8 @@ pub record GoesOnFrom {D : Type 0} {g : Ghosts D} (view : D → DiskView) (old n
       (view (disk_of old)).honest
       → LeavesOnly (view (disk_of old)) (view (disk_of new)) (IsLegalStop (settings_of old) (history ++ taken) (durable_of old))
 
--- what any number of commits made of the half: its list is longer, nothing durable was taken back, a device that failed was
--- counted, and it goes on from each history that it stood for
+-- what any number of commits and advances made of the half: its list is longer, nothing durable was taken back, a device that
+-- failed was counted, and it goes on from each history that it stood for
 pub record HasServed {D : Type 0} {g : Ghosts D} (view : D → DiskView) (count : D → ℕ) (old new : Broker D g) : Type 0 where
   pub same : IsSameDisk (view (disk_of old)) (view (disk_of new))
   pub settings : settings_of new ≡ settings_of old

@@ -95,15 +95,16 @@ impl<L: Ledger, T: Trace> Office<L, T> {
         (settled, seen, BrokenHall::of(locked.hall()))
     }
 
-    /// Makes one barrier at most for what is pending, so that groups of commands that follow each other share theirs: what an
-    /// earlier advance left is durable then, and what else is pending is written behind it, for the next advance. It answers how
-    /// many commands are durable; while that is fewer than are issued, the next advance makes more of them so. The commands are
-    /// lent under the lock, written outside it, and settled under it.
+    /// Makes one barrier at most for what is pending, unless the half switches. So groups of commands that follow each other share
+    /// theirs: what an earlier advance left is durable then, and what else is pending is written behind it, for the next advance. It
+    /// answers how many commands are durable. While that is fewer than are issued, one of the next two advances that succeed makes
+    /// more of them durable. The commands are lent under the lock, written outside it, and settled under it.
     ///
     /// The half is called at most once, for just the batch that was lent; on an honest disk a stop at any moment leaves a legal
     /// stop of the half's list with what it took.
     ///
-    /// It is refused as `commit` is, but never as `Lent`. What was lent, and is not durable, is then pending again.
+    /// It is refused as `commit` is, but never as `Lent`. Where the half refused to go on, what is out is then pending again; else it
+    /// stays out.
     pub fn advance<D: Disk, R: Wait>(
         &self,
         rt: &R,
@@ -116,9 +117,9 @@ impl<L: Ledger, T: Trace> Office<L, T> {
         ensures answered { desk.new.answered ≡ desk.old.answered }
         ensures err { OnErr result.answer (desk.new.told ≡ desk.old.told) }
         ensures refused { IfErr result.answer (IsCommitRefusal desk.old.told) }
-        // claim: An advance leaves the disk half alone, or hands it one batch, with which that goes on by one barrier. A crash at
-        // any moment leaves a legal stop of the half's history with what it took. It tells a fault only where the half's count
-        // of them rose, or is at its greatest. [: disk, fault]
+        // claim: An advance leaves the disk half alone, or has it advance with one batch. A crash at any moment leaves a legal
+        // stop of the half's history with what it took. It tells a fault only where the half's count of them rose, or is at its
+        // greatest. [: disk, fault]
         ensures disk { AdvancesTo D.view D.fault_count (broker_of disk.old) (broker_of disk.new) result.answer }
         ensures fault { result.answer ≡ Err HallError.Fault → FaultsHaveRisen D.fault_count (broker_of disk.old) (broker_of disk.new) }
 

@@ -6,13 +6,13 @@ use broker_core::IssueHalf;
 use hall_core::Hall;
 use std::snapshot::Snapshot as Seen;
 
-/// That a hall is broken: its device failed, so that nothing more becomes durable. Only a commit of an office makes one, of the hall
-/// under its lock, which proofs see in it.
+/// That a hall is broken: its device failed, so that nothing more becomes durable. Only a commit or an advance of an office makes one,
+/// of the hall under its lock, which proofs see in it.
 #[derive(Drop)]
 pub struct BrokenHall {
     hall: Seen<Hall<IssueHalf>>,
     // claim: A commit that tells `Fault` or `Broken` shows the broken hall that its last step left. [: broken;
-    // Office::commit: broken, left]
+    // Office::commit: broken, left; Office::advance: broken, left]
     ghost broken: { (issuer_in hall.value).broken ≡ true },
 }
 

@@ -155,7 +155,7 @@ impl<L: Ledger, T: Trace> Office<L, T> {
         // [: slot, counts, answered, kept_answered; Office::tick: answered, kept_answered; Desk::take_answered: slots,
         // none_left]
         // claim: A desk is never told less than before. A refusal changes neither that nor its marks. [: told, err;
-        // Office::tick: told, err; Office::commit: told, err, marks]
+        // Office::tick: told, err; Office::commit: told, err, marks; Office::advance: told, err, marks]
         // claim: A refusal is the first of these: fewer commands than the desk was told, no slot left, unfit; else want
         // of memory or the hall's own. A tick has the first and last two. Nothing under the lock changes. [: refused,
         // reason, same; Office::tick: refused, reason, same]
