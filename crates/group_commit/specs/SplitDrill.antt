@@ -24,10 +24,10 @@ use Rattle.broker_core.specs.IssuerHalf.{half_view}
 use Rattle.broker_core.specs.Refusals.{IsCutOff}
 use Rattle.group_commit.specs.Drill.{Log, IsRefused}
 
--- a list of commands, how many are durable, up to which they are durable in the disk half, and up to which they were lent; the generation of
--- the live segment; whether the issue half is broken, whether a batch is held that was not written, and the result that is held and
--- not settled, if one is: up to which was written, or why not; up to which the disk half has staged what it has not opened, if it
--- has staged something, and whether commands are out that advances lent
+-- a list of commands, how many are durable, up to which they are durable in the disk half, and up to which they were lent; the
+-- generation of the live segment; whether the issue half is broken, whether a batch is held that was not written, and the result that
+-- is held and not settled, if one is: up to which was written, or why not; up to which the disk half has staged what it has not
+-- opened, if it has staged something, and whether commands are out that advances lent
 pub record SplitLog : Type 0 where
   pub history : List Command
   pub durable : ℕ

@@ -11,7 +11,7 @@ use std::snapshot::Snapshot as Seen;
 #[derive(Drop)]
 pub struct BrokenHall {
     hall: Seen<Hall<IssueHalf>>,
-    // claim: A commit that tells `Fault` or `Broken` shows the broken hall that its last step left. [: broken;
+    // claim: A commit or an advance that tells `Fault` or `Broken` shows the broken hall that its last step left. [: broken;
     // Office::commit: broken, left; Office::advance: broken, left]
     ghost broken: { (issuer_in hall.value).broken ≡ true },
 }
