@@ -78,6 +78,7 @@ def figures(top):
         "outcomes": of_sectors,
         "crashes": tried(top, "everywhere.txt", crashes),
         "configured crashes": tried(top, "everywhere_configured.txt", crashes),
+        "shared crashes": tried(top, "everywhere_in_halves.txt", crashes),
         "failed reads": tried(top, "everywhere.txt", "an opening .*fails once in a read"),
         "failed flushes": tried(top, "everywhere.txt", "an opening .*fails once in its barrier"),
         "migration stops": tried(top, "migrations.txt", "and each sector that is not settled is torn|.* and torn$"),
