@@ -7,7 +7,7 @@ use Rattle.hall_core.specs.Hall.{HallView, pending_in}
 use Rattle.receipts.specs.declared.mark.Trace.{Ghosts as TraceGhosts}
 use Rattle.receipts.specs.declared.opening.OpeningTrace.{Ghosts as OpeningGhosts}
 use Rattle.receipts.specs.Locked.{hall_in}
-use Rattle.long_poll.specs.declared.bell.SaidBroken.{SaidBroken}
+use Rattle.bell.specs.declared.bell.SaidBroken.{SaidBroken}
 use Rattle.http_front.specs.declared.ending.LookAtEnding.{LookAtEnding}
 use Rattle.http_front.specs.declared.ending.LookAtRest.{LookAtRest}
 use Rattle.http_front.specs.declared.ending.FrontEnded.{FrontEnded}

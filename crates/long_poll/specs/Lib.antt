@@ -1,4 +1,3 @@
-pub mod Bell
 pub mod Port
 pub mod Waiting
 pub mod PendingView

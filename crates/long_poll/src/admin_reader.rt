@@ -3,7 +3,7 @@ ghost use Rattle.std.specs.Prelude.{◌≡◌, ◌≤◌, ◌^◌, map, IfOk, If
 ghost use Rattle.receipts.specs.Locked.{hall_in};
 ghost use Rattle.receipts.specs.Views.{IsViewOf};
 
-use crate::bell::Bell;
+use bell::Bell;
 use broker_core::Ticket;
 use front_board::{Seated, Shown};
 use receipts::{Mark, Office, Trace, Unreleased, Witnessed};

@@ -7,16 +7,13 @@
 
 mod acting;
 mod admin_reader;
-mod bell;
 mod pending_view;
 mod port;
-mod waiters;
 mod waiting;
 
 pub use acting::Acting;
 pub use admin_reader::{AdminReader, TicketedView};
-pub use bell::{Answered, Bell, RungForAll, SaidBroken};
+pub use bell::{Answered, Bell, Rung, RungForAll, SaidBroken};
 pub use pending_view::{DurableView, PendingView, ViewError};
 pub use port::{Arrived, Port};
-pub use waiters::Rung;
 pub use waiting::Waiting;

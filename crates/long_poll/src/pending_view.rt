@@ -4,7 +4,7 @@ ghost use Rattle.futures.specs.Task.{Covers, Keeps};
 ghost use Rattle.futures.specs.Poll.{IfReady, OnPending};
 
 use crate::admin_reader::{AdminReader, TicketedView};
-use crate::bell::SaidBroken;
+use bell::SaidBroken;
 use front_board::Shown;
 use futures::Future;
 use futures::task::{Context, Poll};
@@ -51,7 +51,7 @@ pub struct PendingView<R: Wait, L: Ledger, T: Trace = Mark> {
 }
 
 impl<R: Wait, L: Ledger, T: Trace> PendingView<R, L, T> {
-    ghost use Rattle.long_poll.specs.Bell.{source_of};
+    ghost use Rattle.bell.specs.Bell.{source_of};
     ghost use Rattle.long_poll.specs.PendingView.{unreleased_in, IsOf};
 
     /// Waits at this reader with what was seen there.
@@ -115,7 +115,7 @@ impl<R: Wait, L: Ledger, T: Trace> PendingView<R, L, T> {
 impl<R: Wait + Drop, L: Ledger, T: Trace> Future for PendingView<R, L, T> {
     type Output = Result<DurableView, ViewError>;
 
-    ghost use Rattle.long_poll.specs.Bell.{source_of};
+    ghost use Rattle.bell.specs.Bell.{source_of};
     ghost use Rattle.long_poll.specs.PendingView.{unreleased_in, IsOf};
 
     ghost needs = { λ pending source. source ≡ source_of pending.reader.value.bell.value };

@@ -8,8 +8,8 @@ ghost use Rattle.receipts.specs.Told.{TellsPoint, Takes, Forgets};
 ghost use Rattle.receipts.specs.UnderLock.{IssuedAt};
 ghost use Rattle.long_poll.specs.Port.{IsSlot, IsRequestRefusal, IsMoveRefusal, IsRequestReason, IsMoveReason};
 
-use crate::bell::Bell;
 use api_core::Call;
+use bell::Bell;
 use broker_core::{Receipt, Ticket};
 use front_board::Seated;
 use hall_core::{HallError, Issued, Released};

@@ -2,9 +2,8 @@
 ghost use Rattle.std.specs.Prelude.{◌≡◌, Some, None, IfSome, IfNone, OnSome};
 ghost use Rattle.futures.specs.Task.{Covers, Keeps};
 
-use crate::bell::SaidBroken;
 use crate::port::{Arrived, Port};
-use crate::waiters::{Parked, Registered};
+use bell::{Parked, Registered, SaidBroken};
 use broker_core::{Receipt, Ticket};
 use futures::Future;
 use futures::task::{Context, Poll};
@@ -45,7 +44,7 @@ pub struct Waiting<R: Wait, L: Ledger, T: Trace = Mark> {
 }
 
 impl<R: Wait, L: Ledger, T: Trace> Waiting<R, L, T> {
-    ghost use Rattle.long_poll.specs.Bell.{IsUnder, IsParkedAt, source_of};
+    ghost use Rattle.bell.specs.Bell.{IsUnder, IsParkedAt, source_of};
     ghost use Rattle.long_poll.specs.Waiting.{number_at, number_for, IsTaken};
 
     /// Waits for the reply of a request that came to this port.
@@ -252,11 +251,10 @@ impl<R: Wait, L: Ledger, T: Trace> Waiting<R, L, T> {
 impl<R: Wait + Drop, L: Ledger, T: Trace> Future for Waiting<R, L, T> {
     type Output = Witnessed<Released, L, T>;
 
-    ghost use Rattle.long_poll.specs.Bell.{source_of};
+    ghost use Rattle.bell.specs.Bell.{source_of};
     ghost use Rattle.long_poll.specs.Waiting.{IsTaken};
 
-    // claim: Where the future of a reply is pending it has registered at the bell, or is polled again. [: needs;
-    // Bell::register, Bell::park: under, armed, heard]
+    // claim: Where the future of a reply is pending it has registered at the bell, or is polled again. [: needs]
     ghost needs = { λ waiting source. source ≡ source_of waiting.port.value.bell.value };
 
     // claim: The future gives the reply that the hall under the lock gave its slot.

@@ -68,7 +68,7 @@ pub(crate) struct Waiters {
 }
 
 impl Waiters {
-    ghost use Rattle.long_poll.specs.Bell.{AreAbove, IsUnder, IsParkedAt, Waits, Stays, GoesOn};
+    ghost use Rattle.bell.specs.Bell.{AreAbove, IsUnder, IsParkedAt, Waits, Stays, GoesOn};
 
     /// Nobody waits, and so much was rung. It takes no memory.
     pub(crate) fn new(alloc: Global, rung: u64) -> Waiters

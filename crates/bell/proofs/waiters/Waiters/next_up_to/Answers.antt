@@ -1,8 +1,8 @@
 use Rattle.std.proofs.Common.{arith}
 use Rattle.std.specs.BTreeMap as tree
 use Rattle.std.specs.Prelude.{slice_index_or}
-use Rattle.long_poll.proofs.Above.{above_least}
-use Rattle.long_poll.proofs.waiters.Waiters.next_up_to.Goals as goal
+use Rattle.bell.proofs.Above.{above_least}
+use Rattle.bell.proofs.waiters.Waiters.next_up_to.Goals as goal
 
 pub returns-then-number-least-clause-none : goal.returns-then-number-least-clause-none
 returns-then-number-least-clause-none c = λ k d inside.

@@ -80,7 +80,7 @@ pub struct Bell {
 }
 
 impl Bell {
-    ghost use Rattle.long_poll.specs.Bell.{IsUnder, IsParkedAt, source_of};
+    ghost use Rattle.bell.specs.Bell.{IsUnder, IsParkedAt, source_of};
 
     /// A bell that nobody waits at, where so much is durable. It takes no memory.
     pub fn new(alloc: Global, durable: Durable) -> Bell {
@@ -93,13 +93,15 @@ impl Bell {
 
     /// Registers the task for this slot: the next ring of this number or above wakes it. Where that was rung, or there is no
     /// memory, the task is polled again at once.
-    pub(crate) fn register<R: Wait>(
+    pub fn register<R: Wait>(
         &self,
         rt: &R,
         slot: u64,
         number: u64,
         cx: &mut Context<'_>,
     ) -> Registered
+        // claim: A task that registers or parks does so for just its slot, and hears this bell. [: under, armed, heard;
+        // Bell::park: under, armed, heard]
         ensures under { IsUnder result slot number }
         ensures armed { IsArmed cx.new }
         ensures heard { Hears cx.new (source_of self.now) }
@@ -112,7 +114,7 @@ impl Bell {
 
     /// Registers the task for the answer of this slot: once that is told here, the task waits for its number. Where there is
     /// no memory, the task is polled again at once.
-    pub(crate) fn park<R: Wait>(&self, rt: &R, slot: u64, cx: &mut Context<'_>) -> Parked
+    pub fn park<R: Wait>(&self, rt: &R, slot: u64, cx: &mut Context<'_>) -> Parked
         ensures under { IsParkedAt result slot }
         ensures armed { IsArmed cx.new }
         ensures heard { Hears cx.new (source_of self.now) }
@@ -123,7 +125,7 @@ impl Bell {
 
     /// The parked task waits for this number from now on: the next ring of it or above wakes it, or it is woken now, if that
     /// was rung.
-    pub(crate) fn go_on<R: Wait>(&self, rt: &R, parked: Parked, number: u64) -> Registered
+    pub fn go_on<R: Wait>(&self, rt: &R, parked: Parked, number: u64) -> Registered
         ensures { IsUnder result parked.slot number }
     {
         let (waker, registered) = self.waiters.lock(rt).go_on(parked, number);
@@ -132,7 +134,7 @@ impl Bell {
     }
 
     /// Nobody waits for the answer of this slot any more.
-    pub(crate) fn leave<R: Wait>(&self, rt: &R, slot: u64) -> Left
+    pub fn leave<R: Wait>(&self, rt: &R, slot: u64) -> Left
         ensures slot { result.slot ≡ slot }
         ensures bell { result.at.value ≡ self.now.source }
     {

@@ -1,5 +1,5 @@
 use Rattle.std.proofs.Common.{◌≡◌}
-use Rattle.long_poll.proofs.bell.Bell.answer.Given as goal
+use Rattle.bell.proofs.bell.Bell.answer.Given as goal
 
 -- each slot so far was told
 abbrev pub invariant-loop-slot : goal.invariant-loop-slot

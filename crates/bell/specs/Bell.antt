@@ -6,10 +6,10 @@ use Rattle.std.specs.BTreeMap as tree
 use Rattle.futures.specs.Task.{Wakes}
 use Rattle.futures.specs.declared.task.context.Context.{Context}
 use Rattle.futures.specs.declared.task.waker.Waker.{Waker}
-use Rattle.long_poll.specs.declared.bell.Bell.{Bell}
-use Rattle.long_poll.specs.declared.waiters.Waiters.{Waiters}
-use Rattle.long_poll.specs.declared.waiters.Registered.{Registered}
-use Rattle.long_poll.specs.declared.waiters.Parked.{Parked}
+use Rattle.bell.specs.declared.bell.Bell.{Bell}
+use Rattle.bell.specs.declared.waiters.Waiters.{Waiters}
+use Rattle.bell.specs.declared.waiters.Registered.{Registered}
+use Rattle.bell.specs.declared.waiters.Parked.{Parked}
 
 -- the source at which the tasks of a bell wait
 abbrev pub source_of : Bell → ℕ

@@ -4,7 +4,7 @@ use Rattle.std.specs.Ordering.{is_gt, nat_cmp, ordering_then}
 use Rattle.std.specs.declared.cmp.Ordering.{Ordering}
 use Rattle.std.specs.declared.cmp.Ordering.TheVariants.{Less, Equal, Greater}
 use Rattle.std.proofs.lemmas.Map.Keys.{le_from_not_gt}
-use Rattle.long_poll.specs.Bell.{by_number, IsAbove}
+use Rattle.bell.specs.Bell.{by_number, IsAbove}
 
 head_at_most : (a b : Ordering) → is_gt (ordering_then a b) ≡ false → is_gt a ≡ false
 head_at_most Less b h = refl

@@ -1,6 +1,6 @@
 use Rattle.std.proofs.Common.{◌≡◌}
 use Rattle.std.specs.BTreeMap.{btree_map_len}
-use Rattle.long_poll.proofs.waiters.Waiters.take_wakers.Given as goal
+use Rattle.bell.proofs.waiters.Waiters.take_wakers.Given as goal
 
 -- nothing changes but those that wait for a number
 abbrev pub invariant-loop-waker : goal.invariant-loop-waker
