@@ -1,5 +1,5 @@
 -- What a migration leaves at each moment, and what it makes of a disk.
-use Rattle.std.proofs.Common.{◌≡◌, inl, inr, ⊎_elim, ℕ, ◌+◌, ◌≤◌, ◌^◌, Bool, true, false, is_none, None, List, length, Result, Ok, Err, refl, sym, ap, subst, ◌∙◌, arith}
+use Rattle.std.proofs.Common.{◌≡◌, inl, inr, ⊎_elim, ℕ, ◌+◌, ◌≤◌, ◌^◌, Bool, true, false, is_none, None, Some, List, length, Result, Ok, Err, refl, sym, ap, subst, ◌∙◌, arith}
 use Rattle.std.specs.Prelude.{OnOk}
 use Rattle.std.proofs.lemmas.Bool.{and_from}
 use Rattle.sector_disk.specs.Disk.{DiskView}
@@ -29,7 +29,7 @@ use Rattle.group_commit.specs.declared.error.MigrateError.TheVariants as migrate
 use Rattle.broker_core.specs.History.{AreGood}
 use Rattle.broker_core.specs.laws.Generations.{live_generation}
 use Rattle.group_commit.specs.Migrating.{ReadsTo, HoldsHistories, IsOldDisk, Phases, LeavesMigrating, Migrates, IsMigrateReason, IsSoundRefusal, HoldsOne, HoldsOneWhere, IsUnchanged, WritesNothingBut}
-use Rattle.group_commit.specs.MigrateSteps.{IsReadAs, migrate_error_of, IsUnwritten, IsFaultOr}
+use Rattle.group_commit.specs.MigrateSteps.{IsReadAs, IsJudged, migrate_error_of, IsUnwritten, IsFaultOr}
 
 -- ## Moments
 
@@ -81,6 +81,52 @@ unopened disk open_error.OutOfMemory new refused = tt
 unopened disk open_error.NotFormatted new refused = refused
 unopened disk (open_error.Damaged sector) new refused = refused
 unopened disk open_error.OldVersion new refused = absurd (new refl)
+
+-- what was opened, and is not of version 1 or has no room
+pub judged_reason : (old mid : DiskView) (opened : Opened) (table : Snapshot) (why : MigrateError) → mid.content ≡ old.content → mid.sectors ≡ old.sectors → IsReadAs old mid opened table
+    → IsJudged mid.sectors opened (Some why) → IsMigrateReason old why
+judged_reason old mid opened table migrate_error.NotOld same sectors live is = not_old old mid opened table is live
+judged_reason old mid opened table (migrate_error.TooSmall least) same sectors live is = (
+  settings_of opened,
+  table,
+  generation_of opened,
+  old_disk old mid opened table same is.0 live,
+  is.1,
+  omega (arith, is.2, sectors),
+)
+judged_reason old mid opened table migrate_error.WornOut same sectors live is = (
+  settings_of opened,
+  table,
+  generation_of opened,
+  old_disk old mid opened table same is.0 live,
+  omega (arith, is.1, sectors),
+  is.2,
+)
+judged_reason old mid opened table migrate_error.NotFormatted same sectors live is = absurd is
+judged_reason old mid opened table (migrate_error.Damaged sector) same sectors live is = absurd is
+judged_reason old mid opened table migrate_error.BadKind same sectors live is = absurd is
+judged_reason old mid opened table migrate_error.OutOfMemory same sectors live is = tt
+judged_reason old mid opened table migrate_error.Fault same sectors live is = tt
+
+pub judged_sound : (sectors : ℕ) (opened : Opened) (why : MigrateError) → IsJudged sectors opened (Some why) → IsSoundRefusal why
+judged_sound sectors opened migrate_error.NotFormatted is = absurd is
+judged_sound sectors opened (migrate_error.Damaged sector) is = absurd is
+judged_sound sectors opened migrate_error.BadKind is = absurd is
+judged_sound sectors opened migrate_error.NotOld is = tt
+judged_sound sectors opened (migrate_error.TooSmall least) is = tt
+judged_sound sectors opened migrate_error.WornOut is = tt
+judged_sound sectors opened migrate_error.OutOfMemory is = tt
+judged_sound sectors opened migrate_error.Fault is = tt
+
+pub one_held : (disk : DiskView) (why : MigrateError) → HoldsOne disk → HoldsOneWhere disk why
+one_held disk migrate_error.NotFormatted one = tt
+one_held disk (migrate_error.Damaged sector) one = tt
+one_held disk migrate_error.OutOfMemory one = tt
+one_held disk migrate_error.Fault one = tt
+one_held disk migrate_error.NotOld one = one
+one_held disk (migrate_error.TooSmall least) one = one
+one_held disk migrate_error.WornOut one = one
+one_held disk migrate_error.BadKind one = one
 
 -- what could not be read, and what was not written
 pub none_held : (disk : DiskView) (why : OpenError) → HoldsOneWhere disk (migrate_error_of why)

@@ -7,6 +7,16 @@ pub if_ok : {T E : Type 0} (P Q : T → Type 0) (r : Result T E) → ((x : T) �
 if_ok P Q (Ok x) step is = step x is
 if_ok P Q (Err e) step is = tt
 
+-- a fact of an error, and what follows from it
+pub if_err : {T E : Type 0} (P Q : E → Type 0) (r : Result T E) → ((e : E) → P e → Q e) → IfErr r P → IfErr r Q
+if_err P Q (Ok x) step is = tt
+if_err P Q (Err e) step is = step e is
+
+-- what holds of each error
+pub any_err : {T E : Type 0} (Q : E → Type 0) (r : Result T E) → ((e : E) → Q e) → IfErr r Q
+any_err Q (Ok x) all = tt
+any_err Q (Err e) all = all e
+
 -- two facts of what is Ok
 pub if_ok_both : {T E : Type 0} (P Q R : T → Type 0) (r : Result T E) → ((x : T) → P x → Q x → R x) → IfOk r P → IfOk r Q → IfOk r R
 if_ok_both P Q R (Ok x) step p q = step x p q

@@ -13,7 +13,7 @@ use Rattle.checkpoint.specs.Image.{HasGeneration}
 use Rattle.checkpoint.specs.Live.{generation_of}
 use Rattle.broker_core.specs.Broker.{settings_of, durable_of, is_broken, opened_of, Stands}
 use Rattle.broker_core.specs.Promises.{ForEachHistory}
-use Rattle.group_commit.specs.Drill.{Log, opening, IsStep, IsRun}
+use Rattle.group_commit.specs.Drill.{Log, opening, IsStep, IsRun, IsStop}
 
 -- the log of a broker that stands for this history
 abbrev pub log_of : {g : Ghosts MemDisk} → Broker MemDisk g → List Command → Log
@@ -34,6 +34,10 @@ pub record LeadsOn {g : Ghosts MemDisk} (old : Broker MemDisk g) (history : List
 -- the step leads so on from each history that the broker stands for
 abbrev pub Leads : {g : Ghosts MemDisk} → Broker MemDisk g → Step → StepAnswer → Broker MemDisk g → Type 0
 Leads old step answer new = ForEachHistory memory_view old (λ history. LeadsOn old history step answer new)
+
+-- this holds of each stop
+abbrev pub ForEachStop : (Step → Type 0) → Type 0
+ForEachStop P = (step : Step) → IsStop step → P step
 
 -- a broker after an opening: it is not broken, and stands for a prefix of the history, which is all durable
 abbrev pub IsStarted : {g : Ghosts MemDisk} → Settings → List Command → ℕ → Broker MemDisk g → Type 0

@@ -21,7 +21,7 @@ use Rattle.broker_core.specs.Broker.{settings_of, issued_of, durable_of, is_brok
 use Rattle.broker_core.specs.IssuerHalf.{half_view, lent_of}
 use Rattle.broker_core.specs.Batch.{first_of, last_of, commands_of, last_written, cause_of, first_in, last_in}
 use Rattle.broker_core.specs.Splitting.{broker_of}
-use Rattle.group_commit.specs.SplitDrill.{SplitLog, IsSplitStep, IsSplitRun, recovered, is_disk_broken}
+use Rattle.group_commit.specs.SplitDrill.{SplitLog, IsSplitStep, IsSplitRun, IsStop, recovered, is_disk_broken}
 
 -- what a result is told as
 abbrev pub told : Result Written Failed → Result ℕ WriteError
@@ -82,6 +82,10 @@ ForEachLog halves P = (s : Settings) (log : SplitLog) → Keeps s log halves →
 -- the step that answers so leads on from each of them
 abbrev pub Leads : Halves → SplitStep → SplitAnswer → Halves → Type 0
 Leads old step answer new = ForEachLog old (λ s log. (next : SplitLog) × IsSplitStep s log step answer next × Keeps s next new)
+
+-- this holds of each stop
+abbrev pub ForEachStop : (SplitStep → Type 0) → Type 0
+ForEachStop P = (step : SplitStep) → IsStop step → P step
 
 -- the halves after an opening: they stand for a front of the history, all of which is durable
 abbrev pub IsBegun : Settings → List Command → ℕ → Halves → Type 0

@@ -5,8 +5,8 @@ ghost use Rattle.broker_core.specs.Broker.{settings_of, pending_of, durable_of};
 ghost use Rattle.broker_core.specs.Promises.{ForEachHistory, ForEachHistoryOn};
 ghost use Rattle.broker_core.specs.Refusals.{TellsNotFormatted, TellsDamage, TellsOld, IsCutOff};
 ghost use Rattle.group_commit.specs.declared.script.Step.TheVariants as step;
-ghost use Rattle.group_commit.specs.Drill.{answer_to, cause_in, IsAtOneOf, Recovers, TellsOpening, MayBeCutOff, IsDrillFailure};
-ghost use Rattle.group_commit.specs.DrillBroker.{Leads, IsStarted, HasGenerationOf, KeepsGeneration, IsDrillOf};
+ghost use Rattle.group_commit.specs.Drill.{answer_to, cause_in, IsAtOneOf, Recovers, TellsOpening, IsStop, MayBeCutOff, IsDrillFailure};
+ghost use Rattle.group_commit.specs.DrillBroker.{ForEachStop, Leads, IsStarted, HasGenerationOf, KeepsGeneration, IsDrillOf};
 
 use crate::{Drill, DrillFailure, Step, StepAnswer};
 use broker_core::{Broker, IssueError, Ticket, copy_command, without_disk};
@@ -92,6 +92,38 @@ fn resume(broker: &mut Broker<MemDisk>, now: u64) -> StepAnswer
     answer_to(broker.resume(now.min(GREATEST_MOMENT)))
 }
 
+// Runs a step that is no stop.
+fn act(broker: &mut Broker<MemDisk>, step: &Step) -> Result<StepAnswer, AllocError>
+    requires { IsStop step.now → ⊥ }
+    ensures step { IfOk result (λ answer. Leads broker.old step.now answer broker.new) }
+{
+    match step {
+        Step::Issue(command) => issue(broker, command),
+        Step::Commit => Ok(commit(broker)),
+        Step::Switch => Ok(switch(broker)),
+        Step::Resume(now) => Ok(resume(broker, *now)),
+        Step::Stop(_) => unreachable!(),
+    }
+}
+
+// Stops the disk, opens it again and tells how many commands were recovered.
+fn stop_on(
+    alloc: Global,
+    broker: Broker<MemDisk>,
+    choice: &[(u64, [u8; 512])],
+) -> Result<(Broker<MemDisk>, StepAnswer), OpenError>
+    ensures step { IfOk result (λ r. ForEachStop (λ step. Leads broker step r.1 r.0)) }
+    ensures refused { ForEachHistory memory_view broker (λ history. IfErr result IsCutOff) }
+{
+    match stop(alloc, broker, choice) {
+        Ok(broker) => {
+            let recovered = broker.durable().number();
+            Ok((broker, StepAnswer::Number(recovered)))
+        }
+        Err(cause) => Err(cause),
+    }
+}
+
 // Runs one step.
 fn run_step(
     alloc: Global,
@@ -104,27 +136,11 @@ fn run_step(
 {
     let mut broker = broker;
     match step {
-        Step::Issue(command) => match issue(&mut broker, command) {
+        Step::Stop(choice) => stop_on(alloc, broker, choice),
+        _ => match act(&mut broker, step) {
             Ok(answer) => Ok((broker, answer)),
             Err(AllocError) => Err(OpenError::OutOfMemory),
         },
-        Step::Commit => {
-            let answer = commit(&mut broker);
-            Ok((broker, answer))
-        }
-        Step::Switch => {
-            let answer = switch(&mut broker);
-            Ok((broker, answer))
-        }
-        Step::Resume(now) => {
-            let answer = resume(&mut broker, *now);
-            Ok((broker, answer))
-        }
-        Step::Stop(choice) => {
-            let broker = stop(alloc, broker, choice)?;
-            let recovered = broker.durable().number();
-            Ok((broker, StepAnswer::Number(recovered)))
-        }
     }
 }
 

@@ -8,7 +8,7 @@ ghost use Rattle.group_commit.specs.declared.error.MigrateError.TheVariants as m
 ghost use Rattle.broker_core.specs.History.{AreGood};
 ghost use Rattle.broker_core.specs.Promises.{LeavesWhatWas};
 ghost use Rattle.group_commit.specs.Migrating.{HoldsHistories, IsOldDisk, LeavesMigrating, Migrates, IsMigrateReason, IsSoundRefusal, HoldsOneWhere, WritesNothingBut};
-ghost use Rattle.group_commit.specs.MigrateSteps.{IsReadAs, migrate_error_of, IsUnwritten, IsFaultOr, WritesTable, LeavesTable};
+ghost use Rattle.group_commit.specs.MigrateSteps.{IsReadAs, IsJudged, migrate_error_of, IsUnwritten, IsFaultOr, WritesTable, LeavesTable};
 
 use crate::{MigrateError, MigrateFailure};
 use async_core::Table;
@@ -55,6 +55,25 @@ fn unopened(why: OpenError) -> MigrateError
     }
 }
 
+// Why a disk of which this was opened is not migrated: it is not of version 1, or has no room for version 2 or for another
+// generation.
+fn refusal<D: Disk>(disk: &D, opened: &Opened) -> Option<MigrateError>
+    ensures { IsJudged (D.view disk.now).sectors opened.now result }
+{
+    if !opened.is_old() {
+        return Some(MigrateError::NotOld);
+    }
+    let sectors = disk.sectors();
+    let least = least_sectors(opened.settings());
+    if sectors < least {
+        return Some(MigrateError::TooSmall { least });
+    }
+    if opened.generation() >= MOST_GENERATIONS {
+        return Some(MigrateError::WornOut);
+    }
+    None
+}
+
 // Opens a disk of version 1, which has room for version 2 and for another generation.
 fn open_old<D: Disk>(alloc: Global, disk: &mut D) -> Result<(Opened, Table), MigrateError>
     ensures same { IsSameDisk (D.view disk.old) (D.view disk.new) }
@@ -80,19 +99,10 @@ fn open_old<D: Disk>(alloc: Global, disk: &mut D) -> Result<(Opened, Table), Mig
         Ok((opened, table)) => (opened, table),
         Err(why) => return Err(unopened(why)),
     };
-    if !opened.is_old() {
-        return Err(MigrateError::NotOld);
+    match refusal(disk, &opened) {
+        None => Ok((opened, table)),
+        Some(why) => Err(why),
     }
-    let sectors = disk.sectors();
-    let least = least_sectors(opened.settings());
-    if sectors < least {
-        return Err(MigrateError::TooSmall { least });
-    }
-    let generation = opened.generation();
-    if generation >= MOST_GENERATIONS {
-        return Err(MigrateError::WornOut);
-    }
-    Ok((opened, table))
 }
 
 // Writes the table of an opened disk of either version to the other segment.

@@ -4,10 +4,11 @@ ghost use Rattle.sector_disk.specs.Memory.{memory_view};
 ghost use Rattle.broker_core.specs.Promises.{ForEachHistoryOn};
 ghost use Rattle.broker_core.specs.Refusals.{TellsNotFormatted, TellsDamage, TellsOld, IsCutOff};
 ghost use Rattle.group_commit.specs.Drill.{cause_in, IsAtOneOf, Recovers, TellsOpening};
+ghost use Rattle.checkpoint.specs.declared.error.OpenError.TheVariants as open_error;
 ghost use Rattle.group_commit.specs.declared.split_drilling.Held.TheVariants as held;
 ghost use Rattle.group_commit.specs.declared.split_script.SplitStep.TheVariants as split_step;
 ghost use Rattle.group_commit.specs.SplitDrill.{MayBeCutOff, IsSplitDrillOf, IsSplitDrillFailure};
-ghost use Rattle.group_commit.specs.SplitSteps.{ForEachLog, Leads, IsBegun, HaveGenerationOf, IsStopped, write_answer};
+ghost use Rattle.group_commit.specs.SplitSteps.{ForEachLog, ForEachStop, Leads, IsBegun, HaveGenerationOf, IsStopped, write_answer};
 
 use crate::drilling::start;
 use crate::{DrillFailure, SplitAnswer, SplitDrill, SplitStep};
@@ -228,6 +229,36 @@ fn advance(halves: Halves) -> (Halves, SplitAnswer)
     }
 }
 
+// Issues a command on halves that are given up where there is no memory for it.
+fn issue_on(halves: Halves, command: &Command) -> Result<(Halves, SplitAnswer), OpenError>
+    ensures step { IfOk result (λ r. Leads halves (split_step.Issue command.now) r.1 r.0) }
+    ensures refused { IfErr result (λ why. why ≡ open_error.OutOfMemory) }
+{
+    let mut halves = halves;
+    match issue(&mut halves, command) {
+        Ok(answer) => Ok((halves, answer)),
+        Err(AllocError) => Err(OpenError::OutOfMemory),
+    }
+}
+
+// Stops the disk, opens it and splits again, and tells how many commands were recovered.
+fn stop_on(
+    alloc: Global,
+    halves: Halves,
+    choice: &[(u64, [u8; 512])],
+) -> Result<(Halves, SplitAnswer), OpenError>
+    ensures step { IfOk result (λ r. ForEachStop (λ step. Leads halves step r.1 r.0)) }
+    ensures refused { ForEachLog halves (λ s log. IfErr result IsCutOff) }
+{
+    match stop(alloc, halves, choice) {
+        Ok(halves) => {
+            let recovered = halves.issue.durable().number();
+            Ok((halves, SplitAnswer::Number(recovered)))
+        }
+        Err(cause) => Err(cause),
+    }
+}
+
 // Runs one step.
 fn run_step(
     alloc: Global,
@@ -239,25 +270,12 @@ fn run_step(
     ensures needs { IfErr result (MayBeCutOff step.now) }
 {
     match step {
-        SplitStep::Issue(command) => {
-            let mut halves = halves;
-            match issue(&mut halves, command) {
-                Ok(answer) => Ok((halves, answer)),
-                Err(AllocError) => Err(OpenError::OutOfMemory),
-            }
-        }
+        SplitStep::Issue(command) => issue_on(halves, command),
         SplitStep::Lend => Ok(lend(halves)),
         SplitStep::Write => Ok(write(halves)),
         SplitStep::Settle => Ok(settle(halves)),
         SplitStep::Advance => Ok(advance(halves)),
-        SplitStep::Stop(choice) => {
-            let halves = match stop(alloc, halves, choice) {
-                Ok(halves) => halves,
-                Err(cause) => return Err(cause),
-            };
-            let recovered = halves.issue.durable().number();
-            Ok((halves, SplitAnswer::Number(recovered)))
-        }
+        SplitStep::Stop(choice) => stop_on(alloc, halves, choice),
     }
 }
 

@@ -1,26 +1,36 @@
-use Rattle.std.proofs.Common.{◌≡◌, ℕ, refl, sym, ◌∙◌, ap, subst, arith}
+use Rattle.std.proofs.Common.{◌≡◌, ℕ, List, Vec, Global, inl, inr, refl, sym, subst}
 use Rattle.group_commit.specs.declared.script.Step.{Step}
-use Rattle.group_commit.specs.declared.script.StepAnswer.TheVariants as answer
-use Rattle.checkpoint.specs.Live.{generation_of}
-use Rattle.broker_core.specs.Broker.{durable_of, opened_of}
-use Rattle.group_commit.specs.Drill.{Log, opening}
-use Rattle.group_commit.specs.DrillBroker.{LeadsOn}
+use Rattle.group_commit.specs.declared.script.Step.TheVariants as step
+use Rattle.group_commit.specs.Drill.{IsStop}
+use Rattle.group_commit.proofs.Results.{if_ok, any_err}
 use Rattle.group_commit.proofs.drilling.run_step.Goals as goal
 
-pub returns-in_ok-broker-in-Stop-clause-step : goal.returns-in_ok-broker-in-Stop-clause-step
-returns-in_ok-broker-in-Stop-clause-step c history stands =
-    let b = c.in_ok-broker-in-Stop.broker in
-    let facts = c.in_ok-broker-in-Stop.ensures.recovers history stands in
-    let n : ℕ = c.number-recovered.result in
-    let same : n ≡ durable_of b = c.number-recovered.ensures ∙ c.durable.ensures in
-    let next : ℕ → Log = λ k. opening history k (generation_of (opened_of b)) in
-    subst (λ (step : Step). LeadsOn c.args.broker history step (answer.Number n) b) (sym c.in-Stop.is)
-    (record {
-      next = next (durable_of b);
-      step_is = (omega (arith, same, facts.0), omega (arith, same, facts.1), c.in_ok-broker-in-Stop.ensures.generation history stands, ap next (sym same));
-      settings = facts.2;
-      durable = refl;
-      generation = refl;
-      broken = facts.3;
-      stands = facts.4;
-    })
+-- what is no stop by its form is none
+not_stop : (s : Step) → ((choice : Vec (ℕ × List ℕ) Global) → s ≡ step.Stop choice → ⊥) → IsStop s → ⊥
+not_stop (step.Stop choice) never is = never choice refl
+not_stop (step.Issue command) never is = is
+not_stop step.Commit never is = is
+not_stop step.Switch never is = is
+not_stop (step.Resume now) never is = is
+
+pub act-requires : goal.act-requires
+act-requires c = not_stop c.args.step.now c.in_default.not-Stop
+
+pub returns-in-Stop-clause-step : goal.returns-in-Stop-clause-step
+returns-in-Stop-clause-step c =
+    if_ok _ _ c.stop_on.result (λ r leads. leads c.args.step.now (subst IsStop (sym c.in-Stop.is) tt)) c.stop_on.ensures.step
+
+pub returns-in-Stop-clause-refused : goal.returns-in-Stop-clause-refused
+returns-in-Stop-clause-refused c = c.stop_on.ensures.refused
+
+pub returns-in-Stop-clause-needs : goal.returns-in-Stop-clause-needs
+returns-in-Stop-clause-needs c = any_err _ c.stop_on.result (λ why. inl (subst IsStop (sym c.in-Stop.is) tt))
+
+pub returns-in-Ok-clause-step : goal.returns-in-Ok-clause-step
+returns-in-Ok-clause-step c = c.in-Ok.ensures.step
+
+pub returns-in-Err-clause-refused : goal.returns-in-Err-clause-refused
+returns-in-Err-clause-refused c history stands = inr refl
+
+pub returns-in-Err-clause-needs : goal.returns-in-Err-clause-needs
+returns-in-Err-clause-needs c = inr refl
