@@ -15,7 +15,12 @@ use Rattle.checkpoint.specs.declared.opened.Opened.{Opened}
 use Rattle.checkpoint.specs.Live.{IsLive, RecoversTo}
 use Rattle.checkpoint.specs.Ahead.{IsLiveAhead}
 use Rattle.broker_core.specs.History.{IsLegalStop}
-use Rattle.broker_core.specs.Broker.{BrokerState, StandsFor}
+use Rattle.sector_disk.specs.declared.disk.Disk.{Ghosts}
+use Rattle.broker_core.specs.declared.broker.Broker.{Broker}
+use Rattle.broker_core.specs.declared.error.IssueError.{IssueError}
+use Rattle.broker_core.specs.declared.error.IssueError.TheVariants as issue_error
+use Rattle.broker_core.specs.Broker.{BrokerState, StandsFor, IsReason}
+use Rattle.broker_core.specs.Steps.{IsTakeReason}
 
 -- a fact of what is Ok, and what follows from it
 pub if_ok : {T E : Type 0} (P Q : T → Type 0) (r : Result T E) → ((x : T) → P x → Q x) → IfOk r P → IfOk r Q
@@ -93,3 +98,11 @@ stands_along was now history disk opened settings table pending durable broken s
       staged = sym staged i;
     } in
     subst (λ (b : BrokerState). StandsFor b history) same stands
+
+-- why a table and what is pending on it refuse a command, is why the broker does
+pub reason_of : {D : Type 0} {g : Ghosts D} (broker : Broker D g) (command : Command) (why : IssueError) → IsTakeReason broker.table broker.pending.items command why → IsReason broker command why
+reason_of broker command issue_error.Broken reason = absurd reason
+reason_of broker command issue_error.WornOut reason = reason
+reason_of broker command (issue_error.Illegal why) reason = reason
+reason_of broker command issue_error.Backlog reason = reason
+reason_of broker command issue_error.OutOfMemory reason = reason

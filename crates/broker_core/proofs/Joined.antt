@@ -1,7 +1,7 @@
 -- What two halves are joined to.
-use Rattle.std.proofs.Common.{◌≡◌, ℕ, ◌+◌, ◌-◌, ◌<◌, ◌≤◌, true, None, Some, List, ◌++◌, length, take, drop, sym, ap, subst, ◌∙◌, arith, ⊎_elim, length-drop}
+use Rattle.std.proofs.Common.{◌≡◌, ℕ, ◌+◌, ◌-◌, ◌<◌, ◌≤◌, true, None, Some, List, ◌++◌, length, take, drop, sym, ap, subst, ◌∙◌, arith, ⊎_elim, length-append, length-drop}
 use Rattle.std.specs.Prelude.{slice_get, IfSome, IsSome}
-use Rattle.std.proofs.lemmas.List.{drop-drop, take_all, take-append-drop}
+use Rattle.std.proofs.lemmas.List.{drop-drop, take_all, take-append-drop, length-take-le}
 use Rattle.std.proofs.lemmas.Bool.{cases_lt}
 use Rattle.sector_disk.specs.Disk.{DiskView}
 use Rattle.sector_disk.specs.declared.disk.Disk.{Ghosts}
@@ -13,11 +13,12 @@ use Rattle.async_core.specs.State.{State}
 use Rattle.async_core.specs.laws.Tables.{number-table_of}
 use Rattle.broker_core.specs.declared.broker.Broker.{Broker}
 use Rattle.broker_core.specs.declared.issue_half.IssueHalf.{IssueHalf}
-use Rattle.broker_core.specs.Broker.{settings_of, table_in, issued_of, BrokerState, StandsFor, Stands}
+use Rattle.broker_core.specs.declared.taking.TakeError.TheVariants as take_error
+use Rattle.broker_core.specs.Broker.{settings_of, table_in, issued_of, pending_of, BrokerState, StandsFor, Stands}
 use Rattle.broker_core.specs.Issuer.{state_in}
 use Rattle.broker_core.specs.IssuerHalf.{half_view}
 use Rattle.broker_core.specs.Splitting.{Takes, Agree, ahead_of}
-use Rattle.broker_core.specs.Taking.{IllegalNext, HasJoined}
+use Rattle.broker_core.specs.Taking.{IllegalNext, StopsBefore, HasJoined}
 use Rattle.broker_core.proofs.Taken.{replay_stops}
 
 -- the front of a list, and what of its end is ahead of that
@@ -97,3 +98,31 @@ module _ {D : Type 0} {g : Ghosts D} (view : D → DiskView) (issue : IssueHalf)
       (ap (λ (l : List Command). take (issued_of old) history ++ l) all
       ∙ whole_of history (half_view issue).pending (issued_of old) (half_view issue).durable stands.durable_is stands.pending_is size)
       there
+
+-- what was taken of a copy of what is ahead, was taken of that
+module _ {D : Type 0} {g : Ghosts D} (view : D → DiskView) (issue : IssueHalf) (old new : Broker D g) (issued : ℕ) (commands : List Command) (number : issued ≡ issued_of old) (copied : commands ≡ drop (issued - (half_view issue).durable) (half_view issue).pending) where
+  abbrev count : ℕ
+  count = issued_of new - issued_of old
+
+  ahead_is : commands ≡ ahead_of issue old
+  ahead_is = copied ∙ ap (λ (n : ℕ). drop (n - (half_view issue).durable) (half_view issue).pending) number
+
+  pub takes_ahead : Takes old new commands count → Takes old new (ahead_of issue old) count
+  takes_ahead takes = subst (λ (l : List Command). Takes old new l count) ahead_is takes
+
+  pub stands_ahead : (history : List Command) → Stands view new (history ++ take count commands) → Stands view new (history ++ take count (ahead_of issue old))
+  stands_ahead history stands = subst (λ (l : List Command). Stands view new (history ++ take count l)) ahead_is stands
+
+  pub all_ahead : issued_of new ≡ issued_of old + length commands → issued_of new ≡ issued_of old + length (ahead_of issue old)
+  all_ahead all = subst (λ (l : List Command). issued_of new ≡ issued_of old + length l) ahead_is all
+
+  pub full_ahead : Takes old new commands count → StopsBefore old new commands take_error.Backlog → (length (pending_of new) ≡ 256) × (256 < length (pending_of old) + length (ahead_of issue old))
+  full_ahead takes stops =
+      let size : length (take count commands) ≡ count = length-take-le count commands takes.most in
+      let left : count < length (ahead_of issue old) = subst (λ (l : List Command). count < length l) ahead_is stops.0 in
+      (stops.1, omega (arith, stops.1, ap (λ (l : List Command). length l) takes.pending, length-append (pending_of old) (take count commands), size, left))
+
+  pub apart_ahead : Takes old new commands count → StopsBefore old new commands take_error.Illegal → Agree issue old → ⊥
+  apart_ahead takes stops =
+      let there : StopsBefore old new (ahead_of issue old) take_error.Illegal = subst (λ (l : List Command). StopsBefore old new l take_error.Illegal) ahead_is stops in
+      apart view issue old new (takes_ahead takes) there.0 there.1

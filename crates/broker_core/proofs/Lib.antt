@@ -1,4 +1,5 @@
 pub mod Committed
+pub mod Framed
 pub mod Issued
 pub mod Reopening
 pub mod Rested
