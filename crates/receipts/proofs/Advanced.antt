@@ -1,5 +1,5 @@
 -- What an advance tells, and what it leaves as it was.
-use Rattle.std.proofs.Common.{◌≡◌, ◌⊎◌, ℕ, true, refl, sym, ap, subst, ◌∙◌, inl, inr}
+use Rattle.std.proofs.Common.{◌≡◌, ℕ, max, true, refl, sym, ap, subst, ◌∙◌, inl, inr, arith}
 use Rattle.std.specs.Prelude.{Result, Ok, Err, IfOk, IfErr, Option, Some, None, is_some}
 use Rattle.std.specs.declared.sync.ledger.Ledger.{Ghosts as LedgerGhosts}
 use Rattle.broker_core.specs.declared.issue_half.IssueHalf.{IssueHalf}
@@ -11,11 +11,12 @@ use Rattle.broker_core.specs.declared.error.WriteError.TheVariants as write_erro
 use Rattle.broker_core.specs.declared.error.SettleError.{SettleError}
 use Rattle.broker_core.specs.declared.error.SettleError.TheVariants as settle_error
 use Rattle.broker_core.specs.IssuerHalf.{half_view}
+use Rattle.broker_core.specs.Batch.{cause_of}
 use Rattle.broker_core.specs.LendingMore.{IsNoMoreReason, IsFrontNotSettled}
 use Rattle.broker_core.specs.Advancing.{IsNotAdvancedAs}
 use Rattle.hall_plans.specs.declared.error.HallError.{HallError}
 use Rattle.hall_plans.specs.declared.error.HallError.TheVariants as error
-use Rattle.hall_core.specs.Halves.{lend_error_of, settle_error_of, IsNoMoreLent, IsNotDurable, IsFrontNotDurable}
+use Rattle.hall_core.specs.Halves.{lend_error_of, settle_error_of, IsNoMoreLent}
 use Rattle.receipts.specs.declared.mark.Trace.{Ghosts as TraceGhosts}
 use Rattle.receipts.specs.declared.opening.OpeningTrace.{Ghosts as OpeningGhosts}
 use Rattle.receipts.specs.declared.broken_hall.BrokenHall.{BrokenHall}
@@ -23,10 +24,12 @@ use Rattle.receipts.specs.declared.desk.Desk.{Desk}
 use Rattle.receipts.specs.declared.desk.Steps.{Steps}
 use Rattle.receipts.specs.declared.locked.Locked.{Locked}
 use Rattle.receipts.specs.declared.locked.Loan.{Loan}
-use Rattle.receipts.specs.Advancing.{SharesTo, IsNotSharedTo, IsToldOfAdvance, SettlesAs}
+use Rattle.receipts.specs.Advancing.{SharesTo, IsNotSharedTo, IsToldOfAdvance, SettlesAs, IsToldUpTo}
+use Rattle.receipts.specs.Answers.{IsToldMore, IsCommitRefusal}
 use Rattle.receipts.specs.Broken.{is_last, TellsBroken}
 use Rattle.receipts.specs.UnderLock.{IsNoFault}
 use Rattle.receipts.proofs.Broken.{settled_broken}
+use Rattle.receipts.proofs.Refused.{mismatch_refuses, lend_refuses, write_refuses}
 use Rattle.receipts.proofs.Settled.{HasSameTable, unsettled_same}
 use Rattle.receipts.proofs.UnderLock.{told_of, failed_fault, error_in, no_lend_fault}
 
@@ -52,6 +55,30 @@ told_of_advance old new (Ok None) (Ok durable) settles = tt
 told_of_advance old new (Ok None) (Err why) settles = absurd settles
 told_of_advance old new (Err failed) (Ok durable) settles = absurd settles
 told_of_advance old new (Err failed) (Err why) settles = told_of old new (Err failed) (Err why) tt settles
+
+pub told_at_least : (old new durable : ℕ) → IsToldMore old new durable → IsToldUpTo old new durable
+told_at_least old new durable told = (omega (arith, told.0, told.1), omega (arith, told.1))
+
+pub told_up_to : (result : Result ℕ HallError) (old mid new : ℕ) → mid ≡ old → IfOk result (λ durable. new ≡ max mid durable) → IfOk result (IsToldUpTo old new)
+told_up_to (Ok durable) old mid new same told = (omega (arith, same, told), omega (arith, told))
+told_up_to (Err why) old mid new same told = tt
+
+-- ## Refusals
+
+module _ (told : ℕ) where
+  pub refused_sharing : (half : IssueHalf) (why : HallError) → IsNotSharedTo told half why → IsCommitRefusal told why
+  refused_sharing half why (inl is) = mismatch_refuses told _ why is
+  refused_sharing half why (inr left) = subst (IsCommitRefusal told) (sym left.1.1) (lend_refuses told left.1.0)
+
+  pub refused_advancing : (outcome : Result (Option Written) Failed) (result : Result ℕ HallError) → IsToldOfAdvance outcome result
+      → IfErr result (IsCommitRefusal told)
+  refused_advancing (Ok (Some written)) (Ok durable) tells = tt
+  refused_advancing (Ok (Some written)) (Err why) tells = subst (IsCommitRefusal told) (sym tells) tt
+  refused_advancing (Ok None) (Ok durable) tells = tt
+  refused_advancing (Ok None) (Err why) tells = absurd tells
+  refused_advancing (Err failed) (Ok durable) tells = tt
+  refused_advancing (Err failed) (Err why) (inl is) = subst (IsCommitRefusal told) (sym is) (write_refuses told (cause_of failed))
+  refused_advancing (Err failed) (Err why) (inr is) = subst (IsCommitRefusal told) (sym is) tt
 
 -- ## Faults
 

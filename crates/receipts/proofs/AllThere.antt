@@ -7,7 +7,9 @@ use Rattle.retry_rules.specs.declared.settings.Settings.{Settings}
 use Rattle.async_core.specs.laws.Shapes.{limits}
 use Rattle.receipts.specs.declared.mark.Mark.{Mark}
 use Rattle.receipts.specs.Marks.{history_of_desk}
-use Rattle.receipts.specs.Desks.{desk_count, IsEachOnce, HaveEachOnce, AreAll}
+use Rattle.receipts.specs.declared.error.FinishError.{FinishError}
+use Rattle.receipts.specs.declared.error.FinishError.TheVariants.{Mismatch, NotJoined}
+use Rattle.receipts.specs.Desks.{desk_count, IsEachOnce, HaveEachOnce, AreAll, IsReason, IsNotMismatch}
 
 -- ## Numbers
 
@@ -49,3 +51,8 @@ module _ {X : Type 0} (number : X → ℕ) (own : X → List Mark) (count parts 
 
   pub not_there : a ≡ false → (a ≡ true) ↔ AreAll number own parts marks desks
   not_there is = (λ t. absurd (true≢false (sym t ∙ is)), λ all. once.1 (same_count all.once))
+
+-- where all are there, the halves were not joined
+pub reason_where_all : (all : Type 0) → all → (why : FinishError) → IsNotMismatch why → IsReason all why
+reason_where_all all there Mismatch never = absurd never
+reason_where_all all there (NotJoined why) never = there

@@ -15,7 +15,7 @@ use Rattle.broker_core.specs.Batch.{is_lasting}
 use Rattle.broker_core.specs.Lending.{IsLendReason, IsNotSettled}
 use Rattle.hall_plans.specs.declared.error.HallError.{HallError}
 use Rattle.hall_plans.specs.declared.error.HallError.TheVariants as error
-use Rattle.hall_core.specs.Halves.{lend_error_of, write_error_of, settle_error_of, IsNotLent, IsNotDurable}
+use Rattle.hall_core.specs.Halves.{lend_error_of, write_error_of, settle_error_of, IsNotDurable}
 use Rattle.receipts.specs.declared.broken_hall.BrokenHall.{BrokenHall}
 use Rattle.receipts.specs.declared.locked.Loan.{Loan}
 use Rattle.receipts.specs.Broken.{is_last, TellsBroken}

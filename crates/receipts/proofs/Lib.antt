@@ -9,3 +9,6 @@ pub mod Lent
 pub mod Counted
 pub mod Broken
 pub mod Advanced
+pub mod Asked
+pub mod Outcomes
+pub mod Issued

@@ -24,7 +24,7 @@ pub few_pending : (half : IssueHalf) → pending_in (half_view half) ≤ 256
 few_pending half = let laws = half_laws half in omega (arith, laws.counted, laws.most_pending)
 
 module _ (told : ℕ) where
-  mismatch_refuses : (found : ℕ) (why : HallError) → IsMismatch told found why → IsCommitRefusal told why
+  pub mismatch_refuses : (found : ℕ) (why : HallError) → IsMismatch told found why → IsCommitRefusal told why
   mismatch_refuses found (error.Mismatch before issued) is = (is.0, omega (arith, is.1, is.2))
   mismatch_refuses found error.Broken is = absurd is
   mismatch_refuses found error.Stopping is = absurd is
@@ -38,12 +38,12 @@ module _ (told : ℕ) where
   mismatch_refuses found error.OtherHalf is = absurd is
   mismatch_refuses found error.Unfit is = absurd is
 
-  lend_refuses : (why : LendError) → IsCommitRefusal told (lend_error_of why)
+  pub lend_refuses : (why : LendError) → IsCommitRefusal told (lend_error_of why)
   lend_refuses lend_error.Broken = tt
   lend_refuses lend_error.Lent = tt
   lend_refuses lend_error.OutOfMemory = tt
 
-  write_refuses : (why : WriteError) → IsCommitRefusal told (write_error_of why)
+  pub write_refuses : (why : WriteError) → IsCommitRefusal told (write_error_of why)
   write_refuses write_error.Broken = tt
   write_refuses write_error.Mismatch = tt
   write_refuses write_error.WornOut = tt

@@ -1,5 +1,5 @@
 -- How long events took from their acceptance to their end.
-use Rattle.std.specs.Prelude.{ℕ, ◌+◌, ◌-◌, ◌^◌, nat_le, min, Bool, true, false, List, [], ◌∷◌, slice_index, if◌then◌else◌, Option, Some, None}
+use Rattle.std.specs.Prelude.{ℕ, ◌+◌, ◌-◌, ◌^◌, nat_le, min, Bool, true, false, [], ◌∷◌, slice_index, if◌then◌else◌, Option, Some, None}
 use Rattle.invoke_records.specs.declared.command.Kind.{Kind}
 use Rattle.invoke_records.specs.declared.command.Kind.TheVariants.{Succeed, Fail, Expire}
 use Rattle.invoke_records.specs.declared.row.Standing.{Standing}

@@ -1,5 +1,5 @@
 -- How many steps a desk made under the lock of its office.
-use Rattle.std.specs.Prelude.{ℕ, ◌+◌, ◌%◌, ◌^◌}
+use Rattle.std.specs.Prelude.{◌+◌, ◌%◌, ◌^◌}
 use Rattle.receipts.specs.declared.desk.Steps.{Steps}
 
 -- what a look has, and a desk at first

@@ -9,7 +9,6 @@ use crate::desk::Desk;
 use crate::error::{FinishError, UnlockedFailure};
 use crate::locked::Locked;
 use crate::mark::Mark;
-use crate::marks::Marks;
 use crate::office::Office;
 use broker_core::{Broker, DiskHalf};
 use hall_core::Hall;
@@ -96,38 +95,11 @@ pub(crate) struct NotClosed<D: Disk, L: Ledger> {
 }
 
 impl<L: Ledger> Locked<L, Mark> {
-    // Whether these are all its desks, each with its own marks.
-    fn has_all(&self, desks: &[Desk<L>]) -> bool
+    /// Whether these are all its desks, each with its own marks.
+    pub(crate) fn has_all(&self, desks: &[Desk<L>]) -> bool
         ensures { IsTrue result ↔ AreAll (λ d. d.number) (λ d. d.own.items) L.parts self.now.marks.all.items desks.now }
     {
         have_each_number(desks, self.desk_count.count()) && are_histories(&self.marks.all, desks)
-    }
-
-    /// The hall and the marks, exactly where these are all its desks, each with its own marks, and the hall joins.
-    pub(crate) fn close<D: Disk>(
-        self,
-        desks: &[Desk<L>],
-        disk: DiskHalf<D>,
-    ) -> Result<(Hall<Broker<D>>, Marks<L, Mark>), NotClosed<D, L>>
-        ensures all { OnOk result (AreAll (λ d. d.number) (λ d. d.own.items) L.parts self.marks.all.items desks.now) }
-        ensures some { 0 < L.parts }
-        ensures marks { IfOk result (λ r. r.1.all.items ≡ self.marks.all.items) }
-        ensures joined { IfOk result (λ r. Joins self.hall.issuer (broker_of disk) r.0.issuer) }
-        ensures refused { IfErr result (λ failure.
-            IsReason (AreAll (λ d. d.number) (λ d. d.own.items) L.parts self.marks.all.items desks.now) failure.cause) }
-        ensures not_joined { IfErr result (λ failure. IsWhyNotJoined
-            (IsNotJoined self.hall.issuer failure.locked.hall.issuer (broker_of disk) (broker_of failure.disk)) failure.cause) }
-        ensures same { IfErr result (λ failure. failure.locked.marks.all.items ≡ self.marks.all.items) }
-    {
-        if !self.has_all(desks) {
-            let cause = FinishError::Mismatch;
-            return Err(NotClosed {
-                cause,
-                locked: self,
-                disk,
-            });
-        }
-        self.join(disk)
     }
 }
 

@@ -6,6 +6,7 @@ ghost use Rattle.receipts.specs.Following.{Follows};
 ghost use Rattle.receipts.specs.Locked.{hall_in, issuer_in};
 ghost use Rattle.receipts.specs.Running.{HasRuns};
 
+mod admitting;
 mod sharing;
 
 use crate::desk::Desk;
@@ -122,19 +123,6 @@ impl<L: Ledger, T: Trace> Locked<L, T> {
         Ok(())
     }
 
-    // The next slot of a desk.
-    fn next_slot(&self, desk: &Desk<L, T>) -> Result<u64, HallError>
-        ensures slot { IfOk result (IsSlotOf desk.now.number) }
-        ensures next { IfOk result (λ slot. slot ≡ next_slot self.now.slots desk.now.number) }
-        ensures room { OnOk result (self.now.slots < 2 ^ 58) }
-        ensures err { IfErr result (λ why. (why ≡ WornOut) × (2 ^ 58 ≤ self.now.slots)) }
-    {
-        if self.slots >= MOST_SLOTS {
-            return Err(HallError::WornOut);
-        }
-        Ok(MOST_DESKS * self.slots + desk.number)
-    }
-
     /// A request of a desk: `Hall::arrive` with the desk's next slot, and a mark of the command that it issued.
     pub(crate) fn arrive(
         &mut self,
@@ -146,11 +134,7 @@ impl<L: Ledger, T: Trace> Locked<L, T> {
         ensures { Arrives self.old self.new desk.old.steps desk.new.steps desk.old desk.new call now words result }
     {
         desk.steps.count();
-        self.check(desk)?;
-        let slot = self.next_slot(desk)?;
-        if !self.hall.fits(slot, &call, now, &words) {
-            return Err(HallError::Unfit);
-        }
+        let slot = self.admit(desk, &call, now, &words)?;
         self.marks.reserve(desk)?;
         let Locked {
             hall,

@@ -9,8 +9,7 @@ ghost use Rattle.receipts.specs.Marks.{AreNumbered, sum_of_lists};
 ghost use Rattle.receipts.specs.Running.{HasRuns};
 
 use crate::desk::Desk;
-use crate::error::UnlockedFailure;
-use crate::finishing::NotClosed;
+use crate::error::{FinishError, UnlockedFailure};
 use crate::locked::Locked;
 use crate::mark::{Mark, Trace};
 use crate::office::Office;
@@ -92,23 +91,24 @@ impl<L: Ledger> Unlocked<L> {
         ensures desks { IfErr result (λ failure. failure.desks.items ≡ desks.items) }
         ensures same { IfErr result (λ failure. failure.office.locked.marks.all.items ≡ self.locked.marks.all.items) }
     {
-        let Unlocked { locked } = self;
-        match locked.close(&desks, disk) {
+        if !self.locked.has_all(&desks) {
+            return Err(UnlockedFailure {
+                cause: FinishError::Mismatch,
+                office: self,
+                desks,
+                disk,
+            });
+        }
+        match self.locked.join(disk) {
             Ok((hall, marks)) => Ok((hall, marks.into_list(desks))),
-            Err(failure) => {
-                let NotClosed {
-                    cause,
-                    locked,
-                    disk,
-                } = failure;
-                let office = Unlocked { locked };
-                Err(UnlockedFailure {
-                    cause,
-                    office,
-                    desks,
-                    disk,
-                })
-            }
+            Err(failure) => Err(UnlockedFailure {
+                cause: failure.cause,
+                office: Unlocked {
+                    locked: failure.locked,
+                },
+                desks,
+                disk: failure.disk,
+            }),
         }
     }
 }

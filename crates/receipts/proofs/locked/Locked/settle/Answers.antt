@@ -1,4 +1,4 @@
-use Rattle.std.proofs.Common.{rules, refl, map, Ok, Err}
+use Rattle.std.proofs.Common.{◌≤◌, ℕ, refl, sym, subst, map, Ok, Err}
 use Rattle.receipts.proofs.Settled.{settle_same, settled_number, follows_still, reached_still}
 use Rattle.std.proofs.Math.Logic.{∥∥₁_map}
 use Rattle.broker_core.specs.IssuerHalf.{half_view}
@@ -21,45 +21,44 @@ invariant_of-self g c =
 pub returns-in-Ok : goal.returns-in-Ok
 returns-in-Ok g c =
     let number = settled_number _ _ _ _ c.in-Ok.ensures.ok in
-    let told = c.requires in
     record {
-      told = search (rules, number, told);
-      steps = search rules;
+      told = (subst (λ (n : ℕ). c.args.desk.now.told ≤ n) (sym number) c.requires, c.number-desk.ensures);
+      steps = c.count.ensures;
       from_is = refl;
       to_is = refl;
-      number = search rules;
-      own = search rules;
-      answered = search rules;
-      err = search rules;
-      refused = search rules;
-      settles = search rules;
+      number = refl;
+      own = refl;
+      answered = refl;
+      err = tt;
+      refused = tt;
+      settles = c.in-Ok.ensures.ok;
       tells = told_of _ _ c.args.outcome (Ok c.in-Ok.durable) c.in-Ok.ensures.ok tt;
-      stands = search rules;
-      parts = search rules;
-      all = search rules;
-      counted = search rules;
-      opening = search rules;
-      lives = search rules;
+      stands = c.settle.ensures.stands;
+      parts = c.settle.ensures.parts;
+      all = refl;
+      counted = refl;
+      opening = refl;
+      lives = refl;
     }
 
 pub returns-in-Err : goal.returns-in-Err
 returns-in-Err g c =
     record {
-      told = search rules;
-      steps = search rules;
+      told = tt;
+      steps = c.count.ensures;
       from_is = refl;
       to_is = refl;
-      number = search rules;
-      own = search rules;
-      answered = search rules;
-      err = search rules;
-      refused = search rules;
-      settles = search rules;
+      number = refl;
+      own = refl;
+      answered = refl;
+      err = refl;
+      refused = c.in-Err.ensures.err;
+      settles = tt;
       tells = told_of _ _ c.args.outcome (Err c.in-Err.why) tt c.in-Err.ensures.err;
-      stands = search rules;
-      parts = search rules;
-      all = search rules;
-      counted = search rules;
-      opening = search rules;
-      lives = search rules;
+      stands = c.settle.ensures.stands;
+      parts = c.settle.ensures.parts;
+      all = refl;
+      counted = refl;
+      opening = refl;
+      lives = refl;
     }

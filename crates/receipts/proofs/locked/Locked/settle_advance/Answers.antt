@@ -22,40 +22,40 @@ pub returns-in-Ok : goal.returns-in-Ok
 returns-in-Ok g c =
     record {
       told = search rules;
-      steps = search rules;
+      steps = c.count.ensures;
       from_is = refl;
       to_is = refl;
-      number = search rules;
-      own = search rules;
-      answered = search rules;
-      err = search rules;
+      number = refl;
+      own = refl;
+      answered = refl;
+      err = tt;
       settles = c.in-Ok.ensures.settles;
       tells = told_of_advance c.args.self.now.hall.issuer c.settle_in.new.hall.issuer c.args.outcome (Ok c.in-Ok.durable) c.in-Ok.ensures.settles;
-      stands = search rules;
-      parts = search rules;
-      all = search rules;
-      counted = search rules;
-      opening = search rules;
-      lives = search rules;
+      stands = c.settle_in.ensures.stands;
+      parts = c.settle_in.ensures.parts;
+      all = refl;
+      counted = refl;
+      opening = refl;
+      lives = refl;
     }
 
 pub returns-in-Err : goal.returns-in-Err
 returns-in-Err g c =
     record {
-      told = search rules;
-      steps = search rules;
+      told = tt;
+      steps = c.count.ensures;
       from_is = refl;
       to_is = refl;
-      number = search rules;
-      own = search rules;
-      answered = search rules;
-      err = search rules;
+      number = refl;
+      own = refl;
+      answered = refl;
+      err = refl;
       settles = c.in-Err.ensures.settles;
       tells = told_of_advance c.args.self.now.hall.issuer c.settle_in.new.hall.issuer c.args.outcome (Err c.in-Err.why) c.in-Err.ensures.settles;
-      stands = search rules;
-      parts = search rules;
-      all = search rules;
-      counted = search rules;
-      opening = search rules;
-      lives = search rules;
+      stands = c.settle_in.ensures.stands;
+      parts = c.settle_in.ensures.parts;
+      all = refl;
+      counted = refl;
+      opening = refl;
+      lives = refl;
     }

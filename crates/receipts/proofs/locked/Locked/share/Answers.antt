@@ -1,35 +1,39 @@
-use Rattle.std.proofs.Common.{rules, refl}
+use Rattle.std.proofs.Common.{refl, map, inr}
 use Rattle.std.proofs.Math.Logic.{∥∥₁_map}
 use Rattle.broker_core.specs.IssuerHalf.{half_view}
 use Rattle.hall_core.specs.Hall.{view_of}
 use Rattle.receipts.proofs.Running.{runs_same}
+use Rattle.receipts.proofs.Settled.{follows_still, reached_still}
 use Rattle.receipts.proofs.Advanced.{no_more_fault}
 use Rattle.receipts.proofs.locked.Locked.share.Goals as goal
 
 pub invariant_of-self : goal.invariant_of-self
-invariant_of-self g c = record {
-  numbered = search rules;
-  reached = search rules;
-  followed = search rules;
-  runs = ∥∥₁_map c.args.self.now.runs (runs_same (view_of half_view c.args.self.now.hall) (view_of half_view c.lend_more.new.self) _ c.lend_more.ensures.same);
-}
+invariant_of-self g c =
+    let locked = c.args.self.now in
+    let same = c.lend_more.ensures.same in
+    record {
+      numbered = locked.numbered;
+      reached = reached_still _ _ _ same.issuer.table locked.reached;
+      followed = follows_still _ _ (g.T.Opening.OpeningTrace.table locked.opening) _ _ (map g.T.Trace.mark locked.marks.all.items) same.issuer.settings same.issuer.table locked.followed;
+      runs = ∥∥₁_map locked.runs (runs_same (view_of half_view locked.hall) (view_of half_view c.lend_more.new.self) _ same);
+    }
 
 pub returns-in-Err : goal.returns-in-Err
 returns-in-Err g c =
     record {
-      told = search rules;
-      steps = search rules;
+      told = tt;
+      steps = c.count.ensures;
       from_is = refl;
       to_is = refl;
-      number = search rules;
-      own = search rules;
-      answered = search rules;
-      err = search rules;
-      refused = search rules;
+      number = refl;
+      own = refl;
+      answered = refl;
+      err = refl;
+      refused = inr (c.in_ok-check.ensures.ok, c.in-Err.ensures.reason);
       no_fault = no_more_fault c.args.self.now.hall.issuer c.in-Err.why c.in-Err.ensures.reason;
-      lends = search rules;
-      kept = search rules;
-      same = search rules;
-      opening = search rules;
-      lives = search rules;
+      lends = tt;
+      kept = c.in-Err.ensures.kept;
+      same = record { hall = c.lend_more.ensures.same; marks = refl; slots = refl };
+      opening = refl;
+      lives = refl;
     }

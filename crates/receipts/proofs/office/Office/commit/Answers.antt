@@ -1,7 +1,11 @@
-use Rattle.std.proofs.Common.{Ok, inl, inr, refl, ◌∙◌, ap}
-use Rattle.receipts.specs.declared.locked.Loan.TheVariants.{Out}
-use Rattle.receipts.proofs.Lent.{told_why, told_durable, lends_as}
-use Rattle.receipts.proofs.UnderLock.{fault_told}
+use Rattle.std.proofs.Common.{◌≡◌, Ok, Err, inl, inr, refl, ◌∙◌, ap}
+use Rattle.hall_plans.specs.declared.error.HallError.TheVariants.{Fault}
+use Rattle.receipts.specs.declared.locked.Loan.TheVariants.{Nothing, Out}
+use Rattle.receipts.specs.Locked.{IsToldByLoan, IsNotLentTo}
+use Rattle.receipts.specs.UnderLock.{IsNoFault}
+use Rattle.receipts.proofs.Lent.{told_why, told_durable, lends_as, at_error, at_loan, not_error, told_before, told_along, kept_along, refused_by}
+use Rattle.receipts.proofs.Refused.{refused_lending}
+use Rattle.receipts.proofs.UnderLock.{fault_told, never_told}
 use Rattle.receipts.proofs.Broken.{lent_broken, settled_broken}
 use Rattle.receipts.proofs.office.Office.commit.Goals as goal
 
@@ -85,3 +89,93 @@ returns-in-Out-clause-steps g c = record {
   first = c.write-outcome.ensures.first;
   settles = c.settle-answer.ensures.settles;
 }
+
+-- ## What is told, and what stays
+
+pub returns-in-Err-clause-told : goal.returns-in-Err-clause-told
+returns-in-Err-clause-told g c = tt
+
+pub returns-in-Err-clause-number : goal.returns-in-Err-clause-number
+returns-in-Err-clause-number g c = c.lend-lend.ensures.lends.number
+
+pub returns-in-Err-clause-marks : goal.returns-in-Err-clause-marks
+returns-in-Err-clause-marks g c = c.lend-lend.ensures.lends.own
+
+pub returns-in-Err-clause-answered : goal.returns-in-Err-clause-answered
+returns-in-Err-clause-answered g c = c.lend-lend.ensures.lends.answered
+
+pub returns-in-Err-clause-err : goal.returns-in-Err-clause-err
+returns-in-Err-clause-err g c =
+    at_error c.lend-lend.result.0 c.in-Err.why (λ _. c.lend-lend.new.desk.told ≡ c.args.desk.now.told) c.in-Err.is c.lend-lend.ensures.lends.err
+
+pub returns-in-Err-clause-refused : goal.returns-in-Err-clause-refused
+returns-in-Err-clause-refused g c =
+    let told = c.args.desk.now.told in
+    let half = c.lend-lend.result.1.before.value.hall.issuer in
+    refused_lending told half c.in-Err.why (at_error c.lend-lend.result.0 c.in-Err.why (IsNotLentTo told half) c.in-Err.is c.lend-lend.ensures.lends.refused)
+
+pub returns-in-Err-clause-fault : goal.returns-in-Err-clause-fault
+returns-in-Err-clause-fault g c is =
+    absurd (never_told c.in-Err.why (Err c.in-Err.why) refl (at_error c.lend-lend.result.0 c.in-Err.why IsNoFault c.in-Err.is c.lend-lend.ensures.lends.no_fault) is)
+
+pub returns-in-Err-clause-left : goal.returns-in-Err-clause-left
+returns-in-Err-clause-left g c = c.lend-lend.ensures.broken
+
+pub returns-in-Nothing-clause-told : goal.returns-in-Nothing-clause-told
+returns-in-Nothing-clause-told g c =
+    at_loan c.lend-lend.result.0 (Nothing c.in-Nothing.durable) (IsToldByLoan c.args.desk.now.told c.lend-lend.new.desk.told) (c.in-Ok.is ∙ ap Ok c.in-Nothing.is) c.lend-lend.ensures.lends.told
+
+pub returns-in-Nothing-clause-number : goal.returns-in-Nothing-clause-number
+returns-in-Nothing-clause-number g c = c.lend-lend.ensures.lends.number
+
+pub returns-in-Nothing-clause-marks : goal.returns-in-Nothing-clause-marks
+returns-in-Nothing-clause-marks g c = c.lend-lend.ensures.lends.own
+
+pub returns-in-Nothing-clause-answered : goal.returns-in-Nothing-clause-answered
+returns-in-Nothing-clause-answered g c = c.lend-lend.ensures.lends.answered
+
+pub returns-in-Nothing-clause-err : goal.returns-in-Nothing-clause-err
+returns-in-Nothing-clause-err g c = tt
+
+pub returns-in-Nothing-clause-refused : goal.returns-in-Nothing-clause-refused
+returns-in-Nothing-clause-refused g c = tt
+
+pub returns-in-Nothing-clause-fault : goal.returns-in-Nothing-clause-fault
+returns-in-Nothing-clause-fault g c is = absurd (not_error c.in-Nothing.durable Fault is)
+
+pub returns-in-Nothing-clause-broken : goal.returns-in-Nothing-clause-broken
+returns-in-Nothing-clause-broken g c = tt
+
+pub returns-in-Nothing-clause-left : goal.returns-in-Nothing-clause-left
+returns-in-Nothing-clause-left g c = c.lend-lend.ensures.broken
+
+pub settle-answer-requires : goal.settle-answer-requires
+settle-answer-requires g c =
+    told_before c.args.desk.now.told c.lend-lend.new.desk.told _ _ (at_loan c.lend-lend.result.0 (Out c.in-Out.batch) (IsToldByLoan c.args.desk.now.told c.lend-lend.new.desk.told) (c.in-Ok.is ∙ ap Ok c.in-Out.is) c.lend-lend.ensures.lends.told) c.write-outcome.ensures.last
+
+pub returns-in-Out-clause-told : goal.returns-in-Out-clause-told
+returns-in-Out-clause-told g c =
+    let same = (at_loan c.lend-lend.result.0 (Out c.in-Out.batch) (IsToldByLoan c.args.desk.now.told c.lend-lend.new.desk.told) (c.in-Ok.is ∙ ap Ok c.in-Out.is) c.lend-lend.ensures.lends.told).1 in
+    told_along c.settle-answer.result.0 c.args.desk.now.told c.lend-lend.new.desk.told c.settle-answer.new.desk.told same c.settle-answer.ensures.settles.told
+
+pub returns-in-Out-clause-number : goal.returns-in-Out-clause-number
+returns-in-Out-clause-number g c = c.settle-answer.ensures.settles.number ∙ c.lend-lend.ensures.lends.number
+
+pub returns-in-Out-clause-marks : goal.returns-in-Out-clause-marks
+returns-in-Out-clause-marks g c = c.settle-answer.ensures.settles.own ∙ c.lend-lend.ensures.lends.own
+
+pub returns-in-Out-clause-answered : goal.returns-in-Out-clause-answered
+returns-in-Out-clause-answered g c = c.settle-answer.ensures.settles.answered ∙ c.lend-lend.ensures.lends.answered
+
+pub returns-in-Out-clause-err : goal.returns-in-Out-clause-err
+returns-in-Out-clause-err g c =
+    let same = (at_loan c.lend-lend.result.0 (Out c.in-Out.batch) (IsToldByLoan c.args.desk.now.told c.lend-lend.new.desk.told) (c.in-Ok.is ∙ ap Ok c.in-Out.is) c.lend-lend.ensures.lends.told).1 in
+    kept_along c.settle-answer.result.0 c.args.desk.now.told c.lend-lend.new.desk.told c.settle-answer.new.desk.told same c.settle-answer.ensures.settles.err
+
+pub returns-in-Out-clause-refused : goal.returns-in-Out-clause-refused
+returns-in-Out-clause-refused g c =
+    let seen = c.settle-answer.result.1 in
+    refused_by c.args.desk.now.told seen.before.value.hall.issuer seen.after.value.hall.issuer c.write-outcome.result c.settle-answer.result.0 c.settle-answer.ensures.settles.refused
+
+pub returns-in-Out-clause-left : goal.returns-in-Out-clause-left
+returns-in-Out-clause-left g c = c.settle-answer.ensures.broken
