@@ -7,6 +7,7 @@ use crate::permits::Permit;
 use crate::timer::Timer;
 use futures::Future;
 use futures::task::{Context, Poll};
+use hyper::server::graceful::{Graceful, GracefulConnection, until};
 use std::alloc::Global;
 use std::time::Clock;
 
@@ -62,6 +63,22 @@ impl<C: Future, R: Drop> ConnectionFuture<C, R> {
             connected: Some(connected),
         })
     }
+}
+
+/// Serves a connection as `ConnectionFuture::new` does. It ends after its exchange once `ending` is ready.
+pub(crate) fn serve_until<C: GracefulConnection, F: Future<Output = T>, T: Drop, R: Drop>(
+    alloc: Global,
+    conn: C,
+    ending: F,
+    timer: Timer<R>,
+    permit: Permit,
+) -> Option<ConnectionFuture<Graceful<C, F>, R>>
+    requires conn { C.can_poll conn }
+    requires ending { F.can_poll ending }
+    ensures { IfSome result (λ served. IfSome served.connected (λ connected. C.can_poll connected.value.conn.conn
+        × IfSome connected.value.conn.signal F.can_poll)) }
+{
+    ConnectionFuture::new(alloc, until(conn, ending), timer, permit)
 }
 
 impl<C: Future<Output = hyper::Result<()>>, R: Clock + Drop> Future for ConnectionFuture<C, R> {

@@ -3,7 +3,7 @@ ghost use Rattle.std.specs.Prelude.{IfSome};
 
 use crate::answering::Body;
 use crate::application::Application;
-use crate::connection_future::ConnectionFuture;
+use crate::connection_future::{ConnectionFuture, serve_until};
 use crate::connection_phase::PhaseCell;
 use crate::connections::Door;
 use crate::filtered_stream::FilteredStream;
@@ -17,7 +17,7 @@ use crate::requests::Requests;
 use crate::timer::Timer;
 use hyper::rt::TokioTimer;
 use hyper::server::conn::http1::{Builder, Connection};
-use hyper::server::graceful::{Graceful, until};
+use hyper::server::graceful::Graceful;
 use port_meters::PortMeter;
 use std::alloc::Global;
 use std::rc::Rc;
@@ -35,6 +35,15 @@ type Ending<R, A> = Graceful<
     Connection<Socket<R>, Requests<R, A>, Body, TokioTimer<R>>,
     WaitForCancellationFuture,
 >;
+
+// What a connection is served with.
+#[derive(Drop)]
+struct Prepared<R, A> {
+    socket: Socket<R>,
+    requests: Requests<R, A>,
+    ending: WaitForCancellationFuture,
+    timer: Timer<R>,
+}
 
 /// Serves connections by HTTP/1.1.
 #[derive(Drop)]
@@ -90,18 +99,34 @@ impl<R: Clock + Copy + Drop, A: Application> HttpDoor<R, A> {
             phase_cell: Rc::clone(phase_cell).ok()?,
         })
     }
+
+    // What the connection of a socket is served with.
+    fn prepare(&self, socket: TcpStream) -> Option<Prepared<R, A>> {
+        let phase_cell = self.phase_cell()?;
+        let requests = self.requests(&phase_cell)?;
+        let socket = self.socket_of(socket, &phase_cell)?;
+        let ending = self.ending.cancelled().ok()?;
+        let timer = Timer::new(self.rt, &self.timers, self.limits, phase_cell)?;
+        Some(Prepared {
+            socket,
+            requests,
+            ending,
+            timer,
+        })
+    }
 }
 
 impl<R: Clock + Copy + Drop, A: Application> Door for HttpDoor<R, A> {
     type Served = ConnectionFuture<Ending<R, A>, R>;
 
     fn serve(&self, socket: TcpStream, permit: Permit) -> Option<Self::Served> {
-        let phase_cell = self.phase_cell()?;
-        let requests = self.requests(&phase_cell)?;
-        let socket = self.socket_of(socket, &phase_cell)?;
-        let ending = self.ending.cancelled().ok()?;
-        let timer = Timer::new(self.rt, &self.timers, self.limits, phase_cell)?;
-        let conn = until(self.http.serve_connection(socket, requests), ending);
-        ConnectionFuture::new(self.alloc, conn, timer, permit)
+        let Prepared {
+            socket,
+            requests,
+            ending,
+            timer,
+        } = self.prepare(socket)?;
+        let conn = self.http.serve_connection(socket, requests);
+        serve_until(self.alloc, conn, ending, timer, permit)
     }
 }

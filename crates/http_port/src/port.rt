@@ -12,16 +12,16 @@ use hyper::server::conn::http1::Builder;
 use port_meters::PortMeter;
 use std::alloc::{AllocGlobal, Global};
 use std::hash::RandomState;
-use std::io;
 use std::net::Net;
 use std::random::RandomSource;
 use std::rc::Rc;
 use std::sync::{Arc, Wait};
 use std::time::{Clock, Duration};
-use tokio::net::TcpListener;
+use std::{io, net};
+use tokio::net::{Incoming, TcpListener};
 use tokio::runtime::LocalRuntime;
 use tokio::time;
-use tokio_util::sync::CancellationToken;
+use tokio_util::sync::{CancellationToken, WaitForCancellationFuture};
 
 /// How long the connections of a port that ends are waited for, in seconds.
 const LAST_REPLIES: u64 = 5;
@@ -50,9 +50,9 @@ where
 // The door of a port.
 fn door_of<R, A>(
     rt: R,
-    application: Arc<A>,
+    application: A,
     hosts: Arc<Hosts>,
-    meter: &Arc<PortMeter>,
+    meter: Arc<PortMeter>,
     timers: &time::Handle,
     limits: HttpLimits,
     ending: &CancellationToken,
@@ -62,6 +62,7 @@ where
     A: Application,
 {
     let alloc = rt.alloc();
+    let application = Arc::new(alloc, application)?;
     let ending = ending.clone()?;
     let alarm = alarm_of(rt, alloc, timers)?;
     let http = http_of(rt, alloc, timers)?;
@@ -71,7 +72,7 @@ where
         http,
         application,
         hosts,
-        meter: Arc::try_clone(meter)?,
+        meter,
         timers: timers.clone()?,
         alarm,
         limits,
@@ -79,40 +80,103 @@ where
     })
 }
 
-// The connections that come to a port through its door.
-fn connections_of<R, A>(
-    rt: R,
-    door: HttpDoor<R, A>,
-    meter: Arc<PortMeter>,
-    timers: &time::Handle,
-    listener: TcpListener,
+// What comes to a port, until it ends.
+#[derive(Drop)]
+struct Coming {
+    timers: time::Handle,
+    incoming: Incoming,
+    ending: WaitForCancellationFuture,
+    permits: Permits,
+}
+
+// What comes to a port that listens there, as many connections at once.
+fn coming_of(
+    alloc: Global,
+    listener: net::TcpListener,
+    meter: &Arc<PortMeter>,
+    most: usize,
+    runtime: &LocalRuntime,
     ending: &CancellationToken,
-) -> io::Result<Connections<R, HttpDoor<R, A>>>
-where
-    R: Clock + AllocGlobal + Copy + Drop,
-    A: Application,
-{
-    let permits = Permits::new(rt.alloc(), door.limits.connections, meter)?;
-    let timers = timers.clone()?;
-    let ending = ending.cancelled()?;
-    Ok(Connections {
-        rt,
-        door,
+) -> io::Result<Coming> {
+    let listener = TcpListener::from_std(listener, runtime.handle().reactor())?;
+    let permits = Permits::new(alloc, most, Arc::try_clone(meter)?)?;
+    let timers = runtime.handle().time().clone()?;
+    Ok(Coming {
         timers,
         incoming: listener.incoming(),
-        ending,
-        pause: None,
+        ending: ending.cancelled()?,
         permits,
     })
 }
 
-// Serves the connections that come through a door until the port ends.
-fn run<R, D>(rt: &R, runtime: &mut LocalRuntime, connections: Connections<R, D>) -> io::Result<()>
+// Serves through a door what comes to a port, until the port ends.
+fn run<R, D>(rt: R, runtime: &mut LocalRuntime, door: D, coming: Coming) -> io::Result<()>
 where
-    R: Wait + Clock + RandomSource + AllocGlobal + Drop,
+    R: Wait + Clock + RandomSource + AllocGlobal + Copy + Drop,
     D: Door,
 {
-    runtime.run_all(rt, connections)
+    let Coming {
+        timers,
+        incoming,
+        ending,
+        permits,
+    } = coming;
+    let connections = Connections {
+        rt,
+        door,
+        timers,
+        incoming,
+        ending,
+        pause: None,
+        permits,
+    };
+    runtime.run_all(&rt, connections)
+}
+
+// Serves HTTP/1.1 through this door, as `run` does. The type of what serves its connections is long where it is written out, so
+// nothing else is done here.
+fn run_http<R, A>(
+    rt: R,
+    runtime: &mut LocalRuntime,
+    door: HttpDoor<R, A>,
+    coming: Coming,
+) -> io::Result<()>
+where
+    R: Wait + Clock + RandomSource + AllocGlobal + Copy + Drop,
+    A: Application,
+{
+    run(rt, runtime, door, coming)
+}
+
+// Serves a port in a runtime.
+fn serve_in<R, A>(
+    rt: R,
+    runtime: &mut LocalRuntime,
+    application: A,
+    listening: Listening,
+    limits: HttpLimits,
+    ending: &CancellationToken,
+) -> io::Result<()>
+where
+    R: Wait + Clock + RandomSource + AllocGlobal + Copy + Drop,
+    A: Application,
+{
+    let Listening {
+        listener,
+        hosts,
+        meter,
+    } = listening;
+    let coming = coming_of(
+        rt.alloc(),
+        listener,
+        &meter,
+        limits.connections,
+        runtime,
+        ending,
+    )?;
+    let timers = runtime.handle().time();
+    let door = door_of(rt, application, hosts, meter, timers, limits, ending)?;
+    run_http(rt, runtime, door, coming)
 }
 
 /// Serves a port on this thread until `ending` is cancelled. A connection goes on from request to request. At the end the
@@ -145,17 +209,7 @@ where
         + Drop,
     A: Application,
 {
-    let Listening {
-        listener,
-        hosts,
-        meter,
-    } = listening;
     let mut runtime = LocalRuntime::new(&rt)?;
     runtime.set_shutdown_timeout(Some(Duration::from_secs(LAST_REPLIES)));
-    let listener = TcpListener::from_std(listener, runtime.handle().reactor())?;
-    let timers = runtime.handle().time();
-    let application = Arc::new(rt.alloc(), application)?;
-    let door = door_of(rt, application, hosts, &meter, timers, limits, ending)?;
-    let connections = connections_of(rt, door, meter, timers, listener, ending)?;
-    run(&rt, &mut runtime, connections)
+    serve_in(rt, &mut runtime, application, listening, limits, ending)
 }
