@@ -1,5 +1,5 @@
 // What the office keeps under its lock: the hall, and the marks of all that it issued.
-ghost use Rattle.std.specs.Prelude.{◌≡◌, ◌+◌, ◌<◌, ◌≤◌, ◌^◌, [], map, length, IfOk, IfErr, OnOk};
+ghost use Rattle.std.specs.Prelude.{◌≡◌, ◌+◌, ◌<◌, ◌≤◌, [], map, length, IfOk, IfErr, OnOk};
 ghost use Rattle.broker_core.specs.Issuer.{issued_in};
 ghost use Rattle.receipts.specs.Marks.{AreNumbered};
 ghost use Rattle.receipts.specs.Following.{Follows};
@@ -68,15 +68,13 @@ pub(crate) struct Locked<L: Ledger, T: Trace> {
 
 impl<L: Ledger, T: Trace> Locked<L, T> {
     ghost use Rattle.receipts.specs.Told.{Arrives, Moves, LendsTo, Settles, Takes, TellsPoint, Forgets, MakesStep};
-    ghost use Rattle.receipts.specs.Answers.{IsSlotOf, IsMismatch};
-    ghost use Rattle.receipts.specs.UnderLock.{next_slot};
+    ghost use Rattle.receipts.specs.Answers.{IsMismatch};
     ghost use Rattle.receipts.specs.NextMoment.{IsNextMomentOf};
     ghost use Rattle.receipts.specs.Views.{IsViewOf};
     ghost use Rattle.invoke_records.specs.Spelling.{greatest_moment};
     ghost use Rattle.broker_core.specs.Batch.{last_in};
     ghost use Rattle.hall_plans.specs.Slots.{open_slots};
     ghost use Rattle.hall_core.specs.Hall.{ForEachPast, pending_in, open_slot_count};
-    ghost use Rattle.hall_plans.specs.declared.error.HallError.TheVariants.{WornOut};
 
     /// What an office keeps over a new hall, of whose table this is kept, and over a book of no marks.
     pub(crate) fn new(
