@@ -8,11 +8,8 @@ use std::time::{Clock, Duration, Instant};
 /// How long a commit waits at most, in microseconds.
 const MOST_MICROS: u64 = 500;
 
-/// Where it could wait for less than that, in microseconds, it does not wait: whoever was missed then loses little.
-const LEAST_MICROS: u64 = 250;
-
-/// How long nobody comes before it waits no longer, in microseconds.
-const QUIET_MICROS: u64 = 150;
+/// Where it would wait for less than that, in microseconds, it does not wait: a sleep may take as long.
+const LEAST_MICROS: u64 = 125;
 
 /// How long a sleep between two looks is at least, in microseconds.
 const PAUSE_MICROS: u64 = 20;
@@ -21,12 +18,12 @@ const PAUSE_MICROS: u64 = 20;
 const MOST_LOOKS: u64 = 1000;
 
 /// How many commits do not wait, since one waited in vain.
-const MOST_PASSES: u8 = 2;
+const MOST_PASSES: u8 = 8;
 
 /// What the last commit tells of the next one. Those who were answered by it ask again soon, each once its reply has come. Those who
 /// came meanwhile are pending already: where these alone were committed at once, whoever asks again would miss that flush, and wait
-/// for three in place of two. So a commit waits while they come: until all have, until nobody came for a while, or for half of the
-/// last one's time, and not where one was waited for in vain.
+/// for three in place of two. So a commit waits for both, for an eighth of the last one's time at most, and not where one was waited
+/// for in vain.
 #[derive(Clone, Copy)]
 pub(crate) struct Gathering {
     /// When the last commit may have begun, as far as the clock says.
@@ -41,13 +38,13 @@ pub(crate) struct Gathering {
     passes: u8,
 }
 
-// Half of the time since then, as far as the clock says, and no more than the most, in microseconds.
+// An eighth of the time since then, as far as the clock says, and no more than the most, in microseconds.
 fn limit_since<R: Clock>(rt: &R, begun: Option<Instant>) -> u64 {
     let Some(begun) = begun else {
         return 0;
     };
     match begun.elapsed(rt) {
-        Ok(took) => (took.as_micros() / 2).min(u128::from(MOST_MICROS)) as u64,
+        Ok(took) => (took.as_micros() / 8).min(u128::from(MOST_MICROS)) as u64,
         Err(_) => 0,
     }
 }
@@ -60,7 +57,7 @@ fn is_within<R: Clock>(rt: &R, begun: Instant, limit: Duration) -> bool {
     }
 }
 
-// Waits while commands come: until so many are pending, until none came for a while, or for that long, in microseconds. Whether some
+// Waits until so many commands are pending, and not for longer than that, in microseconds: whether half of those that were wanting
 // came.
 fn come<R: Wait + Clock, L: Ledger, T: Trace>(
     rt: &R,
@@ -73,21 +70,16 @@ fn come<R: Wait + Clock, L: Ledger, T: Trace>(
         return false;
     };
     let limit = Duration::from_micros(limit);
-    let quiet = Duration::from_micros(QUIET_MICROS);
     let mut pending = first;
-    let mut last = begun;
     for _look in 0..MOST_LOOKS {
-        if pending >= wanted || !is_within(rt, begun, limit) || !is_within(rt, last, quiet) {
+        if pending >= wanted || !is_within(rt, begun, limit) {
             break;
         }
         thread::sleep(rt, Duration::from_micros(PAUSE_MICROS));
-        let found = office.pending(rt).answer as u64;
-        if found > pending {
-            last = Instant::now(rt).unwrap_or(last);
-        }
-        pending = found;
+        pending = office.pending(rt).answer as u64;
     }
-    pending > first
+    let came = pending.saturating_sub(first);
+    came.saturating_mul(2) >= wanted.saturating_sub(first)
 }
 
 impl Gathering {
@@ -128,7 +120,7 @@ impl Gathering {
             self.wanted = committed.saturating_add(pending);
             self.limit = limit_since(rt, self.begun);
         }
-        if pending > 0 && pending < self.wanted && self.limit >= LEAST_MICROS {
+        if pending > 0 && self.limit >= LEAST_MICROS {
             self.wait_for_more(rt, office, pending);
         }
         self.durable = durable;
