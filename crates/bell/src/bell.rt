@@ -100,8 +100,8 @@ impl Bell {
         number: u64,
         cx: &mut Context<'_>,
     ) -> Registered
-        // claim: A task that registers or parks does so for just its slot, and hears this bell. [: under, armed, heard;
-        // Bell::park: under, armed, heard]
+        // claim: A task that registers or parks does so for just its slot, and hears this bell. [: under, armed, heard; Bell::park:
+        // under, armed, heard]
         ensures under { IsUnder result slot number }
         ensures armed { IsArmed cx.new }
         ensures heard { Hears cx.new (source_of self.now) }
