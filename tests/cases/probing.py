@@ -38,7 +38,7 @@ def probed(broker, *words):
 
 @case()
 def a_probe_measures_a_volume_of_zeros_and_leaves_it_so(broker):
-    for sectors, watch in (1, "yes"), (64, "no"), (65, "yes"):
+    for sectors, watch in (1, "yes"), (64, "no"), (65, "yes"), (67, "no"):
         path = zeros(f"{broker.disk}.{sectors}", 512 * sectors)
         matches(rf"sectors {sectors} watch {watch}\nlock refused\nbarrier {TIMES}\nlook {TIMES}\n", probed(broker, path))
         same(content_of(path), bytes(512 * sectors))

@@ -23,6 +23,8 @@ pub struct Address<'a> {
     pub threads: Option<u8>,
     /// Whether it waits for a disk that another program has open.
     pub is_standby: bool,
+    /// Whether it claims the disk, and notices who takes it over.
+    pub is_watched: bool,
     /// Whether the records of events that succeeded are collected at once, and those of the others.
     pub discards_success: bool,
     pub discards_failure: bool,

@@ -121,6 +121,7 @@ pub(crate) fn serve_command<'a>(alloc: Global) -> Result<Command<'a>, AllocError
     let threads =
         "Threads that serve the callers, 1 to 32; where it is left out, one for each processor, 8 at most";
     let standby = "Wait for a disk that another program has open";
+    let watch = "Claim the disk, and end with status 4 once another broker has taken it over";
     let discard =
         "Whose records are collected as soon as they are durable, so that nobody reads them";
     let admin = "Port of the operator, 1024 to 65535, on the loopback address";
@@ -141,6 +142,7 @@ pub(crate) fn serve_command<'a>(alloc: Global) -> Result<Command<'a>, AllocError
         Argument::option("host", host).called("NAME"),
         Argument::option("threads", threads).of(value_parser!(u8).range(1..33)),
         Argument::flag("standby", standby),
+        Argument::flag("watch", watch),
         Argument::option("discard", discard).of(sides),
         Argument::option("admin", admin).of(value_parser!(u16).range(1024..65536)),
         Argument::flag("acts", acts),

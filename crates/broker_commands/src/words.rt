@@ -191,6 +191,7 @@ fn address_at<'a>(matches: &ArgMatches<'a>, reach: IpAddr) -> Option<Address<'a>
         extensions: matches.get_one("extensions")?,
         threads: matches.get_one("threads"),
         is_standby: matches.get_flag("standby"),
+        is_watched: matches.get_flag("watch"),
         discards_success: discards(matches, "success"),
         discards_failure: discards(matches, "failure"),
     })

@@ -19,4 +19,4 @@ pub use notes::{note_stop, warn};
 pub use opening::{OpenedDisk, open_to_serve};
 pub use output::{Output, keep_numbers};
 pub use standby::{OpenDisk, open_in_turn};
-pub use stopping::{StoppingError, stop_broker};
+pub use stopping::{StoppingError, ask_to_stop, stop_broker};

@@ -81,13 +81,15 @@ fn announced<D: Disk, W: Write>(
 }
 
 /// Opens what is on a disk, listens on the ports, and then interrupts the attempts that the last stop cut off. The line from which on
-/// callers are served is printed.
+/// callers are served is printed. Where the disk was taken over from a broker that may still write to it, the live segment is switched
+/// before.
 ///
 /// It is refused where the disk, a port, the clock, memory or the output is. An attempt is then interrupted, or runs as before.
 pub fn open_to_serve<R, D, W>(
     rt: &R,
     disk: D,
     written: Written,
+    is_takeover: bool,
     at: &Address<'_>,
     start: &io::Result<Instant>,
     out: &mut W,
@@ -114,7 +116,7 @@ where
     let broker = open(rt.alloc(), disk)?;
     let environments = broker.table().settings().environments;
     let mut ports = listen_on_all(rt, at, environments, written)?;
-    let hall = hall_at_rest(rt, broker, at, start, &mut ports.opening)?;
+    let hall = hall_at_rest(rt, broker, is_takeover, at, start, &mut ports.opening)?;
     let (listeners, admin) = announced(&hall, ports, at, out)?;
     Ok(OpenedDisk {
         hall,

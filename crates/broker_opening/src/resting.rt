@@ -1,6 +1,7 @@
 // The hall over a broker that was opened: attempts that the last stop cut off are interrupted first.
-ghost use Rattle.std.specs.Prelude.{◌≡◌, [], IfOk, OnOk};
-ghost use Rattle.broker_core.specs.Broker.{pending_of, settings_of};
+ghost use Rattle.std.specs.Prelude.{◌≡◌, [], IfOk, OnOk, IsTrue};
+ghost use Rattle.broker_core.specs.Broker.{pending_of, settings_of, Commits, Stands};
+ghost use Rattle.broker_core.specs.Refusals.{HasSwitched};
 ghost use Rattle.broker_core.specs.Promises.{ForEachHistory};
 ghost use Rattle.broker_core.specs.IssuerBroker.{issuer_of};
 ghost use Rattle.hall_core.specs.Hall.{view_of, StandsFor};
@@ -11,7 +12,7 @@ ghost use Rattle.broker_opening.specs.Opening.{ComesToRest, OpensAtRest};
 use crate::error::OpeningError;
 use crate::notes::note_opening;
 use broker_commands::{Address, now};
-use broker_core::Broker;
+use broker_core::{Broker, CommitError, Durable};
 use hall_core::Hall;
 use port_meters::{Opening, micros_since};
 use sector_disk::Disk;
@@ -38,11 +39,30 @@ fn interrupt_attempts<R: Clock + Wait, D: Disk>(
     Ok(())
 }
 
+// Makes all that was issued durable: by a switch, where another broker may append to the segment that is live.
+fn settle<D: Disk>(
+    broker: &mut Broker<D>,
+    is_takeover: bool,
+) -> Result<Durable, CommitError>
+    ensures ok { IfOk result (λ durable. Commits broker.old broker.new durable) }
+    ensures stands { ForEachHistory D.view broker.old (λ history. Stands D.view broker.new history) }
+    // claim: Where the disk was taken over, the opening switches: its frames lie where the other broker does not append. [:
+    // switches]
+    ensures switches { IsTrue is_takeover → OnOk result (HasSwitched 1 broker.old broker.new) }
+{
+    if is_takeover {
+        broker.switch()
+    } else {
+        broker.commit()
+    }
+}
+
 // Issues an Interrupt for each attempt that the last stop cut off, and makes that durable: nothing runs then. It is noted how long
 // the commit took.
 fn resume<R: Clock + Wait, D: Disk>(
     rt: &R,
     broker: &mut Broker<D>,
+    is_takeover: bool,
     opening: &mut Opening,
 ) -> Result<(), OpeningError>
     // claim: After Ok nothing runs, and all is durable. Interrupts alone were issued. [: durable, rest;
@@ -52,7 +72,7 @@ fn resume<R: Clock + Wait, D: Disk>(
 {
     interrupt_attempts(rt, broker)?;
     let begun = Instant::now(rt);
-    match broker.commit() {
+    match settle(broker, is_takeover) {
         Ok(_) => {
             opening.commit_microseconds = micros_since(rt, begun);
             Ok(())
@@ -65,6 +85,7 @@ fn resume<R: Clock + Wait, D: Disk>(
 fn bring_to_rest<R, D>(
     rt: &R,
     broker: &mut Broker<D>,
+    is_takeover: bool,
     at: &Address<'_>,
     start: &io::Result<Instant>,
     opening: &mut Opening,
@@ -78,7 +99,7 @@ where
     let held = broker.table().snapshot()?.rows.as_slice().len();
     let before = broker.table().number();
     opening.generation = broker.generation();
-    resume(rt, broker, opening)?;
+    resume(rt, broker, is_takeover, opening)?;
     opening.interrupted = broker.table().number().saturating_sub(before);
     note_opening(rt, at, held, opening.interrupted, start);
     Ok(())
@@ -107,13 +128,14 @@ fn hall_over<D: Disk + Drop>(
     }
 }
 
-/// The hall over a broker of which nothing runs any more: attempts that the last stop cut off are interrupted. It is told what was
-/// found since the opening began, and noted what was done.
+/// The hall over a broker of which nothing runs any more: attempts that the last stop cut off are interrupted. A broker that takes the
+/// disk over switches to the other segment. It is told what was found since the opening began, and noted what was done.
 ///
 /// It is refused where the clock, memory or the device fails, or a worn number leaves an attempt running.
 pub(crate) fn hall_at_rest<R, D>(
     rt: &R,
     broker: Broker<D>,
+    is_takeover: bool,
     at: &Address<'_>,
     start: &io::Result<Instant>,
     opening: &mut Opening,
@@ -130,6 +152,6 @@ where
         IfOk result (λ hall. OpensAtRest D.view at.now.extensions history hall.issuer (view_of (issuer_of D.view) hall))) }
 {
     let mut broker = broker;
-    bring_to_rest(rt, &mut broker, at, start, opening)?;
+    bring_to_rest(rt, &mut broker, is_takeover, at, start, opening)?;
     hall_over(rt.alloc(), broker, at)
 }

@@ -53,12 +53,17 @@ where
     }
 }
 
-// Asks for the end over a connection: whether that is taken. One that ends without a reply takes nothing.
-fn ask<N: AllocGlobal>(rt: &N, socket: &mut TcpStream, at: SocketAddr) -> io::Result<bool> {
+// Asks for the end over a connection: whether that is taken within so many seconds. One that ends without a reply takes nothing.
+fn ask<N: AllocGlobal>(
+    rt: &N,
+    socket: &mut TcpStream,
+    at: SocketAddr,
+    patience: u64,
+) -> io::Result<bool> {
     let request = format!(in rt.alloc();
         "POST /broker/stop HTTP/1.1\r\nhost: {at}\r\ncontent-length: 0\r\nconnection: close\r\n\r\n"
     )?;
-    socket.set_read_timeout(Some(Duration::from_secs(PATIENCE)))?;
+    socket.set_read_timeout(Some(Duration::from_secs(patience)))?;
     socket.write_all(request.as_bytes())?;
     let mut front = [0; TAKEN.len()];
     match socket.read_exact(&mut front) {
@@ -84,6 +89,18 @@ where
     Ok(false)
 }
 
+/// Asks the broker whose callers' port is there to stop, and waits for the answer for a second at most, not for its end: whether it was
+/// asked.
+pub fn ask_to_stop<N>(rt: &N, at: SocketAddr) -> io::Result<bool>
+where
+    N: AllocGlobal + Net<Listener = TcpListener, Stream = TcpStream>,
+{
+    match connect(rt, at)? {
+        Some(mut socket) => ask(rt, &mut socket, at, 1),
+        None => Ok(false),
+    }
+}
+
 /// Asks the broker whose callers' port is there to stop, and waits until it listens no more, a minute at most.
 ///
 /// It is refused by `Nobody`, `NotTaken` and `StillOpen`, and where the system's calls or memory fail.
@@ -94,7 +111,7 @@ where
     let Some(mut socket) = connect(rt, at)? else {
         return Err(StoppingError::Nobody { at });
     };
-    if !ask(rt, &mut socket, at)? {
+    if !ask(rt, &mut socket, at, PATIENCE)? {
         return Err(StoppingError::NotTaken { at });
     }
     drop(socket);

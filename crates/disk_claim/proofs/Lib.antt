@@ -1,1 +1,3 @@
+
+mod Claims
 pub mod Takeover

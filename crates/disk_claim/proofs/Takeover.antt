@@ -1,8 +1,8 @@
 -- Of two that serve one volume, the newcomer reads what the first one has replied to.
-use Rattle.std.proofs.Common.{◌≡◌, ◌≢◌, ◌⊎◌, ℕ, ◌==◌, Bool, true, false, List, [], ◌∷◌, ◌++◌, if◌then◌else◌, refl, sym, ◌∙◌, ap, subst, rules, arith, inl, inr}
+use Rattle.std.proofs.Common.{◌≡◌, ◌≢◌, ℕ, ◌==◌, Bool, true, false, List, [], ◌∷◌, if◌then◌else◌, refl, sym, ◌∙◌, subst, inl, inr}
 use Rattle.std.specs.List.{All, Contains}
 use Rattle.std.proofs.lemmas.Bool.{eqb-true}
-use Rattle.std.proofs.lemmas.List.Elements.{All-nil, All-cons, All-head, All-weaker, All-same, All-contains, All-contains_itself, Contains-append_right, Contains-push}
+use Rattle.std.proofs.lemmas.List.Elements.{All-nil, All-cons, All-head, All-weaker, All-contains, All-contains_itself, Contains-append_right}
 use Rattle.disk_claim.specs.Takeover.{Step, claims, writes, looks, replies, reads, token_after, written_in, seen_with, replied_in, HasClaimed, IsLinear, Watches, ClaimsFirst, IsSucceeded, AllReadsHave, IsTakeover}
 
 -- what has some numbers has them behind one more

@@ -1,2 +1,11 @@
+pub mod Claiming
+pub mod MemoryVolume
 pub mod Place
+pub mod Putting
+pub mod Settling
+pub mod Sight
 pub mod Takeover
+pub mod Token
+pub mod Volume
+pub mod Watching
+pub mod WatchedDisk

@@ -1,4 +1,9 @@
-// Reading past what this machine kept of a file.
+// Looking at a claim past what this machine kept of it.
+ghost use Rattle.std.specs.Prelude.{◌≡◌, IfOk};
+ghost use Rattle.disk_claim.specs.Volume.{IsSameVolume};
+ghost use Rattle.disk_claim.specs.Token.{token_in};
+
+use crate::{Token, Volume};
 use libc::{POSIX_FADV_DONTNEED, posix_fadvise};
 use sector_disk::{Fault, SECTOR_SIZE};
 use std::fs::File;
@@ -9,21 +14,55 @@ use std::os::unix::fs::FileExt;
 /// The bytes of a page, by which a machine keeps a file.
 const PAGE_SIZE: i64 = 8 * SECTOR_SIZE as i64;
 
-/// Reads a sector of a file from the device, and not what this machine kept of it: that is dropped before.
-pub fn look(file: &File, sector: u64) -> Result<[u8; SECTOR_SIZE], Fault> {
-    let mut bytes = [0; SECTOR_SIZE];
-    let Some(at) = sector.checked_mul(SECTOR_SIZE as u64) else {
-        return Err(Fault);
-    };
-    let Ok(place) = i64::try_from(at) else {
-        return Err(Fault);
-    };
-    let page = place - place % PAGE_SIZE;
-    if posix_fadvise(file.as_raw_fd(), page, PAGE_SIZE, POSIX_FADV_DONTNEED) != 0 {
-        return Err(Fault);
+// Where a sector begins, in bytes.
+fn place_of(sector: u64) -> Result<u64, Fault> {
+    sector.checked_mul(SECTOR_SIZE as u64).ok_or(Fault)
+}
+
+// Drops what this machine kept of so many bytes of a file, as far as it is written. 0 bytes are all behind the place.
+fn drop_kept(file: &File, at: i64, size: i64) -> Result<(), Fault> {
+    match posix_fadvise(file.as_raw_fd(), at, size, POSIX_FADV_DONTNEED) {
+        0 => Ok(()),
+        _ => Err(Fault),
     }
+}
+
+/// Drops what this machine kept of the page of a sector.
+pub(crate) fn forget_page(file: &File, sector: u64) -> Result<(), Fault> {
+    let Ok(at) = i64::try_from(place_of(sector)?) else {
+        return Err(Fault);
+    };
+    drop_kept(file, at - at % PAGE_SIZE, PAGE_SIZE)
+}
+
+/// Drops what this machine kept of a file.
+pub(crate) fn forget_file(file: &File) -> Result<(), Fault> {
+    drop_kept(file, 0, 0)
+}
+
+/// Reads a sector of a file.
+pub(crate) fn read_sector(file: &File, sector: u64) -> Result<[u8; SECTOR_SIZE], Fault> {
+    let mut bytes = [0; SECTOR_SIZE];
+    let at = place_of(sector)?;
     match file.read_exact_at(&mut bytes, at) {
         Ok(()) => Ok(bytes),
         Err(_) => Err(Fault),
     }
+}
+
+/// Reads a sector of a file from the device, and not what this machine kept of it: that is dropped before.
+pub fn look(file: &File, sector: u64) -> Result<[u8; SECTOR_SIZE], Fault> {
+    forget_page(file, sector)?;
+    read_sector(file, sector)
+}
+
+/// Who stands in the claim of a volume, as the device tells.
+pub(crate) fn look_at<V: Volume>(volume: &mut V) -> Result<Token, Fault>
+    ensures same { IsSameVolume (V.view volume.old) (V.view volume.new) }
+    // claim: A look tells who stands in the claim on the device at that moment, and not what this machine kept. [: shows]
+    ensures shows { (V.view volume.old).honest → IfOk result (λ token. token.bytes ≡ token_in (V.view volume.new).device) }
+{
+    volume.forget()?;
+    let claim = volume.read()?;
+    Ok(Token::told_by(&claim))
 }

@@ -14,8 +14,11 @@ use std::sync::Wait;
 use std::thread::Threads;
 use std::time::Clock;
 
+/// The status where another broker has taken the disk over.
+const TAKEN: u8 = 4;
+
 /// Does what the words say, the first of which is the program's name, prints it to `out`, and answers the status: 0 done,
-/// 1 damaged or refused, 2 usage, 3 device.
+/// 1 damaged or refused, 2 usage, 3 device, 4 taken over.
 pub fn run<R, W>(rt: R, words: &[String], out: &mut W) -> io::Result<u8>
 where
     R: Files<File = File>
@@ -31,8 +34,8 @@ where
         + Send
         + 'static,
     W: Write,
-    // claim: The program's status is 0 to 3, where its printing does not fail.
-    ensures { IfOk result (λ status. status ≤ 3) }
+    // claim: The program's status is 0 to 4, where its printing does not fail.
+    ensures { IfOk result (λ status. status ≤ 4) }
 {
     match read_task(rt.alloc(), words) {
         Ok(Some(Task::Job(job))) => print_job(&rt, &job, out),
@@ -59,10 +62,14 @@ where
         + Send
         + 'static,
     W: Write,
-    ensures { IfOk result (λ status. status ≤ 3) }
+    ensures { IfOk result (λ status. status ≤ 4) }
 {
     match serve_disk(rt, at, out) {
         Ok(()) => Ok(DONE),
+        Err(fault) if fault.is_taken_over() => {
+            print_fault(&fault, false, out)?;
+            Ok(TAKEN)
+        }
         Err(fault) => print_fault(&fault, fault.is_device_fault(), out),
     }
 }

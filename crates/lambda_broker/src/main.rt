@@ -2,7 +2,9 @@
 //! commands in `broker_commands`.
 #![tactic(auto)]
 
+mod claiming;
 mod command_line;
+mod lookout;
 mod serving;
 
 use broker_commands::{DONE, refuse_for_memory};

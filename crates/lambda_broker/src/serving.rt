@@ -4,10 +4,13 @@ ghost use Rattle.broker_core.specs.Broker.{pending_of, settings_of};
 ghost use Rattle.hall_core.specs.Fresh.{IsFresh};
 ghost use Rattle.receipts.specs.Desks.{desk_count};
 
+use crate::claiming::{Own, Watched, own};
+use crate::lookout::Lookout;
 use admin_port::AdminPort;
-use broker_commands::{Address, Device};
+use broker_commands::Address;
 use broker_core::Broker;
 use broker_opening::{OpenedDisk, OpeningError, note_stop, open_in_turn, open_to_serve, warn};
+use disk_claim::{ClaimError, FileVolume, Holding, SharedHolding, Watch};
 use hall_core::Hall;
 use http_front::{Discard, Ending, ServeError, WhenPending, serve};
 use http_port::Listening;
@@ -34,9 +37,18 @@ pub enum ServingError {
     Opening(#[from] OpeningError),
     #[error("{0}")]
     Serve(#[from] ServeError),
+    /// The disk was not claimed.
+    #[error("{0}")]
+    Claim(#[from] ClaimError),
+    /// No random bytes, or no thread, were to be had.
+    #[error("{0}")]
+    System(#[from] io::Error),
     /// The device failed while it was served.
     #[error("device fault")]
     Broken,
+    /// Another broker has claimed the disk.
+    #[error("taken over")]
+    TakenOver,
 }
 
 impl ServingError {
@@ -44,9 +56,18 @@ impl ServingError {
     pub fn is_device_fault(&self) -> bool {
         match self {
             ServingError::Opening(why) => why.is_device_fault(),
+            ServingError::Claim(why) => matches!(why, ClaimError::Fault),
             ServingError::Broken => true,
             _ => false,
         }
+    }
+
+    /// Whether another broker has taken the disk over.
+    pub fn is_taken_over(&self) -> bool {
+        matches!(
+            self,
+            ServingError::TakenOver | ServingError::Claim(ClaimError::Taken)
+        )
     }
 }
 
@@ -64,7 +85,7 @@ fn caller_threads<R: Threads>(rt: &R, at: &Address<'_>) -> u8 {
     }
 }
 
-// Serves a hall by a ledger of the blank's, until the broker is stopped.
+// Serves a hall by a ledger of the blank's, until the broker is stopped: the disk.
 fn serve_by<R, L, T, D>(
     rt: R,
     hall: Hall<Broker<D>>,
@@ -73,7 +94,7 @@ fn serve_by<R, L, T, D>(
     callers: u8,
     admin: Option<AdminPort>,
     discard: Discard,
-) -> Result<(), ServingError>
+) -> Result<D, ServingError>
 where
     R: Machine,
     L: Ledger + Send + Sync + 'static,
@@ -97,12 +118,12 @@ where
         &WhenPending,
     )?;
     match served.ending {
-        Ending::Stopped => Ok(()),
+        Ending::Stopped => Ok(served.half.close()),
         Ending::Broken => Err(ServingError::Broken),
     }
 }
 
-// Serves a hall until the broker is stopped.
+// Serves a hall until the broker is stopped: the disk.
 fn serve_hall<R, T, D>(
     rt: R,
     hall: Hall<Broker<D>>,
@@ -110,7 +131,7 @@ fn serve_hall<R, T, D>(
     callers: u8,
     admin: Option<AdminPort>,
     discard: Discard,
-) -> Result<(), ServingError>
+) -> Result<D, ServingError>
 where
     R: Machine,
     T: SharedTrace + 'static,
@@ -123,12 +144,12 @@ where
     serve_by::<R, Brand, T, D>(rt, hall, blank, listeners, callers, admin, discard)
 }
 
-// Serves a disk that is open, by what is discarded.
+// Serves a disk that is open, by what is discarded: the disk.
 fn serve_opened<R, T, D>(
     rt: R,
     opened: OpenedDisk<Hall<Broker<D>>>,
     at: &Address<'_>,
-) -> Result<(), ServingError>
+) -> Result<D, ServingError>
 where
     R: Machine,
     T: SharedTrace + 'static,
@@ -150,15 +171,17 @@ where
     serve_hall::<R, T, D>(rt, hall, listeners, callers, admin, discard)
 }
 
-// Serves what is on a disk, once it is opened.
+// Serves what is on a disk, once it is opened, while somebody may look at its claim: the disk.
 fn serve_on<R, T, D, W>(
     rt: R,
     disk: D,
     written: Written,
+    is_takeover: bool,
+    lookout: Option<Watch<FileVolume>>,
     at: &Address<'_>,
     start: &io::Result<Instant>,
     out: &mut W,
-) -> Result<(), ServingError>
+) -> Result<D, ServingError>
 where
     R: Files<File = File> + Machine,
     T: SharedTrace + 'static,
@@ -166,13 +189,62 @@ where
     D: Disk + Drop,
     W: Write,
 {
-    let opened = open_to_serve(&rt, disk, written, at, start, out)?;
-    serve_opened::<R, T, D>(rt, opened, at)
+    let opened = open_to_serve(&rt, disk, written, is_takeover, at, start, out)?;
+    let lookout = Lookout::start(rt, lookout, at)?;
+    let served = serve_opened::<R, T, D>(rt, opened, at);
+    if let Some(lookout) = lookout {
+        lookout.end(&rt);
+    }
+    served
+}
+
+// Serves a disk, and gives its claim up at an orderly end.
+fn serve_own<R, W>(
+    rt: R,
+    own: Own<R>,
+    at: &Address<'_>,
+    start: &io::Result<Instant>,
+    out: &mut W,
+) -> Result<(), ServingError>
+where
+    R: Files<File = File> + Machine,
+    W: Write,
+{
+    let Own {
+        disk,
+        is_takeover,
+        lookout,
+    } = own;
+    let written = Written::new(rt.alloc())?;
+    let counting = CountingDisk::over(disk, written.another()?);
+    let served = serve_on::<R, Gone, CountingDisk<Watched<R>>, W>(
+        rt,
+        counting,
+        written,
+        is_takeover,
+        lookout,
+        at,
+        start,
+        out,
+    )?;
+    match served.into_inner().release() {
+        Ok(_) => Ok(()),
+        Err(_) => Err(ServingError::Broken),
+    }
+}
+
+// How it ended, where this is what looks at the claim have shown.
+fn ended(served: Result<(), ServingError>, holding: Holding) -> Result<(), ServingError> {
+    match holding {
+        Holding::Held => served,
+        Holding::Taken => Err(ServingError::TakenOver),
+        Holding::Unread => Err(ServingError::Broken),
+    }
 }
 
 /// Serves a disk: callers on a port of this machine and environment n on the port n behind it, from the line that is
-/// printed on until the broker is stopped. The file is looked at first, as soon as it is this broker's turn, then what is on
-/// it, then the ports.
+/// printed on until the broker is stopped. The file is looked at first, as soon as it is this broker's turn, then it is claimed, where
+/// that is asked for, then what is on it is looked at, and then the ports.
 pub fn serve_disk<R, W>(rt: R, at: &Address<'_>, out: &mut W) -> Result<(), ServingError>
 where
     R: Files<File = File> + Machine,
@@ -180,9 +252,10 @@ where
 {
     let (disk, start) = open_in_turn(&rt, at, out)?;
     warn(&rt, at);
-    let written = Written::new(rt.alloc())?;
-    let counting = CountingDisk::over(disk, written.another()?);
-    serve_on::<R, Gone, CountingDisk<Device<R>>, W>(rt, counting, written, at, &start, out)?;
+    let holding = SharedHolding::new(rt.alloc())?;
+    let own = own(&rt, at, disk, &holding)?;
+    let served = serve_own(rt, own, at, &start, out);
+    ended(served, holding.get())?;
     note_stop(&rt, at);
     Ok(())
 }

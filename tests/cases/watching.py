@@ -1,0 +1,203 @@
+"""A broker that claims its disk: what stands in the claim, and how it ends once another token stands there."""
+import http.client
+import os
+import random
+import time
+
+from cases.standby import devices
+from harness import Beside, Broker, Ports, case, same, until
+
+SECTORS = 16385
+CLAIM, TOKEN = 512 * (SECTORS - 1), 16
+OTHER = b"another broker's"
+TAKEN = (4, "refused: taken over\n")
+WATCHED = {"sectors": SECTORS, "events": 1024}
+
+
+def claim_of(broker):
+    """The token in its claim, behind which all is zeros."""
+    claim = broker.content()[CLAIM:]
+    same(claim[TOKEN:], bytes(512 - TOKEN))
+    return claim[:TOKEN]
+
+
+def generation(broker):
+    return broker.audit()[0].split()[1]
+
+
+@case()
+def a_disk_without_a_sector_for_a_claim_is_refused_and_stays_as_it_is(broker):
+    for sectors in 4096, 4099:
+        other = type(broker)(sectors)
+        before = other.content()
+        line = "refused: no sector for a claim: a disk that is watched has 8 n + 1 sectors\n"
+        same(other.said("serve", other.disk, "--port", Ports().first, "--watch"), (1, line))
+        same(other.content() == before, True)
+        other.close()
+
+
+@case(WATCHED)
+def a_claim_stands_while_the_disk_is_served_and_is_given_up_at_an_orderly_end(broker):
+    same(claim_of(broker), bytes(TOKEN))
+    tokens = set()
+    for held in 1, 2:
+        broker.serve("--watch")
+        tokens.add(claim_of(broker))
+        same(broker.invoke("{}").status, 202)
+        same(broker.stop(), (202, 0, ""))
+        same(claim_of(broker), bytes(TOKEN))
+        same((broker.held(), generation(broker)), (held, "1"))
+    same((len(tokens), bytes(TOKEN) in tokens), (2, False))
+
+
+@case(WATCHED)
+def who_finds_a_claim_switches_before_it_serves(broker):
+    broker.serve("--watch")
+    same(broker.invoke("{}").status, 202)
+    broker.kill()
+    left = claim_of(broker)
+    assert left != bytes(TOKEN)
+    # Without a word for it nothing of the claim is looked at or changed.
+    broker.serve()
+    same(broker.stop(), (202, 0, ""))
+    same((claim_of(broker), generation(broker)), (left, "1"))
+    broker.serve("--watch")
+    assert claim_of(broker) not in (left, bytes(TOKEN))
+    same(generation_served(broker), 2)
+    same(broker.stop(), (202, 0, ""))
+    same((claim_of(broker), generation(broker), broker.held()), (bytes(TOKEN), "2", 1))
+
+
+def generation_served(broker):
+    return broker.number("generation")
+
+
+@case(WATCHED)
+def an_idle_broker_ends_once_another_token_stands_in_its_claim(broker):
+    broker.serve("--watch")
+    same(broker.invoke("{}").status, 202)
+    poll = broker.send_next()
+    same(poll.done().status, 200)
+    broker.put(CLAIM, OTHER)
+    same(broker.ended(), TAKEN)
+    # The other one's token stays, and no more was written.
+    same((claim_of(broker), generation(broker), broker.held()), (OTHER, "1", 1))
+
+
+@case(WATCHED)
+def a_broker_without_the_word_looks_at_no_claim(broker):
+    watch = broker.watches_disk()
+    broker.serve()
+    same(broker.invoke("{}").status, 202)
+    broker.put(CLAIM, OTHER)
+    reads = watch.reads
+    for _ in range(20):
+        same(broker.invoke("{}").status, 202)
+    same(watch.reads, reads)
+    same(broker.stop(), (202, 0, ""))
+    same(claim_of(broker), OTHER)
+
+
+@case(WATCHED)
+def a_reply_comes_only_behind_a_look_that_follows_the_last_flush(broker):
+    watch = broker.watches_disk()
+    broker.serve("--watch")
+    same(broker.invoke("{}").status, 202)
+    # While the last flush of a commit goes on, its frame is written and its reply was not given: now another broker claims.
+    flushes = watch.flushes
+    watch.hold_flush = flushes + 2
+    asked = broker.send_invoke("{}")
+    until("the flush", lambda: watch.flushes == flushes + 2)
+    broker.put(CLAIM, OTHER)
+    watch.let_go()
+    same(asked.done().status, 503)
+    same(broker.ended(), TAKEN)
+    same(claim_of(broker), OTHER)
+
+
+@case(WATCHED)
+def none_is_told_202_who_asks_behind_another_claim(broker):
+    broker.serve("--watch")
+    same([broker.invoke("{}").status for _ in range(5)], 5 * [202])
+    broker.put(CLAIM, OTHER)
+    # It may have noticed, and ended, before it is asked.
+    assert status_of(broker) in (503, None)
+    same(broker.ended(), TAKEN)
+    assert broker.held() >= 5
+
+
+@case(WATCHED)
+def a_claim_that_cannot_be_read_is_a_device_fault(broker):
+    watch = broker.watches_disk()
+    broker.serve("--watch")
+    same(broker.invoke("{}").status, 202)
+    watch.fail_read = watch.reads + 1
+    same(broker.ended(), (3, "device fault\n"))
+    watch.clear()
+    same(broker.held(), 1)
+
+
+def status_of(broker):
+    """The status of an invocation, or none where nobody answers."""
+    try:
+        return broker.invoke("{}").status
+    except (OSError, http.client.HTTPException):
+        return None
+
+
+class Second(Broker):
+    """A broker on another device of the first one's disk."""
+
+    def __init__(self, first, disk):
+        self.folder, self.disk, self.environments = first.folder, disk, first.environments
+        self.ports, self.watch, self.served, self.words = None, None, None, []
+
+
+def invoke_until_refused(broker, told):
+    """Invokes, and notes the ids of those that were told 202, until another status or none comes."""
+    for number in range(1000):
+        try:
+            answer = broker.invoke(f"{number}")
+        except (OSError, http.client.HTTPException):
+            return
+        if answer.status != 202:
+            return
+        told.append(answer.id)
+
+
+def take_over(broker, is_asked):
+    """A second broker serves the disk by another device, at a random moment while the first one serves, and is asked or is idle: how
+    that ended, how long it took, how many events it was told of, which of them the second one lacks, and how that ended."""
+    told = []
+    with devices(broker.disk, 2) as (first, second):
+        one, other = Second(broker, first), Second(broker, second)
+        try:
+            one.serve("--watch")
+            asking = Beside(invoke_until_refused, one, told) if is_asked else None
+            time.sleep(random.random() / 2)
+            other.serve("--watch")
+            began = time.monotonic()
+            status = one.ended()
+            took = time.monotonic() - began
+            if asking:
+                asking.done()
+            held = {event["id"] for event in other.look("/events?limit=1000").json["events"]}
+            lost = [event for event in told if event not in held]
+            stopped = other.stop()
+        finally:
+            one.end()
+            other.end()
+    return status, took, len(told), lost, stopped
+
+
+@case(WATCHED)
+def who_takes_a_disk_over_has_all_that_the_other_acknowledged(broker):
+    # By hand, more often: each then tells what it saw.
+    often = os.environ.get("LAMBDA_BROKER_TAKEOVERS")
+    for number in range(int(often or 4)):
+        other = type(broker)(**WATCHED)
+        status, took, told, lost, stopped = take_over(other, number % 4 > 0)
+        same((status, lost, stopped), (TAKEN, [], (202, 0, "")))
+        if often:
+            print(f"acknowledged {told}, ended after {took:.2f} s", flush=True)
+        other.close()
