@@ -40,10 +40,7 @@ fn interrupt_attempts<R: Clock + Wait, D: Disk>(
 }
 
 // Makes all that was issued durable: by a switch, where another broker may append to the segment that is live.
-fn settle<D: Disk>(
-    broker: &mut Broker<D>,
-    is_takeover: bool,
-) -> Result<Durable, CommitError>
+fn settle<D: Disk>(broker: &mut Broker<D>, is_takeover: bool) -> Result<Durable, CommitError>
     ensures ok { IfOk result (λ durable. Commits broker.old broker.new durable) }
     ensures stands { ForEachHistory D.view broker.old (λ history. Stands D.view broker.new history) }
     // claim: Where the disk was taken over, the opening switches: its frames lie where the other broker does not append. [:

@@ -25,9 +25,9 @@ pub claimed_over : {D V : Type 0} {g : Ghosts D} {h : VolumeGhosts V} (view : D 
     → told ≡ own → HasClaim (view old) (claim_of told.bytes) (view disk) → IsOver disk watched new → Claims view old own new
 claimed_over view old disk own told watched new same has over =
     let within : HasClaim (view old) (claim_of told.bytes) (view new.disk) =
-        subst (λ d. HasClaim (view old) (claim_of told.bytes) (view d)) (sym over.inner) has in
+    subst (λ d. HasClaim (view old) (claim_of told.bytes) (view d)) (sym over.inner) has in
     let shown : HasClaim (view old) (claim_of told.bytes) (view_of view new) =
-        subst (λ lost. HasClaim (view old) (claim_of told.bytes) (seen_as view new.disk lost)) (sym over.whole) within in
+    subst (λ lost. HasClaim (view old) (claim_of told.bytes) (seen_as view new.disk lost)) (sym over.whole) within in
     subst (λ (t : Token). HasClaim (view old) (claim_of t.bytes) (view_of view new)) same shown
 
 -- what is not lost is seen as the disk within
@@ -48,4 +48,4 @@ pub looked_behind : {D V : Type 0} {g : Ghosts D} {h : VolumeGhosts V} (view : V
     → SeesOwn view before after Held → HasLooked view old new
 looked_behind view old new before after looked was is shown behind own =
     subst (λ (w : Option (Watch _)). IfSome w (λ b. (a : Watch _) × HasLookedWith view b a new)) (sym was)
-    (after, record { watch = is; looked = looked; shown = shown; behind = behind; own = own; })
+    (after, record { watch = is; looked = looked; shown = shown; behind = behind; own = own })

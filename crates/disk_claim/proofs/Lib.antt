@@ -1,3 +1,2 @@
-
 mod Claims
 pub mod Takeover

@@ -21,4 +21,4 @@ read_of None device = device
 
 -- a volume of which nothing is claimed
 abbrev pub unclaimed : VolumeView
-unclaimed = record { kept = None; device = []; honest = ⊥; }
+unclaimed = record { kept = None; device = []; honest = ⊥ }

@@ -45,10 +45,7 @@ pub struct Claimed<D: Disk, V: Volume> {
 /// read asks the device.
 ///
 /// Refused: `NoSector`, before anything is written; `Taken`, and `Fault`.
-pub fn claim<D: Disk, V: Volume>(
-    disk: D,
-    watch: Watch<V>,
-) -> Result<Claimed<D, V>, ClaimError>
+pub fn claim<D: Disk, V: Volume>(disk: D, watch: Watch<V>) -> Result<Claimed<D, V>, ClaimError>
 where
     D: Drop,
     V: Drop,

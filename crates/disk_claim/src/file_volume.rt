@@ -1,6 +1,6 @@
 // The claim of a disk in a file.
-use crate::looking::{forget_file, forget_page, read_sector};
 use crate::Volume;
+use crate::looking::{forget_file, forget_page, read_sector};
 use sector_disk::{Fault, FileError, SECTOR_SIZE};
 use std::fs::File;
 use std::rt::Files;

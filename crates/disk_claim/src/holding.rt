@@ -17,7 +17,9 @@ pub enum Holding {
 }
 
 const HELD: u8 = 0;
+
 const TAKEN: u8 = 1;
+
 const UNREAD: u8 = 2;
 
 /// What looks at a claim have shown, whoever made them. What was lost once is lost for good.

@@ -9,5 +9,9 @@ pub fn claim_sector(sectors: u64) -> Option<u64>
     ensures exact { result ≡ claim_sector sectors }
     ensures inside { IfSome result (λ sector. sector < sectors) }
 {
-    if sectors % 8 == 1 { Some(sectors - 1) } else { None }
+    if sectors % 8 == 1 {
+        Some(sectors - 1)
+    } else {
+        None
+    }
 }

@@ -10,8 +10,8 @@ use std::thread::JoinHandle;
 use std::time::{Clock, Duration};
 use std::{io, thread};
 
-/// How long is waited between two looks, in milliseconds.
-const PAUSE: u64 = 1000;
+/// How long is waited between two looks, in seconds.
+const PAUSE: u64 = 1;
 
 /// That a lookout is to end, which it sleeps for.
 #[derive(Drop)]
@@ -40,7 +40,7 @@ impl End {
         let (came, _) = self.comes.wait_timeout_while(
             rt,
             self.came.lock(rt),
-            Duration::from_millis(PAUSE),
+            Duration::from_secs(PAUSE),
             |came| !*came,
         );
         *came
