@@ -20,7 +20,7 @@ pub(crate) type Watched<R> = WatchedDisk<Device<R>, FileVolume>;
 
 /// A disk that is to be served.
 #[derive(Drop)]
-pub(crate) struct Own<R: Eprint + AllocGlobal + Copy + Drop> {
+pub(crate) struct OwnDisk<R: Eprint + AllocGlobal + Copy + Drop> {
     pub(crate) disk: Watched<R>,
     /// Another broker claimed it and did not end in order, so that it may still write.
     pub(crate) is_takeover: bool,
@@ -59,17 +59,17 @@ fn not_opened(why: FileError) -> ServingError {
 ///
 /// Refused: `NoSector`, before anything is written; `Taken` where another broker claimed it right behind, and where the device, memory
 /// or random bytes fail.
-pub(crate) fn own<R>(
+pub(crate) fn own_disk<R>(
     rt: &R,
     at: &Address<'_>,
     disk: Device<R>,
     holding: &SharedHolding,
-) -> Result<Own<R>, ServingError>
+) -> Result<OwnDisk<R>, ServingError>
 where
     R: Files<File = File> + Machine,
 {
     if !at.is_watched {
-        return Ok(Own {
+        return Ok(OwnDisk {
             disk: WatchedDisk::over(disk, None),
             is_takeover: false,
             lookout: None,
@@ -82,7 +82,7 @@ where
     let lookout = watch_at(rt, at.path, sector, token, holding)?;
     let watch = watch_at(rt, at.path, sector, token, holding)?;
     let Claimed { disk, found } = claim(disk, watch)?;
-    Ok(Own {
+    Ok(OwnDisk {
         disk,
         is_takeover: found != Token::NOBODY,
         lookout: Some(lookout),

@@ -4,7 +4,7 @@ ghost use Rattle.broker_core.specs.Broker.{pending_of, settings_of};
 ghost use Rattle.hall_core.specs.Fresh.{IsFresh};
 ghost use Rattle.receipts.specs.Desks.{desk_count};
 
-use crate::claiming::{Own, Watched, own};
+use crate::claiming::{OwnDisk, Watched, own_disk};
 use crate::lookout::Lookout;
 use admin_port::AdminPort;
 use broker_commands::Address;
@@ -201,7 +201,7 @@ where
 // Serves a disk, and gives its claim up at an orderly end.
 fn serve_own<R, W>(
     rt: R,
-    own: Own<R>,
+    own: OwnDisk<R>,
     at: &Address<'_>,
     start: &io::Result<Instant>,
     out: &mut W,
@@ -210,7 +210,7 @@ where
     R: Files<File = File> + Machine,
     W: Write,
 {
-    let Own {
+    let OwnDisk {
         disk,
         is_takeover,
         lookout,
@@ -253,7 +253,7 @@ where
     let (disk, start) = open_in_turn(&rt, at, out)?;
     warn(&rt, at);
     let holding = SharedHolding::new(rt.alloc())?;
-    let own = own(&rt, at, disk, &holding)?;
+    let own = own_disk(&rt, at, disk, &holding)?;
     let served = serve_own(rt, own, at, &start, out);
     ended(served, holding.get())?;
     note_stop(&rt, at);
