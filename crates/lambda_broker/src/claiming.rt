@@ -11,7 +11,6 @@ use rand::rngs::SysRng;
 use sector_disk::{Disk, FileError};
 use std::fs::File;
 use std::io;
-use std::io::Eprint;
 use std::random::RandomSource;
 use std::rt::Files;
 
@@ -20,8 +19,8 @@ pub(crate) type Watched<R> = WatchedDisk<Device<R>, FileVolume>;
 
 /// A disk that is to be served.
 #[derive(Drop)]
-pub(crate) struct OwnDisk<R: Eprint + AllocGlobal + Copy + Drop> {
-    pub(crate) disk: Watched<R>,
+pub(crate) struct OwnDisk<D> {
+    pub(crate) disk: D,
     /// Another broker claimed it and did not end in order, so that it may still write.
     pub(crate) is_takeover: bool,
     /// Who looks at the claim while nothing is committed, where there is one.
@@ -64,7 +63,7 @@ pub(crate) fn own_disk<R>(
     at: &Address<'_>,
     disk: Device<R>,
     holding: &SharedHolding,
-) -> Result<OwnDisk<R>, ServingError>
+) -> Result<OwnDisk<Watched<R>>, ServingError>
 where
     R: Files<File = File> + Machine,
 {

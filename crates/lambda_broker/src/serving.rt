@@ -201,7 +201,7 @@ where
 // Serves a disk, and gives its claim up at an orderly end.
 fn serve_own<R, W>(
     rt: R,
-    own: OwnDisk<R>,
+    own: OwnDisk<Watched<R>>,
     at: &Address<'_>,
     start: &io::Result<Instant>,
     out: &mut W,
