@@ -36,6 +36,17 @@ def a_disk_without_a_sector_for_a_claim_is_refused_and_stays_as_it_is(broker):
         other.close()
 
 
+@case()
+def a_disk_that_no_broker_has_formatted_is_refused_and_stays_as_it_is(broker):
+    blank = f"{broker.disk}.blank"
+    for content in bytes(512 * 65), bytes(512 * 64) + b"x" * 512, b"x" * 512 * 65, bytes(512):
+        with open(blank, "wb") as disk:
+            disk.write(content)
+        same(broker.said("serve", blank, "--port", Ports().first, "--watch"), (1, "refused: not formatted\n"))
+        with open(blank, "rb") as disk:
+            same(disk.read() == content, True)
+
+
 @case(WATCHED)
 def a_claim_stands_while_the_disk_is_served_and_is_given_up_at_an_orderly_end(broker):
     same(claim_of(broker), bytes(TOKEN))
@@ -82,6 +93,13 @@ def an_idle_broker_ends_once_another_token_stands_in_its_claim(broker):
     same(broker.ended(), TAKEN)
     # The other one's token stays, and no more was written.
     same((claim_of(broker), generation(broker), broker.held()), (OTHER, "1", 1))
+
+
+@case(WATCHED)
+def a_broker_ends_once_nobody_stands_in_its_claim(broker):
+    broker.serve("--watch")
+    broker.put(CLAIM, bytes(TOKEN))
+    same(broker.ended(), TAKEN)
 
 
 @case(WATCHED)
@@ -174,6 +192,7 @@ def take_over(broker, is_asked):
         try:
             one.serve("--watch")
             asking = Beside(invoke_until_refused, one, told) if is_asked else None
+            until("an event that is acknowledged", lambda: told or not is_asked)
             time.sleep(random.random() / 2)
             other.serve("--watch")
             began = time.monotonic()
@@ -196,8 +215,11 @@ def who_takes_a_disk_over_has_all_that_the_other_acknowledged(broker):
     often = os.environ.get("LAMBDA_BROKER_TAKEOVERS")
     for number in range(int(often or 4)):
         other = type(broker)(**WATCHED)
-        status, took, told, lost, stopped = take_over(other, number % 4 > 0)
+        try:
+            status, took, told, lost, stopped = take_over(other, number % 4 > 0)
+        finally:
+            other.close()
         same((status, lost, stopped), (TAKEN, [], (202, 0, "")))
+        assert took < 10, took
         if often:
             print(f"acknowledged {told}, ended after {took:.2f} s", flush=True)
-        other.close()

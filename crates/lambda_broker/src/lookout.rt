@@ -1,10 +1,11 @@
-// Looking at a claim while nothing is committed.
+// Looking at a claim once a second.
+use crate::claiming::Watcher;
 use broker_commands::Address;
 use broker_opening::ask_to_stop;
-use disk_claim::{FileVolume, Holding, Watch};
+use disk_claim::Holding;
 use port_meters::Machine;
 use std::alloc::{AllocError, Global};
-use std::net::{IpAddr, Ipv4Addr, Ipv6Addr, SocketAddr};
+use std::net::{IpAddr, Ipv4Addr, Ipv6Addr, SocketAddr, TcpListener};
 use std::sync::{Arc, Condvar, Mutex, Wait};
 use std::thread::JoinHandle;
 use std::time::{Clock, Duration};
@@ -64,13 +65,18 @@ fn own_address(at: &Address<'_>) -> SocketAddr {
     SocketAddr::new(reach, at.port)
 }
 
-// Looks until it is told to end. Where the claim is lost, the broker is asked to stop each time: it may not have come to listen yet.
-fn look_out<R: Machine>(rt: &R, mut watch: Watch<FileVolume>, end: &End, port: SocketAddr) {
+// Whether an address is one of this machine's. One that has moved leads to another machine's broker, which is not to be stopped.
+fn is_here<R: Machine>(rt: &R, ip: IpAddr) -> bool {
+    TcpListener::bind(rt, SocketAddr::new(ip, 0)).is_ok()
+}
+
+// Looks until it is told to end. Where the claim is lost, the broker is asked to stop each time: one try may fail.
+fn look_out<R: Machine>(rt: &R, mut watch: Watcher<R>, end: &End, port: SocketAddr) {
     for _ in rt.forever() {
         if end.came_within_pause(rt) {
             return;
         }
-        if watch.look() != Holding::Held {
+        if watch.look() != Holding::Held && is_here(rt, port.ip()) {
             let _ = ask_to_stop(rt, port);
         }
     }
@@ -80,7 +86,7 @@ impl Lookout {
     /// Starts one, where there is who watches.
     pub(crate) fn start<R: Machine>(
         rt: R,
-        watch: Option<Watch<FileVolume>>,
+        watch: Option<Watcher<R>>,
         at: &Address<'_>,
     ) -> io::Result<Option<Lookout>> {
         let Some(watch) = watch else {

@@ -6,6 +6,7 @@ mod claiming;
 mod command_line;
 mod lookout;
 mod serving;
+mod turns;
 
 use broker_commands::{DONE, refuse_for_memory};
 use broker_opening::{Output, keep_numbers};

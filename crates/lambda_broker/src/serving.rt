@@ -4,13 +4,13 @@ ghost use Rattle.broker_core.specs.Broker.{pending_of, settings_of};
 ghost use Rattle.hall_core.specs.Fresh.{IsFresh};
 ghost use Rattle.receipts.specs.Desks.{desk_count};
 
-use crate::claiming::{OwnDisk, Watched, own_disk};
+use crate::claiming::{OwnDisk, Watched, Watcher, own_disk};
 use crate::lookout::Lookout;
 use admin_port::AdminPort;
 use broker_commands::Address;
 use broker_core::Broker;
 use broker_opening::{OpenedDisk, OpeningError, note_stop, open_in_turn, open_to_serve, warn};
-use disk_claim::{ClaimError, FileVolume, Holding, SharedHolding, Watch};
+use disk_claim::{ClaimError, Holding, SharedHolding};
 use hall_core::Hall;
 use http_front::{Discard, Ending, ServeError, WhenPending, serve};
 use http_port::Listening;
@@ -177,7 +177,7 @@ fn serve_on<R, T, D, W>(
     disk: D,
     written: Written,
     is_takeover: bool,
-    lookout: Option<Watch<FileVolume>>,
+    lookout: Option<Watcher<R>>,
     at: &Address<'_>,
     start: &io::Result<Instant>,
     out: &mut W,
@@ -201,7 +201,7 @@ where
 // Serves a disk, and gives its claim up at an orderly end.
 fn serve_own<R, W>(
     rt: R,
-    own: OwnDisk<Watched<R>>,
+    own: OwnDisk<Watched<R>, Watcher<R>>,
     at: &Address<'_>,
     start: &io::Result<Instant>,
     out: &mut W,
