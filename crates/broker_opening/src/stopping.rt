@@ -89,8 +89,8 @@ where
     Ok(false)
 }
 
-/// Asks the broker whose callers' port is there to stop, and waits for the answer for a second at most, not for its end: whether it was
-/// asked.
+/// Asks the broker whose callers' port is there to stop, and waits a second at most for the reply, not for its end: whether that was
+/// taken. It is not where nobody listens. Refused where the system's calls or memory fail, or no reply comes in time.
 pub fn ask_to_stop<N>(rt: &N, at: SocketAddr) -> io::Result<bool>
 where
     N: AllocGlobal + Net<Listener = TcpListener, Stream = TcpStream>,

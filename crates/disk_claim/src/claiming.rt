@@ -49,8 +49,8 @@ pub fn claim<D: Disk, V: Volume>(disk: D, watch: Watch<V>) -> Result<Claimed<D, 
 where
     D: Drop,
     V: Drop,
-    // claim: A disk is claimed by the token of who watches it, durably, and nothing else of it changes. What the machine kept
-    // of the volume is dropped behind that. [: claims, forgets]
+    // claim: A disk is claimed by the token of who watches it, durably, and nothing else of it changes. Of an honest volume's
+    // claim the machine keeps nothing then. [: claims, forgets]
     ensures claims { IfOk result (λ claimed. Claims D.view disk watch.own claimed.disk) }
     ensures forgets { IfOk result (λ claimed. HasForgotten V.view watch claimed.disk) }
     ensures none { IsErrOf result ClaimError.NoSector → claim_sector (D.view disk).sectors ≡ None }

@@ -15,7 +15,7 @@ use std::snapshot::Snapshot as Seen;
 pub struct WatchedDisk<D: Disk, V: Volume> {
     disk: D,
     watch: Option<Watch<V>>,
-    /// What the last look showed.
+    /// That the last barrier that succeeded was looked behind.
     looked: Option<Looked<D>>,
     /// The disk before the barrier whose look did not show the own token.
     lost: Option<Seen<D>>,

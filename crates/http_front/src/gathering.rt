@@ -11,7 +11,7 @@ const MOST_MICROS: u64 = 2400;
 /// Behind a commit that took less than that, in microseconds, nobody is waited for: a sleep may take as long as a flush.
 const LEAST_MICROS: u64 = 1000;
 
-/// A wait ends where nobody came for so long since the first who did, in microseconds.
+/// A wait ends where nobody came for so long behind the last who did, in microseconds.
 const QUIET_MICROS: u64 = 250;
 
 /// How long a sleep between two looks is at least, in microseconds.
