@@ -10,13 +10,13 @@ EVENTS = 100
 
 
 @contextlib.contextmanager
-def standby(broker):
+def standby(broker, *more):
     """A second broker that stands by for the same disk, at ports of its own."""
     second = Broker.__new__(Broker)
     second.folder, second.disk, second.environments = broker.folder, broker.disk, broker.environments
     second.ports, second.watch = Ports(), None
     second.port, second.admin = second.ports.first, second.ports.first + second.environments + 1
-    words = [Built.program, "serve", second.disk, "--port", str(second.port), "--admin", str(second.admin), "--standby"]
+    words = [Built.program, "serve", second.disk, "--port", str(second.port), "--admin", str(second.admin), "--standby", *more]
     second.served = subprocess.Popen(words, stdout=subprocess.PIPE, stderr=subprocess.DEVNULL, bufsize=0)
     try:
         yield second

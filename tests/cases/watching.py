@@ -4,8 +4,9 @@ import os
 import random
 import time
 
-from cases.standby import devices
-from harness import Beside, Broker, Ports, case, same, until
+from cases.program import taken
+from cases.standby import devices, standby
+from harness import Beside, Broker, Ports, case, line_of, same, until
 
 SECTORS = 16385
 CLAIM, TOKEN = 512 * (SECTORS - 1), 16
@@ -84,6 +85,47 @@ def generation_served(broker):
 
 
 @case(WATCHED)
+def a_start_that_is_refused_behind_its_claim_has_the_next_one_switch(broker):
+    ports = Ports()
+    with taken(ports.first):
+        words = "serve", broker.disk, "--port", ports.first, "--watch"
+        same(broker.said(*words), (1, "refused: port in use\n"))
+    ports.close()
+    left = claim_of(broker)
+    assert left != bytes(TOKEN)
+    same((generation(broker), broker.held()), ("1", 0))
+    broker.serve("--watch")
+    same((claim_of(broker) != left, generation_served(broker)), (True, 2))
+    same(broker.stop(), (202, 0, ""))
+
+
+@case(WATCHED)
+def a_broker_that_stands_by_claims_only_once_it_has_the_lock(broker):
+    broker.serve("--watch")
+    same(broker.invoke("{}").status, 202)
+    own = claim_of(broker)
+    with standby(broker, "--watch") as second:
+        same(line_of(second.served), "waiting for the lock\n")
+        same((broker.invoke("{}").status, claim_of(broker)), (202, own))
+        broker.kill()
+        same(line_of(second.served), f"serving on 127.0.0.1:{second.port}\n")
+        same(line_of(second.served), f"showing on 127.0.0.1:{second.admin}\n")
+        assert claim_of(broker) not in (own, bytes(TOKEN))
+        same(generation_served(second), 2)
+        same(second.stop(), (202, 0, ""))
+    same((claim_of(broker), broker.held()), (bytes(TOKEN), 2))
+
+
+@case(WATCHED)
+def an_idle_broker_ends_at_whichever_address_it_serves(broker):
+    for address in "127.0.0.7", "0.0.0.0":
+        broker.serve("--watch", "--address", address)
+        broker.put(CLAIM, OTHER)
+        same(broker.ended(), TAKEN)
+        same(claim_of(broker), OTHER)
+
+
+@case(WATCHED)
 def an_idle_broker_ends_once_another_token_stands_in_its_claim(broker):
     broker.serve("--watch")
     same(broker.invoke("{}").status, 202)
@@ -151,6 +193,7 @@ def a_claim_that_cannot_be_read_is_a_device_fault(broker):
     same(broker.invoke("{}").status, 202)
     watch.fail_read = watch.reads + 1
     same(broker.ended(), (3, "device fault\n"))
+    assert broker.stderr().count(f"device fault: reading {broker.disk} at sector {SECTORS - 1}: ") == 1, broker.stderr()
     watch.clear()
     same(broker.held(), 1)
 

@@ -33,5 +33,5 @@ pub use migrating::{Migrated, MigratingError, OldVersion, migrate_file};
 pub use opening::{Device, DiskError, check_size, open, open_device};
 pub use printing::{DONE, USAGE, print_fault, print_job, print_usage, refuse_for_memory};
 pub use probing::Volume;
-pub use telltale::Telltale;
+pub use telltale::{Telltale, telltale_for};
 pub use words::{Job, Task, read_task};

@@ -11,8 +11,8 @@ pub struct Telltale<R: Drop> {
     path: String,
 }
 
-/// One for the disk that this path names.
-pub(crate) fn telltale_for<R>(rt: &R, path: &str) -> Result<Telltale<R>, AllocError>
+/// One for the disk that this path names. It is refused where memory is.
+pub fn telltale_for<R>(rt: &R, path: &str) -> Result<Telltale<R>, AllocError>
 where
     R: Eprint + AllocGlobal + Copy + Drop,
 {

@@ -1,7 +1,7 @@
 // Claiming a disk.
 ghost use Rattle.std.specs.Prelude.{◌≡◌, None, true, IfOk, IsErrOf, OnOk, is_some};
 ghost use Rattle.disk_claim.specs.Place.{claim_sector};
-ghost use Rattle.disk_claim.specs.Claiming.{Claims, HasForgotten};
+ghost use Rattle.disk_claim.specs.Claiming.{Claims, HasForgotten, HasFound};
 
 use crate::place::claim_sector;
 use crate::putting::put;
@@ -50,9 +50,10 @@ where
     D: Drop,
     V: Drop,
     // claim: A disk is claimed by the token of who watches it, durably, and nothing else of it changes. Of an honest volume's
-    // claim the machine keeps nothing then. [: claims, forgets]
+    // claim the machine keeps nothing then, and who is told to have stood there did at a look. [: claims, forgets, found]
     ensures claims { IfOk result (λ claimed. Claims D.view disk watch.own claimed.disk) }
     ensures forgets { IfOk result (λ claimed. HasForgotten V.view watch claimed.disk) }
+    ensures found { IfOk result (λ claimed. HasFound V.view watch claimed.found) }
     ensures none { IsErrOf result ClaimError.NoSector → claim_sector (D.view disk).sectors ≡ None }
     ensures sector { OnOk result (is_some (claim_sector (D.view disk).sectors) ≡ true) }
 {

@@ -7,6 +7,7 @@ use crate::{Token, Volume};
 use libc::{POSIX_FADV_DONTNEED, posix_fadvise};
 use sector_disk::{Fault, SECTOR_SIZE};
 use std::fs::File;
+use std::io;
 use std::io::ErrorKind;
 use std::os::fd::AsRawFd;
 use std::os::unix::fs::FileExt;
@@ -15,43 +16,43 @@ use std::os::unix::fs::FileExt;
 const PAGE_SIZE: i64 = 8 * SECTOR_SIZE as i64;
 
 // Where a sector begins, in bytes.
-fn place_of(sector: u64) -> Result<u64, Fault> {
-    sector.checked_mul(SECTOR_SIZE as u64).ok_or(Fault)
+fn place_of(sector: u64) -> io::Result<u64> {
+    match sector.checked_mul(SECTOR_SIZE as u64) {
+        Some(at) => Ok(at),
+        None => Err(io::Error::from(ErrorKind::InvalidInput)),
+    }
 }
 
 // Drops what this machine kept of so many bytes of a file, as far as it is written. 0 bytes are all behind the place.
-fn drop_kept(file: &File, at: i64, size: i64) -> Result<(), Fault> {
+fn drop_kept(file: &File, at: i64, size: i64) -> io::Result<()> {
     match posix_fadvise(file.as_raw_fd(), at, size, POSIX_FADV_DONTNEED) {
         0 => Ok(()),
-        _ => Err(Fault),
+        _ => Err(io::Error::from(ErrorKind::Other)),
     }
 }
 
 /// Drops what this machine kept of the page of a sector.
-pub(crate) fn forget_page(file: &File, sector: u64) -> Result<(), Fault> {
+pub(crate) fn forget_page(file: &File, sector: u64) -> io::Result<()> {
     let Ok(at) = i64::try_from(place_of(sector)?) else {
-        return Err(Fault);
+        return Err(io::Error::from(ErrorKind::InvalidInput));
     };
     drop_kept(file, at - at % PAGE_SIZE, PAGE_SIZE)
 }
 
 /// Drops what this machine kept of a file.
-pub(crate) fn forget_file(file: &File) -> Result<(), Fault> {
+pub(crate) fn forget_file(file: &File) -> io::Result<()> {
     drop_kept(file, 0, 0)
 }
 
 /// Reads a sector of a file.
-pub(crate) fn read_sector(file: &File, sector: u64) -> Result<[u8; SECTOR_SIZE], Fault> {
+pub(crate) fn read_sector(file: &File, sector: u64) -> io::Result<[u8; SECTOR_SIZE]> {
     let mut bytes = [0; SECTOR_SIZE];
-    let at = place_of(sector)?;
-    match file.read_exact_at(&mut bytes, at) {
-        Ok(()) => Ok(bytes),
-        Err(_) => Err(Fault),
-    }
+    file.read_exact_at(&mut bytes, place_of(sector)?)?;
+    Ok(bytes)
 }
 
 /// Reads a sector of a file from the device, and not what this machine kept of it: that is dropped before.
-pub fn look(file: &File, sector: u64) -> Result<[u8; SECTOR_SIZE], Fault> {
+pub fn look(file: &File, sector: u64) -> io::Result<[u8; SECTOR_SIZE]> {
     forget_page(file, sector)?;
     read_sector(file, sector)
 }

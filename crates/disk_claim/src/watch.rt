@@ -1,7 +1,7 @@
 // Who watches a claim: looks at it, and what they show.
-ghost use Rattle.std.specs.Prelude.{◌≡◌, IfSome, OnOk};
+ghost use Rattle.std.specs.Prelude.{◌≡◌, IfOk, IfSome, OnOk};
 ghost use Rattle.disk_claim.specs.Volume.{IsSameVolume};
-ghost use Rattle.disk_claim.specs.Watching.{SeesOwn, IsSameWatch, KeepsNothing};
+ghost use Rattle.disk_claim.specs.Watching.{SeesOwn, Shows, IsSameWatch, KeepsNothing};
 
 use crate::looking::look_at;
 use crate::settled::Settled;
@@ -47,6 +47,7 @@ impl<V: Volume> Watch<V> {
     /// Who stands in the claim, whoever holds it.
     pub(crate) fn peek(&mut self) -> Result<Token, Fault>
         ensures same { IsSameWatch V.view self.old self.new }
+        ensures shows { IfOk result (Shows V.view self.old self.new) }
     {
         look_at(&mut self.volume)
     }

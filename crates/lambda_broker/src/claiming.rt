@@ -3,7 +3,7 @@ ghost use Rattle.std.specs.Prelude.{◌≡◌, ◌<◌};
 
 use crate::serving::ServingError;
 use crate::turns::{SharedVolume, Turn};
-use broker_commands::{Address, Device, DiskError};
+use broker_commands::{Address, Device, DiskError, telltale_for};
 use broker_core::OpenError;
 use broker_opening::OpeningError;
 use disk_claim::{
@@ -74,7 +74,8 @@ fn watch_at<R>(
 where
     R: Files<File = File> + Machine,
 {
-    match FileVolume::open(rt, path, sector) {
+    let log = telltale_for(rt, path)?;
+    match FileVolume::open(rt, path, sector, log) {
         Ok(volume) => {
             let shared = SharedVolume::new(*rt, volume, turn.another()?);
             Ok(Watch::new(shared, own, holding.another()?))

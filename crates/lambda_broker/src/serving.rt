@@ -174,10 +174,8 @@ where
 // Serves what is on a disk, once it is opened, while somebody may look at its claim: the disk.
 fn serve_on<R, T, D, W>(
     rt: R,
-    disk: D,
+    own: OwnDisk<D, Watcher<R>>,
     written: Written,
-    is_takeover: bool,
-    lookout: Option<Watcher<R>>,
     at: &Address<'_>,
     start: &io::Result<Instant>,
     out: &mut W,
@@ -189,6 +187,11 @@ where
     D: Disk + Drop,
     W: Write,
 {
+    let OwnDisk {
+        disk,
+        is_takeover,
+        lookout,
+    } = own;
     let opened = open_to_serve(&rt, disk, written, is_takeover, at, start, out)?;
     let lookout = Lookout::start(rt, lookout, at)?;
     let served = serve_opened::<R, T, D>(rt, opened, at);
@@ -216,16 +219,13 @@ where
         lookout,
     } = own;
     let written = Written::new(rt.alloc())?;
-    let counting = CountingDisk::over(disk, written.another()?);
-    let served = serve_on::<R, Gone, CountingDisk<Watched<R>>, W>(
-        rt,
-        counting,
-        written,
+    let counted = OwnDisk {
+        disk: CountingDisk::over(disk, written.another()?),
         is_takeover,
         lookout,
-        at,
-        start,
-        out,
+    };
+    let served = serve_on::<R, Gone, CountingDisk<Watched<R>>, W>(
+        rt, counted, written, at, start, out,
     )?;
     match served.into_inner().release() {
         Ok(_) => Ok(()),

@@ -1,7 +1,9 @@
 // Looks at a claim, one behind the other.
+use broker_commands::Telltale;
 use disk_claim::{FileVolume, Volume};
 use sector_disk::{Fault, SECTOR_SIZE};
 use std::alloc::{AllocError, Global};
+use std::io::Eprint;
 use std::sync::Arc;
 use std::sync::atomic::{AtomicBool, Ordering};
 use std::thread;
@@ -59,20 +61,20 @@ impl Turn {
 /// The claim of a disk, at which one looks at a time, from `forget` to `read`. What the machine keeps of a page is not dropped while
 /// another one reads it, and a read behind that would give what stood there before.
 #[derive(Drop)]
-pub(crate) struct SharedVolume<R: Clock + Drop> {
+pub(crate) struct SharedVolume<R: Drop> {
     rt: R,
-    volume: FileVolume,
+    volume: FileVolume<Telltale<R>>,
     turn: Turn,
 }
 
-impl<R: Clock + Drop> SharedVolume<R> {
+impl<R: Drop> SharedVolume<R> {
     /// This claim, by this turn.
-    pub(crate) fn new(rt: R, volume: FileVolume, turn: Turn) -> SharedVolume<R> {
+    pub(crate) fn new(rt: R, volume: FileVolume<Telltale<R>>, turn: Turn) -> SharedVolume<R> {
         SharedVolume { rt, volume, turn }
     }
 }
 
-impl<R: Clock + Drop> Volume for SharedVolume<R> {
+impl<R: Eprint + AllocGlobal + Clock + Copy + Drop> Volume for SharedVolume<R> {
     ghost use Rattle.disk_claim.specs.Volume.{unclaimed};
 
     ghost view = { λ volume. unclaimed };

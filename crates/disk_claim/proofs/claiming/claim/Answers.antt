@@ -11,5 +11,9 @@ pub returns-clause-forgets : goal.returns-clause-forgets
 returns-clause-forgets g c = (
   c.forget_all.new.self,
   c.over.ensures.watch,
+  c.in_ok-forget_all.ensures.same.own ∙ (c.look.ensures.same.own ∙ c.peek.ensures.same.own),
   λ honest. c.in_ok-forget_all.ensures.forgets (c.look.ensures.same.volume.1 (c.peek.ensures.same.volume.1 honest)),
 )
+
+pub returns-clause-found : goal.returns-clause-found
+returns-clause-found g c = (c.peek.new.self, c.peek.ensures.same, c.in_ok-found.ensures.shows)
