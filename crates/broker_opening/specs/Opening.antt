@@ -6,6 +6,8 @@ use Rattle.invoke_records.specs.declared.command.Command.{Command}
 use Rattle.invoke_records.specs.declared.command.Kind.TheVariants.{Interrupt}
 use Rattle.broker_core.specs.declared.broker.Broker.{Broker}
 use Rattle.broker_core.specs.Broker.{settings_of, Stands}
+use Rattle.broker_core.specs.Promises.{ForEachHistoryOn, IsRecovered}
+use Rattle.broker_core.specs.Refusals.{HasSwitched}
 use Rattle.broker_core.specs.Resume.{AllAtRest}
 use Rattle.hall_core.specs.Hall.{HallView, StandsFor}
 use Rattle.hall_plans.specs.Past.{opening}
@@ -38,3 +40,7 @@ pub record RecoversAtRest {D : Type 0} {g : Ghosts D} (view : D → DiskView) (e
   pub at_least : durable ≤ size
   pub at_most : size ≤ length history
   pub rests : OpensAtRest view extensions (take size history) broker hall
+
+-- what recovery gave of the disk switched once to come to this broker
+abbrev pub SwitchesRecovered : {D : Type 0} {g : Ghosts D} → (D → DiskView) → D → Broker D g → Type 0
+SwitchesRecovered view disk new = (recovered : Broker _ _) × ForEachHistoryOn (view disk) (λ s history durable. IsRecovered view s history durable recovered) × HasSwitched 1 recovered new

@@ -1,11 +1,11 @@
 // Opening what is on a disk, to be served.
-ghost use Rattle.std.specs.Prelude.{◌≡◌, [], IfOk, IfSome, is_some};
+ghost use Rattle.std.specs.Prelude.{◌≡◌, [], IfOk, IfSome, IsTrue, is_some};
 ghost use Rattle.broker_core.specs.Broker.{pending_of, settings_of};
 ghost use Rattle.broker_core.specs.IssuerBroker.{issuer_of};
 ghost use Rattle.broker_core.specs.Promises.{ForEachHistoryOn};
 ghost use Rattle.hall_core.specs.Fresh.{IsFresh};
 ghost use Rattle.hall_core.specs.Hall.{view_of};
-ghost use Rattle.broker_opening.specs.Opening.{RecoversAtRest};
+ghost use Rattle.broker_opening.specs.Opening.{RecoversAtRest, SwitchesRecovered};
 
 use crate::error::OpeningError;
 use crate::listening::{Ports, listen_on_all};
@@ -112,6 +112,9 @@ where
     ensures dialect { IfOk result (λ opened. (view_of (issuer_of D.view) opened.hall).dialect ≡ at.now.dialect) }
     ensures rest { (D.view disk).honest → ForEachHistoryOn (D.view disk) (λ s history durable. IfOk result (λ opened.
         RecoversAtRest D.view at.now.extensions history durable opened.hall.issuer (view_of (issuer_of D.view) opened.hall))) }
+    // claim: Where the disk was taken over, what recovery gave was switched once: what is written next lies where the other broker does
+    // not append. [: switches]
+    ensures switches { IsTrue is_takeover → (D.view disk).honest → IfOk result (λ opened. SwitchesRecovered D.view disk opened.hall.issuer) }
 {
     let broker = open(rt.alloc(), disk)?;
     let environments = broker.table().settings().environments;

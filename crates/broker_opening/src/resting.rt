@@ -1,6 +1,6 @@
 // The hall over a broker that was opened: attempts that the last stop cut off are interrupted first.
 ghost use Rattle.std.specs.Prelude.{◌≡◌, [], IfOk, OnOk, IsTrue};
-ghost use Rattle.broker_core.specs.Broker.{pending_of, settings_of, Commits, Stands};
+ghost use Rattle.broker_core.specs.Broker.{opened_of, pending_of, settings_of, Commits, Stands};
 ghost use Rattle.broker_core.specs.Refusals.{HasSwitched};
 ghost use Rattle.broker_core.specs.Promises.{ForEachHistory};
 ghost use Rattle.broker_core.specs.IssuerBroker.{issuer_of};
@@ -28,6 +28,7 @@ fn interrupt_attempts<R: Clock + Wait, D: Disk>(
     broker: &mut Broker<D>,
 ) -> Result<(), OpeningError>
     ensures settings { settings_of broker.new ≡ settings_of broker.old }
+    ensures segment { opened_of broker.new ≡ opened_of broker.old }
     ensures rest { ForEachHistory D.view broker.old (λ history. OnOk result (ComesToRest D.view history broker.new)) }
 {
     let now = now(rt)?;
@@ -43,8 +44,6 @@ fn interrupt_attempts<R: Clock + Wait, D: Disk>(
 fn settle<D: Disk>(broker: &mut Broker<D>, is_takeover: bool) -> Result<Durable, CommitError>
     ensures ok { IfOk result (λ durable. Commits broker.old broker.new durable) }
     ensures stands { ForEachHistory D.view broker.old (λ history. Stands D.view broker.new history) }
-    // claim: Where the disk was taken over, the opening switches: its frames lie where the other broker does not append. [:
-    // switches]
     ensures switches { IsTrue is_takeover → OnOk result (HasSwitched 1 broker.old broker.new) }
 {
     if is_takeover {
@@ -65,6 +64,7 @@ fn resume<R: Clock + Wait, D: Disk>(
     // claim: After Ok nothing runs, and all is durable. Interrupts alone were issued. [: durable, rest;
     // interrupt_attempts: rest]
     ensures durable { OnOk result (pending_of broker.new ≡ []) }
+    ensures switches { IsTrue is_takeover → OnOk result (HasSwitched 1 broker.old broker.new) }
     ensures rest { ForEachHistory D.view broker.old (λ history. OnOk result (ComesToRest D.view history broker.new)) }
 {
     interrupt_attempts(rt, broker)?;
@@ -91,6 +91,7 @@ where
     R: Clock + Wait + Eprint + AllocGlobal,
     D: Disk,
     ensures durable { OnOk result (pending_of broker.new ≡ []) }
+    ensures switches { IsTrue is_takeover → OnOk result (HasSwitched 1 broker.old broker.new) }
     ensures rest { ForEachHistory D.view broker.old (λ history. OnOk result (ComesToRest D.view history broker.new)) }
 {
     let held = broker.table().snapshot()?.rows.as_slice().len();
@@ -145,6 +146,7 @@ where
     ensures nothing { IfOk result (λ hall. pending_of hall.issuer ≡ []) }
     ensures fresh { IfOk result (λ hall. IsFresh (settings_of hall.issuer) hall) }
     ensures dialect { IfOk result (λ hall. (view_of (issuer_of D.view) hall).dialect ≡ at.now.dialect) }
+    ensures switches { IsTrue is_takeover → IfOk result (λ hall. HasSwitched 1 broker hall.issuer) }
     ensures rest { ForEachHistory D.view broker (λ history.
         IfOk result (λ hall. OpensAtRest D.view at.now.extensions history hall.issuer (view_of (issuer_of D.view) hall))) }
 {

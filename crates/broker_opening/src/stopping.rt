@@ -6,8 +6,10 @@ use std::time::{Clock, Duration};
 use std::{io, thread};
 use thiserror::Error;
 
-/// How many seconds a reply is waited for.
+/// How many seconds a connection is waited for, and a reply.
 const PATIENCE: u64 = 60;
+/// How many seconds each is waited for where the end is not.
+const SHORT_PATIENCE: u64 = 1;
 /// How many milliseconds it is waited before the port is looked at again.
 const PAUSE: u64 = 50;
 /// How often the port is looked at: for a minute.
@@ -41,12 +43,12 @@ fn is_closed(why: &io::Error) -> bool {
     )
 }
 
-// A connection to a port. None where nobody listens there.
-fn connect<N>(rt: &N, at: SocketAddr) -> io::Result<Option<TcpStream>>
+// A connection to a port, for which so many seconds are waited. None where nobody listens there.
+fn connect<N>(rt: &N, at: SocketAddr, patience: u64) -> io::Result<Option<TcpStream>>
 where
     N: Net<Listener = TcpListener, Stream = TcpStream>,
 {
-    match TcpStream::connect(rt, at) {
+    match TcpStream::connect_timeout(rt, &at, Duration::from_secs(patience)) {
         Ok(socket) => Ok(Some(socket)),
         Err(why) if is_closed(&why) => Ok(None),
         Err(why) => Err(why),
@@ -81,7 +83,7 @@ where
     N: Clock + Net<Listener = TcpListener, Stream = TcpStream>,
 {
     for _ in 0..MOST_LOOKS {
-        if connect(rt, at)?.is_none() {
+        if connect(rt, at, PATIENCE)?.is_none() {
             return Ok(true);
         }
         thread::sleep(rt, Duration::from_millis(PAUSE));
@@ -89,14 +91,15 @@ where
     Ok(false)
 }
 
-/// Asks the broker whose callers' port is there to stop, and waits a second at most for the reply, not for its end: whether that was
-/// taken. It is not where nobody listens. Refused where the system's calls or memory fail, or no reply comes in time.
+/// Asks the broker whose callers' port is there to stop, and waits a second at most for a connection, another one for the reply, and
+/// not for its end: whether that was taken. It is not where nobody listens. Refused where the system's calls or memory fail, or what is
+/// waited for does not come in time.
 pub fn ask_to_stop<N>(rt: &N, at: SocketAddr) -> io::Result<bool>
 where
     N: AllocGlobal + Net<Listener = TcpListener, Stream = TcpStream>,
 {
-    match connect(rt, at)? {
-        Some(mut socket) => ask(rt, &mut socket, at, 1),
+    match connect(rt, at, SHORT_PATIENCE)? {
+        Some(mut socket) => ask(rt, &mut socket, at, SHORT_PATIENCE),
         None => Ok(false),
     }
 }
@@ -108,7 +111,7 @@ pub fn stop_broker<N>(rt: &N, at: SocketAddr) -> Result<(), StoppingError>
 where
     N: AllocGlobal + Clock + Net<Listener = TcpListener, Stream = TcpStream>,
 {
-    let Some(mut socket) = connect(rt, at)? else {
+    let Some(mut socket) = connect(rt, at, PATIENCE)? else {
         return Err(StoppingError::Nobody { at });
     };
     if !ask(rt, &mut socket, at, PATIENCE)? {

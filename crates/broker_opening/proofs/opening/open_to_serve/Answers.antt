@@ -8,3 +8,7 @@ returns-clause-rest g c = λ honest s history durable legal stops.
     let hall = c.in_ok-hall.hall in
     recovers_at_rest g.D.Disk.view c.args.at.now.extensions s history durable c.in_ok-broker.broker hall.issuer (view_of (issuer_of g.D.Disk.view) hall)
     (c.in_ok-broker.ensures.stands honest s history durable legal stops) c.in_ok-hall.ensures.rest
+
+pub returns-clause-switches : goal.returns-clause-switches
+returns-clause-switches g c = λ takeover honest.
+    (c.in_ok-broker.broker, c.in_ok-broker.ensures.stands honest, c.in_ok-hall.ensures.switches takeover)

@@ -8,6 +8,7 @@ use Rattle.broker_opening.proofs.resting.interrupt_attempts.Goals as goal
 pub loop-preserved : goal.loop-preserved
 loop-preserved g c = record {
   settings = c.resume.ensures.settings ∙ c.loop.invariant.settings;
+  segment = c.resume.ensures.segment ∙ c.loop.invariant.segment;
   interrupted = λ history stands.
       let before = c.loop.invariant.interrupted history stands in
       pushed_back g.D.Disk.view history c.loop.broker c.resume.new.self _ c.resume.result c.in_ok-resume.field-0 c.is_none.result c.in_ok-resume.was
