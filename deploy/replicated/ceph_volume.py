@@ -38,7 +38,7 @@ class Ceph:
     keeps_attachments = False
 
     def __init__(self, net):
-        self.net, self.daemons, self.images, self.made = net, {}, [], 0
+        self.net, self.daemons, self.image, self.made = net, {}, None, 0
         self.replicas = [net.machine(number) for number in (1, 2, 3)]
         self.monitor = net.machine(4)
         self.machines = [net.machine(number) for number in (11, 12)]
@@ -107,12 +107,11 @@ class Ceph:
         until(self.is_whole, "the healing")
 
     def make(self, size):
-        """A new image of zeros. Those before go as soon as nobody has them open."""
-        self.images = [name for name in self.images if not self.tell(f"remove {name}")]
+        """A new image of zeros. Those before stay: to remove one that was left open takes seconds."""
         self.made += 1
-        self.images.append(f"disk{self.made}")
-        self.tell(f"create {self.images[-1]} {size}")
-        return self.images[-1]
+        self.image = f"disk{self.made}"
+        self.tell(f"create {self.image} {size}")
+        return self.image
 
     def renew(self, machine, sectors):
         """The disk of a new image, which is attached to a machine."""
@@ -122,7 +121,7 @@ class Ceph:
     def attach(self, machine):
         """Attaches the newest image to a machine, and answers its file."""
         place = f"{machine.folder}/disk"
-        machine.run(SCRIPT, "attach-fuse", f"{POOL}/{self.images[-1]}", place)
+        machine.run(SCRIPT, "attach-fuse", f"{POOL}/{self.image}", place)
         machine.run(SCRIPT, "attached-fuse", place)
         return place
 

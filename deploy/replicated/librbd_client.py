@@ -52,15 +52,6 @@ def number_in(image):
     return int(image.read(0, SECTOR).rstrip(b"\0") or b"0")
 
 
-def remove(pool, name):
-    """Whether an image is gone."""
-    try:
-        rbd.RBD().remove(pool, name)
-    except rbd.ImageBusy:
-        return False
-    return True
-
-
 def answer_to(cluster, pool, word, words, rest):
     if word == "ask":
         return ask(cluster, **json.loads(rest))
@@ -68,9 +59,7 @@ def answer_to(cluster, pool, word, words, rest):
         return fence(cluster, *words)
     if word == "states":
         return states(cluster, int(rest))
-    if word == "create":
-        return rbd.RBD().create(pool(), words[0], int(words[1]))
-    return remove(pool(), *words)
+    return rbd.RBD().create(pool(), words[0], int(words[1]))
 
 
 def operator():

@@ -10,6 +10,8 @@ from ceph_volume import CLIENT, POOL, SECTOR
 from machines import run, until
 
 TRIES_TO_LOSE, PATIENCE = 30, 30
+# How long a client of GlusterFS takes to connect again, at most.
+SECONDS_TO_COME_BACK = 5
 # A disk of less than 64 KiB.
 SMALL = "--sectors 127 --events 256 --payload 2 --response 2".split()
 # Writes numbers into a file, and prints each for which fdatasync succeeded.
@@ -62,7 +64,7 @@ def unfenced(volume):
     try:
         volume.break_connections(first)
         brokers.append(Broker(second, volume.attach(second)))
-        until(lambda: first.run("stat", "-c", "%s", brokers[0].disk, check=False).strip().isdigit(), "the volume")
+        time.sleep(SECONDS_TO_COME_BACK)
         serve_both(brokers)
         for machine in volume.machines:
             volume.detach(machine)
