@@ -50,8 +50,10 @@ class Gluster:
         until(lambda: brick.run("gluster", "pool", "list", check=False).count("UUID"), "glusterd")
 
     def lose_replica(self):
-        """The program of one brick is killed."""
-        os.kill(int(self.replicas[1].run("sh", "-c", "cat /run/gluster/vols/disks/*.pid")), signal.SIGKILL)
+        """The program of one brick is killed, and gone: until then no other is started in its place."""
+        program = int(self.replicas[1].run("sh", "-c", "cat /run/gluster/vols/disks/*.pid"))
+        os.kill(program, signal.SIGKILL)
+        until(lambda: not os.path.exists(f"/proc/{program}"), "the end of the brick")
 
     def is_healed(self):
         time.sleep(0.5)
@@ -59,7 +61,7 @@ class Gluster:
 
     def mend(self):
         """Starts the brick that was lost, and waits until it has what came meanwhile, for which it may have to be told again."""
-        for seconds in 30, 30, 30, DEADLINE:
+        for seconds in 10, 10, 10, 30, DEADLINE:
             self.ask("start", "disks", "force")
             until(lambda: self.ask("status", "disks").count(" Y ") >= 3, "the bricks")
             self.replicas[0].run("gluster", "--mode=script", "volume", "heal", "disks", check=False)

@@ -1,7 +1,9 @@
 """A broker that claims its disk: what stands in the claim, and how it ends once another token stands there."""
+import contextlib
 import http.client
 import os
 import random
+import stat
 import time
 
 from cases.program import taken
@@ -226,11 +228,25 @@ def invoke_until_refused(broker, told):
         told.append(answer.id)
 
 
-def take_over(broker, is_asked):
-    """A second broker serves the disk by another device, at a random moment while the first one serves, and is asked or is idle: how
+def two_devices(path):
+    """Two block devices over one file, each with a cache of its own."""
+    return devices(path, 2)
+
+
+@contextlib.contextmanager
+def two_nodes(path):
+    """One block device over a file, and a second node of it."""
+    with devices(path, 1) as [device]:
+        node = f"{path}.node"
+        os.mknod(node, stat.S_IFBLK | 0o600, os.stat(device).st_rdev)
+        yield device, node
+
+
+def take_over(broker, ways, is_asked):
+    """A second broker serves the disk by another way, at a random moment while the first one serves, and is asked or is idle: how
     that ended, how long it took, how many events it was told of, which of them the second one lacks, and how that ended."""
     told = []
-    with devices(broker.disk, 2) as (first, second):
+    with ways(broker.disk) as (first, second):
         one, other = Second(broker, first), Second(broker, second)
         try:
             one.serve("--watch")
@@ -252,17 +268,27 @@ def take_over(broker, is_asked):
     return status, took, len(told), lost, stopped
 
 
-@case(WATCHED)
-def who_takes_a_disk_over_has_all_that_the_other_acknowledged(broker):
-    # By hand, more often: each then tells what it saw.
-    often = os.environ.get("LAMBDA_BROKER_TAKEOVERS")
-    for number in range(int(often or 4)):
+def take_over_often(broker, ways, often):
+    """So many times, each with a new disk, every fourth time with a first broker that is idle. By hand more often, and then each tells
+    what it saw."""
+    asked = os.environ.get("LAMBDA_BROKER_TAKEOVERS")
+    for number in range(int(asked or often)):
         other = type(broker)(**WATCHED)
         try:
-            status, took, told, lost, stopped = take_over(other, number % 4 > 0)
+            status, took, told, lost, stopped = take_over(other, ways, number % 4 > 0)
         finally:
             other.close()
         same((status, lost, stopped), (TAKEN, [], (202, 0, "")))
         assert took < 10, took
-        if often:
+        if asked:
             print(f"acknowledged {told}, ended after {took:.2f} s", flush=True)
+
+
+@case(WATCHED)
+def who_takes_a_disk_over_has_all_that_the_other_acknowledged(broker):
+    take_over_often(broker, two_devices, 4)
+
+
+@case(WATCHED)
+def who_takes_a_disk_over_by_a_second_node_of_its_device_has_all_of_it_too(broker):
+    take_over_often(broker, two_nodes, 4)
