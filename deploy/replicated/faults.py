@@ -4,6 +4,7 @@ import time
 from collections import Counter
 
 from brokers import PROGRAM, Broker, formatted
+from machines import until
 
 TAKEN_OVER, PATIENCE, MOST_SECONDS = 4, 20, 5
 
@@ -40,7 +41,8 @@ def looked(volume, first, second):
     """The standby had audited the disk before. Where an attachment is not to be kept, it attaches anew."""
     disk = formatted(volume, first)
     theirs = volume.attach(second)
-    second.run(PROGRAM, "audit", theirs)
+    # On GlusterFS the lock of who formatted it may outlast that by a moment.
+    until(lambda: "held 0" in second.run(PROGRAM, "audit", theirs, check=False), "an audit")
     broker = Broker(first, disk)
     broker.load()
     time.sleep(random.uniform(0.2, 0.7))
