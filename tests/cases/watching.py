@@ -8,7 +8,7 @@ import time
 
 from cases.program import taken
 from cases.standby import devices, standby
-from harness import Beside, Broker, Ports, case, line_of, same, until
+from harness import Apart, Beside, Broker, Ports, case, line_of, same, until
 
 SECTORS = 16385
 CLAIM, TOKEN = 512 * (SECTORS - 1), 16
@@ -238,7 +238,11 @@ def two_nodes(path):
     """One block device over a file, and a second node of it."""
     with devices(path, 1) as [device]:
         node = f"{path}.node"
-        os.mknod(node, stat.S_IFBLK | 0o600, os.stat(device).st_rdev)
+        try:
+            os.mknod(node, stat.S_IFBLK | 0o600, os.stat(device).st_rdev)
+            open(node, "rb").close()
+        except OSError as why:
+            raise Apart(f"no second node of a device: {why}") from why
         yield device, node
 
 
