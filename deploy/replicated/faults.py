@@ -17,13 +17,17 @@ def served(volume, machine, *words):
     return broker
 
 
-def killed(volume, first, second):
-    """The program is killed."""
-    broker = served(volume, first)
+def behind_a_kill(volume, first, second, broker):
+    """Kills the program. Then the volume is taken off, attached to the second machine, and served there."""
     began = time.monotonic()
     broker.kill()
     volume.detach(first)
     return broker, Broker(second, volume.attach(second)), began
+
+
+def killed(volume, first, second):
+    """The program is killed."""
+    return behind_a_kill(volume, first, second, served(volume, first))
 
 
 def replica(volume, first, second):
@@ -31,10 +35,7 @@ def replica(volume, first, second):
     broker = served(volume, first)
     volume.lose_replica()
     time.sleep(0.3)
-    began = time.monotonic()
-    broker.kill()
-    volume.detach(first)
-    return broker, Broker(second, volume.attach(second)), began
+    return behind_a_kill(volume, first, second, broker)
 
 
 def looked(volume, first, second):
