@@ -18,6 +18,7 @@ use Rattle.admin_replies.specs.Collecting.{ids_in}
 use Rattle.admin_replies.specs.Telling.{TellsOf}
 use Rattle.admin_replies.specs.declared.admin_refusal.AdminRefusal.{AdminRefusal}
 use Rattle.admin_replies.specs.declared.admin_request.AdminRequest.{AdminRequest}
+use Rattle.hall_core.specs.declared.looking.Sought.{Sought}
 use Rattle.receipts.specs.declared.view.View.{View}
 use Rattle.receipts.specs.declared.view.Unreleased.{Unreleased}
 use Rattle.long_poll.specs.declared.pending_view.DurableView.{DurableView}
@@ -61,6 +62,10 @@ RefusesRequest head told =
 -- its head asks for this, of this machine
 abbrev pub IsAsked : Parts → AdminRequest → Type 0
 IsAsked head request = (asked_of head.method (target_in head) ≡ Ok request) × (is_local head.headers ≡ true)
+
+-- of what it shows, this was sought
+abbrev pub Seeks : Sought → Option Unreleased → Type 0
+Seeks wanted seen = IfSome seen (λ unreleased. unreleased.view.hall.sought ≡ wanted)
 
 -- lines with just these ids are collected. Of an E it is known which id its line has
 abbrev pub CollectsIds : {E : Type 0} → (E → Option (List ℕ)) → List ℕ → List E → Type 0

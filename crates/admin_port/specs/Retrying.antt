@@ -59,7 +59,7 @@ module _ {L T O : Type 0} (l : LedgerGhosts L) (g : TraceGhosts T O) (o : Openin
 
   -- of the row that was seen, once that is durable; or that the hall broke before
   abbrev pub TellsOfSeen : List ℕ → Result DurableView ViewError → AdminReply → Type 0
-  TellsOfSeen id (Ok durable) reply = TellsOfPayload id (failed_payload id durable.view.hall.table.rows) reply
+  TellsOfSeen id (Ok durable) reply = TellsOfPayload id (failed_payload id durable.view.hall.rows) reply
   TellsOfSeen id (Err why) reply = reply.status ≡ 503
 
   -- of what was unreleased, and of nothing else

@@ -37,6 +37,14 @@ pub(crate) struct AdminContext<L: Ledger, T: Trace> {
     pub(crate) history: Mutex<History>,
 }
 
+/// Now, in milliseconds since 1970, or 0 where the clock can not be read.
+pub(crate) fn now_or_zero<R: Clock>(rt: &R) -> u64 {
+    match Moment::now(rt) {
+        Ok(at) => at.millis(),
+        Err(_) => 0,
+    }
+}
+
 impl<L: Ledger, T: Trace> AdminContext<L, T> {
     ghost use Rattle.admin_port.specs.Replying.{TellsOfView};
 
@@ -69,10 +77,7 @@ impl<L: Ledger, T: Trace> AdminContext<L, T> {
     ) -> AdminResponse
         ensures { TellsOfView self.now.baseline request.now view.now result.reply }
     {
-        let now = match Moment::now(rt) {
-            Ok(at) => at.millis(),
-            Err(_) => 0,
-        };
+        let now = now_or_zero(rt);
         let counters = self.baseline.opening.counted(self.meters.read(rt));
         let sample = sample_of(&self.baseline, view, &counters, self.written.bytes(), now);
         let measures = self.measures(rt, counters, self.remember(rt, sample.counts));

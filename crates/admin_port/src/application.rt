@@ -2,10 +2,12 @@
 ghost use Rattle.std.specs.Prelude.{◌≡◌, ◌&&◌, true, Some, None, IfOk, IfErr, OnOk, is_some, option_map, if◌then◌else◌};
 ghost use Rattle.admin_port.specs.Acting.{BringsList, NamesRecord, Refuses, RefusesList, RefusesRetry, brings, named_by};
 ghost use Rattle.admin_port.specs.Heads.{may_act};
-ghost use Rattle.admin_port.specs.Replying.{CollectsBody, IsAsked, RefusesRequest, ShowsOrActs};
+ghost use Rattle.admin_port.specs.Replying.{CollectsBody, IsAsked, RefusesRequest, Seeks, ShowsOrActs};
+ghost use Rattle.admin_replies.specs.Seeking.{sought_by};
+ghost use Rattle.long_poll.specs.PendingView.{unreleased_in};
 
 use crate::acts::Acts;
-use crate::admin_context::AdminContext;
+use crate::admin_context::{AdminContext, now_or_zero};
 use crate::admin_response::AdminResponse;
 use crate::collecting::Collecting;
 use crate::local::{NOT_LOCAL, is_local};
@@ -14,6 +16,7 @@ use crate::refusing::{refuse, refuse_words};
 use crate::retrying::Retrying;
 use admin_replies::{AdminRequest, brings_list, read, record_named};
 use futures::future::Either;
+use hall_core::Sought;
 use http::request::Parts;
 use http_port::{Application, ReadBody, Refused, target_of};
 use hyper::StatusCode;
@@ -45,9 +48,12 @@ impl<R: Wait + Clock + Drop + Copy, L: Ledger, T: Trace, A> AdminApplication<R, 
         brings_list(head.method.as_str(), target_of(head)).then_some(acts)
     }
 
-    // What is there to be seen now.
-    fn look(&self) -> Result<PendingView<R, L, T>, AllocError> {
-        let view = self.context.reader.look(&self.rt).answer?;
+    // What is there to be seen now by one who seeks this.
+    fn look(&self, sought: Sought) -> Result<PendingView<R, L, T>, AllocError>
+        ensures { IfOk result (λ pending. Seeks sought (unreleased_in pending.view)) }
+    {
+        let at = now_or_zero(&self.rt);
+        let view = self.context.reader.look(&self.rt, sought, at).answer?;
         let reader = Arc::try_clone(&self.context.reader)?;
         Ok(PendingView::new(self.rt, reader, view))
     }
@@ -56,8 +62,9 @@ impl<R: Wait + Clock + Drop + Copy, L: Ledger, T: Trace, A> AdminApplication<R, 
     fn reply_to(&self, request: AdminRequest) -> Result<PendingReply<R, L, T>, AllocError>
         ensures request { IfOk result (λ pending. pending.request ≡ request) }
         ensures context { IfOk result (λ pending. pending.context.value ≡ self.now.context.value) }
+        ensures seeks { IfOk result (λ pending. Seeks (sought_by request) (unreleased_in pending.view.view)) }
     {
-        let view = self.look()?;
+        let view = self.look(request.sought())?;
         let context = Arc::try_clone(&self.context)?;
         Ok(PendingReply {
             rt: self.rt,
@@ -80,6 +87,7 @@ impl<R: Wait + Clock + Drop + Copy, L: Ledger, T: Trace, A> AdminApplication<R, 
     fn show(&self, head: &Parts) -> Result<PendingReply<R, L, T>, Refused>
         ensures request { IfOk result (λ pending. IsAsked head.now pending.request) }
         ensures context { IfOk result (λ pending. pending.context.value ≡ self.now.context.value) }
+        ensures seeks { IfOk result (λ pending. Seeks (sought_by pending.request) (unreleased_in pending.view.view)) }
         ensures refused { IfErr result (RefusesRequest head.now) }
     {
         let alloc = self.context.alloc;
@@ -116,7 +124,7 @@ where
         ensures refused { IfErr result (RefusesRetry head.now id) }
     {
         let id = acts.named(head, id)?;
-        match self.look() {
+        match self.look(Sought::Rows) {
             Ok(view) => acts.retry(self.rt, id, view),
             Err(_) => Err(Refused::bare(self.context.alloc, StatusCode::SERVICE_UNAVAILABLE)),
         }
@@ -137,14 +145,15 @@ where
         Either<Collecting<R, L, T, A>, Retrying<R, L, T, A>>,
     >;
 
-    // claim: A request is shown what its head asks for, has the records of just its body's ids collected, has the record
-    // that it names tried again, or is refused. Something is done only where acts are allowed, no other host is named and
-    // the header for acts is there. A refusal is that of a check that fails, or 503. [: answers; refuse_words; refuse_list;
-    // AdminApplication::show: request, context, refused; Acts::take_list: may, ids, refused; Acts::named: may, id, refused;
-    // AdminApplication::reply_to: request, context]
+    // claim: A request is shown what its head asks for, of a look that sought it, has the records of just its body's ids
+    // collected, has the record that it names tried again, or is refused. Something is done only where acts are allowed, no
+    // other host is named and the header for acts is there. A refusal is that of a check that fails, or 503. [: answers;
+    // refuse_words; refuse_list; AdminApplication::show: request, context, seeks, refused; Acts::take_list: may, ids, refused;
+    // Acts::named: may, id, refused; AdminApplication::reply_to: request, context, seeks]
     ghost answers = { λ application head body answered.
         IfOk answered (ShowsOrActs
-        (λ pending. IsAsked head pending.request × (pending.context.value ≡ application.context.value))
+        (λ pending. IsAsked head pending.request × (pending.context.value ≡ application.context.value)
+        × Seeks (sought_by pending.request) (unreleased_in pending.view.view))
         (ShowsOrActs
         (λ collecting. BringsList (is_some application.acts) head × CollectsBody (λ entry. entry.id) body collecting.entries.items)
         (λ retrying. NamesRecord (is_some application.acts) head retrying.id)))

@@ -141,11 +141,11 @@ impl<R: Wait + Drop + Copy, L: Ledger, T: Trace, A: Acting<R, L, T>> Retrying<R,
 
     // The record is judged by what was seen of its event.
     fn judge(&self, view: &View, cx: &mut Context<'_>) -> Turn<R, L, T>
-        ensures leads { LeadsToPayload self.now.id (failed_payload self.now.id view.now.hall.table.rows) result }
+        ensures leads { LeadsToPayload self.now.id (failed_payload self.now.id view.now.hall.rows) result }
         ensures armed { IsArmedIn cx.new result }
         ensures kept { Keeps cx.old cx.new }
     {
-        match failed_payload(view.hall.table.rows.as_slice(), &self.id) {
+        match failed_payload(view.hall.rows.as_slice(), &self.id) {
             Ok(payload) => self.accept(payload, cx),
             Err(why) => Turn::Tells(refused(self.alloc, why)),
         }

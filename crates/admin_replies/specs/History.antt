@@ -2,27 +2,21 @@
 use Rattle.std.specs.Prelude.{◌≡◌, ℕ, ◌+◌, ◌-◌, ◌^◌, Bool, false, ◌&&◌, nat_le, nat_lt, if◌then◌else◌, List, [], ◌∷◌, ◌++◌, Option, Some, None, min, codes, decimal}
 use Rattle.std.specs.List.{flat_map}
 use Rattle.circular_buffer.specs.Buffer.{keep_last, last_item}
-use Rattle.operator_view.specs.declared.numbers.Census.{Census}
-use Rattle.operator_view.specs.Census.{IsCensus}
 use Rattle.port_meters.specs.declared.counters.Counters.{Counters}
 use Rattle.receipts.specs.declared.view.View.{View}
 use Rattle.admin_replies.specs.declared.telling.Baseline.{Baseline}
 use Rattle.admin_replies.specs.declared.sample.Sample.{Sample}
 use Rattle.admin_replies.specs.Numbers.{events_since, counts_told}
 
--- what is kept of a broker that is seen so, by the census of its events
-abbrev pub sample_told : Baseline → View → Census → Counters → (written now : ℕ) → Sample
-sample_told baseline view census counters written now = record {
-  counts = counts_told now (events_since baseline census view.counters) counters;
+-- what is kept of a broker that is seen so
+abbrev pub sample_told : Baseline → View → Counters → (written now : ℕ) → Sample
+sample_told baseline view counters written now = record {
+  counts = counts_told now (events_since baseline view.hall.tally.census view.counters) counters;
   accepted = view.counters.accepted;
   collected = view.counters.collected;
-  waiting = min (census.waiting + census.due_again) (2 ^ 64 - 1);
+  waiting = min (view.hall.tally.census.waiting + view.hall.tally.census.due_again) (2 ^ 64 - 1);
   written_bytes = written;
 }
-
-abbrev pub IsSample : Baseline → View → Counters → (written now : ℕ) → Sample → Type 0
-IsSample baseline view counters written now sample =
-    (census : Census) × IsCensus view.hall.table.rows census × (sample ≡ sample_told baseline view census counters written now)
 
 -- it is of less than five seconds before
 abbrev pub is_recent : Option Sample → (at : ℕ) → Bool

@@ -8,6 +8,7 @@ pub mod MetricsText
 pub mod Numbers
 pub mod Requests
 pub mod Retrying
+pub mod Seeking
 pub mod Table
 pub mod Telling
 pub mod Values

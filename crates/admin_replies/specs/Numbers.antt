@@ -5,14 +5,12 @@ use Rattle.env_phase.specs.declared.phase.Phase.{Phase}
 use Rattle.env_phase.specs.declared.phase.Phase.TheVariants.{Init, Ready, Busy, Closing}
 use Rattle.hall_plans.specs.declared.environment_status.EnvironmentStatus.{EnvironmentStatus}
 use Rattle.operator_view.specs.declared.numbers.Census.{Census}
-use Rattle.operator_view.specs.Census.{IsCensus, oldest_waiting, ends}
 use Rattle.operator_view.specs.declared.memory.Counts.{Counts}
 use Rattle.operator_view.specs.declared.memory.Memory.{Memory}
 use Rattle.operator_view.specs.declared.sight.Sight.{Sight}
 use Rattle.operator_view.specs.declared.verdict.Problem.{Problem}
 use Rattle.operator_view.specs.Memory.{lately}
 use Rattle.operator_view.specs.Verdict.{problems}
-use Rattle.operator_view.specs.Waiting.{dues, is_due, expires_soon}
 use Rattle.port_meters.specs.declared.counters.Counters.{Counters}
 use Rattle.retry_rules.specs.declared.policy.RetryPolicy.{RetryPolicy}
 use Rattle.retry_rules.specs.declared.settings.Settings.{Settings}
@@ -31,16 +29,6 @@ use Rattle.port_meters.specs.Counting.{sum_up_to}
 abbrev pub age_of : ℕ → Option ℕ → Option ℕ
 age_of now None = None
 age_of now (Some moment) = Some (now - moment)
-
--- it is the first of these moments, if there is one
-pub record IsFirst (moments : List ℕ) (first : Option ℕ) : Type 0 where
-  pub none : IsNone first ↔ (moments ≡ [])
-  pub one : IfSome first (λ moment. Contains moments moment)
-  pub least : IfSome first (λ moment. All (λ at. moment ≤ at) moments)
-
--- it is how long ago the first of these moments was
-abbrev pub IsOldestAge : ℕ → List ℕ → Option ℕ → Type 0
-IsOldestAge now moments age = (first : Option ℕ) × IsFirst moments first × (age ≡ age_of now first)
 
 -- ## Environments
 
@@ -137,25 +125,25 @@ counts_told now events counters = record {
 }
 
 -- what the port sees by which a verdict is found
-pub record IsSight (settings : Settings) (view : View) (census : Census) (memory : Memory) (counts : Counts) (sight : Sight) : Type 0 where
+pub record IsSight (settings : Settings) (view : View) (memory : Memory) (counts : Counts) (sight : Sight) : Type 0 where
   pub at : sight.at ≡ counts.at
   pub environments : sight.environments ≡ length view.hall.environments.items
   pub without_poll : sight.without_poll ≡ count_by (is_in_phase Init) view.hall.environments.items
-  pub held : sight.held ≡ census.held
+  pub held : sight.held ≡ view.hall.tally.census.held
   pub most_events : sight.most_events ≡ settings.events
-  pub ended : sight.ended ≡ min (ended_in census) (2 ^ 64 - 1)
+  pub ended : sight.ended ≡ min (ended_in view.hall.tally.census) (2 ^ 64 - 1)
   pub timeout : sight.timeout ≡ settings.timeout
-  pub due : sight.due ≡ count_by (is_due counts.at) view.hall.table.rows
-  pub first_due : IsFirst (dues view.hall.table.rows) sight.first_due
+  pub due : sight.due ≡ view.hall.tally.due
+  pub first_due : sight.first_due ≡ view.hall.tally.first_due
   pub quiet_since : sight.quiet_since ≡ memory.quiet_since
-  pub expiring : sight.expiring ≡ count_by (expires_soon counts.at) view.hall.table.rows
-  pub oldest_record : IsOldestAge counts.at (ends view.hall.table.rows) sight.oldest_record_age
+  pub expiring : sight.expiring ≡ view.hall.tally.expiring
+  pub oldest_record : sight.oldest_record_age ≡ age_of counts.at view.hall.tally.oldest_record
   pub lately : sight.lately ≡ lately memory counts
 
 -- what is found in what is seen
-abbrev pub AreProblems : Settings → View → Census → Memory → Counts → List (Option Problem) → Type 0
-AreProblems settings view census memory counts found =
-    (sight : Sight) × IsSight settings view census memory counts sight × (found ≡ problems sight)
+abbrev pub AreProblems : Settings → View → Memory → Counts → List (Option Problem) → Type 0
+AreProblems settings view memory counts found =
+    (sight : Sight) × IsSight settings view memory counts sight × (found ≡ problems sight)
 
 -- ## All of them
 
@@ -171,14 +159,14 @@ limits_of policy s = record {
   response = s.response;
 }
 
--- the numbers of what was seen: those of its table's rows are the census of these
+-- the numbers of what was seen: those of its table are the tally's
 pub record AreMetrics (baseline : Baseline) (view : View) (measures : Measures) (now : ℕ) (metrics : Metrics) : Type 0 where
-  pub census : IsCensus view.hall.table.rows metrics.census
-  pub oldest_wait : metrics.oldest_wait_age ≡ age_of now (oldest_waiting view.hall.table.rows)
-  pub oldest_record : IsOldestAge now (ends view.hall.table.rows) metrics.oldest_record_age
-  pub issued : metrics.issued ≡ view.hall.table.number
+  pub census : metrics.census ≡ view.hall.tally.census
+  pub oldest_wait : metrics.oldest_wait_age ≡ age_of now view.hall.tally.oldest_waiting
+  pub oldest_record : metrics.oldest_record_age ≡ age_of now view.hall.tally.oldest_record
+  pub issued : metrics.issued ≡ view.hall.issued
   pub durable : metrics.durable ≡ view.hall.durable
-  pub pending : metrics.pending ≡ view.hall.table.number - view.hall.durable
+  pub pending : metrics.pending ≡ view.hall.issued - view.hall.durable
   pub open_slots : metrics.open_slots ≡ view.hall.open_slots
   pub parked : metrics.parked_polls ≡ min (parked_in view.hall.environments.items) (2 ^ 64 - 1)
   pub environments : metrics.environments ≡ phases_of view.hall.environments.items
@@ -186,5 +174,5 @@ pub record AreMetrics (baseline : Baseline) (view : View) (measures : Measures) 
   pub lives : metrics.lives ≡ view.lives
   pub process : metrics.process ≡ process_told measures view.hall.is_stopping
   pub ports : metrics.ports ≡ measures.ports
-  pub limits : metrics.limits ≡ limits_of view.hall.table.policy baseline.settings
-  pub problems : AreProblems baseline.settings view metrics.census measures.memory (counts_told now metrics.events measures.counters) metrics.problems
+  pub limits : metrics.limits ≡ limits_of view.hall.policy baseline.settings
+  pub problems : AreProblems baseline.settings view measures.memory (counts_told now metrics.events measures.counters) metrics.problems

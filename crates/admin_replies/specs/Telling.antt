@@ -54,7 +54,7 @@ TellsOf baseline view measures history now request.Metrics reply = TellsNumbers 
 TellsOf baseline view measures history now request.History reply = TellsHistory history reply
 TellsOf baseline view measures history now (request.Health is_deep) reply = TellsHealth baseline view measures now is_deep reply
 TellsOf baseline view measures history now (request.Events which after limit) reply =
-    TellsEvents which after limit view.hall.table.rows reply
-TellsOf baseline view measures history now (request.Event id) reply = TellsEvent baseline.settings id view.hall.table.rows reply
+    TellsEvents which after limit view.hall.rows reply
+TellsOf baseline view measures history now (request.Event id) reply = TellsEvent baseline.settings id view.hall.rows reply
 TellsOf baseline view measures history now (request.Records side after limit) reply =
-    TellsRecords baseline.settings side after limit 4194304 view.hall.table.rows reply
+    TellsRecords baseline.settings side after limit 4194304 view.hall.rows reply

@@ -1,6 +1,9 @@
 // What a request to the operator's port asks for.
+ghost use Rattle.std.specs.Prelude.{◌≡◌};
+ghost use Rattle.admin_replies.specs.Seeking.{sought_by};
 
 use async_core::Side;
+use hall_core::Sought;
 use operator_view::Which;
 
 /// What a request to the operator's port asks for.
@@ -34,4 +37,18 @@ pub enum AdminRequest {
         /// At most so many, 1 to 1000.
         limit: usize,
     },
+}
+
+impl AdminRequest {
+    /// What is sought of a table to tell this.
+    pub fn sought(&self) -> Sought
+        // claim: Rows are sought for lists, events and records alone.
+        ensures { result ≡ sought_by self.now }
+    {
+        match self {
+            AdminRequest::Events { .. } | AdminRequest::Event(_) | AdminRequest::Records { .. } =>
+                Sought::Rows,
+            _ => Sought::Numbers,
+        }
+    }
 }

@@ -2,12 +2,10 @@
 ghost use Rattle.std.specs.Prelude.{◌≡◌, ◌^◌, min};
 ghost use Rattle.admin_replies.specs.Numbers.{ended_in, counts_told, IsSight, AreProblems};
 
-use crate::measuring::{count_in_phase, ended_in, oldest_record_age};
+use crate::measuring::{age_of, count_in_phase, ended_in};
 use crate::metrics::EventCounters;
 use env_phase::Phase;
-use operator_view::{
-    Census, Counts, Memory, Problem, Sight, count_due, count_expiring, first_due, problems,
-};
+use operator_view::{Counts, Memory, Problem, Sight, problems};
 use port_meters::Counters;
 use receipts::View;
 use retry_rules::Settings;
@@ -34,45 +32,38 @@ pub(crate) fn counts_told(now: u64, events: &EventCounters, counters: &Counters)
     }
 }
 
-fn sight_of(
-    settings: &Settings,
-    view: &View,
-    census: &Census,
-    memory: &Memory,
-    counts: &Counts,
-) -> Sight
-    ensures { IsSight settings.now view.now census.now memory.now counts.now result }
+fn sight_of(settings: &Settings, view: &View, memory: &Memory, counts: &Counts) -> Sight
+    ensures { IsSight settings.now view.now memory.now counts.now result }
 {
-    let rows = view.hall.table.rows.as_slice();
+    let tally = &view.hall.tally;
     let environments = view.hall.environments.as_slice();
     let now = counts.at;
     Sight {
         at: now,
         environments: environments.len() as u64,
         without_poll: count_in_phase(environments, Phase::Init),
-        held: census.held as u64,
+        held: tally.census.held as u64,
         most_events: settings.events as u64,
-        ended: ended_in(census),
+        ended: ended_in(&tally.census),
         timeout: settings.timeout,
-        due: count_due(rows, now) as u64,
-        first_due: first_due(rows),
+        due: tally.due as u64,
+        first_due: tally.first_due,
         quiet_since: memory.quiet_since,
-        expiring: count_expiring(rows, now) as u64,
-        oldest_record_age: oldest_record_age(now, rows),
+        expiring: tally.expiring as u64,
+        oldest_record_age: age_of(now, tally.oldest_record),
         lately: memory.lately(counts),
     }
 }
 
-/// What is wrong with a broker that was seen so, with this census, after so much was counted.
+/// What is wrong with a broker that was seen so, after so much was counted.
 pub(crate) fn problems_of(
     settings: &Settings,
     view: &View,
-    census: &Census,
     memory: &Memory,
     counts: &Counts,
 ) -> [Option<Problem>; 9]
-    ensures { AreProblems settings.now view.now census.now memory.now counts.now result }
+    ensures { AreProblems settings.now view.now memory.now counts.now result }
 {
-    let sight = sight_of(settings, view, census, memory, counts);
+    let sight = sight_of(settings, view, memory, counts);
     problems(&sight)
 }

@@ -1,15 +1,13 @@
 // The numbers of a broker.
 ghost use Rattle.std.specs.Prelude.{◌≡◌, ◌^◌, ◌-◌, min, count_by};
-ghost use Rattle.operator_view.specs.Census.{ends};
-ghost use Rattle.admin_replies.specs.Numbers.{age_of, is_in_phase, phases_of, parked_in, ended_in, event_counters, events_since, in_bytes, process_told, IsOldestAge, AreMetrics, limits_of};
+ghost use Rattle.admin_replies.specs.Numbers.{age_of, is_in_phase, phases_of, parked_in, ended_in, event_counters, events_since, in_bytes, process_told, AreMetrics, limits_of};
 
 use crate::judging::{counts_told, problems_of};
 use crate::metrics::{EventCounters, Limits, Metrics, Phases, Process};
 use crate::telling::Baseline;
 use env_phase::Phase;
 use hall_core::EnvironmentStatus;
-use invoke_records::EventRow;
-use operator_view::{Census, Memory, census, oldest_record, oldest_waiting};
+use operator_view::{Census, Memory};
 use port_meters::{Counters, Ports};
 use receipts::View;
 use retry_rules::{RetryPolicy, Settings};
@@ -32,22 +30,14 @@ pub struct Measures {
     pub has_fault: bool,
 }
 
-// How long ago that was, in milliseconds: 0 where it will be.
-fn age_of(now: u64, moment: Option<u64>) -> Option<u64>
+/// How long ago that was, in milliseconds: 0 where it will be.
+pub(crate) fn age_of(now: u64, moment: Option<u64>) -> Option<u64>
     ensures { result ≡ age_of now moment }
 {
     match moment {
         Some(moment) => Some(now.saturating_sub(moment)),
         None => None,
     }
-}
-
-/// How long ago the first of the events that ended did so.
-pub(crate) fn oldest_record_age(now: u64, rows: &[EventRow]) -> Option<u64>
-    ensures { IsOldestAge now (ends rows.now) result }
-{
-    let oldest = oldest_record(rows);
-    age_of(now, oldest)
 }
 
 /// How many environments are in this phase.
@@ -183,18 +173,16 @@ pub(crate) fn metrics_of(baseline: &Baseline, view: &View, measures: &Measures, 
     ensures { AreMetrics baseline.now view.now measures.now now result }
 {
     let hall = &view.hall;
-    let rows = hall.table.rows.as_slice();
-    let census = census(rows);
-    let issued = hall.table.number;
+    let census = hall.tally.census;
     let events = events_since(baseline, &census, &view.counters);
     let counts = counts_told(now, &events, &measures.counters);
     Metrics {
         census,
-        oldest_wait_age: age_of(now, oldest_waiting(rows)),
-        oldest_record_age: oldest_record_age(now, rows),
-        issued,
+        oldest_wait_age: age_of(now, hall.tally.oldest_waiting),
+        oldest_record_age: age_of(now, hall.tally.oldest_record),
+        issued: hall.issued,
         durable: hall.durable,
-        pending: issued.saturating_sub(hall.durable),
+        pending: hall.issued.saturating_sub(hall.durable),
         open_slots: hall.open_slots as u64,
         parked_polls: parked_in(&hall.environments),
         environments: phases_of(&hall.environments),
@@ -202,7 +190,7 @@ pub(crate) fn metrics_of(baseline: &Baseline, view: &View, measures: &Measures, 
         lives: view.lives,
         process: process_told(measures, hall.is_stopping),
         ports: measures.ports,
-        limits: limits_of(&hall.table.policy, &baseline.settings),
-        problems: problems_of(&baseline.settings, view, &census, &measures.memory, &counts),
+        limits: limits_of(&hall.policy, &baseline.settings),
+        problems: problems_of(&baseline.settings, view, &measures.memory, &counts),
     }
 }

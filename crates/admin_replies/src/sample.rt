@@ -1,11 +1,11 @@
 // What is kept of a broker's numbers at one moment.
 ghost use Rattle.std.specs.Prelude.{◌≡◌};
-ghost use Rattle.admin_replies.specs.History.{IsSample, numbers_in};
+ghost use Rattle.admin_replies.specs.History.{sample_told, numbers_in};
 
 use crate::judging::counts_told;
 use crate::measuring::events_since;
 use crate::telling::Baseline;
-use operator_view::{Counts, census};
+use operator_view::Counts;
 use port_meters::Counters;
 use receipts::View;
 
@@ -30,10 +30,10 @@ pub fn sample_of(
     now: u64,
 ) -> Sample
     // claim: A sample is the definition's, of what was seen and counted then.
-    ensures { IsSample baseline.now view.now counters.now written_bytes now result }
+    ensures { result ≡ sample_told baseline.now view.now counters.now written_bytes now }
 {
-    let census = census(view.hall.table.rows.as_slice());
-    let events = events_since(baseline, &census, &view.counters);
+    let census = &view.hall.tally.census;
+    let events = events_since(baseline, census, &view.counters);
     Sample {
         counts: counts_told(now, &events, counters),
         accepted: view.counters.accepted,

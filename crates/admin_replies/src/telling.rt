@@ -12,7 +12,7 @@ use crate::metrics_text::metrics_text;
 use crate::page::PAGE;
 use crate::words::problems_text;
 use async_core::Table;
-use operator_view::{Problem, census};
+use operator_view::{Problem, tally};
 use port_meters::Opening;
 use receipts::View;
 use retry_rules::Settings;
@@ -36,11 +36,11 @@ impl Baseline {
         ensures opening { IfOk result (λ baseline. baseline.opening ≡ opening) }
     {
         let settings = table.settings().copy()?;
-        let snapshot = table.snapshot()?;
-        let census = census(snapshot.rows.as_slice());
+        // (what has ended by now does not hang on the moment)
+        let tally = tally(table, 0);
         Ok(Baseline {
             settings,
-            ended_before: ended_in(&census),
+            ended_before: ended_in(&tally.census),
             opening,
         })
     }
@@ -132,7 +132,7 @@ pub fn tell(
     // not among the records asked for, it is 404. [events_reply; event_reply; records_reply]
     ensures { IfOk result (TellsOf baseline.now view.now measures.now history.now now request.now) }
 {
-    let rows = view.hall.table.rows.as_slice();
+    let rows = view.hall.rows.as_slice();
     let settings = &baseline.settings;
     match request {
         AdminRequest::Page => page_reply(alloc),

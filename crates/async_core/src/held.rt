@@ -24,6 +24,7 @@ use crate::standings::is_running;
 use invoke_records::{Answer, Command, EventRow};
 use retry_rules::Settings;
 use std::alloc::{AllocError, Global};
+use std::collections::btree_map::Values;
 use std::collections::{BTreeMap, BTreeSet};
 use std::marker::Model;
 
@@ -237,6 +238,14 @@ impl Held {
         ensures { ChoosesUpTo order self.now index last (option_copied first.entry) (option_copied result) }
     {
         first_by_keys(&self.rows, &self.keys, order, index, last, first)
+    }
+
+    /// The rows, by reference.
+    pub(crate) fn rows(&self) -> Values<'_, u64, EventRow>
+        ensures rows { result ≡ self.now }
+        ensures fits { length result < 2 ^ 63 }
+    {
+        self.rows.values()
     }
 
     /// Equal rows in memory of their own.

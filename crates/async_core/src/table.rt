@@ -1,5 +1,5 @@
 // The table of events.
-ghost use Rattle.std.specs.Prelude.{◌≡◌, ◌<◌, ◌^◌, ◌+◌, None, Some, Err, IfOk, OnOk, OnErr, IfErr};
+ghost use Rattle.std.specs.Prelude.{◌≡◌, ◌<◌, ◌^◌, ◌+◌, length, None, Some, Err, IfOk, OnOk, OnErr, IfErr};
 ghost use Rattle.std.specs.Result.{result_err};
 
 use crate::changes::{change, policy_after};
@@ -10,6 +10,7 @@ use crate::{ApplyError, Illegal};
 use invoke_records::{Command, EventRow, Rows, Snapshot, Standing};
 use retry_rules::{RetryPolicy, Settings};
 use std::alloc::{AllocError, Global};
+use std::collections::btree_map::Values;
 use std::marker::Model;
 
 /// The table of events.
@@ -108,6 +109,15 @@ impl Table {
         })
     }
 
+    /// Its rows, in the order of acceptance, by reference. It takes no memory.
+    pub fn rows(&self) -> Values<'_, u64, EventRow>
+        // claim: A table lends all rows of its snapshot, in their order.
+        ensures rows { result ≡ self.now.table.rows }
+        ensures fits { length result < 2 ^ 63 }
+    {
+        self.held.rows()
+    }
+
     /// The settings of its disk. Their retries and age are in force until a Configure brings others.
     pub fn settings(&self) -> &Settings
         ensures { result.now ≡ self.now.settings }
@@ -130,7 +140,7 @@ impl Table {
     }
 
     /// The retry policy that is in force for the events that are accepted next.
-    pub(crate) fn policy(&self) -> RetryPolicy
+    pub fn policy(&self) -> RetryPolicy
         ensures { result ≡ self.now.table.policy }
     {
         self.policy

@@ -2,20 +2,14 @@
 -- `{"generation":N,"number":N,"held":N,"waiting":N,"due_again":N,"running":N,"success":N,"retries_exhausted":N,
 -- "event_age_exceeded":N,"oldest_waiting":N,"oldest_record":N,"older":"S","retries":N,"age":N}`, on one line. A moment is `null`
 -- where there is none.
-use Rattle.std.specs.Prelude.{◌≡◌, ◌≤◌, ◌↔◌, ℕ, List, [], ◌++◌, Option, None, Some, IsNone, IfSome, All, Contains, codes, decimal}
+use Rattle.std.specs.Prelude.{◌≡◌, ℕ, List, ◌++◌, Option, None, Some, codes, decimal}
 use Rattle.invoke_records.specs.declared.row.EventRow.{EventRow}
-use Rattle.operator_view.specs.Census.{IsCensus, oldest_waiting, ends}
+use Rattle.operator_view.specs.Census.{IsCensus, oldest_waiting, ends, least}
 use Rattle.operator_view.specs.declared.numbers.Census.{Census}
 use Rattle.audit_report.specs.declared.report.Report.{Report}
 use Rattle.audit_report.specs.declared.report.Older.{Older}
 use Rattle.audit_report.specs.declared.report.Older.TheVariants as older
 use Rattle.audit_report.specs.declared.numbers.Figures.{Figures}
-
--- the first moment at which one of these events ended, if one did
-pub record IsOldestRecord (rows : List EventRow) (oldest : Option ℕ) : Type 0 where
-  pub none : IsNone oldest ↔ (ends rows ≡ [])
-  pub one : IfSome oldest (Contains (ends rows))
-  pub least : IfSome oldest (λ least. All (λ at. least ≤ at) (ends rows))
 
 -- the numbers of these events, with what a report tells of their disk
 pub record AreFigures (rows : List EventRow) (report : Report) (figures : Figures) : Type 0 where
@@ -23,7 +17,7 @@ pub record AreFigures (rows : List EventRow) (report : Report) (figures : Figure
   pub number : figures.number ≡ report.number
   pub census : IsCensus rows figures.census
   pub oldest_waiting : figures.oldest_waiting ≡ oldest_waiting rows
-  pub oldest_record : IsOldestRecord rows figures.oldest_record
+  pub oldest_record : figures.oldest_record ≡ least (ends rows)
   pub older : figures.older ≡ report.older
   pub retries : figures.retries ≡ report.retries
   pub age : figures.age ≡ report.age

@@ -23,7 +23,7 @@ mod waking;
 pub use env_phase::{MOST_EXTENSIONS, Phase};
 pub use hall::Hall;
 pub use hall_plans::{EnvironmentStatus, HallError, Issued, drawn_id, examples, laws};
-pub use looking::HallStatus;
+pub use looking::{HallStatus, Sought};
 pub use over_broker::HallFailure;
 pub use over_half::{HallJoinFailure, HallSplitFailure};
 pub use released::Released;

@@ -13,7 +13,7 @@ use crate::wake::{Slept, Wake};
 use api_core::Call;
 use broker_core::Ticket;
 use front_board::Seated;
-use hall_core::HallError;
+use hall_core::{HallError, Sought};
 use invoke_records::{EventRow, Outcome, Standing};
 use long_poll::{Port, Waiting};
 use port_meters::{Machine, Moment};
@@ -199,7 +199,8 @@ impl<R: Wait + Clock + Drop + Copy, L: Ledger, T: Trace> Collector<R, L, T> {
     fn look(&mut self) -> Result<(Unreleased, Ticket), AllocError> {
         match self.seen.take() {
             Some(seen) => Ok(seen),
-            None => self.front.office.look(&self.rt).answer,
+            // (no number is asked for, so no moment is)
+            None => self.front.office.look(&self.rt, Sought::Rows, 0).answer,
         }
     }
 
@@ -220,10 +221,10 @@ impl<R: Wait + Clock + Drop + Copy, L: Ledger, T: Trace> Collector<R, L, T> {
         // claim: An Ok has just the first 64 records that the view shows on discarded sides, each collected by one
         // DELETE.
         ensures { IfOk result (λ all. map (λ collected. collected.id) all.items
-            ≡ take 64 (unwanted_ids self.now.front.value.discarding.discard view.now.hall.table.rows)) }
+            ≡ take 64 (unwanted_ids self.now.front.value.discarding.discard view.now.hall.rows)) }
     {
         let alloc = self.front.alloc;
-        let rows = view.hall.table.rows.as_slice();
+        let rows = view.hall.rows.as_slice();
         let ids = next_unwanted(alloc, self.front.discarding.discard, rows)?;
         collect_all(self.rt, alloc, &self.port, &ids)
     }

@@ -6,6 +6,7 @@ ghost use Rattle.receipts.specs.Views.{IsViewOf};
 use bell::Bell;
 use broker_core::Ticket;
 use front_board::{Seated, Shown};
+use hall_core::Sought;
 use receipts::{Mark, Office, Trace, Unreleased, Witnessed};
 use std::alloc::AllocError;
 use std::sync::atomic::{AtomicU64, Ordering};
@@ -87,13 +88,19 @@ impl<L: Ledger, T: Trace> AdminReader<L, T> {
         &self.bell
     }
 
-    /// What is to be seen of the office now, as `Office::look` says. It changes nothing, and is refused only for want of memory.
-    pub fn look<R: Wait>(&self, rt: &R) -> Witnessed<Result<TicketedView, AllocError>, L, T>
+    /// What is to be seen of the office by one who seeks this, at this moment, as `Office::look` says. It changes nothing, and is
+    /// refused only for want of memory.
+    pub fn look<R: Wait>(
+        &self,
+        rt: &R,
+        sought: Sought,
+        at: u64,
+    ) -> Witnessed<Result<TicketedView, AllocError>, L, T>
         ensures shows { IfOk result.answer (λ view.
-            IsViewOf (hall_in result.before.value.hall) (map T.mark result.before.value.marks.all.items) view.unreleased) }
+            IsViewOf (hall_in result.before.value.hall) (map T.mark result.before.value.marks.all.items) sought at view.unreleased) }
         ensures same { result.after.value ≡ result.before.value }
     {
-        let (answer, seen) = self.office.look(rt).split();
+        let (answer, seen) = self.office.look(rt, sought, at).split();
         match answer {
             Ok((unreleased, ticket)) => seen.with(Ok(TicketedView::of(unreleased, ticket))),
             Err(why) => seen.with(Err(why)),

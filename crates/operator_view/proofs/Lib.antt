@@ -1,6 +1,6 @@
 pub mod Behind
 pub mod Digits
 pub mod Joining
-pub mod Least
 pub mod Passing
+pub mod Tallied
 pub mod Told

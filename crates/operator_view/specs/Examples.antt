@@ -1,5 +1,5 @@
 -- Worked examples: the rows of six events, and what is shown of them.
-use Rattle.std.specs.Prelude.{ℕ, ◌*◌, List, [], ◌∷◌, ◌++◌, codes}
+use Rattle.std.specs.Prelude.{ℕ, ◌*◌, List, [], ◌∷◌, ◌++◌, Some, codes}
 use Rattle.invoke_records.specs.declared.row.EventRow.{EventRow}
 use Rattle.invoke_records.specs.declared.row.Answer.TheVariants as answer
 use Rattle.invoke_records.specs.declared.row.Outcome.TheVariants.{Success, RetriesExhausted, EventAgeExceeded}
@@ -7,6 +7,7 @@ use Rattle.invoke_records.specs.declared.row.Standing.{Standing}
 use Rattle.invoke_records.specs.declared.row.Standing.TheVariants.{Waiting, DueAgain, Running, Ended}
 use Rattle.destination_json.specs.Examples.{id}
 use Rattle.operator_view.specs.declared.numbers.Census.{Census}
+use Rattle.operator_view.specs.declared.numbers.Tally.{Tally}
 
 -- the n-th event, accepted n seconds after 1970, which command number `last` named last
 abbrev pub event_row : ℕ → ℕ → Standing → EventRow
@@ -44,6 +45,17 @@ numbers = record {
   success = 1;
   retries_exhausted = 1;
   event_age_exceeded = 1;
+}
+
+-- when the fifth is due again
+abbrev pub tallied : Tally
+tallied = record {
+  census = numbers;
+  oldest_waiting = Some 3000;
+  oldest_record = Some 5500;
+  first_due = Some 3000;
+  due = 2;
+  expiring = 0;
 }
 
 -- ## Texts

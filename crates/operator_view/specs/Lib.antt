@@ -8,5 +8,6 @@ pub mod Memory
 pub mod Page
 pub mod Sights
 pub mod Standings
+pub mod Tally
 pub mod Verdict
 pub mod Waiting

@@ -6,7 +6,8 @@ ghost use Rattle.invoke_records.specs.declared.row.Outcome.TheVariants.{Success}
 ghost use Rattle.destination_json.specs.Examples.{id, usual};
 ghost use Rattle.destination_json.specs.Json.{is_json};
 ghost use Rattle.operator_view.specs.declared.standings.Which.TheVariants as which;
-ghost use Rattle.operator_view.specs.Census.{IsCensus, oldest_waiting, ends};
+ghost use Rattle.operator_view.specs.Census.{ends};
+ghost use Rattle.operator_view.specs.Tally.{IsTally};
 ghost use Rattle.operator_view.specs.EventText.{event_text, detail_text, whole_characters, record_json};
 ghost use Rattle.operator_view.specs.ListText.{list_text};
 ghost use Rattle.operator_view.specs.Page.{start_behind, event_places, number_behind, record_places, last_id};
@@ -15,14 +16,13 @@ ghost use Rattle.operator_view.specs.Memory.{none_at, looked, lately, quiet_afte
 ghost use Rattle.operator_view.specs.Sights.{usual_growth, well, holding, quiet, but_lately, tried, committed, nothing, short_lived, looks};
 ghost use Rattle.operator_view.specs.Verdict.{callers_are_refused, nobody_polls, nothing_ends, table_full, table_nearly_full, events_expire, most_attempts_fail, commits_are_slow, records_not_collected, problems};
 ghost use Rattle.operator_view.specs.Waiting.{expires_soon};
-ghost use Rattle.operator_view.specs.Examples.{event_row, rows, numbers, running_text, page_text, grown_old, grown_old_text};
+ghost use Rattle.operator_view.specs.Examples.{event_row, rows, tallied, running_text, page_text, grown_old, grown_old_text};
 
 /// Known numbers.
 pub fn numbers()
-    // claim: The prover computes worked numbers, places, texts and verdicts. [: census; events: behind; records:
+    // claim: The prover computes worked numbers, places, texts and verdicts. [: tally; events: behind; records:
     // behind; texts: page; verdicts: quiet; memories: kept]
-    ensures census { IsCensus rows numbers }
-    ensures waiting { oldest_waiting rows ≡ Some 3000 }
+    ensures tally { IsTally rows 8000 tallied }
     ensures ends { ends rows ≡ 6500 ∷ 5500 ∷ 7000 ∷ [] }
 {}
 

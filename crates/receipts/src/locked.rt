@@ -20,7 +20,7 @@ use crate::noting::{hand_out, note, told_by};
 use crate::view::{Unreleased, View};
 use api_core::Call;
 use broker_core::{Batch, Broker, DiskHalf, Durable, Failed, IssueHalf, Ticket, Written};
-use hall_core::{Hall, HallError, Released};
+use hall_core::{Hall, HallError, Released, Sought};
 use sector_disk::Disk;
 use std::alloc::{AllocError, Global};
 use std::sync::ledger::{Book, Ledger};
@@ -265,12 +265,12 @@ impl<L: Ledger, T: Trace> Locked<L, T> {
         self.hall.table().next_moment(now)
     }
 
-    /// What an operator is shown of the hall and of the marks, unreleased until all of it is durable.
-    pub(crate) fn look(&self) -> Result<Unreleased, AllocError>
-        ensures shows { IfOk result (IsViewOf (hall_in self.now.hall) (map T.mark self.now.marks.all.items)) }
+    /// What an operator is shown of the hall and of the marks who seeks this, at this moment, unreleased until all of it is durable.
+    pub(crate) fn look(&self, sought: Sought, at: u64) -> Result<Unreleased, AllocError>
+        ensures shows { IfOk result (IsViewOf (hall_in self.now.hall) (map T.mark self.now.marks.all.items) sought at) }
         ensures lives { IfOk result (λ unreleased. unreleased.view.lives ≡ self.now.lives) }
     {
-        let hall = self.hall.look()?;
+        let hall = self.hall.look(sought, at)?;
         let counters = self.marks.counters;
         Ok(Unreleased {
             view: View {
@@ -283,12 +283,16 @@ impl<L: Ledger, T: Trace> Locked<L, T> {
     }
 
     /// The same with a ticket of all that was issued.
-    pub(crate) fn look_with_ticket(&self) -> Result<(Unreleased, Ticket), AllocError>
-        ensures shows { IfOk result (λ r. IsViewOf (hall_in self.now.hall) (map T.mark self.now.marks.all.items) r.0) }
+    pub(crate) fn look_with_ticket(
+        &self,
+        sought: Sought,
+        at: u64,
+    ) -> Result<(Unreleased, Ticket), AllocError>
+        ensures shows { IfOk result (λ r. IsViewOf (hall_in self.now.hall) (map T.mark self.now.marks.all.items) sought at r.0) }
         ensures lives { IfOk result (λ r. r.0.view.lives ≡ self.now.lives) }
         ensures ticket { IfOk result (λ r. r.1 ≡ issued_in (issuer_in self.now.hall)) }
     {
-        let unreleased = self.look()?;
+        let unreleased = self.look(sought, at)?;
         Ok((unreleased, self.hall.ticket()))
     }
 

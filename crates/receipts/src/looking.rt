@@ -12,6 +12,7 @@ use crate::office::Office;
 use crate::view::Unreleased;
 use crate::witness::Witnessed;
 use broker_core::Ticket;
+use hall_core::Sought;
 use std::alloc::AllocError;
 use std::sync::Wait;
 use std::sync::ledger::Ledger;
@@ -53,19 +54,24 @@ impl<L: Ledger, T: Trace> Office<L, T> {
         Witnessed::of_look(locked.open_slots(), &locked)
     }
 
-    /// What an operator is shown of the office, unreleased until all of it is durable, with a ticket of that. It changes nothing,
-    /// copies no byte of a payload, and is refused only for want of memory.
-    pub fn look<R: Wait>(&self, rt: &R) -> Witnessed<Result<(Unreleased, Ticket), AllocError>, L, T>
+    /// What an operator is shown of the office who seeks this, at this moment, in milliseconds since 1970, unreleased until all of
+    /// it is durable, with a ticket of that. It changes nothing, copies no byte of a payload, and is refused only for want of memory.
+    pub fn look<R: Wait>(
+        &self,
+        rt: &R,
+        sought: Sought,
+        at: u64,
+    ) -> Witnessed<Result<(Unreleased, Ticket), AllocError>, L, T>
         // claim: An operator gets the hall under the lock, counts of its marks by kind, and how long events took that
         // ended, unreleased, with a ticket of all issued. Nothing changes. [: shows, lives, ticket, same]
         ensures shows { IfOk result.answer (λ r.
-            IsViewOf (hall_in result.before.value.hall) (map T.mark result.before.value.marks.all.items) r.0) }
+            IsViewOf (hall_in result.before.value.hall) (map T.mark result.before.value.marks.all.items) sought at r.0) }
         ensures lives { IfOk result.answer (λ r. r.0.view.lives ≡ result.before.value.lives) }
         ensures ticket { IfOk result.answer (λ r. r.1 ≡ issued_in (issuer_in result.before.value.hall)) }
         ensures same { result.after.value ≡ result.before.value }
     {
         let locked = self.locked.lock(rt);
-        Witnessed::of_look(locked.look_with_ticket(), &locked)
+        Witnessed::of_look(locked.look_with_ticket(sought, at), &locked)
     }
 
     /// Whether a request asked the broker to stop, how many commands are pending and how many slots are open, all at one moment.

@@ -1,10 +1,12 @@
-use Rattle.std.proofs.Common.{List, refl, ap, ◌∙◌}
+use Rattle.std.proofs.Common.{List, refl, ap, subst, ◌∙◌}
 use Rattle.async_core.specs.State.{State}
 use Rattle.hall_plans.specs.declared.environment_status.EnvironmentStatus.{EnvironmentStatus}
 use Rattle.hall_plans.specs.Past.{calls_in, calls_of}
 use Rattle.hall_plans.specs.Environments.{ForEachMade}
 use Rattle.hall_plans.specs.Showing.{AreShownAfter}
 use Rattle.hall_core.specs.Hall.{HallView, ForEachPast, view_of}
+use Rattle.hall_core.specs.HallStatus.{rows_for}
+use Rattle.operator_view.specs.Tally.{IsTally}
 use Rattle.hall_core.proofs.hall.Hall.look.Goals as goal
 
 -- each is shown as the past of the hall left it
@@ -16,8 +18,12 @@ shown_by_past hall statuses shown past stands = shown past.wanted past.made stan
 
 pub returns : goal.returns
 returns g c = record {
-  table = c.in_ok-table.ensures ∙ ap (λ (s : State). s.table) c.table.ensures;
-  durable = c.number.ensures ∙ c.durable.ensures;
+  issued = c.number.ensures ∙ ap (λ (s : State). s.table.number) c.table-table.ensures;
+  durable = c.number-2.ensures ∙ c.durable.ensures;
+  policy = c.policy.ensures ∙ ap (λ (s : State). s.table.policy) c.table-table.ensures;
+  tally = subst (λ (s : State). IsTally s.table.rows c.args.at c.tally.result) c.table-table.ensures c.tally.ensures;
+  sought = refl;
+  rows = c.in_ok-rows.ensures ∙ ap (λ (s : State). rows_for c.args.sought s.table.rows) c.table-table.ensures;
   open_slots = c.open_slots.ensures.by_parts;
   stopping = refl;
   numbers = c.in_ok-environments.ensures.numbers;
