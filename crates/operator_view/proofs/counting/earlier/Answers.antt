@@ -1,4 +1,4 @@
-use Rattle.std.proofs.Common.{◌≡◌, ◌∙◌, Some, sym, ap, min}
+use Rattle.std.proofs.Common.{◌≡◌, ◌∙◌, Some, sym, ap}
 use Rattle.operator_view.specs.Census.{least}
 use Rattle.operator_view.proofs.Tallied.{earlier, least-append}
 use Rattle.operator_view.proofs.counting.earlier.Goals as goal

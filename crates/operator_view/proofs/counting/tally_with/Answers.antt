@@ -1,4 +1,4 @@
-use Rattle.std.proofs.Common.{◌≡◌, ◌+◌, ◌∙◌, cond, ap}
+use Rattle.std.proofs.Common.{◌+◌, ◌∙◌, cond, ap}
 use Rattle.std.specs.List.{filter_map}
 use Rattle.invoke_records.specs.declared.row.EventRow.{EventRow}
 use Rattle.operator_view.specs.Census.{end_of, first_waiting}
