@@ -6,7 +6,7 @@ use Rattle.std.proofs.lemmas.List.Sums.{sum_by_push, count_by-le-length, fold-ap
 use Rattle.std.proofs.lemmas.List.Elements.{filter_map-append}
 use Rattle.invoke_records.specs.declared.row.EventRow.{EventRow}
 use Rattle.operator_view.specs.Standings.{stands, waits}
-use Rattle.operator_view.specs.Census.{first_waiting, least, oldest_waiting}
+use Rattle.operator_view.specs.Census.{least, oldest_waiting}
 
 -- one more, where it passes
 pub count_by-push : (test : EventRow → Bool) (rows : List EventRow) (r : EventRow) (n m : ℕ) → length rows < 2 ^ 63 → n ≡ count_by test rows
@@ -31,6 +31,11 @@ pub least-append : (xs ys : List ℕ) → earlier (least xs) (least ys) ≡ leas
 least-append [] ys = refl
 least-append (x ∷ xs) [] = ap least (sym (append-nil (x ∷ xs)))
 least-append (x ∷ xs) (y ∷ ys) = ap Some (sym (fold-append min x xs (y ∷ ys) ∙ fold-min (fold min x xs) y ys))
+
+-- when the first that waits was accepted, where the events before this one had it so
+abbrev pub first_waiting : Option ℕ → EventRow → Option ℕ
+first_waiting (Some before) row = Some before
+first_waiting None row = cond (stands waits row) (Some row.accepted) None
 
 first-behind : (rows : List EventRow) (r next : EventRow) (b : Bool) → first_waiting (oldest_waiting rows) r ≡ oldest_waiting (rows ++ r ∷ [])
     → first_waiting (option_map (λ (e : EventRow). e.accepted) (cond b (Some next) (find (stands waits) rows))) r

@@ -1,5 +1,5 @@
 -- How many events stand where, and since when the oldest of them does.
-use Rattle.std.specs.Prelude.{◌≡◌, ℕ, List, Option, Some, None, length, count_by, option_map, find, min, if◌then◌else◌}
+use Rattle.std.specs.Prelude.{◌≡◌, ℕ, List, Option, Some, None, length, count_by, option_map, find, min}
 use Rattle.std.specs.List.{filter_map, reduce}
 use Rattle.invoke_records.specs.declared.row.EventRow.{EventRow}
 use Rattle.invoke_records.specs.declared.row.Outcome.TheVariants.{Success, RetriesExhausted, EventAgeExceeded}
@@ -22,11 +22,6 @@ pub record IsCensus (rows : List EventRow) (census : Census) : Type 0 where
 -- when the first of them that waits was accepted
 abbrev pub oldest_waiting : List EventRow → Option ℕ
 oldest_waiting rows = option_map (λ (r : EventRow). r.accepted) (find (stands waits) rows)
-
--- that, where the events before this one had it so
-abbrev pub first_waiting : Option ℕ → EventRow → Option ℕ
-first_waiting (Some before) row = Some before
-first_waiting None row = if stands waits row then Some row.accepted else None
 
 -- when it ended, if it has
 abbrev pub end_of : Standing → Option ℕ

@@ -1,7 +1,7 @@
 // The numbers of a table's events.
 ghost use Rattle.std.specs.Prelude.{◌≡◌, ◌<◌, ◌+◌, ◌^◌, ◌++◌, ◌∷◌, [], ℕ, List, length, if◌then◌else◌};
 ghost use Rattle.invoke_records.specs.declared.row.EventRow.{EventRow};
-ghost use Rattle.operator_view.specs.Census.{IsCensus, first_waiting, least};
+ghost use Rattle.operator_view.specs.Census.{IsCensus, oldest_waiting, least};
 ghost use Rattle.operator_view.specs.Tally.{IsTally};
 
 use crate::moments::{due_of, end_of, expires_soon, is_due};
@@ -34,7 +34,7 @@ fn earlier(one: Option<u64>, other: Option<u64>) -> Option<u64>
 
 // When it was accepted, if it waits and none before it does.
 fn first_waiting(before: Option<u64>, row: &EventRow) -> Option<u64>
-    ensures { result ≡ first_waiting before row.now }
+    ensures { (rows : List EventRow) → before ≡ oldest_waiting rows → result ≡ oldest_waiting (rows ++ row.now ∷ []) }
 {
     match before {
         Some(before) => Some(before),

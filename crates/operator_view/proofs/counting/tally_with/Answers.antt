@@ -1,15 +1,15 @@
 use Rattle.std.proofs.Common.{◌+◌, ◌∙◌, cond, ap}
 use Rattle.std.specs.List.{filter_map}
 use Rattle.invoke_records.specs.declared.row.EventRow.{EventRow}
-use Rattle.operator_view.specs.Census.{end_of, first_waiting}
+use Rattle.operator_view.specs.Census.{end_of}
 use Rattle.operator_view.specs.Waiting.{due_of, is_due, expires_soon}
-use Rattle.operator_view.proofs.Tallied.{count_by-push, first_waiting-push, least-one, least-push}
+use Rattle.operator_view.proofs.Tallied.{count_by-push, least-one, least-push}
 use Rattle.operator_view.proofs.counting.tally_with.Goals as goal
 
 pub returns : goal.returns
 returns c = λ rows short is. let r = c.args.row.now in record {
   census = c.census_with.ensures rows short is.census;
-  oldest_waiting = c.first_waiting.ensures ∙ ap (λ o. first_waiting o r) is.oldest_waiting ∙ first_waiting-push rows r;
+  oldest_waiting = c.first_waiting.ensures rows is.oldest_waiting;
   oldest_record = c.earlier.ensures (filter_map (λ (e : EventRow). end_of e.standing) rows) _ is.oldest_record (c.end_of.ensures ∙ least-one (end_of r.standing)) ∙ least-push (λ (e : EventRow). end_of e.standing) rows r;
   first_due = c.earlier-2.ensures (filter_map (λ (e : EventRow). due_of e.standing) rows) _ is.first_due (c.due_of.ensures ∙ least-one (due_of r.standing)) ∙ least-push (λ (e : EventRow). due_of e.standing) rows r;
   due = count_by-push (is_due c.args.at) rows r _ _ short is.due (λ w. c.counted.ensures w ∙ ap (λ b. c.args.tally.now.due + cond b 1 0) c.is_due.ensures);
