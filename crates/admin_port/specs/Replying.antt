@@ -63,9 +63,10 @@ RefusesRequest head told =
 abbrev pub IsAsked : Parts → AdminRequest → Type 0
 IsAsked head request = (asked_of head.method (target_in head) ≡ Ok request) × (is_local head.headers ≡ true)
 
--- of what it shows, this was sought
+-- something is there to be shown, and this was sought of it
 abbrev pub Seeks : Sought → Option Unreleased → Type 0
-Seeks wanted seen = IfSome seen (λ unreleased. unreleased.view.hall.sought ≡ wanted)
+Seeks wanted None = ⊥
+Seeks wanted (Some unreleased) = unreleased.view.hall.sought ≡ wanted
 
 -- lines with just these ids are collected. Of an E it is known which id its line has
 abbrev pub CollectsIds : {E : Type 0} → (E → Option (List ℕ)) → List ℕ → List E → Type 0
