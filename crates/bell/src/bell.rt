@@ -1,6 +1,7 @@
 // The bell: tasks register there, and a ring wakes those that can go on.
 ghost use Rattle.std.specs.Prelude.{◌≡◌, ◌<◌, ◌+◌, length, slice_index, IfSome};
 ghost use Rattle.futures.specs.Task.{Hears, IsArmed, Keeps};
+ghost use Rattle.receipts.specs.declared.broken_hall.BrokenHall.{BrokenHall};
 
 use crate::waiters::{Left, Parked, ParkedWoken, Registered, Rung, Told, Waiters};
 use broker_core::Durable;
@@ -8,8 +9,7 @@ use futures::task::{Context, Source};
 use receipts::BrokenHall;
 use std::alloc::Global;
 use std::snapshot::Snapshot as Seen;
-use std::sync::atomic::{AtomicBool, Ordering};
-use std::sync::{Mutex, Wait};
+use std::sync::{Mutex, OnceLock, Wait};
 
 /// That a bell was rung for all that wait, parked polls too. Only such a ring gives it.
 #[derive(Drop)]
@@ -18,11 +18,28 @@ pub struct RungForAll {
     parked: ParkedWoken,
 }
 
-/// That it was said at a bell that the hall broke. Only the bell gives it, once a broken hall was shown there. Proofs see in it of
+// That a hall is broken: what a bell keeps of what showed it.
+#[derive(Drop)]
+struct Broke {
+    shown: (),
+    // claim: A bell says that a hall broke only of one that was shown to be broken.
+    ghost hall: { ∥ BrokenHall ∥₁ },
+}
+
+impl Broke {
+    // What this shows.
+    fn of(broken: &BrokenHall) -> Broke {
+        let _ = broken;
+        Broke { shown: () }
+    }
+}
+
+/// That it was said at a bell that the hall broke. Only the bell gives it, of a broken hall that was shown there. Proofs see in it of
 /// which bell.
 #[derive(Drop)]
 pub struct SaidBroken {
     at: Seen<Source>,
+    by: Seen<Broke>,
 }
 
 /// That so many polls, one after the other, were told at a bell that they were answered, which may be told once this number is
@@ -74,8 +91,8 @@ impl Answered {
 #[derive(Drop)]
 pub struct Bell {
     source: Source,
-    /// Whether it was said that the hall broke. No clause says what an atomic holds.
-    broke: AtomicBool,
+    /// That the hall broke, once that was said. No clause says what a lock holds.
+    broke: OnceLock<Broke>,
     waiters: Mutex<Waiters>,
 }
 
@@ -86,7 +103,7 @@ impl Bell {
     pub fn new(alloc: Global, durable: Durable) -> Bell {
         Bell {
             source: Source::new(),
-            broke: AtomicBool::new(false),
+            broke: OnceLock::new(),
             waiters: Mutex::new(Waiters::new(alloc, durable.number())),
         }
     }
@@ -203,27 +220,31 @@ impl Bell {
         rung
     }
 
-    /// Says that the hall broke, which this shows, before a ring: every poll then asks the office.
+    // That it was said here, by this.
+    fn said_by(&self, broke: &Broke) -> SaidBroken
+        ensures { result.at.value ≡ self.now.source }
+    {
+        SaidBroken {
+            at: Seen::of(&self.source),
+            by: Seen::of(broke),
+        }
+    }
+
+    /// Says that the hall broke, which this shows, before a ring: every poll then asks the office. Where it was said before, that
+    /// stays.
     pub fn say_broken(&self, broken: BrokenHall) -> SaidBroken
         ensures { result.at.value ≡ self.now.source }
     {
-        drop(broken);
-        self.broke.store(true, Ordering::SeqCst);
-        SaidBroken {
-            at: Seen::of(&self.source),
-        }
+        let broke = Broke::of(&broken);
+        let said = self.said_by(&broke);
+        let _ = self.broke.try_set(broke);
+        said
     }
 
     /// What shows that it was said that the hall broke, once it was.
     pub fn said_broken(&self) -> Option<SaidBroken>
         ensures { IfSome result (λ said. said.at.value ≡ self.now.source) }
     {
-        if self.broke.load(Ordering::SeqCst) {
-            Some(SaidBroken {
-                at: Seen::of(&self.source),
-            })
-        } else {
-            None
-        }
+        Some(self.said_by(self.broke.get()?))
     }
 }
