@@ -22,8 +22,13 @@ pub(crate) struct PendingReply<R: Wait, L: Ledger, T: Trace> {
 impl<R: Wait + Clock + Drop, L: Ledger, T: Trace> Future for PendingReply<R, L, T> {
     type Output = AdminResponse;
 
+    ghost use Rattle.std.specs.Prelude.{◌≡◌};
+    ghost use Rattle.bell.specs.Bell.{source_of};
     ghost use Rattle.long_poll.specs.PendingView.{unreleased_in};
     ghost use Rattle.admin_port.specs.Replying.{TellsOfUnreleased};
+
+    // claim: Where the reply to a look is pending, its poll has registered at the bell, or is made again. [: needs]
+    ghost needs = { λ pending source. source ≡ source_of pending.view.reader.value.bell.value };
 
     // claim: Page and history aside, a reply tells of what its own future held back, for what was asked, or is 503. [: gives;
     // AdminContext::tell; AdminResponse: tells]

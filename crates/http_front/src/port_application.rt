@@ -2,6 +2,7 @@
 ghost use Rattle.std.specs.Prelude.{◌≡◌, ◌⊎◌, Ok, Err, IfOk, IfErr};
 ghost use Rattle.api_core.specs.declared.refusal.Refusal.TheVariants.{Unavailable};
 ghost use Rattle.receipts.specs.Locked.{hall_in};
+ghost use Rattle.bell.specs.Bell.{source_of};
 ghost use Rattle.long_poll.specs.Port.{IsDoneFor};
 ghost use Rattle.long_poll.specs.Waiting.{IsTaken};
 ghost use Rattle.http_port.specs.Answering.{status_alone};
@@ -46,6 +47,9 @@ pub(crate) struct Replying<R: Wait, L: Ledger, T: Trace> {
 
 impl<R: Wait + Eprint + Drop, L: Ledger, T: Trace> Future for Replying<R, L, T> {
     type Output = Telling<L, T>;
+
+    // claim: Where a reply to a request is pending, its poll has registered at the bell, or is made again. [: needs]
+    ghost needs = { λ replying source. source ≡ source_of replying.waiting.port.value.bell.value };
 
     ghost gives = { λ replying telling. IsTaken replying.waiting.slot telling.released × (telling.id ≡ replying.id) };
 

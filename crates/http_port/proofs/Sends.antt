@@ -28,6 +28,11 @@ pub there : {A : Type 0} (o : Option A) (P : A → Type 0) → IsSomeAnd o P →
 there (Some a) P holds = (a, refl, holds)
 there None P holds = absurd holds
 
+-- nothing holds of what is not there
+pub not_there : {A : Type 0} (o : Option A) (P : A → Type 0) (B : Type 0) → o ≡ None → IsSomeAnd o P → B
+not_there (Some a) P B is holds = absurd cc
+not_there None P B is holds = absurd holds
+
 pub if_ready : {A : Type 0} (polled : Poll A) (P Q : A → Type 0) → ((a : A) → P a → Q a) → IfReady polled P → IfReady polled Q
 if_ready (Ready a) P Q step p = step a p
 if_ready Pending P Q step p = tt

@@ -1,7 +1,7 @@
 // The future of one request: its body is read, then its reply waits.
 ghost use Rattle.std.specs.Prelude.{◌≡◌, Ok, Err, None, IfOk, IfSome, IsSome, IsSomeAnd, option_map};
 ghost use Rattle.std.specs.Arc.{arc_value};
-ghost use Rattle.futures.specs.Task.{IsArmed, Keeps};
+ghost use Rattle.futures.specs.Task.{IsArmed, Covers, Keeps};
 ghost use Rattle.futures.specs.Poll.{IfReady, OnPending};
 ghost use Rattle.http_port.specs.Answering.{message_of, IsSent};
 ghost use Rattle.http_port.specs.Reading.{Reads};
@@ -167,7 +167,7 @@ impl<R: Clock, A: Application, I: Drop> Serving<R, A, I> {
         ensures waits { OnPending result (IsSomeAnd self.new.reply (λ later.
             A.Future.can_poll later × ((it : _) → A.Future.gives later it → A.Future.gives reply it))) }
         ensures same { self.new.forbidden ≡ self.old.forbidden }
-        ensures armed { OnPending result (IsArmed cx.new) }
+        ensures covers { OnPending result (Covers cx.new (λ source. IsSomeAnd self.new.reply (λ later. A.Future.needs later source))) }
         ensures kept { Keeps cx.old cx.new }
     {
         match reply.poll(cx) {
@@ -184,6 +184,10 @@ impl<R: Clock + Drop, A: Application, I: Drop> Future for Serving<R, A, I> {
     type Output = Result<HttpResponse, Infallible>;
 
     ghost can_poll = { λ s. IfSome s.reply A.Future.can_poll };
+
+    // claim: Where a request's reply is pending, its poll has registered at what that reply waits for, or is made again. [: needs;
+    // Serving::poll_reply: covers]
+    ghost needs = { λ s source. IsSomeAnd s.reply (λ reply. A.Future.needs reply source) };
 
     // claim: What is sent for a request is all that an answer to its head and its body tells, or 503 alone, and at most
     // `Connection: close` more. [: gives; Requests: calls]

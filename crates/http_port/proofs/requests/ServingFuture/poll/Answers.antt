@@ -4,12 +4,15 @@ use Rattle.std.specs.Arc.{arc_value}
 use Rattle.http_port.specs.Answering.{message_of}
 use Rattle.http_port.specs.Reading.{Reads}
 use Rattle.http_port.specs.Serving.{Answers, Sends}
-use Rattle.http_port.proofs.Sends.{if_ready, on_pending, there, only_reply, sends_of, sends_waited}
+use Rattle.http_port.proofs.Sends.{if_ready, on_pending, there, not_there, only_reply, sends_of, sends_waited}
 use Rattle.http_port.proofs.requests.ServingFuture.poll.Goals as goal
 
 pub returns-in-Pending-clause-same : goal.returns-in-Pending-clause-same
 returns-in-Pending-clause-same g c = λ sent gives.
     IfOk-weaker sent _ _ (sends_of g.A.Future.Future.gives g.A.Response.IntoResponse.tells _ _ c.in-Pending.ensures.later) gives
+
+pub returns-in-Pending-clause-registered : goal.returns-in-Pending-clause-registered
+returns-in-Pending-clause-registered g c = (c.in-Pending.ensures.armed, λ source needs. not_there _ _ _ c.in-Pending.ensures.reads needs)
 
 pub returns-in-Ready-Ok-clause-value : goal.returns-in-Ready-Ok-clause-value
 returns-in-Ready-Ok-clause-value g c =
