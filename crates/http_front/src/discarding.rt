@@ -54,7 +54,9 @@ pub(crate) struct Discarding {
 }
 
 impl Discarding {
-    pub(crate) fn new(discard: Discard) -> Discarding {
+    pub(crate) fn new(discard: Discard) -> Discarding
+        ensures { result.discard ≡ discard }
+    {
         Discarding {
             discard,
             wake: Wake::new(),

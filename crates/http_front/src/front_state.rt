@@ -108,6 +108,7 @@ impl<L: Ledger, T: Trace> FrontState<L, T> {
         ensures office { IfOk result (λ front. front.office ≡ office) }
         ensures settings { IfOk result (λ front. front.settings ≡ settings) }
         ensures dialect { IfOk result (λ front. front.dialect ≡ dialect) }
+        ensures discards { IfOk result (λ front. front.discarding.discard ≡ discard) }
     {
         let Signals {
             bell,

@@ -92,6 +92,7 @@ fn shared<L: Ledger, T: Trace>(
 ) -> Result<Arc<FrontState<L, T>>, AllocError>
     ensures dialect { IfOk result (λ front. front.value.dialect ≡ dialect) }
     ensures settings { IfOk result (λ front. front.value.settings ≡ settings) }
+    ensures discards { IfOk result (λ front. front.value.discarding.discard ≡ discard) }
 {
     let office = Arc::new(alloc, office)?;
     let front = FrontState::new(alloc, office, dialect, durable, settings, discard)?;
@@ -172,6 +173,7 @@ fn seat_all<L: Ledger, T: Trace, D: Disk + Drop>(
     ensures half { IfOk result (λ opened. opened.committer.half ≡ half) }
     ensures dialect { IfOk result (λ opened. opened.front.value.dialect ≡ dialect) }
     ensures settings { IfOk result (λ opened. opened.front.value.settings ≡ settings) }
+    ensures discards { IfOk result (λ opened. opened.front.value.discarding.discard ≡ discard) }
 {
     let durable = half.durable();
     let seats = Seated::open(alloc, durable, desks.len() + 2)?;
@@ -196,6 +198,8 @@ pub(crate) fn open<L: Ledger, T: Trace, D: Disk + Drop>(
     ensures half { IfOk result (λ opened. broker_of opened.committer.half ≡ hall.issuer) }
     ensures dialect { IfOk result (λ opened. opened.front.value.dialect ≡ hall.dialect) }
     ensures settings { IfOk result (λ opened. opened.front.value.settings ≡ settings_of hall.issuer) }
+    // claim: An opened front discards the records of just the sides that it is asked to. [: discards; FrontState::new: discards]
+    ensures discards { IfOk result (λ opened. opened.front.value.discarding.discard ≡ discard) }
 {
     let dialect = hall.dialect();
     let settings = hall.table().settings().copy()?;
