@@ -146,16 +146,20 @@ impl<L: Ledger, T: Trace> FrontState<L, T> {
         }
     }
 
+    // A look that shows that no slot is open, once one does.
+    fn none_open<R: Wait>(&self, rt: &R) -> Option<Witnessed<(), L, T>>
+        ensures { IfSome result (λ seen. open_slot_count (hall_in seen.before.value.hall) ≡ 0) }
+    {
+        let (open, seen) = self.office.open_slots(rt).split();
+        if open == 0 { Some(seen) } else { None }
+    }
+
     // That no slot is open any more after it was said that the disk failed, once that is so.
     fn failed<R: Wait>(&self, rt: &R, said: SaidBroken) -> Option<Failed<L, T>>
         ensures { IfSome result (λ failed. failed.said ≡ said) }
     {
-        let (open, seen) = self.office.open_slots(rt).split();
-        if open == 0 {
-            Some(Failed { said, seen })
-        } else {
-            None
-        }
+        let seen = self.none_open(rt)?;
+        Some(Failed { said, seen })
     }
 
     // That all is done, once it is: the broker was stopped and nothing is pending, or its disk failed, and every open slot was
