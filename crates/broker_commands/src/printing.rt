@@ -5,8 +5,10 @@ ghost use Rattle.broker_commands.specs.Formatting as formatting;
 ghost use Rattle.broker_commands.specs.Configuring as configuring;
 ghost use Rattle.broker_commands.specs.Migrating as migrating;
 ghost use Rattle.broker_commands.specs.Copying as copying;
-ghost use Rattle.broker_commands.specs.Status.{status_after, status_of_audit, IsJobStatus};
+ghost use Rattle.broker_commands.specs.Status.{status_after, status_of_audit, status_of_usage, IsJobStatus};
+ghost use Rattle.clap.specs.Values.{kind_of};
 ghost use Rattle.broker_trial.specs.Trial as trial;
+ghost use Rattle.disk_probe.specs.Faults as probing;
 
 use crate::auditing::{Audit, AuditError, AuditOutput, audit_disk};
 use crate::configured::Configured;
@@ -14,12 +16,13 @@ use crate::configuring::{ConfiguringError, configure_disk};
 use crate::copying::{Copied, CopyingError, copy_disk};
 use crate::formatting::{Function, NewDiskError, make_disk};
 use crate::migrating::{Migrated, MigratingError, migrate_file};
-use crate::probing::{Volume, probe_volume};
+use crate::probing::probe_volume;
 use crate::words::Job;
 use audit_report::Older;
 use broker_trial::{Trial, TrialError, run_trial};
 use clap::Error;
 use clap::error::ErrorKind;
+use disk_probe::{Probe, ProbeError};
 use sector_disk::Disk;
 use std::alloc::AllocGlobal;
 use std::fmt::Display;
@@ -44,9 +47,9 @@ pub fn print_job<R, W>(rt: &R, job: &Job<'_>, out: &mut W) -> io::Result<u8>
 where
     R: Files<File = File> + Clock + Eprint + AllocGlobal + Copy + Drop,
     W: Write,
-    // claim: A command that waits for nobody ends, where it can print, with status 0 (done), 1 (refused, or an audit's segments
-    // differ) or 3 (the device failed); for all but `probe` by the outcome. [: job; print_fault; print_trial; print_format;
-    // print_audit; print_configure; print_migrate; print_copy]
+    // claim: By its outcome a command that waits for nobody ends, where it can print, with status 0 (done), 1 (refused, or an
+    // audit's segments differ) or 3 (the device failed). [: job; print_fault; print_trial; print_format; print_audit;
+    // print_configure; print_migrate; print_copy; print_probe]
     ensures job { IfOk result IsJobStatus }
     ensures small { IfOk result (λ status. status ≤ 3) }
 {
@@ -60,19 +63,25 @@ where
         Job::Configure(new) => print_configure(told_by(configure_disk(rt, new)), out),
         Job::Migrate(old) => print_migrate(migrate_file(rt, old), out),
         Job::Copy(new) => print_copy(copy_disk(rt, new), out),
-        Job::Probe(volume) => print_probe(rt, volume, out),
+        Job::Probe(volume) => print_probe(probe_volume(rt, volume), out),
     }
 }
 
-/// Prints why words are no command, or the help that they ask for: status 2, or 0 for help.
+/// Prints why words are no command, or the help that they ask for: status 2, or 0 for help. Where memory was wanting to read them,
+/// that is printed, with status 1.
 pub fn print_usage<W: Write>(fault: &Error, out: &mut W) -> io::Result<u8>
-    ensures { IfOk result (λ status. status ≤ 3) }
+    // claim: By the kind of their fault, words that are no command end, where it can print, with status 2, or with 0 (help or the
+    // version was asked for) or 1 (want of memory). [: status]
+    ensures status { IfOk result (λ status. status ≡ status_of_usage (kind_of fault.now)) }
+    ensures small { IfOk result (λ status. status ≤ 3) }
 {
-    if fault.kind() == ErrorKind::OutOfMemory {
-        return refuse_for_memory(out);
-    }
+    let status = match fault.kind() {
+        ErrorKind::OutOfMemory => return refuse_for_memory(out),
+        ErrorKind::DisplayHelp | ErrorKind::DisplayVersion => DONE,
+        _ => USAGE,
+    };
     write!(out, "{fault}")?;
-    Ok(if fault.exit_code() == 0 { DONE } else { USAGE })
+    Ok(status)
 }
 
 fn print_trial<W: Write>(outcome: Result<Trial, TrialError>, out: &mut W) -> io::Result<u8>
@@ -174,14 +183,11 @@ fn print_copy<W: Write>(outcome: Result<Copied, CopyingError>, out: &mut W) -> i
     }
 }
 
-// Measures a volume, and prints what that tells.
-fn print_probe<R, W>(rt: &R, volume: &Volume<'_>, out: &mut W) -> io::Result<u8>
-where
-    R: Files<File = File> + Clock + Eprint + AllocGlobal + Copy + Drop,
-    W: Write,
-    ensures { IfOk result IsJobStatus }
+// Prints what was measured of a volume.
+fn print_probe<W: Write>(outcome: Result<Probe, ProbeError>, out: &mut W) -> io::Result<u8>
+    ensures { IfOk result (λ status. status ≡ status_after probing.is_device_fault outcome) }
 {
-    match probe_volume(rt, volume) {
+    match outcome {
         Ok(told) => {
             writeln!(out, "{told}")?;
             Ok(DONE)

@@ -1,4 +1,7 @@
 // Why a disk was not opened to be served.
+ghost use Rattle.std.specs.Prelude.{◌≡◌};
+ghost use Rattle.broker_opening.specs.Faults.{is_opening_fault};
+
 use broker_commands::DiskError;
 use broker_core::{CommitError, IssueError, OpenError};
 use std::alloc::AllocError;
@@ -32,7 +35,9 @@ pub enum OpeningError {
 
 impl OpeningError {
     /// Whether the device failed.
-    pub fn is_device_fault(&self) -> bool {
+    pub fn is_device_fault(&self) -> bool
+        ensures { result ≡ is_opening_fault self.now }
+    {
         match self {
             OpeningError::Disk(why) => why.is_device_fault(),
             OpeningError::Open(why) => matches!(why, OpenError::Fault),

@@ -1,4 +1,7 @@
 // Why a disk was not probed.
+ghost use Rattle.std.specs.Prelude.{◌≡◌};
+ghost use Rattle.disk_probe.specs.Faults.{is_device_fault};
+
 use resized_disk::ResizedError;
 use sector_disk::{Fault, FileError};
 use std::alloc::AllocError;
@@ -29,7 +32,9 @@ pub enum ProbeError {
 
 impl ProbeError {
     /// Whether the device failed.
-    pub fn is_device_fault(&self) -> bool {
+    pub fn is_device_fault(&self) -> bool
+        ensures { result ≡ is_device_fault self.now }
+    {
         matches!(
             self,
             ProbeError::File(FileError::Fault) | ProbeError::Witness(FileError::Fault)

@@ -1,7 +1,8 @@
 // The words of the command line, and what is printed for them.
-ghost use Rattle.std.specs.Prelude.{◌≤◌, IfOk};
+ghost use Rattle.std.specs.Prelude.{◌≡◌, ◌≤◌, IfOk};
+ghost use Rattle.lambda_broker.specs.Status.{status_of_serving};
 
-use crate::serving::serve_disk;
+use crate::serving::{ServingError, serve_disk};
 use broker_commands::{Address, DONE, Task, USAGE, print_fault, print_job, print_usage, read_task};
 use broker_opening::stop_broker;
 use std::fs::File;
@@ -64,7 +65,18 @@ where
     W: Write,
     ensures { IfOk result (λ status. status ≤ 4) }
 {
-    match serve_disk(rt, at, out) {
+    let outcome = serve_disk(rt, at, out);
+    print_served(outcome, out)
+}
+
+// Prints why a serving ended, where it was not stopped.
+fn print_served<W: Write>(outcome: Result<(), ServingError>, out: &mut W) -> io::Result<u8>
+    // claim: By its outcome a serving ends, where it can print, with status 0 (stopped), 4 (taken over), 3 (the device failed)
+    // or else 1. [: status]
+    ensures status { IfOk result (λ status. status ≡ status_of_serving outcome) }
+    ensures small { IfOk result (λ status. status ≤ 4) }
+{
+    match outcome {
         Ok(()) => Ok(DONE),
         Err(fault) if fault.is_taken_over() => {
             print_fault(&fault, false, out)?;

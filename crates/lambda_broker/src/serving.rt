@@ -3,6 +3,7 @@ ghost use Rattle.std.specs.Prelude.{◌≡◌, []};
 ghost use Rattle.broker_core.specs.Broker.{pending_of, settings_of};
 ghost use Rattle.hall_core.specs.Fresh.{IsFresh};
 ghost use Rattle.receipts.specs.Desks.{desk_count};
+ghost use Rattle.lambda_broker.specs.Status as status;
 
 use crate::claiming::{OwnDisk, Watched, Watcher, own_disk};
 use crate::lookout::Lookout;
@@ -53,7 +54,9 @@ pub enum ServingError {
 
 impl ServingError {
     /// Whether the device failed.
-    pub fn is_device_fault(&self) -> bool {
+    pub fn is_device_fault(&self) -> bool
+        ensures { result ≡ status.is_device_fault self.now }
+    {
         match self {
             ServingError::Opening(why) => why.is_device_fault(),
             ServingError::Claim(why) => matches!(why, ClaimError::Fault),
@@ -63,7 +66,9 @@ impl ServingError {
     }
 
     /// Whether another broker has taken the disk over.
-    pub fn is_taken_over(&self) -> bool {
+    pub fn is_taken_over(&self) -> bool
+        ensures { result ≡ status.is_taken_over self.now }
+    {
         matches!(
             self,
             ServingError::TakenOver | ServingError::Claim(ClaimError::Taken)

@@ -4,6 +4,7 @@ use Rattle.broker_commands.specs.Formatting as formatting
 use Rattle.broker_commands.specs.Configuring as configuring
 use Rattle.broker_commands.specs.Migrating as migrating
 use Rattle.broker_commands.specs.Copying as copying
+use Rattle.disk_probe.specs.Faults as probing
 use Rattle.broker_commands.specs.Status.{IsJobStatus}
 use Rattle.broker_commands.specs.laws.Statuses.{is_status, if_status, at_most, of_job, of_audit}
 use Rattle.broker_commands.proofs.printing.print_job.Goals as goal
@@ -39,4 +40,6 @@ returns-in-Copy g c =
     record { job = job; small = if_status IsJobStatus (λ (s : ℕ). s ≤ 3) c.print_copy.result at_most job }
 
 pub returns-in-Probe : goal.returns-in-Probe
-returns-in-Probe g c = record { job = c.print_probe.ensures; small = if_status IsJobStatus (λ (s : ℕ). s ≤ 3) c.print_probe.result at_most c.print_probe.ensures }
+returns-in-Probe g c =
+    let job = is_status IsJobStatus c.print_probe.result _ (of_job probing.is_device_fault c.probe_volume.result) c.print_probe.ensures in
+    record { job = job; small = if_status IsJobStatus (λ (s : ℕ). s ≤ 3) c.print_probe.result at_most job }
