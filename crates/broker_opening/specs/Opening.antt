@@ -1,11 +1,11 @@
 -- What is done before callers are served: for each attempt that the last stop cut off an Interrupt is issued.
 use Rattle.std.specs.Prelude.{◌≡◌, ◌≤◌, ℕ, List, ◌++◌, All, length, take}
-use Rattle.sector_disk.specs.Disk.{DiskView}
+use Rattle.sector_disk.specs.Disk.{DiskView, IsSameDisk}
 use Rattle.sector_disk.specs.declared.disk.Disk.{Ghosts}
 use Rattle.invoke_records.specs.declared.command.Command.{Command}
 use Rattle.invoke_records.specs.declared.command.Kind.TheVariants.{Interrupt}
 use Rattle.broker_core.specs.declared.broker.Broker.{Broker}
-use Rattle.broker_core.specs.Broker.{settings_of, Stands}
+use Rattle.broker_core.specs.Broker.{disk_of, settings_of, Stands}
 use Rattle.broker_core.specs.Promises.{ForEachHistoryOn, IsRecovered}
 use Rattle.broker_core.specs.Refusals.{HasSwitched}
 use Rattle.broker_core.specs.Resume.{AllAtRest}
@@ -42,5 +42,8 @@ pub record RecoversAtRest {D : Type 0} {g : Ghosts D} (view : D → DiskView) (e
   pub rests : OpensAtRest view extensions (take size history) broker hall
 
 -- what recovery gave of the disk switched once to come to this broker
-abbrev pub SwitchesRecovered : {D : Type 0} {g : Ghosts D} → (D → DiskView) → D → Broker D g → Type 0
-SwitchesRecovered view disk new = (recovered : Broker _ _) × ForEachHistoryOn (view disk) (λ s history durable. IsRecovered view s history durable recovered) × HasSwitched 1 recovered new
+pub record SwitchesRecovered {D : Type 0} {g : Ghosts D} (view : D → DiskView) (disk : D) (new : Broker D g) : Type 0 where
+  pub recovered : Broker D g
+  pub same : IsSameDisk (view disk) (view (disk_of recovered))
+  pub stands : ForEachHistoryOn (view disk) (λ s history durable. IsRecovered view s history durable recovered)
+  pub switched : HasSwitched 1 recovered new

@@ -10,5 +10,9 @@ returns-clause-rest g c = λ honest s history durable legal stops.
     (c.in_ok-broker.ensures.stands honest s history durable legal stops) c.in_ok-hall.ensures.rest
 
 pub returns-clause-switches : goal.returns-clause-switches
-returns-clause-switches g c = λ takeover honest.
-    (c.in_ok-broker.broker, c.in_ok-broker.ensures.stands honest, c.in_ok-hall.ensures.switches takeover)
+returns-clause-switches g c = λ takeover honest. record {
+  recovered = c.in_ok-broker.broker;
+  same = c.in_ok-broker.ensures.same;
+  stands = c.in_ok-broker.ensures.stands honest;
+  switched = c.in_ok-hall.ensures.switches takeover;
+}
