@@ -181,11 +181,6 @@ where
     }
 }
 
-// How many events a broker holds.
-fn count_events<D: Disk>(broker: &Broker<D>) -> Result<usize, AllocError> {
-    Ok(broker.table().snapshot()?.rows.as_slice().len())
-}
-
 // Judges a copy of a broker, and makes it.
 fn copy_broker<R, D>(
     rt: &R,
@@ -199,7 +194,7 @@ where
     D: Disk,
 {
     check_change(broker.table().settings(), change, sectors)?;
-    let events = count_events(broker)?;
+    let events = broker.table().rows().count();
     copy_to_place(rt, broker, new, change, sectors)?;
     Ok(Copied { events, sectors })
 }

@@ -94,7 +94,7 @@ where
     ensures switches { IsTrue is_takeover → OnOk result (HasSwitched 1 broker.old broker.new) }
     ensures rest { ForEachHistory D.view broker.old (λ history. OnOk result (ComesToRest D.view history broker.new)) }
 {
-    let held = broker.table().snapshot()?.rows.as_slice().len();
+    let held = broker.table().rows().count();
     let before = broker.table().number();
     opening.generation = broker.generation();
     resume(rt, broker, is_takeover, opening)?;
