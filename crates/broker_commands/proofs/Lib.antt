@@ -1,2 +1,3 @@
 pub mod BroughtInForce
 pub mod ReadBack
+pub mod Refused

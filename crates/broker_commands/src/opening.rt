@@ -3,6 +3,7 @@ ghost use Rattle.std.specs.Prelude.{◌≡◌, ◌≤◌, IfOk, IfErr};
 ghost use Rattle.sector_disk.specs.Disk.{HasRisen, IsSameDisk};
 ghost use Rattle.broker_core.specs.Broker.{disk_of};
 ghost use Rattle.broker_core.specs.Promises.{ForEachHistoryOn, IsRecovered};
+ghost use Rattle.broker_core.specs.Refusals.{IsCutOff};
 ghost use Rattle.resized_disk.specs.Reading.{OnlyReads};
 ghost use Rattle.broker_commands.specs.Opening.{is_disk_fault, TellsSize};
 ghost use Rattle.broker_commands.specs.declared.opening.DiskError.TheVariants as disk_error;
@@ -51,6 +52,8 @@ pub fn open<D: Disk + Drop>(alloc: Global, disk: D) -> Result<Broker<D>, OpenErr
     ensures same { IfOk result (λ broker. IsSameDisk (D.view disk) (D.view (disk_of broker))) }
     ensures stands { (D.view disk).honest
         → ForEachHistoryOn (D.view disk) (λ s history durable. IfOk result (IsRecovered D.view s history durable)) }
+    // claim: Where each image of an honest disk is a legal stop of a history, only the device or want of memory refuses it. [: refused]
+    ensures refused { (D.view disk).honest → ForEachHistoryOn (D.view disk) (λ s history durable. IfErr result IsCutOff) }
 {
     without_disk(Broker::open(alloc, disk))
 }
