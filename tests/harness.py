@@ -94,6 +94,12 @@ def until(what, look, seconds=DEADLINE):
         time.sleep(0.02)
 
 
+def stat_of(path):
+    """What the system tells of a process or a thread behind its name: first its state, R where it runs or waits for a processor."""
+    with open(path) as told:
+        return told.read().rsplit(")", 1)[1].split()
+
+
 def needs(*words):
     """A case that runs these commands is skipped where one is missing."""
     for word in words:
@@ -421,8 +427,7 @@ class Broker:
 
     def processor_seconds(self):
         """How much time of a processor it has taken."""
-        with open(f"/proc/{self.served.pid}/stat") as told:
-            fields = told.read().rsplit(")", 1)[1].split()
+        fields = stat_of(f"/proc/{self.served.pid}/stat")
         return (int(fields[11]) + int(fields[12])) / os.sysconf("SC_CLK_TCK")
 
     def close(self):
@@ -531,9 +536,12 @@ class Broker:
         return counts.pop() if len(counts) == 1 else None
 
     def until_read(self, environment=0):
-        """Waits until what was sent to a port before was read: each port has one thread, and two requests behind it were answered."""
+        """Waits until what was sent to a port before was read: two requests behind it were answered, and then no thread of the broker,
+        of which callers have several, has something to do."""
         for _ in range(2):
             same(self.ask("GET", "/x", environment=environment).status, 404)
+        tasks = f"/proc/{self.served.pid}/task"
+        until("its threads to sleep", lambda: all(stat_of(f"{tasks}/{task}/stat")[0] != "R" for task in os.listdir(tasks)))
 
     def until_all_serve(self):
         """Waits until each port has what it needs: the first line is printed before."""
