@@ -1,5 +1,5 @@
 -- What a body comes to, frame by frame.
-use Rattle.std.proofs.Common.{◌≡◌, ◌⊎◌, ℕ, ◌+◌, ◌≤◌, List, [], ◌∷◌, ◌++◌, map, length, unwrap_or, Option, Some, None, Result, Ok, Err, Bool, IfSome, IsTrue, refl, sym, ap, subst, ◌∙◌, inl, inr, append_assoc, append-nil, arith}
+use Rattle.std.proofs.Common.{◌≡◌, ◌⊎◌, ℕ, ◌+◌, List, [], ◌∷◌, ◌++◌, map, unwrap_or, Option, Some, None, Result, Ok, Err, Bool, IfSome, IsTrue, sym, ap, subst, ◌∙◌, inl, inr, append_assoc, append-nil, arith}
 use Rattle.futures.specs.Runs.{After, Within}
 use Rattle.http_body_util.specs.declared.limited.Limited.{Limited}
 use Rattle.http_body_util.specs.declared.limited.LimitedError.{LimitedError}

@@ -7,3 +7,4 @@ pub mod Reading
 pub mod Serving
 pub mod Target
 pub mod Unread
+pub mod laws

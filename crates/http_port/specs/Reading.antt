@@ -1,5 +1,5 @@
 -- The body of a request, as it comes: its frames, and what it comes to.
-use Rattle.std.specs.Prelude.{◌≡◌, ℕ, ◌+◌, ◌≤◌, ◌⊎◌, List, [], ◌++◌, map, flat_map, length, unwrap_or, Option, Some, None, Result, Ok, Err, IsTrue}
+use Rattle.std.specs.Prelude.{◌≡◌, ℕ, ◌+◌, ◌≤◌, ◌⊎◌, List, [], ◌++◌, map, flat_map, length, unwrap_or, Some, None, Result, Ok, Err, IsTrue}
 use Rattle.futures.specs.Runs.{Runs, After, Within}
 use Rattle.http_body.specs.declared.frame.Frame.{Frame}
 use Rattle.http_body.specs.Frame.{data_of}

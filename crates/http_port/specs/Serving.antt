@@ -44,6 +44,11 @@ module _ {A F : Type 0} (answers : A → Parts → Result (List ℕ) BodyError �
       × (reading : Reading I) × (reading.body.inner ≡ body_of req) × (reading.bytes.items ≡ [])
       × Answers (forbidden_of hosts (head_of req).headers) None asked (head_of req) (Reads reading) answered
 
+-- this is what the request's own body came to, of which nothing was read before
+abbrev pub IsReadOf : {I : Type 0} → Request (Incoming I) → Result (List ℕ) BodyError → Type 0
+IsReadOf {I = I} req body =
+    (reading : Reading I) × (reading.body.inner ≡ body_of req) × (reading.bytes.items ≡ []) × Reads reading body
+
 -- ## What is sent for an answer
 
 module _ {F T : Type 0} (gives : F → T → Type 0) (tells : T → Message → Type 0) where
@@ -56,3 +61,29 @@ module _ {F T : Type 0} (gives : F → T → Type 0) (tells : T → Message → 
   abbrev pub Sends : (Result F Message → Type 0) → Response (Full (List ℕ)) → Type 0
   Sends may response = (answered : Result F Message) × may answered
       × (told : Message) × ComesTo answered told × IsSent told (message_of response)
+
+-- ## What is sent, and of which answer
+
+module _ {A F I : Type 0} (answers : A → Parts → Result (List ℕ) BodyError → Result F Message → Type 0) (application : A) (req : Request (Incoming I)) where
+  -- the application answers the request so, by its head and what was read of its body
+  pub record IsAnswered (answered : Result F Message) : Type 0 where
+    pub read : Result (List ℕ) BodyError
+    pub of_body : IsReadOf req read
+    pub answer : answers application (head_of req) read answered
+
+  -- the application refused the request so, and that is sent
+  pub record SendsRefusal (sent : Message) : Type 0 where
+    pub told : Message
+    pub answered : IsAnswered (Err told)
+    pub is_sent : IsSent told sent
+
+-- this reply of the application to the request gave what is sent
+pub record SendsReply {A F T I : Type 0} (answers : A → Parts → Result (List ℕ) BodyError → Result F Message → Type 0) (gives : F → T → Type 0)
+    (tells : T → Message → Type 0) (application : A) (req : Request (Incoming I)) (sent : Message) : Type 0 where
+  pub reply : F
+  pub answered : IsAnswered answers application req (Ok reply)
+  pub telling : T
+  pub given : gives reply telling
+  pub told : Message
+  pub told_is : tells telling told
+  pub is_sent : IsSent told sent

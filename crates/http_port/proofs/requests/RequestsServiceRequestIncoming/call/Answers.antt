@@ -1,4 +1,4 @@
-use Rattle.std.proofs.Common.{◌≡◌, None, refl, ap, ◌∙◌, option_map}
+use Rattle.std.proofs.Common.{None, refl, ap, ◌∙◌, option_map}
 use Rattle.std.specs.Arc.{arc_value}
 use Rattle.http.specs.declared.request.Parts.{Parts}
 use Rattle.http.specs.Request.{head_of, body_of}

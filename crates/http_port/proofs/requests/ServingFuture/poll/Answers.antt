@@ -1,9 +1,8 @@
-use Rattle.std.proofs.Common.{◌≡◌, ◌∙◌, sym, subst, Ok, Err, IfOk, option_map}
+use Rattle.std.proofs.Common.{◌∙◌, sym, subst, option_map}
 use Rattle.std.proofs.lemmas.Result.{IfOk-weaker}
 use Rattle.std.specs.Arc.{arc_value}
-use Rattle.http_port.specs.Answering.{message_of}
 use Rattle.http_port.specs.Reading.{Reads}
-use Rattle.http_port.specs.Serving.{Answers, Sends}
+use Rattle.http_port.specs.Serving.{Answers}
 use Rattle.http_port.proofs.Sends.{if_ready, on_pending, there, not_there, only_reply, sends_of, sends_waited}
 use Rattle.http_port.proofs.requests.ServingFuture.poll.Goals as goal
 
