@@ -1,3 +1,4 @@
+pub mod Accepting
 pub mod Calling
 pub mod Calls
 pub mod Discarding

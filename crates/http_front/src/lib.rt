@@ -17,6 +17,7 @@ mod error;
 mod front_state;
 mod gates;
 mod gathering;
+pub mod laws;
 mod opening;
 mod port_application;
 mod replying;
