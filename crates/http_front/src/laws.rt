@@ -19,7 +19,8 @@ use std::time::Clock;
 
 /// A 202 that a port sends for a request is of an event that was accepted, where its body is empty or that of InvokeAsync: the
 /// request is a call that was done to a hall with a slot, and a hall under the same lock told this slot that an event was accepted,
-/// by a command that is durable there. The laws of `promises` go on from there to the disk.
+/// by a command that is durable there. The laws of `promises` go on from there to the disk. The types that it speaks of take the
+/// right to wait, so it does; its body is empty, so it returns.
 pub fn what_a_port_sends_as_202_was_accepted<
     R: Wait + Clock + RandomSource + Eprint + Drop + Copy,
     L: Ledger,
