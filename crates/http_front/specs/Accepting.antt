@@ -24,8 +24,8 @@ use Rattle.http_front.specs.Calls.{IsCallFor}
 abbrev pub SaysAccepted : Message → Type 0
 SaysAccepted sent = (sent.status ≡ 202) × ((sent.body ≡ []) ⊎ (sent.body ≡ async_body))
 
--- as this life of the hall has it, the slot was answered 202: an event with this payload was accepted, by a command that is durable
--- in the hall. Where this call was the last that came with the slot, it is the call that invoked with the payload
+-- in this life of the hall the slot was answered 202: an event was accepted with some payload, by a command that is durable in the
+-- hall. Where this call was the last that came with the slot, it is the call that invoked with the payload
 pub record AnsweredAt (hall : HallView) (life : Life (settings_in hall)) (slot : ℕ) (call : Call) : Type 0 where
   pub telling : Telling (settings_in hall)
   pub life_is : telling.life ≡ life
@@ -42,7 +42,8 @@ abbrev pub hall_met : {A L T O : Type 0} {l : LedgerGhosts L} {g : TraceGhosts T
 hall_met step = hall_in step.before.value.hall
 
 -- the request with this head, of which this was read, is a call that the step `asked` did with the slot. The step `taken` gave the
--- slot its reply: the hall that it met stands for a run, and as each life has it that the hall stands for, the slot was answered 202
+-- slot its reply: the hall that it met stands for a run on each history that left its opening's table, and in each life that this
+-- hall stands for the slot was answered 202
 pub record IsAccepted {L T O : Type 0} {l : LedgerGhosts L} {g : TraceGhosts T O} {o : OpeningGhosts O}
     (dialect : Dialect) (settings : Settings) (port : ℕ) (head : Parts) (read : Result (List ℕ) BodyError)
     (slot : ℕ) (asked : Witnessed (Unit {0}) L T O l g o) (taken : Witnessed Released L T O l g o) : Type 0 where

@@ -18,9 +18,9 @@ use std::sync::ledger::Ledger;
 use std::time::Clock;
 
 /// A 202 that a port sends for a request is of an event that was accepted, where its body is empty or that of InvokeAsync: the
-/// request is a call that was done to a hall with a slot, and a hall under the same lock told this slot that an event was accepted,
-/// by a command that is durable there. The laws of `promises` go on from there to the disk. The types that it speaks of take the
-/// right to wait, so it does; its body is empty, so it returns.
+/// request is a call that was done to a hall with a slot, and a hall told this slot that an event was accepted, by a command that
+/// is durable there. The laws of `promises` go on from there to the disk. It takes the right to wait, as its types do; its body
+/// is empty, so it returns.
 pub fn what_a_port_sends_as_202_was_accepted<
     R: Wait + Clock + RandomSource + Eprint + Drop + Copy,
     L: Ledger,
@@ -28,7 +28,7 @@ pub fn what_a_port_sends_as_202_was_accepted<
     I: Drop,
 >()
     // claim: Where a port sends 202 with an empty body or that of InvokeAsync, the request's head and body are a call that was
-    // done with a slot. What is sent is the reply that the slot was given, by a hall which answered 202 there by an acceptance
+    // done with a slot. What is sent tells the reply that the slot was given, by a hall which answered 202 there by an acceptance
     // that is durable in it. Where no later request came with the slot, the event's payload is the call's.
     ensures { (hosts : _) (application : _) (request : Request (Incoming I)) (response : _)
         → Sends ⟦<Replying<R, L, T> as Future>⟧.gives ⟦<Telling<L, T> as IntoResponse>⟧.tells

@@ -77,7 +77,7 @@ module _ {A F I : Type 0} (answers : A → Parts → Result (List ℕ) BodyError
     pub answered : IsAnswered (Err told)
     pub is_sent : IsSent told sent
 
--- this reply of the application to the request gave what is sent
+-- a reply of the application to the request gave what is told, and that is sent
 pub record SendsReply {A F T I : Type 0} (answers : A → Parts → Result (List ℕ) BodyError → Result F Message → Type 0) (gives : F → T → Type 0)
     (tells : T → Message → Type 0) (application : A) (req : Request (Incoming I)) (sent : Message) : Type 0 where
   pub reply : F
