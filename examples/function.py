@@ -4,8 +4,9 @@
 Usage: function.py PORT FOLDER HANDLER    The handler app.main is the function `main` of FOLDER/app.py, which is called with the
 event and a context, as by AWS Lambda. What that prints or raises is on its standard output and error. Without words
 AWS_LAMBDA_RUNTIME_API, LAMBDA_TASK_ROOT and _HANDLER say the same, the first as HOST:PORT. It ends where its broker goes: a
-supervisor starts it again.
+supervisor starts it again. A result that is no JSON, as one with NaN, is an error, Runtime.MarshalError.
 """
+import contextlib
 import importlib
 import json
 import os
@@ -36,16 +37,38 @@ def load(folder, handler):
     return getattr(importlib.import_module(module), name)
 
 
+def plain(text):
+    """A text that UTF-8 has: half of a surrogate pair stands as its escape."""
+    return text.encode(errors="backslashreplace").decode()
+
+
+def told(why):
+    """What an error says, if it can."""
+    try:
+        return str(why)
+    except Exception as other:
+        return f"its text was not told: {type(other).__name__}"
+
+
 def error(message, type, trace):
-    return "error", json.dumps({"errorMessage": message, "errorType": type, "stackTrace": trace})
+    record = {"errorMessage": plain(message), "errorType": plain(type), "stackTrace": [plain(line) for line in trace]}
+    return "error", json.dumps(record, ensure_ascii=False).encode()
 
 
 def answer_of(handler, event, context):
     try:
-        return "response", json.dumps(handler(json.loads(event), context))
+        answer = handler(json.loads(event), context)
     except Exception as why:
-        traceback.print_exc()
-        return error(str(why), type(why).__name__, traceback.format_tb(why.__traceback__.tb_next))
+        with contextlib.suppress(OSError, ValueError):
+            traceback.print_exc()
+        return error(told(why), type(why).__name__, traceback.format_tb(why.__traceback__.tb_next))
+    try:
+        # Of NaN, and of half of a surrogate pair, a record would make a string of the whole result.
+        return "response", json.dumps(answer, allow_nan=False, ensure_ascii=False).encode()
+    except Exception as why:
+        with contextlib.suppress(OSError, ValueError):
+            traceback.print_exc()
+        return error(f"Unable to marshal response: {told(why)}", "Runtime.MarshalError", [])
 
 
 def ask(broker, method, path, body=None):

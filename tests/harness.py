@@ -54,6 +54,7 @@ class Built:
     program = None
     watch_disk = None
     refuse_memory = None
+    few_threads = None
 
 
 class Skipped(Exception):
@@ -165,7 +166,7 @@ class Watch:
 
     WORDS = (
         "flushes flushed writes written folder_flushes prints hold_flush release fail_flush fail_write kill_flush kill_write "
-        "torn kill_print keep reads fail_read record"
+        "torn kill_print keep reads fail_read record ahead back fail_with drops drop_at drop_size"
     ).split()
 
     def __init__(self, folder, disk):

@@ -12,12 +12,12 @@ import collections
 import http.client
 import os
 import random
-import struct
 import sys
 import tempfile
 import threading
 
 import harness
+import stopped
 from harness import Broker, Built
 
 SECTOR = 512
@@ -79,14 +79,7 @@ class Image:
 
 def calls_of(path):
     """The writes, each as its first sector and its bytes, and None for each flush."""
-    with open(path, "rb") as file:
-        data = file.read()
-    at, calls = 0, []
-    while at < len(data):
-        kind, place, count = struct.unpack_from("QQQ", data, at)
-        calls.append((place // SECTOR, data[at + 24:at + 24 + count]) if kind else None)
-        at += 24 + count
-    return calls
+    return [(place // SECTOR, content) if kind else None for kind, place, content in stopped.calls_of(path)]
 
 
 def call_until_it_ends(broker, environment):

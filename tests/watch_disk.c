@@ -1,5 +1,5 @@
 /* Watches the disk of the program that it is preloaded into: it counts the flushes, writes and reads of the file WATCH_DISK, and does to
- * them what the words in the file WATCH_SHARE say. Both sides have that file in their memory, so a word can change at any time.
+ * them what the words in the file WATCH_SHARE say, and sets its clock. Both sides have that file in their memory, so a word can change at any time.
  * Calls are numbered from 1 on. A word that is 0 does nothing. */
 #define _GNU_SOURCE
 #include <dlfcn.h>
@@ -12,6 +12,8 @@
 #include <string.h>
 #include <sys/mman.h>
 #include <sys/stat.h>
+#include <sys/syscall.h>
+#include <time.h>
 #include <unistd.h>
 
 /* In the order of Watch.WORDS in harness.py. */
@@ -31,7 +33,11 @@ struct share {
     volatile uint64_t keep;              /* after each flush the disk is copied to WATCH_DISK.flushed */
     volatile uint64_t reads;             /* how many reads began */
     volatile uint64_t fail_read;         /* from this read on each fails */
-    volatile uint64_t record;            /* each write and flush is noted in WATCH_DISK.calls */
+    volatile uint64_t record;            /* each write, flush and change of its size is noted in WATCH_DISK.calls */
+    volatile uint64_t ahead, back;       /* the system's clock shows so many milliseconds more, and so many less */
+    volatile uint64_t fail_with;         /* what fails does so with this error, and not as a device does */
+    volatile uint64_t drops;             /* how often something was dropped that the machine kept of it .. */
+    volatile uint64_t drop_at, drop_size; /* .. and from where on, and how many bytes, last */
 };
 
 static struct share *share;
@@ -51,6 +57,13 @@ __attribute__((constructor)) static void begin(void) {
 static int is_disk(int file) {
     struct stat one, other;
     return fstat(file, &one) == 0 && stat(disk, &other) == 0 && one.st_dev == other.st_dev && one.st_ino == other.st_ino;
+}
+
+/* The system's clock, as it is set. The system is asked itself: no other library is looked for so early. */
+int clock_gettime(clockid_t clock, struct timespec *told) {
+    int answer = syscall(SYS_clock_gettime, clock, told);
+    if (answer == 0 && share && clock == CLOCK_REALTIME) told->tv_sec += (int64_t)(share->ahead - share->back) / 1000;
+    return answer;
 }
 
 static uint64_t next_of(volatile uint64_t *count) { return __sync_add_and_fetch(count, 1); }
@@ -76,7 +89,12 @@ static void keep_copy(void) {
     rename(made, kept);
 }
 
-/* Notes a write, or a flush, as three numbers, and behind them what is written. */
+static int failed(void) {
+    errno = share->fail_with ? (int)share->fail_with : EIO;
+    return -1;
+}
+
+/* Notes a write, a flush or a change of size as three numbers, and behind them what is written. */
 static void note(uint64_t kind, uint64_t at, const void *bytes, uint64_t count) {
     static ssize_t (*put)(int, const void *, size_t);
     static int notes = -1;
@@ -98,10 +116,7 @@ static int flush(int file, const char *name) {
     uint64_t number = next_of(&share->flushes);
     if (share->kill_flush == number) end_here();
     while (share->hold_flush && share->hold_flush <= number && share->release < number) usleep(1000);
-    if (share->fail_flush && share->fail_flush <= number) {
-        errno = EIO;
-        return -1;
-    }
+    if (share->fail_flush && share->fail_flush <= number) return failed();
     int result = next(file);
     if (result == 0) {
         if (share->keep) keep_copy();
@@ -124,10 +139,7 @@ static ssize_t write_at(int file, const void *bytes, size_t count, off_t at) {
         if (torn) next(file, bytes, torn, at);
         end_here();
     }
-    if (share->fail_write && share->fail_write <= number) {
-        errno = EIO;
-        return -1;
-    }
+    if (share->fail_write && share->fail_write <= number) return failed();
     if (share->record) note(1, at, bytes, count);
     ssize_t result = next(file, bytes, count, at);
     if (result >= 0) next_of(&share->written);
@@ -142,15 +154,34 @@ static ssize_t read_at(int file, void *bytes, size_t count, off_t at) {
     if (!next) next = dlsym(RTLD_NEXT, "pread64");
     if (!share || !is_disk(file)) return next(file, bytes, count, at);
     uint64_t number = next_of(&share->reads);
-    if (share->fail_read && share->fail_read <= number) {
-        errno = EIO;
-        return -1;
-    }
+    if (share->fail_read && share->fail_read <= number) return failed();
     return next(file, bytes, count, at);
 }
 
 ssize_t pread64(int file, void *bytes, size_t count, off_t at) { return read_at(file, bytes, count, at); }
 ssize_t pread(int file, void *bytes, size_t count, off_t at) { return read_at(file, bytes, count, at); }
+
+static int resize(int file, off_t size, const char *name) {
+    int (*next)(int, off_t) = dlsym(RTLD_NEXT, name);
+    if (share && share->record && is_disk(file)) note(2, size, "", 0);
+    return next(file, size);
+}
+
+int ftruncate(int file, off_t size) { return resize(file, size, "ftruncate"); }
+int ftruncate64(int file, off_t size) { return resize(file, size, "ftruncate64"); }
+
+static int drop(int file, off_t at, off_t size, int advice, const char *name) {
+    int (*next)(int, off_t, off_t, int) = dlsym(RTLD_NEXT, name);
+    if (share && is_disk(file) && advice == POSIX_FADV_DONTNEED) {
+        share->drop_at = at;
+        share->drop_size = size;
+        next_of(&share->drops);
+    }
+    return next(file, at, size, advice);
+}
+
+int posix_fadvise(int file, off_t at, off_t size, int advice) { return drop(file, at, size, advice, "posix_fadvise"); }
+int posix_fadvise64(int file, off_t at, off_t size, int advice) { return drop(file, at, size, advice, "posix_fadvise64"); }
 
 ssize_t write(int file, const void *bytes, size_t count) {
     static ssize_t (*next)(int, const void *, size_t);

@@ -5,7 +5,7 @@ import re
 import shutil
 import subprocess
 
-from harness import DEADLINE, HERE, Apart, case, same
+from harness import DEADLINE, HERE, Apart, case, same, until
 
 DEPLOY = os.path.join(HERE, "..", "deploy")
 ALERTS, SCENES, PAGE = "alerts.yml", "alerts.test.yml", os.path.join("consoles", "lambda_broker.html")
@@ -37,10 +37,13 @@ def stored(name):
 def series_of(scrapes):
     """The series of these scrapes, each the numbers of a broker, and for how many minutes they are told."""
     told = [({f"lambda_broker_{name}": value for name, value in numbers.items()} | {"up": 1}, minutes) for numbers, minutes in scrapes]
-    return [
-        {"series": stored(name), "values": " ".join(f"{numbers[name]:.17g}x{minutes - 1}" for numbers, minutes in told)}
-        for name in told[0][0]
-    ]
+    names = {name: None for numbers, _ in told for name in numbers}
+    return [{"series": stored(name), "values": " ".join(values_of(numbers.get(name), minutes) for numbers, minutes in told)} for name in names]
+
+
+def values_of(value, minutes):
+    """A number in each of so many minutes, or none where it is not told."""
+    return f"_x{minutes}" if value is None else f"{value:.17g}x{minutes - 1}"
 
 
 def fire(broker, scrapes, *alerts):
@@ -66,10 +69,26 @@ def labels_of(text):
     return dict(re.findall(r'(\w+)="((?:[^"\\]|\\.)*)"', text))
 
 
+def all_numbers(broker):
+    """The names of what a broker tells, and of what it tells once its disk is gone."""
+    broker.serve()
+    names = list(broker.numbers())
+    os.remove(broker.disk)
+    until("an end of all", lambda: "disk_is_gone" in str(names_once_gone(broker)))
+    return names + names_once_gone(broker)
+
+
+def names_once_gone(broker):
+    try:
+        text = broker.look("/metrics").body.decode()
+    except OSError:
+        return []
+    return [line.rsplit(" ", 1)[0].removeprefix("lambda_broker_") for line in text.splitlines() if "disk_is_gone" in line]
+
+
 @case()
 def alerts_scenes_and_the_page_are_of_numbers_that_are_told(broker):
-    broker.serve()
-    told = [(re.sub(r"\{.*", "", name), labels_of(name)) for name in broker.numbers()]
+    told = [(re.sub(r"\{.*", "", name), labels_of(name)) for name in all_numbers(broker)]
     asked = set()
     for name in ALERTS, SCENES, PAGE:
         asked |= set(re.findall(r"\blambda_broker_(\w+)(?:\{([^}]*)\})?", text_of(name)))
@@ -83,9 +102,8 @@ def alerts_scenes_and_the_page_are_of_numbers_that_are_told(broker):
 
 @case()
 def each_reason_of_the_verdict_has_its_alert_and_each_alert_its_scene(broker):
-    broker.serve()
     alerts = {name: expr for name, expr in re.findall(r"- alert: (\w+)\n(.*?)\n        labels:", text_of(ALERTS), re.S)}
-    reasons = [labels_of(name)["reason"] for name in broker.numbers() if name.startswith("problem{")]
+    reasons = [labels_of(name)["reason"] for name in all_numbers(broker) if name.startswith("problem{")]
     of_reasons = {reason: [name for name, expr in alerts.items() if f'problem{{reason="{reason}"}} == 1' in expr] for reason in reasons}
     same({reason: len(names) for reason, names in of_reasons.items()}, dict.fromkeys(reasons, 1))
     same(set(re.findall(r'alertname="(\w+)"', text_of(SCENES))), set(alerts))

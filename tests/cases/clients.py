@@ -96,6 +96,43 @@ def the_runtime_of_a_handler_by_its_variables(broker):
     assert function.wait(DEADLINE), "it did not end as a failure"
 
 
+# What a handler may raise or return, beside what JSON has.
+ODD = """
+class Silent(Exception):
+    def __str__(self):
+        raise ValueError("nothing")
+
+def main(event, context):
+    if event == "raises":
+        raise ValueError("a" + chr(0xDC80) + "\\u00e9")
+    if event == "silent":
+        raise Silent()
+    return {"nan": {"mean": float("nan")}, "infinity": [float("-inf")], "half": chr(0xD83D), "set": {1}, "whole": chr(0x1F600)}[event]
+"""
+
+
+@case({"retries": 0})
+def a_handler_answers_what_is_no_json(broker):
+    with open(os.path.join(broker.folder, "app.py"), "w") as file:
+        file.write(ODD)
+    broker.serve()
+    function = run("function.py", broker.port + 1, broker.folder, "app.main", stderr=subprocess.DEVNULL)
+    try:
+        # As AWS's runtime words it, in `errorMessage` as far as that is not Python's own.
+        marshal = "Runtime.MarshalError", "Unable to marshal response: "
+        odd = {"nan": marshal, "infinity": marshal, "half": marshal, "set": marshal}
+        for event, (kind, words) in {**odd, "raises": ("ValueError", "a\\udc80\u00e9"), "silent": ("Silent", "")}.items():
+            id = broker.invoke(json.dumps(event)).id
+            told = until("a failure", lambda: broker.record("failure").status == 200 and broker.record("failure").json)["responsePayload"]
+            same((event, told["errorType"], told["errorMessage"].startswith(words)), (event, kind, True))
+            same(broker.delete(id).status, 204)
+        # It goes on, and what JSON has comes as it is.
+        broker.invoke('"whole"')
+        same(until("a success", lambda: broker.record().status == 200 and broker.record().json)["responsePayload"], "\U0001F600")
+    finally:
+        function.kill()
+
+
 class Taker(http.server.BaseHTTPRequestHandler):
     """Takes what is posted to it, but for the first time."""
 

@@ -97,7 +97,10 @@ def with_acts_other_requests_are_answered_as_without(broker):
         seen.append([(ask, broker.look(ask[1], method=ask[0])) for ask in asked if ask != ("POST", LIST)])
         same(broker.stop(), (202, 0, ""))
     without, with_acts = ([(ask, answer.status, answer.body) for ask, answer in one] for one in seen)
-    same(with_acts, without)
+    # But for the methods that are named.
+    get_only, acts = b"only GET is understood", b"only GET is understood, and POST at /records/collect and /records/ID/retry"
+    same(with_acts, [(ask, status, body.replace(get_only, acts)) for ask, status, body in without])
+    same([status for (method, _), status, _ in with_acts if method == "PUT"], 6 * [405])
 
 
 @case()

@@ -35,10 +35,13 @@ REASON = {400: "bad_request", 404: "not_found", 409: "conflict", 413: "too_large
 
 UNKNOWN = "00000000-0000-4000-8000-000000000009"
 
-# All counters that there are. Some case of this file moves each of them.
+# What is noticed beside the table: verdicts.py sets the clock, and logs.py reads no line.
+NOTICED = ["clock_steps_total", "lines_dropped_total"]
+
+# All counters that there are. Some case of this file moves each of the others.
 ALL = {
     ACCEPTED, STARTED, COLLECTED, FAILED, THROTTLED, INTERRUPTED, ISSUED, DURABLE, COMMITS, LIVES, WRITTEN, SWITCHES, *OUTCOMES, *REFUSED,
-    *UNREAD,
+    *UNREAD, *NOTICED,
 }
 
 

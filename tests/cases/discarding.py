@@ -2,7 +2,7 @@
 import threading
 import time
 
-from harness import Beside, case, same, until
+from harness import DEADLINE, Beside, case, same, until
 
 
 def run_all(broker, count, path="response", environments=1):
@@ -66,7 +66,7 @@ def sixteen_environments_leave_no_record(broker):
     runtimes = run_all(broker, 320, environments=16)
     callers = [Beside(invoke_all, broker, 80) for _ in range(4)]
     for one in runtimes + callers:
-        one.done()
+        one.done(4 * DEADLINE)
     collected(broker, 320)
     same(broker.stop(), (202, 0, ""))
     same(broker.held(), 0)

@@ -1,4 +1,5 @@
 """Files and flushes: what is written and flushed before anything is told, and what a device does that fails or is slow."""
+import errno
 import os
 import re
 import shutil
@@ -274,7 +275,7 @@ def a_device_fault_is_told_to_those_who_wait(broker):
     broker.until_parked(2)
     invokes = [broker.send_invoke("{}") for _ in range(2)]
     until("a flush", lambda: watch.flushes == OPENING + 1)
-    looks = [broker.send_look(path) for path in ("/events", "/metrics", "/healthz")]
+    looks = [broker.send_look(path) for path in ("/events", "/metrics", "/healthz?deep")]
     broker.until_looked()
     broker.until_read()
     watch.let_go()
@@ -375,3 +376,19 @@ def a_format_whose_device_fails_names_it_on_standard_error(broker):
         done = broker.command("format", broker.disk, *words)
         same((word, number, done.returncode, done.stdout), (word, number, 3, "device fault\n"))
         one_names_fault(done.stderr, word, broker.disk)
+
+
+@case()
+def a_first_flush_that_finds_no_room_is_a_fault_of_the_device(broker):
+    watch, before, new = broker.watches_disk(), broker.content(), broker.disk + ".new"
+    commands = (
+        ("serve", broker.disk, "--port", 20000), ("configure", broker.disk), ("migrate", broker.disk), ("copy", broker.disk, new),
+        ("audit", broker.disk))
+    for words in commands:
+        for error in errno.ENOSPC, errno.EDQUOT:
+            watch.clear()
+            watch.fail_with, watch.fail_flush = error, 1
+            done = broker.command(*words)
+            same((words[0], done.returncode, done.stdout), (words[0], 3, "device fault\n"))
+            assert done.stderr.startswith(f"device fault: flushing {broker.disk}: "), done.stderr
+    same((broker.content() == before, os.path.exists(new)), (True, False))

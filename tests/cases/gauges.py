@@ -6,7 +6,10 @@ import disks
 from harness import OPENING, RUNTIME, case, same, statuses, until
 
 # What each commit changes, or the machine does.
-ALWAYS = ("segment_free_bytes", "process_resident_memory_bytes", "oldest_wait_age_seconds", "oldest_record_age_seconds", "open_connections")
+ALWAYS = (
+    "segment_free_bytes", "process_resident_memory_bytes", "oldest_wait_age_seconds", "oldest_record_age_seconds", "open_connections",
+    "environment_phase", "environment_phase_seconds",
+)
 
 
 def standing(name):

@@ -2,8 +2,10 @@
 import fcntl
 import os
 import re
+import subprocess
+import time
 
-from harness import EXTENSION, OPENING, RUNTIME, case, same, until
+from harness import ARN, DEADLINE, EXTENSION, OPENING, RUNTIME, Built, Ports, case, same, until
 
 STOPPED = (202, 0, "")
 
@@ -109,6 +111,104 @@ def a_log_that_nobody_reads_holds_no_port_up(broker):
     same([broker.ask("POST", f"{RUNTIME}/init/error", "{}", environment=1).status for _ in range(300)], 300 * [202])
     told = os.read(log, 1 << 16).decode().splitlines()
     os.close(log)
-    assert 10 < len(told) < 300, told
-    same(set(told[1:]), {"environment 1 was reset: its runtime could not start"})
+    resets = [line for line in told if not re.match("opened |warning: ", line)]
+    assert 10 < len(resets) < 300, told
+    same(set(resets), {"environment 1 was reset: its runtime could not start"})
     same(broker.stop(), STOPPED)
+
+
+# How long an end may take at which nothing is waited for, in seconds. It takes some milliseconds, and more on a machine that is busy.
+SOON = 5
+
+
+class Unread:
+    """A pipe that nobody reads, as the standard stream of this number."""
+
+    def __init__(self, broker, stream=2):
+        path = os.path.join(broker.folder, "unread")
+        os.mkfifo(path)
+        self.end = os.open(path, os.O_RDWR | os.O_NONBLOCK)
+        # What runs a command with it.
+        self.under = ["timeout", "30", "bash", "-c", f'exec "$@" {stream}> {path}', "bash"]
+
+    def fill(self):
+        """From now on it takes nothing more."""
+        for piece in (4096, 1):
+            self.fill_by(b"." * piece)
+        return self
+
+    def fill_by(self, piece):
+        try:
+            while os.write(self.end, piece):
+                pass
+        except BlockingIOError:
+            pass
+
+    def close(self):
+        os.close(self.end)
+
+
+@case()
+def a_start_and_an_end_wait_for_no_reader_of_standard_error(broker):
+    log = Unread(broker).fill()
+    broker.serve(under=log.under)
+    same(broker.ask("POST", f"{RUNTIME}/init/error", "{}", environment=1).status, 202)
+    broker.live("{}", "{}")
+    # What was left out is counted: that it was opened, and the reset.
+    assert broker.number("lines_dropped_total") >= 2
+    same(broker.stop(), STOPPED)
+    log.close()
+
+
+@case()
+def a_device_fault_waits_for_no_reader_of_standard_error(broker):
+    log = Unread(broker)
+    broker.watches_disk().fail_flush = OPENING + 1
+    broker.serve(under=log.under)
+    log.fill()
+    began = time.monotonic()
+    same(broker.invoke("{}").status, 503)
+    same(broker.ended(), (3, "device fault\n"))
+    took = time.monotonic() - began
+    assert took < SOON, f"it ended {took:.1f} s behind its fault"
+    # The disk is another broker's then.
+    broker.watch.fail_flush = 0
+    broker.serve()
+    same(broker.stop(), STOPPED)
+    log.close()
+
+
+@case()
+def the_commands_wait_for_no_reader_of_standard_error(broker):
+    log, made = Unread(broker).fill(), broker.disk + "1"
+    words = [made, "--sectors", 4096, "--name", "g", "--handler", "h", "--arn", ARN, "--events", 1]
+    same(broker.said("format", *words, under=log.under), (0, "formatted 4096 sectors\n"))
+    broker.watches_disk().fail_read = 1
+    same(broker.said("audit", broker.disk, under=log.under), (3, "device fault\n"))
+    log.close()
+
+
+@case()
+def a_start_and_an_end_wait_for_no_reader_of_standard_output(broker):
+    full, ports = Unread(broker, stream=1).fill(), Ports()
+    broker.port, broker.admin = ports.first, ports.first + 2
+    words = [Built.program, "serve", broker.disk, "--port", str(broker.port), "--admin", str(broker.admin)]
+    for fault in False, True:
+        broker.watches_disk().fail_flush = OPENING + 1 if fault else 0
+        served = subprocess.Popen([*full.under, *words], stderr=subprocess.DEVNULL, env={**os.environ, **broker.watch.env})
+        until("a reply", lambda: is_served(broker))
+        if fault:
+            same(broker.invoke("{}").status, 503)
+            same(served.wait(DEADLINE), 3)
+        else:
+            same(broker.ask("POST", "/broker/stop").status, 202)
+            same(served.wait(DEADLINE), 0)
+    ports.close()
+    full.close()
+
+
+def is_served(broker):
+    try:
+        return broker.look("/healthz").status == 200
+    except OSError:
+        return False

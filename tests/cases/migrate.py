@@ -89,8 +89,10 @@ def what_cannot_be_migrated_is_refused_and_stays_as_it_is(broker):
     become(broker, bytes(64 * 512))
     refuses("not formatted")
     become(broker, old_disk())
-    broker.put(512 + 7, b"\3")
+    broker.put(512 + 7, b"\0")
     refuses("damaged at sector 1")
+    broker.put(512 + 7, b"\3")
+    refuses("newer version")
 
 
 @case()

@@ -80,11 +80,11 @@ def the_numbers_of_a_broker_that_was_just_served_are_these(broker):
     nonzero = {'environments{phase="init"}': 2, "generation": 1, "disk_bytes": 4096 * 512, "segment_free_bytes": (2048 - 3) * 512}
     nonzero |= {"table_limit": 16, "attempts_limit": 10, "timeout_seconds": 900, "retries_limit": 2, "age_limit_seconds": 21600}
     nonzero |= {"payload_limit_bytes": 1024, "response_limit_bytes": 1024, 'problem{reason="nobody_polls"}': 1}
-    nonzero['open_connections{port="operator"}'] = 1
+    nonzero |= {'open_connections{port="operator"}': 1} | {f'environment_phase{{environment="{n}",phase="init"}}': 1 for n in (1, 2)}
     settings = [name for name in told if name.startswith(("settings_info{", "build_info{"))]
     same([told.pop(name) for name in settings], [1, 1])
     same({name: value for name, value in told.items() if value}, nonzero)
-    same(len(told), 121)
+    same(len(told), 135)
 
 
 @case({"events": 2})
@@ -275,11 +275,11 @@ def a_health_check_tells_that_it_ends(broker):
     until("a flush", lambda: watch.flushes == OPENING + 1)
     stop = broker.send("POST", "/broker/stop")
     broker.until_read()
-    health = broker.send_look("/healthz")
-    broker.until_looked()
-    same(health.is_answered(), False)
+    # It waits for nothing.
+    health = broker.look("/healthz")
+    same((health.status, health.body), (503, b"stopping\n"))
+    same([invoke.is_answered(), stop.is_answered()], [False, False])
     watch.let_go()
-    same((health.done().status, health.done().body), (503, b"stopping\n"))
     same([invoke.done().status, stop.done().status], [202, 202])
     same(broker.ended(), (0, ""))
 
@@ -339,4 +339,4 @@ def an_address_that_others_reach_is_warned_of(broker):
     wanted = "whoever reaches 0.0.0.0 can invoke the function, answer for it, read its payloads and records, and stop the broker"
     same(told.splitlines().count(f"warning: {wanted}"), 1)
     broker.serve()
-    same((broker.stop(), "warning" in broker.stderr()), ((202, 0, ""), False))
+    same((broker.stop(), "warning: whoever" in broker.stderr()), ((202, 0, ""), False))

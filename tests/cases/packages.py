@@ -1,4 +1,5 @@
 """`deploy/lambda-broker-ctl` over a folder of its own, with the words of the units, and the package that `deploy/package` makes."""
+import ast
 import contextlib
 import filecmp
 import gzip
@@ -12,10 +13,13 @@ import tempfile
 
 from cases.proxy import FUNCTIONS
 from harness import ARN, DEADLINE, EVENT, HERE, INVOKE, Apart, Asked, Beside, Built, Ports, case, line_of, matches, same
+from programs import put_program
 
 DEPLOY = os.path.join(HERE, "..", "deploy")
 CTL = os.path.join(DEPLOY, "lambda-broker-ctl")
-SMALL = "--handler", "app.main", "--events", 16, "--payload", 1024, "--response", 1024
+LIMITS = "--handler", "app.main", "--events", 16, "--payload", 1024, "--response", 1024
+# Whose records nobody collects in a case.
+SMALL = *LIMITS, "--keep-records"
 ADD = *SMALL, "--arn", ARN
 ETC, UNITS = "etc/lambda_broker", "etc/systemd/system"
 
@@ -43,6 +47,11 @@ def text_of(*path):
         return file.read()
 
 
+def content_of(path):
+    with open(path, "rb") as file:
+        return file.read()
+
+
 def values_of(root, name):
     return dict(re.findall("^([A-Z_]+)=(.*)$", text_of(root, name), re.M))
 
@@ -55,8 +64,9 @@ def tree(root):
             found[os.path.relpath(os.path.join(at, name), root)] = None
         for name in files:
             path = os.path.join(at, name)
-            with open(path, "rb") as file:
-                found[os.path.relpath(path, root)] = file.read(), os.stat(path).st_mtime_ns, os.stat(path).st_mode & 0o777
+            told = os.lstat(path)
+            content = os.readlink(path) if os.path.islink(path) else content_of(path)
+            found[os.path.relpath(path, root)] = content, told.st_mtime_ns, told.st_mode & 0o777
     return found
 
 
@@ -81,9 +91,9 @@ RUNTIMES = "runtime@my-function:1", "runtime@my-function:2"
 def a_function_is_added_once(broker):
     url = "http://127.0.0.1:1/x?a=$b"
     more = "--environments", 2, "--runtime", "/usr/bin/my-runtime --fast", "--task-root", "/srv/x", "--forward-failure", url, "--dialect", "aws"
-    more += "--threads", "2", "--discard", "success", "--handler", "a.b'$c"
+    words = *LIMITS, "--arn", ARN, *more, "--threads", "2", "--body-memory", "16", "--clock-grace", "60", "--discard", "success", "--handler", "a.b'$c"
     with a_root() as root:
-        told = done(root, "add", "my-function", *ADD, *more)
+        told = done(root, "add", "my-function", *words)
         port = int(matches("my-function: callers ([0-9]+), .*", told[-1])[0])
         assert 2000 <= port <= ephemeral() - 20, port
         there = tree(root)
@@ -95,7 +105,7 @@ def a_function_is_added_once(broker):
         same({name for name, what in there.items() if what}, {*envs, drop_in, *users, disk, *shared})
         same([text_of(root, name).splitlines()[1:] for name in users], 2 * [["[Service]", f"User=lambda_{port}"]])
         same({there[name][2] for name in (*envs, disk)}, {0o600})
-        wanted = {"PORT": str(port), "ADDRESS": "127.0.0.1", "ADMIN": str(port + 19), "WORDS": "--dialect aws --threads 2 --discard success"}
+        wanted = {"PORT": str(port), "ADDRESS": "127.0.0.1", "ADMIN": str(port + 19), "WORDS": "--dialect aws --threads 2 --body-memory 16 --clock-grace 60 --discard success"}
         same(values_of(root, envs[0]), wanted)
         same(values_of(root, envs[1]), {"PORT": str(port), "SIDE": "failure", "URL": url, "WORDS": f"--admin {port + 19}"})
         wanted = {"RUNTIME": "/usr/bin/my-runtime --fast", "EXTENSIONS": "", "AWS_LAMBDA_RUNTIME_API": f"127.0.0.1:{port + 2}"}
@@ -105,7 +115,7 @@ def a_function_is_added_once(broker):
         same([{*found[key].split()} for key in ("Wants", "PropagatesStopTo")], 2 * [parts])
         same({*found["After"].split()}, {f"lambda_runtime@my-function:{n}.service" for n in (1, 2)})
         same(found["Before"], "lambda_forward@my-function:failure.service")
-        same(done(root, "add", "my-function", *ADD, *more), ["my-function is there already: nothing was changed"])
+        same(done(root, "add", "my-function", *words), ["my-function is there already: nothing was changed"])
         same(tree(root), there)
         status, told, why = ctl(root, "add", "my-function", *ADD)
         same((status, told, why.splitlines()[1]), (1, "", "nothing was changed"))
@@ -164,17 +174,24 @@ def a_step_that_fails_is_undone(broker):
         for words in (), ("add", "a/b", *ADD), ("add", "x"), *(("add", "x", *ADD, *more) for more in wrong), ("remove",), ("x",):
             same(ctl(root, *words)[0], 2)
         same(done(root, "list")[0].split(":")[0], "my-function")
+        # What was undone is no function whose disk is gone.
+        assert any(line.startswith("formatted ") for line in done(root, "add", "x", *SMALL, "--arn", ARN.replace("my-function", "x")))
 
 
-def started(root):
+def unit_words(root, name):
+    """The words by which a function's unit serves its disk, and its environment."""
+    env = {"DISK": os.path.join(root, f"var/lib/lambda_broker/{name}/disk"), **values_of(root, f"{ETC}/{name}.env")}
+    words = re.search("^ExecStart=/usr/bin/lambda_broker (.*)$", text_of(DEPLOY, "lambda_broker@.service"), re.M)[1]
+    words = words.replace("$WORDS", env["WORDS"]).replace("%i", name)
+    return re.sub(r"\$\{(\w+)\}", lambda found: env[found[1]], words).split(), env
+
+
+def started(root, *more):
     """A function whose broker is served by the words of its unit: the program, its ports, and its environment."""
-    unit = text_of(DEPLOY, "lambda_broker@.service")
     for _ in range(20):
         ports = Ports()
-        done(root, "add", "my-function", *ADD, "--port", ports.first, "--dialect", "aws")
-        env = {"DISK": os.path.join(root, "var/lib/lambda_broker/my-function/disk"), **values_of(root, f"{ETC}/my-function.env")}
-        words = re.search("^ExecStart=/usr/bin/lambda_broker (.*)$", unit, re.M)[1].replace("$WORDS", env["WORDS"])
-        words = re.sub(r"\$\{(\w+)\}", lambda found: env[found[1]], words).split()
+        done(root, "add", "my-function", *ADD, "--port", ports.first, "--dialect", "aws", *more)
+        words, env = unit_words(root, "my-function")
         served = subprocess.Popen([Built.program, *words], stdout=subprocess.PIPE, stderr=subprocess.DEVNULL, bufsize=0)
         line = line_of(served)
         if line != "refused: port in use\n":
@@ -221,11 +238,17 @@ usr/lib/systemd/system/lambda_forward@.service usr/lib/systemd/system/lambda_wal
 usr/lib/systemd/system/nftables.service.d/lambda_broker.conf usr/lib/tmpfiles.d/lambda_broker.conf
 usr/share/lambda_broker/walls.nft usr/share/lambda_broker/device.conf usr/share/lambda_broker/consoles/lambda_broker.html
 usr/share/lambda_broker/nginx.conf usr/share/lambda_broker/nginx_operators.conf
-usr/share/lambda_broker/prometheus.yml usr/share/lambda_broker/alerts.yml usr/share/lambda_broker/alerts.test.yml
-usr/share/man/man8/lambda_broker.8.gz usr/share/man/man8/lambda-broker-ctl.8.gz usr/share/doc/lambda-broker/copyright
-usr/share/doc/lambda-broker/CHANGELOG.md.gz usr/share/bash-completion/completions/lambda_broker
+usr/share/lambda_broker/prometheus.yml usr/share/lambda_broker/prometheus_job.yml
+usr/share/lambda_broker/alerts.yml usr/share/lambda_broker/alerts.test.yml
+usr/share/man/man8/lambda_broker.8.gz usr/share/man/man8/lambda-broker-ctl.8.gz usr/share/doc/lambda-broker-unproved/copyright
+usr/share/doc/lambda-broker-unproved/changelog.gz usr/share/lintian/overrides/lambda-broker-unproved
+usr/share/doc/lambda-broker-unproved/CHANGELOG.md.gz usr/share/bash-completion/completions/lambda_broker
 usr/share/bash-completion/completions/lambda-broker-ctl usr/share/zsh/vendor-completions/_lambda_broker
 usr/share/zsh/vendor-completions/_lambda-broker-ctl""".split()
+PAGES = "aws clients disks machines replicated running watching".split()
+FILES += [f"usr/share/man/man7/lambda_broker-{name}.7.gz" for name in PAGES if name not in ("machines", "running")]
+DOCUMENTS = ["README.md", *(f"docs/{name}.md" for name in ("OPERATING", "FORMATS", "GLOSSARY", "NOT_PROVED", "PROMISES"))]
+FILES += [f"usr/share/doc/lambda-broker/{name}" for name in (*DOCUMENTS, *(f"docs/operating/{name}.md" for name in PAGES))]
 
 
 def completed(root, *words):
@@ -236,23 +259,72 @@ def completed(root, *words):
     return told.split()
 
 
+def refusals():
+    """What `lambda-broker-ctl` refuses with, X for each word that it takes from elsewhere."""
+    for node in ast.walk(ast.parse(text_of(CTL))):
+        if isinstance(node, ast.Call) and getattr(node.func, "id", "") == "Failed":
+            parts = node.args[0].values if isinstance(node.args[0], ast.JoinedStr) else [node.args[0]]
+            yield "".join(part.value if isinstance(part, ast.Constant) else "X" for part in parts)
+
+
+@case()
+def each_refusal_of_ctl_stands_in_its_page(broker):
+    section = text_of(DEPLOY, "..", "docs", "operating", "machines.md").split("## What lambda-broker-ctl refuses\n")[1].split("\n## ")[0]
+    phrases = re.findall("`([^`]*)`", "".join(re.findall("^- (.*?)(?<=`): ", section, re.M)))
+    # In the page two dots stand for any words, and so do words in capitals.
+    fits = [re.sub(r"(?:\\ )?\\\.\\\.", ".*", re.sub(r"\b[A-Z]+\b", ".*", re.escape(phrase))) for phrase in phrases if not phrase.isupper()]
+    # What has no words of its own is what a command said.
+    told = [refusal.split("\n")[0] for refusal in refusals() if re.search("[a-z]", refusal)]
+    assert len(told) > 20, told
+    same([refusal for refusal in told if not any(re.fullmatch(f".*{fit}.*", refusal) for fit in fits)], [])
+
+
+# What an operator looks up: statuses, refusals, and what stands behind a link.
+LOOKED_UP = {
+    "man8/lambda_broker.8": ("Exit statuses", "2: the arguments were not understood", "damaged at sector S: Damage (lambda_broker-disks(7),", "--port P"),
+    "man8/lambda-broker-ctl.8": ("1: refused, by a line", "only root can do that: Run it as root.", "apt-get install ./lambda-broker_"),
+    "man7/lambda_broker-disks.7": ("NAME", "lambda_broker migrate DISK", "puts them back (lambda_broker(8)"),
+}
+
+
+def readings(root):
+    """What is wrong with the manual pages below a folder, as `man` shows them."""
+    if not shutil.which("man"):
+        return []
+    wrong, man = [], os.path.join(root, "usr/share/man")
+    for path in sorted(os.path.join(at, name) for at, _, names in os.walk(man) for name in names):
+        status, told, why = run("man", "--warnings", "-l", path, env={"LC_ALL": "C.UTF-8", "MANWIDTH": "400"})
+        wrong += [(path, status, why)] if status or why else []
+        # Nothing of Markdown is left, and what is named below /usr is there.
+        wrong += [(path, left) for left in re.findall(r"\*\*|\]\([^ )]*\.md|^ *#+ .*", told)]
+        named = {name.rstrip(".,;:") for name in re.findall(r"/(usr/(?:share|lib)/(?:doc/)?lambda[-_]broker/[^ ,)\"]*[a-z])", told)}
+        wrong += [(path, name) for name in named if not os.path.exists(os.path.join(root, name))]
+        pages = {(name, section) for name, section in re.findall(r"(lambda[-_]broker[-a-z]*)\(([78])\)", told)}
+        wrong += [(path, page) for page in pages if not os.path.exists(f"{man}/man{page[1]}/{page[0]}.{page[1]}.gz")]
+        wanted = LOOKED_UP.get(os.path.relpath(path, man).removesuffix(".gz"), ())
+        wrong += [(path, text) for text in wanted if text not in told]
+    return wrong
+
+
 @case()
 def the_package_has_what_an_operator_needs(broker):
     if not shutil.which("dpkg-deb"):
         raise Apart("there is no dpkg-deb")
-    version = matches("lambda_broker (.*)\n", broker.said("--version")[1])[0]
     with a_root() as folder, a_root() as root:
-        status, told, why = run(sys.executable, os.path.join(DEPLOY, "package"), Built.program, folder)
+        program = os.path.join(folder, "lambda_broker")
+        put_program(program, content_of(Built.program))
+        stamp = "--unproved", "--again", "--commit", "abcdef123456", "--date", "20261130", "--kit", "x logic y"
+        same(run(sys.executable, os.path.join(DEPLOY, "stamp"), program, *stamp)[0], 0)
+        status, told, why = run(sys.executable, os.path.join(DEPLOY, "package"), "--unproved", program, folder)
         same((status, status and why), (0, 0))
-        made = matches(f"({re.escape(folder)}/lambda-broker_{re.escape(version)}_[a-z0-9]+[.]deb)\n", told)[0]
+        made = matches(f"({re.escape(folder)}/.*[.]deb)\n", told)[0]
         told = dict(re.findall("^([A-Z][A-Za-z-]+): (.*)$", run("dpkg-deb", "-f", made)[1], re.M))
-        same((told["Package"], told["Version"]), ("lambda-broker", version))
         matches(r"libc6 \(>= 2\.[0-9]+\), libgcc-s1, passwd, python3, systemd", told["Depends"])
         same(run("dpkg-deb", "-R", made, root)[0], 0)
         scripts = ["DEBIAN/postinst", "DEBIAN/prerm", "DEBIAN/postrm"]
         same({name for name, what in tree(root).items() if what}, {*FILES, *scripts, "DEBIAN/control"})
         same([run("sh", "-n", os.path.join(root, name))[0] for name in scripts], [0, 0, 0])
-        same(filecmp.cmp(os.path.join(root, "usr/bin/lambda_broker"), Built.program, shallow=False), True)
+        same(filecmp.cmp(os.path.join(root, "usr/bin/lambda_broker"), program, shallow=False), True)
         units = "".join(text_of(root, name) for name in FILES if name.endswith(".service"))
         run_by_units = {path[1:] for path in re.findall("^Exec[A-Z][A-Za-z]*=-?(/[^ ]+)", units, re.M)} - {"bin/sh", "usr/sbin/nft"}
         same(run_by_units - {*FILES}, set())
@@ -260,11 +332,12 @@ def the_package_has_what_an_operator_needs(broker):
         with gzip.open(os.path.join(root, "usr/share/man/man8/lambda_broker.8.gz"), "rt") as file:
             page = file.read().replace("\\-", "-")
         same({*re.findall("^[.]SS (.*)$", page, re.M)}, commands)
+        same(readings(root), [])
         same({*completed(root, "lambda_broker", "")}, {*commands, "--help"})
         for command in commands:
             options = {*re.findall("^ +(?:-., )?(--[a-z-]+)", broker.said(command, "--help")[1], re.M)}
             same({*completed(root, "lambda_broker", command, "--")}, options)
             assert all(f".B {option}" in page for option in options - {"--help"}), command
         same(completed(root, "lambda_broker", "serve", "--dialect", ""), ["profile", "aws"])
-        same({*completed(root, "lambda-broker-ctl", "")}, {"add", "remove", "list", "status", "--help"})
+        same({*completed(root, "lambda-broker-ctl", "")}, {"add", "remove", "list", "status", "reload", "--help"})
         assert "--forward-success" in completed(root, "lambda-broker-ctl", "add", "--f")

@@ -16,6 +16,8 @@ SOURCE = os.path.join(HERE, "..", "crates", "admin_replies", "page.html")
 VERDICTS = "(text) => [headline(findings(text)), ...findings(text)]"
 PLACES = "(hash) => [placeOf(hash), placeOf(hash).name ? sourceOf(placeOf(hash), 50) : null]"
 ERRORS = "(told) => error(told)"
+FAILURES = "([all, known]) => { const { lines, unread } = failuresOf(all, known); return [lines.map((one) => [one.told, one.count, one.last.id]), unread]; }"
+PHASES = "(text) => [tellsEvents({ families: read(text) }), ...environmentsOf(read(text)).map((one) => [one.environment, one.phase, one.time])]"
 POINTS = """([text, of, by, times]) => pointsOf(samplesOf(text), { of, by, times }).map(({ at, value }) => [at, value])"""
 
 
@@ -94,7 +96,7 @@ def the_page_shows_what_the_broker_says(broker):
         ["The broker is well."],
         ["The broker is well."],
         ["The broker is well."],
-        ["Bad: a.", ["bad", "a", "One: more."], ["look", "b c", "Two."]],
+        ["Bad: a.", ["look", "b c", "Two."], ["bad", "a", "One: more."]],
         ["Look: a; b.", ["look", "a", "One."], ["look", "b", "Two."]],
     ]
     same(ruled(broker.look("/").body.decode(), VERDICTS, told), wanted)
@@ -187,3 +189,39 @@ def a_browser_shows_that_a_broker_is_well(broker):
     plots = page.split('id="plots"')[1].split("<h2>")[0]
     same((plots.count('>at most'), plots.count('>nothing yet')), (7, 1))
     poll.leave()
+
+
+@case()
+def the_page_counts_failures_by_error_and_says_how_many_it_has_not_read(broker):
+    broker.serve()
+    page = broker.look("/").body.decode()
+    failure = {"standing": "ended RetriesExhausted", "starts": 1}
+    all = [failure | {"id": id} for id in "abcd"] + [{"id": "e", "standing": "ended EventAgeExceeded", "starts": 0}]
+    known = {"a 1": "one", "b 1": "two", "d 1": "one", "e 0": "no answer"}
+    wanted = [[["one", 2, "a"], ["two", 1, "b"], ["EventAgeExceeded: no answer", 1, "e"]], 1]
+    same(ruled(page, FAILURES, [[all, known], [[], {}]]), [wanted, [[], 0]])
+
+
+@case()
+def the_page_shows_first_what_does_not_go_on(broker):
+    broker.serve()
+    page = broker.look("/").body.decode()
+    phases = {1: "ready", 2: "busy", 3: "init", 4: "busy", 5: "closing"}
+    text = "".join(f'lambda_broker_environment_phase{{environment="{n}",phase="{phase}"}} 1\n' for n, phase in phases.items())
+    text += "".join(f'lambda_broker_environment_phase_seconds{{environment="{n}"}} {10 * n}.5\n' for n in phases)
+    text += 'lambda_broker_events{standing="waiting"} 0\n'
+    wanted = [True, ["3", "init", 30.5], ["5", "closing", 50.5], ["4", "busy", 40.5], ["2", "busy", 20.5], ["1", "ready", 10.5]]
+    same(ruled(page, PHASES, [text, 'lambda_broker_problem{reason="disk_hangs"} 1\n']), [wanted, [False]])
+
+
+@case({"retries": 0, "events": 70})
+def a_browser_shows_each_kind_of_error(broker):
+    broker.serve()
+    for errors, error in (3, "second"), (61, "first"):
+        for _ in range(errors):
+            broker.live("{}", f'{{"errorMessage":"the {error} kind"}}', path="error")
+    page = shown(broker)
+    fails = " ".join(text_of(page, "fails").split())
+    assert re.search(r"the first kind 61 .*the second kind 3 ", fails), fails
+    same(text_of(page, "fails-more"), "")
+    assert re.search(r"1 busy [0-9]+ s", " ".join(text_of(page, "places").split())), text_of(page, "places")

@@ -1,4 +1,5 @@
 """The words of the program, its lines and its statuses."""
+import contextlib
 import os
 import re
 import socket
@@ -8,6 +9,7 @@ import sys
 import disks
 from disks import ACCEPT, Settings, command, id_of
 from harness import DEADLINE, HERE, OPENING, Built, Ports, case, needs, same, until
+from programs import put_program, without_stamp
 
 FUNCTION = ["--name", "f", "--handler", "h", "--arn", "a"]
 
@@ -67,12 +69,57 @@ def help_is_told_where_it_is_asked_for(broker):
         same((words, status, "Usage:" in told), (words, 0, True))
 
 
-@case()
-def its_version_is_told_where_it_is_asked_for(broker):
-    done = broker.command("--version")
+STAMP = b"\nlambda_broker-stamp 0.1.0+20261130.abcdef123456 rattle-kit-13f logic dac8208d650f15bf proved\n"
+STAMPED = "0.1.0+20261130.abcdef123456 (rattle-kit-13f logic dac8208d650f15bf, proved)"
+NO_STAMP = "0.1.0 (no stamp: unproved)"
+
+
+@contextlib.contextmanager
+def stamped(broker, stamp):
+    """The program with these bytes in place of its stamp, as the one of a broker."""
+    with open(Built.program, "rb") as file:
+        content = file.read()
+    path = os.path.join(broker.folder, "stamped")
+    put_program(path, without_stamp(content) + stamp)
+    yield path
+
+
+def version_told(path):
+    done = subprocess.run([path, "--version"], capture_output=True, text=True, timeout=DEADLINE)
     same((done.returncode, done.stderr), (0, ""))
-    assert re.match(r"lambda_broker\b.*[0-9]", done.stdout, re.S) and done.stdout.endswith("\n"), done.stdout
-    same(broker.said("--version"), (0, done.stdout))
+    return done.stdout
+
+
+@case()
+def its_version_is_that_of_its_stamp(broker):
+    for stamp, told in (
+        (STAMP, STAMPED),
+        (STAMP.replace(b" proved", b" unproved"), STAMPED.replace("proved", "unproved")),
+        (b"x" + STAMP, STAMPED), (STAMP[:1] + STAMP, STAMPED), (STAMP + STAMP, STAMPED),
+    ):
+        with stamped(broker, stamp) as path:
+            same((stamp, version_told(path)), (stamp, f"lambda_broker {told}\n"))
+
+
+@case()
+def a_stamp_that_is_malformed_is_none(broker):
+    for stamp in (
+        b"", STAMP[1:], STAMP[:-1], STAMP + b"x", STAMP + b"\n", STAMP.replace(b"proved", b"true"), STAMP.replace(b" logic", b""),
+        STAMP.replace(b"0.1.0+20261130.abcdef123456 ", b""), STAMP.replace(b"0.1.0+20261130.abcdef123456", b""),
+        STAMP.replace(b" rattle-kit-13f", b""), STAMP.replace(b"dac8208d650f15bf", b""), STAMP.replace(b"-stamp", b"_stamp"),
+        STAMP.replace(b" logic", b"  logic"), STAMP.replace(b"13f", b"\xff"), STAMP.replace(b"0.1.0+", b"0.1.0 + "),
+    ):
+        with stamped(broker, stamp) as path:
+            same((stamp, version_told(path)), (stamp, f"lambda_broker {NO_STAMP}\n"))
+
+
+@case()
+def a_program_that_is_not_proved_says_so_once(broker):
+    for stamp, count in (STAMP, 0), (STAMP.replace(b" proved", b" unproved"), 1), (b"", 1):
+        with stamped(broker, stamp) as path:
+            broker.serve(under=["bash", "-c", 'own="$1" && shift 2 && exec "$own" "$@"', "bash", path])
+            same(broker.stop(), (202, 0, ""))
+        same((stamp, broker.stderr().count("warning: this program is not proved\n")), (stamp, count))
 
 
 @case()
@@ -228,7 +275,8 @@ def a_damaged_disk_is_refused_with_the_sector(broker):
         ([(4 * 512 + 32, b"\7")], "damaged at sector 3"),
         ([(4 * 512 + 7, b"\2")], "damaged at sector 3"),
         ([(512, b"a")], "damaged at sector 1"),
-        ([(512 + 7, b"\3")], "damaged at sector 1"),
+        ([(512 + 7, b"\3")], "newer version"),
+        ([(512 + 7, b"\0")], "damaged at sector 1"),
         ([(512 + 15, b"\0")], "damaged at sector 1"),
         ([(512 + 511, b"\1")], "damaged at sector 1"),
         ([(512 + 28, b"\3")], "damaged at sector 1"),

@@ -13,7 +13,7 @@ from urllib.parse import quote
 
 from cases.dialect import by_boto3, called, in_dialect
 from cases.limits import CAUSE
-from harness import ARN, EVENT, HERE, RUNTIME, Apart, Asked, Ports, case, same, until
+from harness import ARN, DEADLINE, EVENT, HERE, INVOKE, RUNTIME, Apart, Asked, Beside, Ports, case, same, until
 
 # What stands around the file: one process, which writes below its own folder alone.
 AROUND = """daemon off; master_process off; pid nginx.pid; error_log stderr; events {} http { access_log off;
@@ -29,23 +29,25 @@ upstream broker-{1} {{ server 127.0.0.1:{1}; keepalive 64; }}
 
 
 class Proxy:
-    """The proxy of a broker that is served, and of a second one, which is down."""
+    """The proxy of a broker that is served, and of a second one, which is down unless it is given. It is asked by one more host, if one is."""
 
-    def __init__(self, broker, folder):
+    def __init__(self, broker, folder, host="", second=None):
         self.ports = Ports()
-        self.port, self.runtimes, self.operators, down = range(self.ports.first, self.ports.first + 4)
-        places = {"8080": self.port, "8081": self.runtimes, "8082": self.operators, "20001": broker.port + 1, "9090": down}
+        self.port, self.runtimes, self.operators, self.down, self.prometheus = range(self.ports.first, self.ports.first + 5)
+        places = {"8080": self.port, "8081": self.runtimes, "8082": self.operators, "20001": broker.port + 1, "9090": self.prometheus}
         text = ""
         for name in "nginx.conf", "nginx_operators.conf":
             with open(os.path.join(HERE, "..", "deploy", name)) as file:
                 text += re.sub("(127[.]0[.]0[.]1):([0-9]+)", lambda found: f"{found[1]}:{places[found[2]]}", file.read())
+        text = text.replace("server_name localhost", f"server_name {host} localhost")
         passwords = os.path.join(folder, "passwords")
         with open(passwords, "w") as file:
             file.write("me:{PLAIN}secret\n")
         text = text.replace("/etc/nginx/lambda_broker.passwords", passwords)
         functions = os.path.join(folder, "functions.conf")
+        of_second = (second.port, second.admin) if second else 2 * (self.down,)
         with open(functions, "w") as file:
-            file.write(FUNCTIONS.format(broker.port, down, broker.admin, down))
+            file.write(FUNCTIONS.format(broker.port, *of_second[:1], broker.admin, *of_second[1:]))
         with open(os.path.join(folder, "nginx.conf"), "w") as file:
             file.write(AROUND + text.replace("/etc/lambda_broker/nginx.conf", functions) + "}\n")
         self.told = os.path.join(folder, "stderr")
@@ -69,11 +71,11 @@ class Proxy:
 
 
 @contextlib.contextmanager
-def before(broker):
+def before(broker, *words, **more):
     """The proxy of this broker."""
     if not shutil.which("nginx"):
         raise Apart("there is no nginx")
-    with tempfile.TemporaryDirectory(prefix="lambda_broker.") as folder, contextlib.closing(Proxy(broker, folder)) as proxy:
+    with tempfile.TemporaryDirectory(prefix="lambda_broker.") as folder, contextlib.closing(Proxy(broker, folder, *words, **more)) as proxy:
         until("nginx", proxy.listens)
         yield proxy
 
@@ -142,3 +144,105 @@ def operators_reach_each_page_behind_nginx_by_a_password(broker):
         same((look("/consoles/x").status, look("/consoles/x", word="").status), (502, 401))
         told = look("/")
         same((told.status, told.headers["Location"].endswith("/consoles/lambda_broker.html")), (302, True))
+
+
+NEXT = "GET", f"{RUNTIME}/invocation/next", None
+# Hosts of this machine: two names and three addresses.
+OWN = "localhost", "a.localhost:8080", "127.0.0.1:8080", "10.1.2.3", "[::1]:8080"
+
+
+@case({"events": 64})
+def a_foreign_host_reaches_nothing_behind_nginx(broker):
+    with before(broker.serve()) as proxy:
+        event = broker.invoke("{}").id
+        wanted = refusal(broker.ask("POST", INVOKE, "{}", {**EVENT, "Host": "evil.example"}))
+        same(wanted[0], 403)
+        # As a browser sends it that a page has led to this machine by a name of its own: there is no Origin.
+        for host in "evil.example", f"evil.example:{proxy.runtimes}", "localhost.evil.example", "127.0.0.1.evil.example", "127.0.0.1a":
+            asks = (proxy.port, "POST", INVOKE, "{}", {**EVENT}), (proxy.runtimes, *NEXT, {}), (proxy.operators, "GET", "/", None, {})
+            told = [Asked(port, *words, {**headers, "Host": host}).done() for port, *words, headers in asks]
+            same((host, [refusal(each) for each in told]), (host, 3 * [wanted]))
+        same([broker.number(f'events{{standing="{standing}"}}') for standing in ("waiting", "running")], [1, 0])
+        # By a host of its own the same is answered, and its event is given.
+        for host in OWN:
+            poll = Asked(proxy.runtimes, *NEXT, {"Host": host})
+            same((host, poll.done().id, broker.respond(event, "1").status), (host, event, 202))
+            event = Asked(proxy.port, "POST", INVOKE, "{}", {**EVENT, "Host": host}).done().id
+        same(broker.number('events{standing="waiting"}'), 1)
+
+
+@case({"events": 64})
+def a_name_is_given_to_nginx_and_to_the_broker(broker):
+    by_name = {**EVENT, "Host": "broker.example"}
+    for words, status in ((), 403), (("--host", "broker.example"), 202):
+        with before(broker.serve(*words), "broker.example") as proxy:
+            told = Asked(proxy.port, "POST", INVOKE, "{}", by_name).done()
+            same((words, told.status), (words, status))
+            same(broker.ask("POST", INVOKE, "{}", by_name).body, told.body)
+            same(proxy.invoke("my-function").status, 202)
+            broker.kill()
+
+
+class Taken:
+    """What one request was, byte for byte, in the place of a broker that is down."""
+
+    def __init__(self, port):
+        self.listener = socket.create_server(("127.0.0.1", port))
+        self.listener.settimeout(DEADLINE)
+
+    def close(self):
+        self.listener.close()
+
+    def head(self):
+        """The first line of the next request, and its headers."""
+        connection, _ = self.listener.accept()
+        connection.settimeout(DEADLINE)
+        with connection:
+            text = b""
+            while b"\r\n\r\n" not in text:
+                text += connection.recv(65536)
+            connection.sendall(b"HTTP/1.1 202 Accepted\r\nContent-Length: 0\r\nConnection: close\r\n\r\n")
+        return lines_of(text)
+
+
+def lines_of(head):
+    first, *lines = head.split(b"\r\n\r\n")[0].decode().split("\r\n")
+    return first, {*lines}
+
+
+def told_to(port, head):
+    """The status that a request is told of which each byte is given."""
+    with socket.create_connection(("127.0.0.1", port), DEADLINE) as connection:
+        connection.sendall(head)
+        return int(connection.recv(65536).split()[1])
+
+
+# A signature is of method, path, query, Host and further headers: none of them may change.
+SIGNED = """Host: localhost:{}
+User-Agent: Boto3/1.43 (a b; c)
+X-Amz-Date: 20261130T090000Z
+X-Amz-Invocation-Type: Event
+x_odd.name: 1
+Authorization: AWS4-HMAC-SHA256 Credential=a/20261130/us-east-2/lambda/aws4_request, SignedHeaders=host;x-amz-date, Signature=0
+Content-Length: 0
+"""
+SENT = """send-mail 123456789012:send-mail 123456789012%3Asend-mail 123456789012%3asend-mail:%24LATEST function:send-mail
+%73end%2dmail arn:aws:lambda:us-east-2:123456789012:function:send-mail arn%3Aaws%3Alambda%3Aus-east-2%3A123456789012%3Afunction%3Asend-mail
+""".split()
+# Paths of which nginx makes one of these.
+OTHERS = """/2015-03-31//functions/send-mail/invocations /2015-03-31/functions/./send-mail/invocations
+/2015-03-31/functions/a/../send-mail/invocations /broker/destinations/..%2F..%2F2015-03-31%2Ffunctions%2Fsend-mail%2Finvocations
+/broker/stop/../../2015-03-31/functions/send-mail/invocations""".split()
+
+
+@case()
+def nginx_hands_on_what_a_client_signed(broker):
+    with before(broker.serve()) as proxy, contextlib.closing(Taken(proxy.down)) as taken:
+        headers = SIGNED.format(proxy.port).replace("\n", "\r\n")
+        for path in [f"/2015-03-31/functions/{name}/invocations{query}" for name in SENT for query in ("", "?Qualifier=%24LATEST&a=b%2fc+d")]:
+            head = f"POST {path} HTTP/1.1\r\n{headers}\r\n".encode()
+            told = Beside(told_to, proxy.port, head)
+            same(taken.head(), lines_of(head))
+            same((path, told.done()), (path, 202))
+        for path in OTHERS:
+            same((path, told_to(proxy.port, f"POST {path} HTTP/1.1\r\n{headers}\r\n".encode())), (path, 404))

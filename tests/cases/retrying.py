@@ -138,6 +138,7 @@ def without_acts_and_by_other_requests_nothing_is_tried_again(broker):
         same({told(broker, id, headers=headers) for headers in ({}, ACT)}, {get_only})
     same(broker.stop(), (202, 0, ""))
     broker.serve("--acts")
+    get_only = (405, b"only GET is understood, and POST at /records/collect and /records/ID/retry\n")
     same([told(broker, event, method=method) for method in ("GET", "PUT")], [nothing, get_only])
     for path in f"{event}/retry?", f"{event}/retry/", f"{event}", "retry":
         answer = Asked(broker.admin, "POST", f"/records/{path}", None, ACT).done()

@@ -106,7 +106,7 @@ def a_runtime_that_is_stuck(broker):
     # It has answered, and does not poll again.
     for _ in range(3):
         broker.invoke('{"order":8}')
-    is_told(broker, well, "stuck_runtime", "NothingEnds", "nothing_ends")
+    is_told(broker, well, "stuck_runtime", "NothingEnds", "nothing_ends", "all_busy")
 
 
 @case({"events": 12})
@@ -115,7 +115,7 @@ def a_table_that_is_full(broker):
     well, waits = works(broker)
     same([broker.invoke('{"order":7}').status for _ in range(17)], 12 * [202] + 5 * [429])
     same(waits.done().status, 200)
-    is_told(broker, well, "full_table", "TableFull", "callers_are_refused", "table_full")
+    is_told(broker, well, "full_table", "TableFull", "all_busy", "table_full", "callers_are_refused")
 
 
 @case({"retries": 0})
@@ -189,7 +189,7 @@ def commits_that_take_two_seconds(broker):
         watch.let_go()
         same(invoke.done().status, 202)
     same(waits.done().status, 200)
-    is_told(broker, well, "slow_commits", "CommitsSlow", SLOW)
+    is_told(broker, well, "slow_commits", "CommitsSlow", SLOW, "all_busy")
 
 
 @case({"events": 400, "payload": 16, "response": 16})
@@ -205,7 +205,7 @@ def requests_that_are_answered_503(broker):
     watch.let_go()
     told = statuses(asked)
     same((set(told), waits.done().status), ({202, 503}, 200))
-    seen = is_seen(broker, "callers_are_refused")
+    seen = is_seen(broker, "all_busy", "callers_are_refused")
     same(seen['refused_total{reason="unavailable"}'], told.count(503))
     pictures(broker, "answers_503")
     fire_within_ten_minutes(broker, well, seen, "CallersRefused")
@@ -245,3 +245,85 @@ def records_that_nobody_collects(broker):
         well = seen
         waits.leave()
         broker.end()
+
+
+@case()
+def a_flush_that_hangs(broker):
+    watch = broker.watches_disk()
+    broker.serve()
+    well, waits = works(broker)
+    watch.hold_flush = watch.flushes + 1
+    invoke = broker.send_invoke('{"order":7}')
+    until("a flush", lambda: watch.flushes == watch.hold_flush)
+    time.sleep(8)
+    numbers, told = broker.numbers(), broker.look("/healthz?deep").body.decode()
+    same((numbers[problem("disk_hangs")], told[:16]), (1, "bad disk_hangs: "))
+    if shutil.which("chromium"):
+        page = shown(broker)
+        same((text_of(page, "health"), "A flush of the disk has been" in text_of(page, "findings")), ("Bad: disk hangs.", True))
+    pictures(broker, "disk_hangs")
+    fire_within_ten_minutes(broker, {name: well[name] for name in numbers if name in well}, numbers | {problem("disk_hangs"): 1}, "DiskHangs")
+    watch.let_go()
+    same((invoke.done().status, waits.done().status), (202, 200))
+
+
+@case({"timeout": 900, "events": 12})
+def environments_that_are_all_busy(broker):
+    broker.serve()
+    well, waits = works(broker)
+    events = [broker.invoke('{"order":7}').id for _ in range(11)]
+    same(waits.done().id, events[0])
+    seen = is_seen(broker, "all_busy", "table_nearly_full")
+    pictures(broker, "all_busy")
+    same(f"because all environments are busy" in found(broker)["table_nearly_full"][1], True)
+    fire_within_ten_minutes(broker, well, seen, "TableNearlyFull")
+
+
+@case({"timeout": 900})
+def a_clock_that_was_set_back(broker):
+    watch = broker.watches_disk()
+    broker.serve()
+    well, waits = works(broker)
+    watch.ahead = 3_600_000
+    event = broker.invoke('{"order":7}').id
+    same((waits.done().id, broker.respond(event, "1").status), (event, 202))
+    waits = poll(broker)
+    watch.ahead = 0
+    is_told(broker, well, "clock_behind", "ClockBehind", "clock_is_behind")
+    waits.leave()
+
+
+@case({"timeout": 900, "age": 3600})
+def events_given_up_by_a_jump_of_the_clock(broker):
+    watch = broker.watches_disk()
+    broker.serve()
+    same(broker.delete(broker.live("{}", "1")).status, 204)
+    well = is_seen(broker)
+    for _ in range(3):
+        broker.invoke('{"order":7}')
+    watch.ahead = 7_200_000
+    until("their end", lambda: broker.number('events{standing="event_age_exceeded"}') == 3)
+    until("a step", lambda: broker.number("clock_steps_total") == 1)
+    seen = is_seen(broker, "events_expired_by_a_jump", "events_expire")
+    pictures(broker, "expired_by_a_jump")
+    # No runtime polls in this scene, so that the events wait.
+    fire(broker, [(well, WELL), (seen, TOLD)], "ExpiredByJump", "EventsExpire", "EnvironmentNotReady")
+
+
+@case({"timeout": 900, "environments": 2}, slow=True)
+def one_of_two_environments_that_hangs(broker):
+    broker.serve()
+    hangs = broker.invoke('{"order":7}').id
+    same(broker.next(1).id, hangs)
+    begun = time.monotonic()
+    while time.monotonic() < begun + 65:
+        same(broker.delete(broker.live("{}", "1", environment=2)).status, 204)
+        time.sleep(1)
+    waits = broker.send_next(2)
+    broker.until_parked(1)
+    told = found(broker)
+    same(set(told) - {SLOW}, {"environment_hangs"})
+    pictures(broker, "environment_hangs")
+    numbers = broker.numbers()
+    fire(broker, [(numbers | {problem("environment_hangs"): 0}, WELL), (numbers, 2)], "EnvironmentHangs")
+    waits.leave()

@@ -42,6 +42,28 @@ def the_first_process_of_a_container_is_ended_by_its_command_and_not_by_a_signal
     same(broker.held(), 1)
 
 
+@case()
+def a_broker_is_stopped_by_its_function_and_no_other(broker):
+    for dialect in "profile", "aws":
+        broker.serve("--dialect", dialect)
+        at = f"127.0.0.1:{broker.port}"
+        for name in "another", "my-functio", "my-function2":
+            told = broker.said("stop", "--port", broker.port, "--name", name)
+            same((name, told), (name, (1, f"refused: {at} does not serve the function {name}\n")))
+        same(broker.invoke("{}").status, 202)
+        same(broker.said("stop", "--port", broker.port, "--name", "my-function"), (0, f"stopped my-function on {at}\n"))
+        same(broker.ended(), (0, ""))
+    # What asks for the name accepts no event.
+    same(broker.held(), 2)
+
+
+@case()
+def who_listens_elsewhere_at_that_port_is_no_wall(broker):
+    with socket.create_server(("127.0.0.2", 0)) as other:
+        port = other.getsockname()[1]
+        same(broker.said("stop", "--port", port), (1, f"refused: no broker on 127.0.0.1:{port}\n"))
+
+
 def stranger(reply):
     """A port at which every connection is answered with these bytes, and then ends: its listener, and its number."""
     listener = socket.create_server(("127.0.0.1", 0))

@@ -30,14 +30,14 @@ TWENTY = 20
 class Supervised:
     """A runtime under the supervisor."""
 
-    def __init__(self, broker, command=(FUNCTION,), listen=0, environment=1):
+    def __init__(self, broker, command=(FUNCTION,), listen=0, environment=1, by=(SUPERVISE,), options=(), env={}, **more):
         with open(os.path.join(broker.folder, "app.py"), "w") as file:
             file.write(HANDLER)
-        words = [SUPERVISE, "--broker", f"127.0.0.1:{broker.port + environment}", "--listen", str(listen), "--", *command]
+        words = [*by, "--broker", f"127.0.0.1:{broker.port + environment}", "--listen", str(listen), *options, "--", *command]
         self.told = os.path.join(broker.folder, f"supervise.{time.monotonic_ns()}")
-        env = {**os.environ, "LAMBDA_TASK_ROOT": broker.folder, "_HANDLER": "app.main"}
+        env = {**os.environ, "LAMBDA_TASK_ROOT": broker.folder, "_HANDLER": "app.main", **env}
         with open(self.told, "w") as stderr:
-            self.program = subprocess.Popen(words, stdout=subprocess.PIPE, stderr=stderr, bufsize=0, env=env)
+            self.program = subprocess.Popen(words, stdout=subprocess.PIPE, stderr=stderr, bufsize=0, env=env, **more)
 
     def process(self):
         """The runtime's process, or None between two."""

@@ -2,7 +2,7 @@
 import http.client
 import os
 
-from harness import DEADLINE, EVENT, INVOKE, Asked, Beside, case, same, statuses, until
+from harness import DEADLINE, EVENT, INVOKE, Asked, Beside, Built, Ports, case, same, statuses, until
 
 THREADS, CALLERS = 4, 16
 
@@ -94,3 +94,32 @@ def all_threads_answer_who_waits_when_the_broker_stops(broker):
     same([client.recv(1) for client in idle], CALLERS * [b""])
     for client in idle:
         client.close()
+
+
+def with_few(threads):
+    """What runs a program that gets at most so many threads beside its first."""
+    return ["env", f"LD_PRELOAD={Built.few_threads}", f"FEW_THREADS={threads}"]
+
+
+# The threads of the cases below that serve no callers: environment 1, the operator's port, the ticker, and who looks at the disk.
+OTHERS = 4
+
+
+@case()
+def the_callers_have_as_many_threads_as_there_is_room_for(broker):
+    for more in 1, 3:
+        broker.serve(under=with_few(OTHERS + more))
+        same([broker.invoke("{}").status for _ in range(3)], 3 * [202])
+        same(broker.stop(), (202, 0, ""))
+
+
+@case()
+def more_threads_than_there_is_room_for_are_refused_before_anybody_is_served(broker):
+    ports = Ports()
+    words = ["serve", broker.disk, "--port", ports.first, "--admin", ports.first + 2]
+    refused = (1, "refused: no room for 2 threads of callers\n")
+    same(broker.said(*words, "--threads", 2, under=with_few(OTHERS + 1)), refused)
+    same(broker.said(*words, under=with_few(OTHERS)), (1, refused[1].replace("2", "1")))
+    ports.close()
+    broker.serve("--threads", "2", under=with_few(OTHERS + 2))
+    same(broker.stop(), (202, 0, ""))

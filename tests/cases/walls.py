@@ -89,6 +89,11 @@ def reached(within, ports, user, group=61099):
     return {int(port) for port in told.split()}
 
 
+def stopped(within, port, user, group=61099):
+    """What comes of a stop by this user."""
+    return run(*within, "setpriv", "--reuid", user, "--regid", group, "--clear-groups", Built.program, "stop", "--port", port)
+
+
 @case()
 def each_function_has_walls(broker):
     needs_a_network()
@@ -109,6 +114,10 @@ def each_function_has_walls(broker):
             for _ in range(2):
                 same(run(*load), (0, "", ""))
                 same({name: reached(within, every, users[name]) for name in wanted}, wanted)
+            # Who is kept out is not told that nobody listens.
+            told = stopped(within, one, users["someone"])
+            same(told, (1, f"refused: no broker on 127.0.0.1:{one} that this user reaches: a wall may keep it out\n", ""))
+            same(stopped(within, 1, users["someone"]), (1, "refused: no broker on 127.0.0.1:1\n", ""))
             same(reached(within, every, users["someone"], OPERATORS), callers | operators)
             # Rules of the operator's own come first.
             write(root, "lambda_broker/own.nft", f"tcp dport {one + 1} meta skuid www-data accept\n")

@@ -4,11 +4,13 @@ import http.client
 import os
 import random
 import stat
+import subprocess
+import threading
 import time
 
 from cases.program import taken
 from cases.standby import devices, standby
-from harness import Apart, Beside, Broker, Ports, case, line_of, same, until
+from harness import Apart, Beside, Broker, Ports, case, line_of, needs, same, until
 
 SECTORS = 16385
 CLAIM, TOKEN = 512 * (SECTORS - 1), 16
@@ -71,15 +73,77 @@ def who_finds_a_claim_switches_before_it_serves(broker):
     broker.kill()
     left = claim_of(broker)
     assert left != bytes(TOKEN)
-    # Without a word for it nothing of the claim is looked at or changed.
-    broker.serve()
-    same(broker.stop(), (202, 0, ""))
-    same((claim_of(broker), generation(broker)), (left, "1"))
     broker.serve("--watch")
     assert claim_of(broker) not in (left, bytes(TOKEN))
     same(generation_served(broker), 2)
     same(broker.stop(), (202, 0, ""))
     same((claim_of(broker), generation(broker), broker.held()), (bytes(TOKEN), "2", 1))
+
+
+def who_does_not_watch(broker):
+    """The commands that write a disk without a claim of their own."""
+    return [
+        ("serve", broker.disk, "--port", Ports().first), ("configure", broker.disk, "--retries", 0),
+        ("copy", broker.disk, broker.disk + ".new"), ("migrate", broker.disk)
+    ]
+
+
+@case(WATCHED)
+def who_does_not_watch_refuses_a_disk_in_whose_claim_somebody_stands(broker):
+    broker.serve("--watch")
+    same(broker.invoke("{}").status, 202)
+    broker.kill()
+    before = broker.content()
+    for words in who_does_not_watch(broker):
+        same((words[0], broker.said(*words)), (words[0], (1, "refused: claimed\n")))
+        same((broker.content() == before, os.path.exists(broker.disk + ".new")), (True, False))
+    # An audit only reads, and who watches takes it over.
+    same((generation(broker), broker.held(), broker.content() == before), ("1", 1, True))
+    broker.serve("--watch")
+    same(broker.stop(), (202, 0, ""))
+    same(broker.configure("--retries", 0)[0], 0)
+
+
+@case(WATCHED)
+def who_does_not_watch_may_take_a_claim_away(broker):
+    serve, configure, copy, migrate = who_does_not_watch(broker)
+    wanted = (0, "configured retries 0 age 21600\n"), (0, f"copied 0 events to {SECTORS} sectors\n"), (1, "refused: not an old version\n")
+    for words, told in zip((configure, copy, migrate), wanted):
+        broker.put(CLAIM, OTHER)
+        same(broker.said(*words, "--unclaim"), told)
+        same(claim_of(broker), bytes(TOKEN))
+    broker.put(CLAIM, OTHER)
+    broker.serve("--unclaim")
+    same((claim_of(broker), broker.invoke("{}").status), (bytes(TOKEN), 202))
+    same(broker.stop(), (202, 0, ""))
+    same((claim_of(broker), generation(broker), broker.held()), (bytes(TOKEN), "1", 1))
+    same(broker.said(*serve, "--watch", "--unclaim")[0], 2)
+
+
+@case({"sectors": 4096})
+def a_disk_without_a_sector_for_a_claim_is_not_claimed(broker):
+    broker.put(512 * 4095, OTHER)
+    same(broker.configure("--retries", 0)[0], 0)
+    blank = f"{broker.disk}.blank"
+    with open(blank, "wb") as disk:
+        disk.write(bytes(512 * 64) + OTHER + bytes(496))
+    same(broker.said("configure", blank), (1, "refused: not formatted\n"))
+
+
+@case()
+def a_look_drops_all_that_may_be_kept_as_one_with_the_claim(broker):
+    """From a multiple of 2 MiB to the end of the device, at claims in odd pages too."""
+    for sectors in 4097, 8193, 8201, 16393:
+        other = type(broker)(sectors)
+        watch = other.watches_disk()
+        other.serve("--watch")
+        drops = watch.drops
+        same(other.invoke("{}").status, 202)
+        assert watch.drops > drops
+        place = 512 * (sectors - 1)
+        same((sectors, watch.drop_at, watch.drop_size), (sectors, place - place % (1 << 21), 0))
+        same(other.stop(), (202, 0, ""))
+        other.close()
 
 
 def generation_served(broker):
@@ -246,12 +310,22 @@ def two_nodes(path):
         yield device, node
 
 
-def take_over(broker, ways, is_asked):
+def read_on(path, ended):
+    """Reads a device again and again, once what the machine kept of it is dropped, so that it keeps large pieces."""
+    while not ended.is_set():
+        subprocess.run(["blockdev", "--flushbufs", path], check=False)
+        with open(path, "rb") as device:
+            while device.read(1 << 20):
+                pass
+
+
+def take_over(broker, ways, is_asked, is_read=False):
     """A second broker serves the disk by another way, at a random moment while the first one serves, and is asked or is idle: how
     that ended, how long it took, how many events it was told of, which of them the second one lacks, and how that ended."""
-    told = []
+    told, ended = [], threading.Event()
     with ways(broker.disk) as (first, second):
         one, other = Second(broker, first), Second(broker, second)
+        reader = Beside(read_on, first, ended) if is_read else None
         try:
             one.serve("--watch")
             asking = Beside(invoke_until_refused, one, told) if is_asked else None
@@ -267,19 +341,22 @@ def take_over(broker, ways, is_asked):
             lost = [event for event in told if event not in held]
             stopped = other.stop()
         finally:
+            ended.set()
+            if reader:
+                reader.done()
             one.end()
             other.end()
     return status, took, len(told), lost, stopped
 
 
-def take_over_often(broker, ways, often):
+def take_over_often(broker, ways, often, sectors=SECTORS, is_read=False):
     """So many times, each with a new disk, every fourth time with a first broker that is idle. By hand more often, and then each tells
     what it saw."""
     asked = os.environ.get("LAMBDA_BROKER_TAKEOVERS")
     for number in range(int(asked or often)):
-        other = type(broker)(**WATCHED)
+        other = type(broker)(**{**WATCHED, "sectors": sectors, "payload": 512})
         try:
-            status, took, told, lost, stopped = take_over(other, ways, number % 4 > 0)
+            status, took, told, lost, stopped = take_over(other, ways, number % 4 > 0, is_read)
         finally:
             other.close()
         same((status, lost, stopped), (TAKEN, [], (202, 0, "")))
@@ -296,3 +373,10 @@ def who_takes_a_disk_over_has_all_that_the_other_acknowledged(broker):
 @case(WATCHED)
 def who_takes_a_disk_over_by_a_second_node_of_its_device_has_all_of_it_too(broker):
     take_over_often(broker, two_nodes, 4)
+
+
+@case(WATCHED)
+def who_takes_over_has_all_where_the_claim_is_in_an_odd_page_and_a_reader_is_beside(broker):
+    needs("blockdev")
+    for sectors in 8201, 16393:
+        take_over_often(broker, two_devices, 4, sectors, True)

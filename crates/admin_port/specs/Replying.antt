@@ -1,5 +1,5 @@
 -- What an operator is told.
-use Rattle.std.specs.Prelude.{◌≡◌, ◌⊎◌, ℕ, true, false, List, [], ◌∷◌, ◌++◌, map, codes, Option, Some, None, Result, Ok, Err, IfSome}
+use Rattle.std.specs.Prelude.{◌≡◌, ◌⊎◌, ℕ, Bool, true, false, List, [], ◌∷◌, ◌++◌, map, codes, Option, Some, None, Result, Ok, Err, IfSome}
 use Rattle.futures.specs.declared.future.either.Either.{Either}
 use Rattle.futures.specs.declared.future.either.Either.TheVariants.{Left, Right}
 use Rattle.http.specs.declared.request.Parts.{Parts}
@@ -9,13 +9,13 @@ use Rattle.http_port.specs.declared.reading.BodyError.{BodyError}
 use Rattle.destination_json.specs.Record.{id_text}
 use Rattle.admin_port.specs.Heads.{is_local}
 use Rattle.admin_replies.specs.declared.measuring.Measures.{Measures}
-use Rattle.admin_replies.specs.declared.history.History.{History}
+use Rattle.admin_replies.specs.declared.kept.Kept.{Kept}
 use Rattle.admin_replies.specs.declared.admin_reply.AdminReply.{AdminReply}
 use Rattle.admin_replies.specs.declared.telling.Baseline.{Baseline}
 use Rattle.admin_replies.specs.Media.{content_type_of}
 use Rattle.admin_replies.specs.Requests.{asked_of, status_of}
 use Rattle.admin_replies.specs.Collecting.{ids_in}
-use Rattle.admin_replies.specs.Telling.{TellsOf}
+use Rattle.admin_replies.specs.Telling.{TellsOf, TellsAtOnce}
 use Rattle.admin_replies.specs.declared.admin_refusal.AdminRefusal.{AdminRefusal}
 use Rattle.admin_replies.specs.declared.admin_request.AdminRequest.{AdminRequest}
 use Rattle.hall_core.specs.declared.looking.Sought.{Sought}
@@ -85,7 +85,16 @@ ShowsOrActs shows acts (Right done) = acts done
 
 -- the reply tells of what was seen, with what was measured at some moment; or there is no memory for one
 abbrev pub TellsOfView : Baseline → AdminRequest → View → Option AdminReply → Type 0
-TellsOfView baseline request view reply = IfSome reply (λ told. (measures : Measures) × ((history : History) × ((now : ℕ) × TellsOf baseline view measures history now request told)))
+TellsOfView baseline request view reply = IfSome reply (λ told. (measures : Measures) × ((kept : Kept) × ((now : ℕ) × TellsOf baseline view measures kept now request told)))
+
+-- the reply tells what needs no view, with what was measured and kept at some moment; or there is no memory for one
+abbrev pub TellsOfNoView : Baseline → AdminRequest → Option AdminReply → Type 0
+TellsOfNoView baseline request reply =
+    IfSome reply (λ told. (measures : Measures) × ((kept : Kept) × ((is_stopping : Bool) × TellsAtOnce baseline measures kept is_stopping request told)))
+
+-- what its head asks for needs no view, and is told
+abbrev pub TellsAtOnceBy : Baseline → Parts → Option AdminReply → Type 0
+TellsAtOnceBy baseline head reply = (request : AdminRequest) × IsAsked head request × TellsOfNoView baseline request reply
 
 -- it is refused: the hall broke before what was asked for became durable
 abbrev pub TellsOfFault : Option AdminReply → Type 0

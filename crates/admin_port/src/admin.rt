@@ -5,12 +5,12 @@ ghost use Rattle.admin_replies.specs.Telling.{CountsEnded};
 use crate::acts::Acts;
 use crate::admin_context::AdminContext;
 use crate::application::AdminApplication;
-use admin_replies::{Baseline, History};
+use admin_replies::{Baseline, History, Kept, PhaseMemory};
 use async_core::Table;
 use http_port::{HttpLimits, Listening};
 use long_poll::{Acting, AdminReader};
 use operator_view::Memory;
-use port_meters::{Beside, Machine, Meters, Moment, Opening, PortMeters};
+use port_meters::{Beside, Machine, Meters, Moment, Opening, PortMeters, Premises, Version};
 use receipts::Trace;
 use sector_disk::Written;
 use std::alloc::{AllocError, Global};
@@ -18,6 +18,7 @@ use std::fs::File;
 use std::io;
 use std::sync::ledger::Ledger;
 use std::sync::{Arc, Mutex};
+use std::time::Instant;
 use tokio_util::sync::CancellationToken;
 
 /// Where an operator asks, and what he is told beside what is seen of a broker.
@@ -32,6 +33,10 @@ pub struct Admin {
     pub ports: PortMeters,
     /// Whether he may act.
     pub acts: bool,
+    /// What is noticed beside the requests.
+    pub premises: Arc<Premises>,
+    /// Which program serves.
+    pub version: Version,
 }
 
 /// The operator's port of a broker, which is not served yet.
@@ -52,7 +57,7 @@ impl Admin {
         ensures ended { IfOk result (λ port. CountsEnded table.now.table.rows port.baseline.ended_before) }
         ensures opening { IfOk result (λ port. port.baseline.opening ≡ opening) }
     {
-        let baseline = Baseline::of(table, opening)?;
+        let baseline = Baseline::of(table, opening, &self.version)?;
         Ok(AdminPort {
             admin: self,
             baseline,
@@ -66,6 +71,13 @@ pub struct AdminServed {
     served: (),
 }
 
+// When it was begun to be served: in milliseconds since 1970, and by a clock that nobody sets.
+#[derive(Clone, Copy)]
+struct Start {
+    at: u64,
+    instant: Instant,
+}
+
 // What the requests of a port share, and where they come.
 fn context_of<L: Ledger, T: Trace>(
     alloc: Global,
@@ -73,7 +85,7 @@ fn context_of<L: Ledger, T: Trace>(
     reader: Arc<AdminReader<L, T>>,
     meters: Arc<Meters>,
     history: History,
-    started_at: u64,
+    start: Start,
 ) -> (AdminContext<L, T>, Listening)
     ensures baseline { result.0.baseline ≡ port.baseline }
     ensures reader { result.0.reader ≡ reader }
@@ -85,7 +97,10 @@ fn context_of<L: Ledger, T: Trace>(
         memory,
         ports,
         acts: _,
+        premises,
+        version: _,
     } = admin;
+    let memory_of_phases = PhaseMemory::new(alloc);
     let context = AdminContext {
         alloc,
         reader,
@@ -94,9 +109,14 @@ fn context_of<L: Ledger, T: Trace>(
         written,
         memory,
         ports,
-        started_at,
-        looks: Mutex::new(Memory::begun(started_at)),
-        history: Mutex::new(history),
+        premises,
+        started_at: start.at,
+        begun: start.instant,
+        looks: Mutex::new(Memory::begun(0)),
+        kept: Mutex::new(Kept {
+            history,
+            memory: memory_of_phases,
+        }),
     };
     (context, listening)
 }
@@ -121,9 +141,12 @@ where
         let alloc = rt.alloc();
         let acts = Acts::by(alloc, self.admin.acts, acting)?;
         let reader = Arc::new(alloc, reader)?;
-        let started_at = Moment::now(&rt)?.millis();
+        let start = Start {
+            at: Moment::now(&rt)?.millis(),
+            instant: Instant::now(&rt)?,
+        };
         let history = History::new(alloc)?;
-        let (context, listening) = context_of(alloc, self, reader, meters, history, started_at);
+        let (context, listening) = context_of(alloc, self, reader, meters, history, start);
         let context = Arc::new(alloc, context)?;
         let application = AdminApplication { rt, context, acts };
         http_port::serve(rt, application, listening, HttpLimits::default(), ending)?;

@@ -2,16 +2,18 @@
 ghost use Rattle.std.specs.Prelude.{◌≡◌, ◌&&◌, true, Some, None, IfOk, IfErr, OnOk, is_some, option_map, if◌then◌else◌};
 ghost use Rattle.admin_port.specs.Acting.{BringsList, NamesRecord, Refuses, RefusesList, RefusesRetry, brings, named_by};
 ghost use Rattle.admin_port.specs.Heads.{may_act};
-ghost use Rattle.admin_port.specs.Replying.{CollectsBody, IsAsked, RefusesRequest, Seeks, ShowsOrActs};
+ghost use Rattle.admin_port.specs.Replying.{CollectsBody, IsAsked, RefusesRequest, Seeks, ShowsOrActs, TellsAtOnceBy};
 ghost use Rattle.admin_replies.specs.Seeking.{sought_by};
+ghost use Rattle.http_port.specs.Answering.{status_alone};
 ghost use Rattle.long_poll.specs.PendingView.{unreleased_in};
 
 use crate::acts::Acts;
-use crate::admin_context::{AdminContext, now_or_zero};
+use crate::admin_context::AdminContext;
 use crate::admin_response::AdminResponse;
 use crate::collecting::Collecting;
 use crate::local::{NOT_LOCAL, is_local};
 use crate::pending_reply::PendingReply;
+use crate::prompt_reply::PromptReply;
 use crate::refusing::{refuse, refuse_words};
 use crate::retrying::Retrying;
 use admin_replies::{AdminRequest, brings_list, read, record_named};
@@ -52,7 +54,7 @@ impl<R: Wait + Clock + Drop + Copy, L: Ledger, T: Trace, A> AdminApplication<R, 
     fn look(&self, sought: Sought) -> Result<PendingView<R, L, T>, AllocError>
         ensures { IfOk result (λ pending. Seeks sought (unreleased_in pending.view)) }
     {
-        let at = now_or_zero(&self.rt);
+        let at = self.context.now_or_zero(&self.rt);
         let view = self.context.reader.look(&self.rt, sought, at).answer?;
         let reader = Arc::try_clone(&self.context.reader)?;
         Ok(PendingView::new(self.rt, reader, view))
@@ -83,24 +85,47 @@ impl<R: Wait + Clock + Drop + Copy, L: Ledger, T: Trace, A> AdminApplication<R, 
         Some((acts, id))
     }
 
-    // What a request asks for is told.
-    fn show(&self, head: &Parts) -> Result<PendingReply<R, L, T>, Refused>
-        ensures request { IfOk result (λ pending. IsAsked head.now pending.request) }
-        ensures context { IfOk result (λ pending. pending.context.value ≡ self.now.context.value) }
-        ensures seeks { IfOk result (λ pending. Seeks (sought_by pending.request) (unreleased_in pending.view.view)) }
+    // What a request asks for, where it may ask for that.
+    fn asked(&self, head: &Parts) -> Result<AdminRequest, Refused>
+        ensures asked { IfOk result (IsAsked head.now) }
         ensures refused { IfErr result (RefusesRequest head.now) }
     {
         let alloc = self.context.alloc;
         let request = match read(head.method.as_str(), target_of(head)) {
             Ok(request) => request,
-            Err(why) => return Err(refuse_words(alloc, why)),
+            Err(why) => return Err(refuse_words(alloc, why, self.acts.is_some())),
         };
         if !is_local(&head.headers) {
             return Err(refuse(alloc, 403, NOT_LOCAL));
         }
+        Ok(request)
+    }
+
+    // The same, or that there is no memory.
+    fn seen(&self, request: AdminRequest) -> Result<PendingReply<R, L, T>, Refused>
+        ensures request { IfOk result (λ pending. pending.request ≡ request) }
+        ensures context { IfOk result (λ pending. pending.context.value ≡ self.now.context.value) }
+        ensures seeks { IfOk result (λ pending. Seeks (sought_by request) (unreleased_in pending.view.view)) }
+        ensures refused { IfErr result (λ why. why ≡ status_alone 503) }
+    {
         match self.reply_to(request) {
             Ok(pending) => Ok(pending),
-            Err(_) => Err(Refused::bare(alloc, StatusCode::SERVICE_UNAVAILABLE)),
+            Err(_) => Err(Refused::bare(self.context.alloc, StatusCode::SERVICE_UNAVAILABLE)),
+        }
+    }
+
+    // What a request asks for is told: at once, or of a look.
+    fn show(&self, head: &Parts) -> Result<Either<PromptReply, PendingReply<R, L, T>>, Refused>
+        ensures shown { IfOk result (ShowsOrActs
+            (λ prompt. TellsAtOnceBy self.now.context.value.baseline head.now prompt.reply)
+            (λ pending. IsAsked head.now pending.request × (pending.context.value ≡ self.now.context.value)
+            × Seeks (sought_by pending.request) (unreleased_in pending.view.view))) }
+        ensures refused { IfErr result (RefusesRequest head.now) }
+    {
+        let request = self.asked(head)?;
+        match self.context.tell_at_once(&self.rt, &request) {
+            Some(AdminResponse { reply }) => Ok(Either::Left(PromptReply { reply })),
+            None => Ok(Either::Right(self.seen(request)?)),
         }
     }
 }
@@ -141,22 +166,25 @@ where
     type Response = AdminResponse;
 
     type Future = Either<
-        PendingReply<R, L, T>,
-        Either<Collecting<R, L, T, A>, Retrying<R, L, T, A>>,
+        PromptReply,
+        Either<PendingReply<R, L, T>, Either<Collecting<R, L, T, A>, Retrying<R, L, T, A>>>,
     >;
 
-    // claim: A request is shown what its head asks for, of a look that sought it, has the records of just its body's ids
-    // collected, has the record that it names tried again, or is refused. Something is done only where acts are allowed, no
-    // other host is named and the header for acts is there. A refusal is that of a check that fails, or 503. [: answers;
-    // refuse_words; refuse_list; AdminApplication::show: request, context, seeks, refused; Acts::take_list: may, ids, refused;
-    // Acts::named: may, id, refused; AdminApplication::reply_to: request, context, seeks]
+    // claim: A request is told at once what needs no look at the table, is shown what its head asks for, of a look that sought
+    // it, has the records of just its body's ids collected, has the record that it names tried again, or is refused. Something
+    // is done only where acts are allowed, no other host is named and the header for acts is there. A refusal is that of a
+    // check that fails, or 503. [: answers; refuse_words; refuse_list; AdminApplication::show: shown, refused;
+    // AdminContext::tell_at_once; Acts::take_list: may, ids, refused; Acts::named: may, id, refused;
+    // AdminApplication::reply_to: request, context, seeks]
     ghost answers = { λ application head body answered.
         IfOk answered (ShowsOrActs
+        (λ prompt. TellsAtOnceBy application.context.value.baseline head prompt.reply)
+        (ShowsOrActs
         (λ pending. IsAsked head pending.request × (pending.context.value ≡ application.context.value)
         × Seeks (sought_by pending.request) (unreleased_in pending.view.view))
         (ShowsOrActs
         (λ collecting. BringsList (is_some application.acts) head × CollectsBody (λ entry. entry.id) body collecting.entries.items)
-        (λ retrying. NamesRecord (is_some application.acts) head retrying.id)))
+        (λ retrying. NamesRecord (is_some application.acts) head retrying.id))))
         × IfErr answered (Refuses (is_some application.acts) head body) };
 
     fn most(&self) -> usize {
@@ -174,15 +202,19 @@ where
         match self.list_brought(head) {
             Some(acts) => {
                 let collecting = acts.take_list(self.rt, head, body)?;
-                Ok(Either::Right(Either::Left(collecting)))
+                Ok(Either::Right(Either::Right(Either::Left(collecting))))
             }
             None => {
                 drop(body);
                 match self.record_named(head) {
                     Some((acts, id)) => {
-                        Ok(Either::Right(Either::Right(self.retry(acts, head, id)?)))
+                        let retrying = self.retry(acts, head, id)?;
+                        Ok(Either::Right(Either::Right(Either::Right(retrying))))
                     }
-                    None => Ok(Either::Left(self.show(head)?)),
+                    None => match self.show(head)? {
+                        Either::Left(prompt) => Ok(Either::Left(prompt)),
+                        Either::Right(pending) => Ok(Either::Right(Either::Left(pending))),
+                    },
                 }
             }
         }

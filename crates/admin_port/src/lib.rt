@@ -18,6 +18,7 @@ mod entry;
 mod local;
 mod memory;
 mod pending_reply;
+mod prompt_reply;
 mod refusing;
 mod retrying;
 mod step;

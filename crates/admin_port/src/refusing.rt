@@ -35,12 +35,25 @@ pub(crate) fn refuse(alloc: Global, status: u16, words: &str) -> Refused
     }
 }
 
-/// Why a request is refused, in words.
-pub(crate) fn refuse_words(alloc: Global, why: AdminRefusal) -> Refused
+/// What another method is told where an operator may act.
+const ACTS: &str = "only GET is understood, and POST at /records/collect and /records/ID/retry";
+
+// The refusal of a request for this reason, in these words. Where memory is wanting, 503 alone.
+fn refuse_as(alloc: Global, why: AdminRefusal, words: &str) -> Refused
+    ensures { (result ≡ status_alone 503) ⊎ ((told : List ℕ) × TellsLine (status_of why) told result) }
+{
+    refuse(alloc, why.status(), words)
+}
+
+/// Why a request is refused, in words, where an operator may act, or may not.
+pub(crate) fn refuse_words(alloc: Global, why: AdminRefusal, acts: bool) -> Refused
     ensures { (result ≡ status_alone 503) ⊎ ((words : List ℕ) × TellsLine (status_of why) words result) }
 {
+    if acts && why.status() == 405 {
+        return refuse_as(alloc, why, ACTS);
+    }
     match format!(in alloc; "{why}") {
-        Ok(words) => refuse(alloc, why.status(), words.as_str()),
+        Ok(words) => refuse_as(alloc, why, words.as_str()),
         Err(_) => Refused::bare(alloc, StatusCode::SERVICE_UNAVAILABLE),
     }
 }

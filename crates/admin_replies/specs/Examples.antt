@@ -1,11 +1,15 @@
 -- Worked examples: requests, and numbers with some of the lines that tell them.
-use Rattle.std.specs.Prelude.{ℕ, Bool, List, [], ◌∷◌, ◌++◌, false, true, Option, Result, Some, None, option_map, codes}
+use Rattle.std.specs.Prelude.{◌≡◌, ℕ, Bool, List, [], ◌∷◌, ◌++◌, false, true, Option, Result, Some, None, option_map, codes, string_bytes}
 use Prim.Native.String.{String}
+use Rattle.port_meters.specs.declared.version.Version.{Version}
 use Rattle.retry_rules.specs.declared.settings.Settings.{Settings}
-use Rattle.operator_view.specs.declared.verdict.Problem.TheVariants as problem
+use Rattle.env_phase.specs.declared.phase.Phase.TheVariants.{Init, Ready, Busy}
+use Rattle.hall_plans.specs.declared.environment_status.EnvironmentStatus.{EnvironmentStatus}
+use Rattle.operator_view.specs.declared.problem.Problem.TheVariants as problem
 use Rattle.admin_replies.specs.declared.admin_request.AdminRequest.{AdminRequest}
 use Rattle.admin_replies.specs.declared.admin_refusal.AdminRefusal.{AdminRefusal}
 use Rattle.admin_replies.specs.declared.metrics.Metrics.{Metrics}
+use Rattle.admin_replies.specs.declared.phase_memory.SeenPhase.{SeenPhase}
 use Rattle.admin_replies.specs.declared.sample.Sample.{Sample}
 use Rattle.admin_replies.specs.Collecting.{brings_list, ids_in}
 use Rattle.admin_replies.specs.Requests.{asked_of, id_of}
@@ -95,7 +99,9 @@ numbers = record {
     polls = record { buckets = 85 ∷ 86 ∷ 87 ∷ 88 ∷ 89 ∷ 90 ∷ 91 ∷ 92 ∷ []; all = 93; microseconds = 94 };
   };
   limits = record { retries = 48; age = 49; timeout = 50; concurrency = 51; events = 52; payload = 53; response = 54 };
-  problems = None ∷ Some (problem.NobodyPolls 1 2 3) ∷ None ∷ None ∷ None ∷ None ∷ None ∷ None ∷ None ∷ [];
+  noticed = record { flush_seconds = 105; clock = record { steps = 106; is_back = true; millis = 3600007 }; lines_dropped = 107 };
+  problems =
+      None ∷ None ∷ None ∷ Some (problem.NobodyPolls 1 2 3) ∷ None ∷ None ∷ None ∷ None ∷ None ∷ None ∷ None ∷ None ∷ None ∷ None ∷ None ∷ [];
 }
 
 abbrev pub usual : Settings
@@ -112,6 +118,10 @@ usual = record {
   handler = codes "index.handler";
   arn = codes "arn:aws:lambda:us-east-2:123456789012:function:my-function";
 }
+
+-- without a stamp
+abbrev pub bare : Version → Type 0
+bare v = (string_bytes v.text ≡ codes "0.1.0") × (v.kit ≡ None) × (v.is_proved ≡ false)
 
 -- where the events stand
 abbrev pub held_text : List ℕ
@@ -162,7 +172,7 @@ commits_text =
 abbrev pub usual_text : List ℕ
 usual_text =
     codes "# HELP lambda_broker_build_info The version of the program.\n# TYPE lambda_broker_build_info gauge\n"
-    ++ (codes "lambda_broker_build_info{version=\"0.1.0\"} 1\n"
+    ++ (codes "lambda_broker_build_info{version=\"0.1.0\",kit=\"\",state=\"unproved\",} 1\n"
     ++ (codes "# HELP lambda_broker_settings_info The function.\n# TYPE lambda_broker_settings_info gauge\n"
     ++ (codes "lambda_broker_settings_info{function=\"my-function\","
     ++ codes "arn=\"arn:aws:lambda:us-east-2:123456789012:function:my-function\",handler=\"index.handler\",} 1\n")))
@@ -171,20 +181,63 @@ usual_text =
 abbrev pub problems_text : List ℕ
 problems_text =
     codes "# HELP lambda_broker_problem 1 where this is wrong, else 0.\n# TYPE lambda_broker_problem gauge\n"
-    ++ (codes "lambda_broker_problem{reason=\"callers_are_refused\"} 0\n"
+    ++ (codes "lambda_broker_problem{reason=\"disk_hangs\"} 0\n"
+    ++ (codes "lambda_broker_problem{reason=\"clock_is_behind\"} 0\n"
+    ++ (codes "lambda_broker_problem{reason=\"events_expired_by_a_jump\"} 0\n"
     ++ (codes "lambda_broker_problem{reason=\"nobody_polls\"} 1\n"
+    ++ (codes "lambda_broker_problem{reason=\"environment_hangs\"} 0\n"
     ++ (codes "lambda_broker_problem{reason=\"nothing_ends\"} 0\n"
+    ++ (codes "lambda_broker_problem{reason=\"most_attempts_fail\"} 0\n"
+    ++ (codes "lambda_broker_problem{reason=\"commits_are_slow\"} 0\n"
+    ++ (codes "lambda_broker_problem{reason=\"all_busy\"} 0\n"
+    ++ (codes "lambda_broker_problem{reason=\"backlog_grows\"} 0\n"
+    ++ (codes "lambda_broker_problem{reason=\"records_not_collected\"} 0\n"
     ++ (codes "lambda_broker_problem{reason=\"table_full\"} 0\n"
     ++ (codes "lambda_broker_problem{reason=\"table_nearly_full\"} 0\n"
-    ++ (codes "lambda_broker_problem{reason=\"events_expire\"} 0\n"
-    ++ (codes "lambda_broker_problem{reason=\"most_attempts_fail\"} 0\n"
-    ++ (codes "lambda_broker_problem{reason=\"commits_are_slow\"} 0\n" ++ codes "lambda_broker_problem{reason=\"records_not_collected\"} 0\n"))))))))
+    ++ (codes "lambda_broker_problem{reason=\"callers_are_refused\"} 0\n" ++ codes "lambda_broker_problem{reason=\"events_expire\"} 0\n"))))))))))))))
+
+-- what was noticed of the premises
+abbrev pub premises_text : List ℕ
+premises_text =
+    codes "# HELP lambda_broker_flush_seconds Time that the flush has taken that is under way, once these are five seconds, else 0.\n"
+    ++ (codes "# TYPE lambda_broker_flush_seconds gauge\n"
+    ++ (codes "lambda_broker_flush_seconds 105\n"
+    ++ (codes "# HELP lambda_broker_clock_step_seconds Time by which the clock was set last, below 0 where it was set back.\n"
+    ++ (codes "# TYPE lambda_broker_clock_step_seconds gauge\n"
+    ++ (codes "lambda_broker_clock_step_seconds -3600.007\n"
+    ++ (codes "# HELP lambda_broker_clock_steps_total Times that the clock was set.\n"
+    ++ (codes "# TYPE lambda_broker_clock_steps_total counter\n"
+    ++ (codes "lambda_broker_clock_steps_total 106\n"
+    ++ (codes "# HELP lambda_broker_lines_dropped_total Lines that standard error did not take.\n"
+    ++ (codes "# TYPE lambda_broker_lines_dropped_total counter\n" ++ codes "lambda_broker_lines_dropped_total 107\n"))))))))))
+
+-- two environments: the first is in init since the 4000th millisecond, the second was found busy then, and is ready since the 5500th
+abbrev pub phases : List SeenPhase
+phases = record { phase = Init; since = 4000 } ∷ record { phase = Ready; since = 5500 } ∷ []
+
+abbrev pub statuses : List EnvironmentStatus
+statuses = record { number = 1; phase = Init; parked = 0 } ∷ record { number = 2; phase = Ready; parked = 1 } ∷ []
+
+abbrev pub earlier_phases : List SeenPhase
+earlier_phases = record { phase = Init; since = 4000 } ∷ record { phase = Busy; since = 4000 } ∷ []
+
+abbrev pub phases_told : List ℕ
+phases_told =
+    codes "# HELP lambda_broker_environment_phase 1 for the phase in which an environment was found.\n"
+    ++ (codes "# TYPE lambda_broker_environment_phase gauge\n"
+    ++ (codes "lambda_broker_environment_phase{environment=\"1\",phase=\"init\"} 1\n"
+    ++ (codes "lambda_broker_environment_phase{environment=\"2\",phase=\"ready\"} 1\n"
+    ++ (codes "# HELP lambda_broker_environment_phase_seconds Time since a look found it there, and each one since.\n"
+    ++ (codes "# TYPE lambda_broker_environment_phase_seconds gauge\n"
+    ++ (codes "lambda_broker_environment_phase_seconds{environment=\"1\"} 2.005\n" ++ codes "lambda_broker_environment_phase_seconds{environment=\"2\"} 0.505\n"))))))
 
 -- a sample, in which each number is another one too
 abbrev pub sample : Sample
 sample = record {
+  at = 1573755365568;
   counts = record {
-    at = 1573755365568;
+    at = 1;
+    accepted = 12;
     started = 2;
     succeeded = 3;
     failed = 4;
@@ -195,8 +248,8 @@ sample = record {
     quick_commits = 9;
     refused_full = 10;
     refused_busy = 11;
+    clock_steps = 16;
   };
-  accepted = 12;
   collected = 13;
   waiting = 14;
   written_bytes = 15;

@@ -9,16 +9,16 @@ use Rattle.admin_replies.specs.declared.sample.Sample.{Sample}
 use Rattle.admin_replies.specs.Numbers.{events_since, counts_told}
 
 -- what is kept of a broker that is seen so
-abbrev pub sample_told : Baseline → View → Counters → (written now : ℕ) → Sample
-sample_told baseline view counters written now = record {
-  counts = counts_told now (events_since baseline view.hall.tally.census view.counters) counters;
-  accepted = view.counters.accepted;
+abbrev pub sample_told : Baseline → View → Counters → (written at elapsed steps : ℕ) → Sample
+sample_told baseline view counters written at elapsed steps = record {
+  at = at;
+  counts = counts_told elapsed steps (events_since baseline view.hall.tally.census view.counters) counters;
   collected = view.counters.collected;
   waiting = min (view.hall.tally.census.waiting + view.hall.tally.census.due_again) (2 ^ 64 - 1);
   written_bytes = written;
 }
 
--- it is of less than five seconds before
+-- it is of less than five seconds before, by the clock that nobody sets
 abbrev pub is_recent : Option Sample → (at : ℕ) → Bool
 is_recent None at = false
 is_recent (Some last) at = nat_le last.counts.at at && nat_lt (at - last.counts.at) 5000
@@ -37,7 +37,7 @@ history_begin =
 -- the numbers of a sample in that order, behind the moment
 unfoldable pub numbers_in : Sample → List ℕ
 numbers_in s =
-    s.accepted ∷ s.counts.started ∷ s.counts.succeeded ∷ s.counts.failed ∷ s.counts.ended ∷ s.collected ∷ s.waiting
+    s.counts.accepted ∷ s.counts.started ∷ s.counts.succeeded ∷ s.counts.failed ∷ s.counts.ended ∷ s.collected ∷ s.waiting
     ∷ s.counts.refused_full ∷ s.counts.refused_busy ∷ s.counts.commits ∷ s.counts.commit_microseconds ∷ s.written_bytes ∷ []
 
 abbrev pub number_text : ℕ → List ℕ
@@ -45,7 +45,7 @@ number_text number = codes "," ++ decimal number
 
 -- a line
 unfoldable pub sample_text : Sample → List ℕ
-sample_text s = decimal s.counts.at ++ (flat_map number_text (numbers_in s) ++ codes "\n")
+sample_text s = decimal s.at ++ (flat_map number_text (numbers_in s) ++ codes "\n")
 
 abbrev pub history_text : List Sample → List ℕ
 history_text samples = history_begin ++ flat_map sample_text samples

@@ -1,4 +1,5 @@
 pub mod Collecting
+pub mod Environments
 pub mod Examples
 pub mod History
 pub mod Lines
@@ -6,9 +7,11 @@ pub mod Lists
 pub mod Media
 pub mod MetricsText
 pub mod Numbers
+pub mod Phases
 pub mod Requests
 pub mod Retrying
 pub mod Seeking
+pub mod Stalled
 pub mod Table
 pub mod Telling
 pub mod Values

@@ -1,14 +1,13 @@
 -- The numbers of a broker, by what was seen of it.
-use Rattle.std.specs.Prelude.{◌≡◌, ℕ, ◌+◌, ◌-◌, ◌*◌, ◌^◌, ◌≤◌, ◌↔◌, Bool, true, false, List, [], Option, Some, None, min, length, slice_index, IfSome, IsNone, All, Contains}
+use Rattle.std.specs.Prelude.{◌≡◌, ℕ, ◌+◌, ◌-◌, ◌*◌, ◌^◌, ◌≤◌, ◌↔◌, Bool, true, false, List, [], Option, Some, None, min, length, slice_index, IfSome, IsNone, All, Contains, if◌then◌else◌}
 use Rattle.std.specs.List.{count_by, sum_by}
 use Rattle.env_phase.specs.declared.phase.Phase.{Phase}
 use Rattle.env_phase.specs.declared.phase.Phase.TheVariants.{Init, Ready, Busy, Closing}
 use Rattle.hall_plans.specs.declared.environment_status.EnvironmentStatus.{EnvironmentStatus}
 use Rattle.operator_view.specs.declared.numbers.Census.{Census}
 use Rattle.operator_view.specs.declared.memory.Counts.{Counts}
-use Rattle.operator_view.specs.declared.memory.Memory.{Memory}
 use Rattle.operator_view.specs.declared.sight.Sight.{Sight}
-use Rattle.operator_view.specs.declared.verdict.Problem.{Problem}
+use Rattle.operator_view.specs.declared.problem.Problem.{Problem}
 use Rattle.operator_view.specs.Memory.{lately}
 use Rattle.operator_view.specs.Verdict.{problems}
 use Rattle.port_meters.specs.declared.counters.Counters.{Counters}
@@ -19,11 +18,16 @@ use Rattle.receipts.specs.declared.command_counters.CommandCounters.{CommandCoun
 use Rattle.admin_replies.specs.declared.metrics.Limits.{Limits}
 use Rattle.admin_replies.specs.declared.metrics.Metrics.{Metrics}
 use Rattle.admin_replies.specs.declared.metrics.Phases.{Phases}
+use Rattle.admin_replies.specs.declared.metrics.Premise.{Premise}
 use Rattle.admin_replies.specs.declared.metrics.Process.{Process}
 use Rattle.admin_replies.specs.declared.metrics.EventCounters.{EventCounters}
 use Rattle.admin_replies.specs.declared.measuring.Measures.{Measures}
 use Rattle.admin_replies.specs.declared.telling.Baseline.{Baseline}
 use Rattle.port_meters.specs.Counting.{sum_up_to}
+use Rattle.admin_replies.specs.Environments.{is_phase}
+use Rattle.admin_replies.specs.Phases.{unpolled_from}
+use Rattle.admin_replies.specs.declared.measuring.ClockSet.{ClockSet}
+use Rattle.admin_replies.specs.declared.phase_memory.SeenPhase.{SeenPhase}
 
 -- how long ago that was, in milliseconds, if it was: 0 where it will be
 abbrev pub age_of : ℕ → Option ℕ → Option ℕ
@@ -31,13 +35,6 @@ age_of now None = None
 age_of now (Some moment) = Some (now - moment)
 
 -- ## Environments
-
-abbrev pub is_phase : Phase → Phase → Bool
-is_phase Init Init = true
-is_phase Ready Ready = true
-is_phase Busy Busy = true
-is_phase Closing Closing = true
-is_phase phase other = false
 
 abbrev pub is_in_phase : Phase → EnvironmentStatus → Bool
 is_in_phase phase status = is_phase phase status.phase
@@ -106,12 +103,18 @@ process_told measures is_stopping = record {
   refused = measures.counters.refused;
 }
 
+-- ## Of the premises
+
+abbrev pub noticed_by : Measures → Premise
+noticed_by measures = record { flush_seconds = measures.flush_seconds; clock = measures.clock; lines_dropped = measures.lines_dropped }
+
 -- ## What is wrong
 
--- what is counted up to now
-abbrev pub counts_told : ℕ → EventCounters → Counters → Counts
-counts_told now events counters = record {
-  at = now;
+-- what is counted up to now, when so long was looked and the clock was set so often
+abbrev pub counts_told : (elapsed steps : ℕ) → EventCounters → Counters → Counts
+counts_told elapsed steps events counters = record {
+  at = elapsed;
+  accepted = events.accepted;
   started = events.started;
   succeeded = events.success;
   failed = events.failed;
@@ -122,28 +125,46 @@ counts_told now events counters = record {
   quick_commits = slice_index counters.buckets 6;
   refused_full = counters.refused.too_many;
   refused_busy = counters.refused.unavailable;
+  clock_steps = steps;
 }
 
+-- by how many milliseconds the clock was set ahead last; 0 where it was set back
+abbrev pub set_ahead : ClockSet → ℕ
+set_ahead clock = if clock.is_back then 0 else clock.millis
+
+-- for how long the attempt runs that is to be done first, at this moment and by this timeout; 0 where none runs
+abbrev pub running_for : ℕ → ℕ → Option ℕ → ℕ
+running_for now timeout None = 0
+running_for now timeout (Some deadline) = now - (deadline - 1000 * timeout)
+
 -- what the port sees by which a verdict is found
-pub record IsSight (settings : Settings) (view : View) (memory : Memory) (counts : Counts) (sight : Sight) : Type 0 where
-  pub at : sight.at ≡ counts.at
+pub record IsSight (settings : Settings) (view : View) (seen : List SeenPhase) (measures : Measures) (now : ℕ) (counts : Counts) (sight : Sight) : Type 0 where
+  pub at : sight.at ≡ now
+  pub flush_seconds : sight.flush_seconds ≡ measures.flush_seconds
+  pub last_moment : sight.last_moment ≡ view.hall.tally.last_moment
+  pub set_ahead : sight.set_ahead ≡ set_ahead measures.clock
   pub environments : sight.environments ≡ length view.hall.environments.items
   pub without_poll : sight.without_poll ≡ count_by (is_in_phase Init) view.hall.environments.items
+  pub busy : sight.busy ≡ count_by (is_in_phase Busy) view.hall.environments.items
+  pub running : sight.running ≡ view.hall.tally.census.running
+  pub unpolled : sight.unpolled ≡ (unpolled_from seen 1 measures.elapsed).environment
+  pub unpolled_for : sight.unpolled_for ≡ (unpolled_from seen 1 measures.elapsed).time
+  pub running_for : sight.running_for ≡ running_for now settings.timeout view.hall.tally.first_deadline
   pub held : sight.held ≡ view.hall.tally.census.held
   pub most_events : sight.most_events ≡ settings.events
   pub ended : sight.ended ≡ min (ended_in view.hall.tally.census) (2 ^ 64 - 1)
   pub timeout : sight.timeout ≡ settings.timeout
   pub due : sight.due ≡ view.hall.tally.due
   pub first_due : sight.first_due ≡ view.hall.tally.first_due
-  pub quiet_since : sight.quiet_since ≡ memory.quiet_since
+  pub quiet : sight.quiet ≡ measures.elapsed - measures.memory.quiet_since
   pub expiring : sight.expiring ≡ view.hall.tally.expiring
-  pub oldest_record : sight.oldest_record_age ≡ age_of counts.at view.hall.tally.oldest_record
-  pub lately : sight.lately ≡ lately memory counts
+  pub oldest_record : sight.oldest_record_age ≡ age_of now view.hall.tally.oldest_record
+  pub lately : sight.lately ≡ lately measures.memory counts
 
 -- what is found in what is seen
-abbrev pub AreProblems : Settings → View → Memory → Counts → List (Option Problem) → Type 0
-AreProblems settings view memory counts found =
-    (sight : Sight) × IsSight settings view memory counts sight × (found ≡ problems sight)
+abbrev pub AreProblems : Settings → View → List SeenPhase → Measures → ℕ → Counts → List (Option Problem) → Type 0
+AreProblems settings view seen measures now counts found =
+    (sight : Sight) × IsSight settings view seen measures now counts sight × (found ≡ problems sight)
 
 -- ## All of them
 
@@ -160,7 +181,7 @@ limits_of policy s = record {
 }
 
 -- the numbers of what was seen: those of its table are the tally's
-pub record AreMetrics (baseline : Baseline) (view : View) (measures : Measures) (now : ℕ) (metrics : Metrics) : Type 0 where
+pub record AreMetrics (baseline : Baseline) (view : View) (seen : List SeenPhase) (measures : Measures) (now : ℕ) (metrics : Metrics) : Type 0 where
   pub census : metrics.census ≡ view.hall.tally.census
   pub oldest_wait : metrics.oldest_wait_age ≡ age_of now view.hall.tally.oldest_waiting
   pub oldest_record : metrics.oldest_record_age ≡ age_of now view.hall.tally.oldest_record
@@ -175,4 +196,5 @@ pub record AreMetrics (baseline : Baseline) (view : View) (measures : Measures) 
   pub process : metrics.process ≡ process_told measures view.hall.is_stopping
   pub ports : metrics.ports ≡ measures.ports
   pub limits : metrics.limits ≡ limits_of view.hall.policy baseline.settings
-  pub problems : AreProblems baseline.settings view measures.memory (counts_told now metrics.events measures.counters) metrics.problems
+  pub noticed : metrics.noticed ≡ noticed_by measures
+  pub problems : AreProblems baseline.settings view seen measures now (counts_told measures.elapsed measures.clock.steps metrics.events measures.counters) metrics.problems

@@ -6,6 +6,7 @@ use Rattle.admin_replies.specs.declared.metric.Metric.TheVariants as metric
 use Rattle.admin_replies.specs.declared.metric.HeldMetric.TheVariants as held
 use Rattle.admin_replies.specs.declared.metric.LifeMetric.TheVariants as life
 use Rattle.admin_replies.specs.declared.metric.LimitMetric.TheVariants as limit
+use Rattle.admin_replies.specs.declared.metric.NoticeMetric.TheVariants as notice
 use Rattle.admin_replies.specs.declared.metric.OpenMetric.TheVariants as open_of
 use Rattle.admin_replies.specs.declared.metric.PhaseMetric.TheVariants as phase
 use Rattle.admin_replies.specs.declared.metric.RefusalMetric.TheVariants as refusal
@@ -44,16 +45,27 @@ more name metric = record { head = []; name = name; metric = metric }
 -- what is wrong
 abbrev pub problem_lines : List Line
 problem_lines =
-    first (family "problem" "gauge" "1 where this is wrong, else 0.") (labelled "problem" "reason" "callers_are_refused") (metric.Problem 0)
-    ∷ more (labelled "problem" "reason" "nobody_polls") (metric.Problem 1)
-    ∷ more (labelled "problem" "reason" "nothing_ends") (metric.Problem 2)
-    ∷ more (labelled "problem" "reason" "table_full") (metric.Problem 3)
-    ∷ more (labelled "problem" "reason" "table_nearly_full") (metric.Problem 4)
-    ∷ more (labelled "problem" "reason" "events_expire") (metric.Problem 5)
+    first (family "problem" "gauge" "1 where this is wrong, else 0.") (labelled "problem" "reason" "disk_hangs") (metric.Problem 0)
+    ∷ more (labelled "problem" "reason" "clock_is_behind") (metric.Problem 1)
+    ∷ more (labelled "problem" "reason" "events_expired_by_a_jump") (metric.Problem 2)
+    ∷ more (labelled "problem" "reason" "nobody_polls") (metric.Problem 3)
+    ∷ more (labelled "problem" "reason" "environment_hangs") (metric.Problem 4)
+    ∷ more (labelled "problem" "reason" "nothing_ends") (metric.Problem 5)
     ∷ more (labelled "problem" "reason" "most_attempts_fail") (metric.Problem 6)
     ∷ more (labelled "problem" "reason" "commits_are_slow") (metric.Problem 7)
-    ∷ more (labelled "problem" "reason" "records_not_collected") (metric.Problem 8)
+    ∷ more (labelled "problem" "reason" "all_busy") (metric.Problem 8)
+    ∷ more (labelled "problem" "reason" "backlog_grows") (metric.Problem 9)
+    ∷ more (labelled "problem" "reason" "records_not_collected") (metric.Problem 10)
+    ∷ more (labelled "problem" "reason" "table_full") (metric.Problem 11)
+    ∷ more (labelled "problem" "reason" "table_nearly_full") (metric.Problem 12)
+    ∷ more (labelled "problem" "reason" "callers_are_refused") (metric.Problem 13)
+    ∷ more (labelled "problem" "reason" "events_expire") (metric.Problem 14)
     ∷ []
+
+-- that a flush hangs
+abbrev pub stalled_lines : List Line
+stalled_lines =
+    first (family "problem" "gauge" "1 where this is wrong, else 0.") (labelled "problem" "reason" "disk_hangs") (metric.Problem 0) ∷ []
 
 -- where the events stand
 abbrev pub held_lines : List Line
@@ -196,8 +208,20 @@ disk_lines =
     ∷ first (family "segment_free_bytes" "gauge" "Room that is left in the segment that is written.") (plain "segment_free_bytes") (metric.State state.FreeBytes)
     ∷ first (family "process_resident_memory_bytes" "gauge" "Memory of the process that is resident.") (plain "process_resident_memory_bytes") (metric.State state.ResidentBytes)
     ∷ first (family "process_start_time_seconds" "gauge" "When the broker was started, since 1970.") (plain "process_start_time_seconds") (metric.State state.StartedAt)
-    ∷ first (family "stopping" "gauge" "1 while the broker stops, else 0.") (plain "stopping") (metric.State state.Stopping)
     ∷ first (family "device_fault" "gauge" "1 once the disk has failed, else 0.") (plain "device_fault") (metric.State state.Fault)
+    ∷ []
+
+-- whether the broker stops
+abbrev pub stopping_lines : List Line
+stopping_lines = first (family "stopping" "gauge" "1 while the broker stops, else 0.") (plain "stopping") (metric.State state.Stopping) ∷ []
+
+-- what was noticed of the premises
+abbrev pub premise_lines : List Line
+premise_lines =
+    first (family "flush_seconds" "gauge" "Time that the flush has taken that is under way, once these are five seconds, else 0.") (plain "flush_seconds") (metric.Notice notice.Flush)
+    ∷ first (family "clock_step_seconds" "gauge" "Time by which the clock was set last, below 0 where it was set back.") (plain "clock_step_seconds") (metric.Notice notice.ClockStep)
+    ∷ first (family "clock_steps_total" "counter" "Times that the clock was set.") (plain "clock_steps_total") (metric.Notice notice.ClockSteps)
+    ∷ first (family "lines_dropped_total" "counter" "Lines that standard error did not take.") (plain "lines_dropped_total") (metric.Notice notice.LinesDropped)
     ∷ []
 
 -- what is allowed at most
@@ -214,6 +238,7 @@ limit_lines =
 
 unfoldable pub lines_of : Section → List Line
 lines_of section.Problems = problem_lines
+lines_of section.Stalled = stalled_lines
 lines_of section.Held = held_lines
 lines_of section.Waits = wait_lines
 lines_of section.Environments = phase_lines
@@ -223,7 +248,13 @@ lines_of section.Refusals = refusal_lines
 lines_of section.Ports = port_lines
 lines_of section.Commits = commit_lines
 lines_of section.Disk = disk_lines
+lines_of section.Stopping = stopping_lines
+lines_of section.Premises = premise_lines
 lines_of section.Limits = limit_lines
 
 abbrev pub sections : List Section
-sections = section.Problems ∷ section.Held ∷ section.Waits ∷ section.Environments ∷ section.Lives ∷ section.Durations ∷ section.Refusals ∷ section.Ports ∷ section.Commits ∷ section.Disk ∷ section.Limits ∷ []
+sections = section.Problems ∷ section.Held ∷ section.Waits ∷ section.Environments ∷ section.Lives ∷ section.Durations ∷ section.Refusals ∷ section.Ports ∷ section.Commits ∷ section.Disk ∷ section.Stopping ∷ section.Premises ∷ section.Limits ∷ []
+
+-- those that need no look at the table of events
+abbrev pub stalled_sections : List Section
+stalled_sections = section.Stalled ∷ section.Refusals ∷ section.Ports ∷ section.Commits ∷ section.Disk ∷ section.Premises ∷ []

@@ -2,10 +2,11 @@
 use Rattle.std.specs.Prelude.{ℕ, Bool, true, false, List, Option, slice_get, slice_index, unwrap_or, is_some}
 use Rattle.std.specs.Option.{option_map_or}
 use Rattle.operator_view.specs.declared.numbers.Census.{Census}
-use Rattle.operator_view.specs.declared.verdict.Problem.{Problem}
+use Rattle.operator_view.specs.declared.problem.Problem.{Problem}
 use Rattle.admin_replies.specs.declared.metrics.Limits.{Limits}
 use Rattle.admin_replies.specs.declared.metrics.Metrics.{Metrics}
 use Rattle.admin_replies.specs.declared.metrics.Phases.{Phases}
+use Rattle.admin_replies.specs.declared.metrics.Premise.{Premise}
 use Rattle.admin_replies.specs.declared.metrics.Process.{Process}
 use Rattle.port_meters.specs.declared.counters.Refusals.{Refusals}
 use Rattle.port_meters.specs.declared.histogram.Spread.{Spread}
@@ -20,6 +21,8 @@ use Rattle.admin_replies.specs.declared.metric.LifeMetric.{LifeMetric}
 use Rattle.admin_replies.specs.declared.metric.LifeMetric.TheVariants as life
 use Rattle.admin_replies.specs.declared.metric.LimitMetric.{LimitMetric}
 use Rattle.admin_replies.specs.declared.metric.LimitMetric.TheVariants as limit
+use Rattle.admin_replies.specs.declared.metric.NoticeMetric.{NoticeMetric}
+use Rattle.admin_replies.specs.declared.metric.NoticeMetric.TheVariants as notice
 use Rattle.admin_replies.specs.declared.metric.OpenMetric.{OpenMetric}
 use Rattle.admin_replies.specs.declared.metric.OpenMetric.TheVariants as open_of
 use Rattle.admin_replies.specs.declared.metric.PhaseMetric.{PhaseMetric}
@@ -37,7 +40,7 @@ use Rattle.admin_replies.specs.declared.metric.UnreadMetric.TheVariants as unrea
 use Rattle.admin_replies.specs.declared.metric.WaitMetric.{WaitMetric}
 use Rattle.admin_replies.specs.declared.metric.WaitMetric.TheVariants as wait
 use Rattle.admin_replies.specs.declared.value.Value.{Value}
-use Rattle.admin_replies.specs.declared.value.Value.TheVariants.{Whole, Milliseconds, Microseconds}
+use Rattle.admin_replies.specs.declared.value.Value.TheVariants.{Whole, Milliseconds, Microseconds, Signed}
 
 -- an age, 0 where there is none
 abbrev pub or_zero : Option ℕ → ℕ
@@ -135,6 +138,12 @@ state_value p state.StartedAt = Milliseconds p.started_at
 state_value p state.Stopping = Whole (indicator p.is_stopping)
 state_value p state.Fault = Whole (indicator p.has_fault)
 
+abbrev pub notice_value : Premise → NoticeMetric → Value
+notice_value n notice.Flush = Whole n.flush_seconds
+notice_value n notice.ClockStep = Signed n.clock.is_back n.clock.millis
+notice_value n notice.ClockSteps = Whole n.clock.steps
+notice_value n notice.LinesDropped = Whole n.lines_dropped
+
 abbrev pub limit_value : Limits → LimitMetric → ℕ
 limit_value l limit.Events = l.events
 limit_value l limit.Concurrency = l.concurrency
@@ -160,5 +169,6 @@ value_of f (metric.Reply g took) = time_value (spread_in f.ports g) took
 value_of f (metric.Commit g) = commit_value f.process g
 value_of f (metric.Event took) = event_value f.lives took
 value_of f (metric.State g) = state_value f.process g
+value_of f (metric.Notice g) = notice_value f.noticed g
 value_of f (metric.Limit g) = Whole (limit_value f.limits g)
 value_of f (metric.Problem place) = Whole (problem_value f.problems place)

@@ -6,8 +6,11 @@ ghost use Rattle.admin_replies.specs.declared.admin_request.AdminRequest.TheVari
 ghost use Rattle.admin_replies.specs.declared.admin_refusal.AdminRefusal.TheVariants as why;
 ghost use Rattle.admin_replies.specs.declared.table.Section.TheVariants as section;
 ghost use Rattle.admin_replies.specs.MetricsText.{section_text, info_text};
+ghost use Rattle.env_phase.specs.declared.phase.Phase.TheVariants.{Init, Ready};
+ghost use Rattle.port_meters.specs.declared.version.Version.{Version};
+ghost use Rattle.admin_replies.specs.Phases.{phases_text, phases_noted, unpolled_from};
 ghost use Rattle.admin_replies.specs.History as kept;
-ghost use Rattle.admin_replies.specs.Examples.{asks, brings, names, listed, gets, third, numbers, usual, held_text, waits_text, commits_text, usual_text, problems_text, sample, history_text};
+ghost use Rattle.admin_replies.specs.Examples.{asks, brings, names, listed, gets, third, numbers, usual, bare, held_text, waits_text, commits_text, usual_text, problems_text, premises_text, phases, statuses, earlier_phases, phases_told, sample, history_text};
 
 /// Requests that are understood.
 pub fn requests()
@@ -70,7 +73,12 @@ pub fn lines()
     ensures held { section_text numbers section.Held ≡ held_text }
     ensures waits { section_text numbers section.Waits ≡ waits_text }
     ensures commits { section_text numbers section.Commits ≡ commits_text }
-    ensures info { info_text usual ≡ usual_text }
+    ensures info { (v : Version) → bare v → info_text v usual ≡ usual_text }
     ensures problems { section_text numbers section.Problems ≡ problems_text }
+    ensures premises { section_text numbers section.Premises ≡ premises_text }
+    ensures phases { phases_text phases 6005 ≡ phases_told }
+    ensures noted { phases_noted statuses earlier_phases 5500 ≡ phases }
+    ensures first_noted { phases_noted statuses [] 5500 ≡ record { phase = Init; since = 5500 } ∷ record { phase = Ready; since = 5500 } ∷ [] }
+    ensures unpolled { unpolled_from phases 1 6005 ≡ record { environment = 1; time = 2005 } }
     ensures samples { kept.history_text (sample ∷ []) ≡ history_text }
 {}

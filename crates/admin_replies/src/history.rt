@@ -95,7 +95,7 @@ fn put_sample(alloc: Global, out: &mut Vec<u8>, sample: &Sample) -> Result<(), A
     ensures { OnOk result (out.new.items ≡ out.old.items ++ sample_text sample.now) }
 {
     let numbers = numbers_in(sample);
-    put_number(alloc, out, sample.counts.at)?;
+    put_number(alloc, out, sample.at)?;
     put_numbers(alloc, out, &numbers)?;
     out.extend_from_slice(b"\n")
 }

@@ -1,37 +1,37 @@
-// The parts of the table of what is wrong, and of what is allowed at most.
-use crate::metric::{LimitMetric, Metric};
+// The parts of the table of what is wrong, of the premises, and of what is allowed at most.
+use crate::metric::{LimitMetric, Metric, NoticeMetric};
 use crate::table::Row;
 
 /// What is wrong.
-pub(crate) const PROBLEMS: [Row; 9] = [
+pub(crate) const PROBLEMS: [Row; operator_view::PROBLEMS] = [
     Row {
         head: "# HELP lambda_broker_problem 1 where this is wrong, else 0.\n# TYPE lambda_broker_problem gauge\n",
-        name: "lambda_broker_problem{reason=\"callers_are_refused\"}",
+        name: "lambda_broker_problem{reason=\"disk_hangs\"}",
         metric: Metric::Problem(0),
     },
     Row {
         head: "",
-        name: "lambda_broker_problem{reason=\"nobody_polls\"}",
+        name: "lambda_broker_problem{reason=\"clock_is_behind\"}",
         metric: Metric::Problem(1),
     },
     Row {
         head: "",
-        name: "lambda_broker_problem{reason=\"nothing_ends\"}",
+        name: "lambda_broker_problem{reason=\"events_expired_by_a_jump\"}",
         metric: Metric::Problem(2),
     },
     Row {
         head: "",
-        name: "lambda_broker_problem{reason=\"table_full\"}",
+        name: "lambda_broker_problem{reason=\"nobody_polls\"}",
         metric: Metric::Problem(3),
     },
     Row {
         head: "",
-        name: "lambda_broker_problem{reason=\"table_nearly_full\"}",
+        name: "lambda_broker_problem{reason=\"environment_hangs\"}",
         metric: Metric::Problem(4),
     },
     Row {
         head: "",
-        name: "lambda_broker_problem{reason=\"events_expire\"}",
+        name: "lambda_broker_problem{reason=\"nothing_ends\"}",
         metric: Metric::Problem(5),
     },
     Row {
@@ -46,8 +46,69 @@ pub(crate) const PROBLEMS: [Row; 9] = [
     },
     Row {
         head: "",
-        name: "lambda_broker_problem{reason=\"records_not_collected\"}",
+        name: "lambda_broker_problem{reason=\"all_busy\"}",
         metric: Metric::Problem(8),
+    },
+    Row {
+        head: "",
+        name: "lambda_broker_problem{reason=\"backlog_grows\"}",
+        metric: Metric::Problem(9),
+    },
+    Row {
+        head: "",
+        name: "lambda_broker_problem{reason=\"records_not_collected\"}",
+        metric: Metric::Problem(10),
+    },
+    Row {
+        head: "",
+        name: "lambda_broker_problem{reason=\"table_full\"}",
+        metric: Metric::Problem(11),
+    },
+    Row {
+        head: "",
+        name: "lambda_broker_problem{reason=\"table_nearly_full\"}",
+        metric: Metric::Problem(12),
+    },
+    Row {
+        head: "",
+        name: "lambda_broker_problem{reason=\"callers_are_refused\"}",
+        metric: Metric::Problem(13),
+    },
+    Row {
+        head: "",
+        name: "lambda_broker_problem{reason=\"events_expire\"}",
+        metric: Metric::Problem(14),
+    },
+];
+
+/// What is wrong where a flush hangs: nothing else is looked for then.
+pub(crate) const STALLED: [Row; 1] = [Row {
+    head: "# HELP lambda_broker_problem 1 where this is wrong, else 0.\n# TYPE lambda_broker_problem gauge\n",
+    name: "lambda_broker_problem{reason=\"disk_hangs\"}",
+    metric: Metric::Problem(0),
+}];
+
+/// What was noticed of the premises.
+pub(crate) const PREMISES: [Row; 4] = [
+    Row {
+        head: "# HELP lambda_broker_flush_seconds Time that the flush has taken that is under way, once these are five seconds, else 0.\n# TYPE lambda_broker_flush_seconds gauge\n",
+        name: "lambda_broker_flush_seconds",
+        metric: Metric::Notice(NoticeMetric::Flush),
+    },
+    Row {
+        head: "# HELP lambda_broker_clock_step_seconds Time by which the clock was set last, below 0 where it was set back.\n# TYPE lambda_broker_clock_step_seconds gauge\n",
+        name: "lambda_broker_clock_step_seconds",
+        metric: Metric::Notice(NoticeMetric::ClockStep),
+    },
+    Row {
+        head: "# HELP lambda_broker_clock_steps_total Times that the clock was set.\n# TYPE lambda_broker_clock_steps_total counter\n",
+        name: "lambda_broker_clock_steps_total",
+        metric: Metric::Notice(NoticeMetric::ClockSteps),
+    },
+    Row {
+        head: "# HELP lambda_broker_lines_dropped_total Lines that standard error did not take.\n# TYPE lambda_broker_lines_dropped_total counter\n",
+        name: "lambda_broker_lines_dropped_total",
+        metric: Metric::Notice(NoticeMetric::LinesDropped),
     },
 ];
 

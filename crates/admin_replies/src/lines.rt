@@ -1,7 +1,7 @@
 // Numbers as lines of text.
 ghost use Rattle.std.specs.Prelude.{◌≡◌, ◌++◌, OnOk, map, decimal};
 ghost use Rattle.std.specs.List.{flat_map};
-ghost use Rattle.admin_replies.specs.Lines.{last_digits, value_text, line_of, line_text};
+ghost use Rattle.admin_replies.specs.Lines.{last_digits, seconds_text, value_text, line_of, line_text};
 ghost use Rattle.admin_replies.specs.MetricsText.{section_text};
 
 use crate::metrics::Metrics;
@@ -33,15 +33,26 @@ fn put_last_digits(
     put_number(alloc, out, number % 10)
 }
 
+/// Puts so many milliseconds behind a text, in seconds.
+pub(crate) fn put_seconds(alloc: Global, out: &mut Vec<u8>, time: u64) -> Result<(), AllocError>
+    ensures { OnOk result (out.new.items ≡ out.old.items ++ seconds_text time) }
+{
+    put_number(alloc, out, time / 1000)?;
+    out.extend_from_slice(b".")?;
+    put_last_digits(alloc, out, 3, time)
+}
+
 fn put_value(alloc: Global, out: &mut Vec<u8>, value: Value) -> Result<(), AllocError>
     ensures { OnOk result (out.new.items ≡ out.old.items ++ value_text value) }
 {
     match value {
         Value::Whole(number) => put_number(alloc, out, number),
-        Value::Milliseconds(time) => {
-            put_number(alloc, out, time / 1000)?;
-            out.extend_from_slice(b".")?;
-            put_last_digits(alloc, out, 3, time)
+        Value::Milliseconds(time) => put_seconds(alloc, out, time),
+        Value::Signed(is_below, time) => {
+            if is_below {
+                out.extend_from_slice(b"-")?;
+            }
+            put_seconds(alloc, out, time)
         }
         Value::Microseconds(time) => {
             put_number(alloc, out, time / 1000000)?;

@@ -1,9 +1,10 @@
 // The numbers of a broker.
 ghost use Rattle.std.specs.Prelude.{◌≡◌, ◌^◌, ◌-◌, min, count_by};
-ghost use Rattle.admin_replies.specs.Numbers.{age_of, is_in_phase, phases_of, parked_in, ended_in, event_counters, events_since, in_bytes, process_told, AreMetrics, limits_of};
+ghost use Rattle.admin_replies.specs.Numbers.{age_of, is_in_phase, phases_of, parked_in, ended_in, event_counters, events_since, in_bytes, process_told, noticed_by, AreMetrics, limits_of};
 
 use crate::judging::{counts_told, problems_of};
-use crate::metrics::{EventCounters, Limits, Metrics, Phases, Process};
+use crate::metrics::{EventCounters, Limits, Metrics, Phases, Premise, Process};
+use crate::phase_memory::SeenPhase;
 use crate::telling::Baseline;
 use env_phase::Phase;
 use hall_core::EnvironmentStatus;
@@ -15,6 +16,8 @@ use retry_rules::{RetryPolicy, Settings};
 /// What was counted and measured of a process.
 #[derive(Clone, Copy)]
 pub struct Measures {
+    /// For how many milliseconds it has been looked at, by a clock that nobody sets.
+    pub elapsed: u64,
     /// With the opening's commit.
     pub counters: Counters,
     pub ports: Ports,
@@ -28,6 +31,20 @@ pub struct Measures {
     pub memory: Memory,
     /// The device failed.
     pub has_fault: bool,
+    /// For how many seconds a flush has been under way, once these are five; else 0.
+    pub flush_seconds: u64,
+    pub clock: ClockSet,
+    /// How many lines standard error did not take.
+    pub lines_dropped: u64,
+}
+
+/// How often the system's clock was set, and by how much it was last, in milliseconds.
+#[derive(Clone, Copy)]
+pub struct ClockSet {
+    pub steps: u64,
+    /// It was set back.
+    pub is_back: bool,
+    pub millis: u64,
 }
 
 /// How long ago that was, in milliseconds: 0 where it will be.
@@ -132,7 +149,8 @@ fn in_bytes(sectors: u64) -> u64
     sectors.saturating_mul(512)
 }
 
-fn process_told(measures: &Measures, is_stopping: bool) -> Process
+/// What the process does with its disk and its ports.
+pub(crate) fn process_told(measures: &Measures, is_stopping: bool) -> Process
     ensures { result ≡ process_told measures.now is_stopping }
 {
     let counters = measures.counters;
@@ -167,15 +185,34 @@ fn limits_of(policy: &RetryPolicy, settings: &Settings) -> Limits
     }
 }
 
-/// The numbers of a broker that was seen so, of which so much was counted and measured, now, in milliseconds since 1970.
-pub(crate) fn metrics_of(baseline: &Baseline, view: &View, measures: &Measures, now: u64) -> Metrics
+/// What was noticed of the premises.
+pub(crate) fn noticed_by(measures: &Measures) -> Premise
+    ensures { result ≡ noticed_by measures.now }
+{
+    Premise {
+        flush_seconds: measures.flush_seconds,
+        clock: measures.clock,
+        lines_dropped: measures.lines_dropped,
+    }
+}
+
+/// The numbers of a broker that was seen so, of whose phases that is remembered, and of which so much was counted and measured,
+/// now, in milliseconds since 1970.
+pub(crate) fn metrics_of(
+    baseline: &Baseline,
+    view: &View,
+    seen: &[SeenPhase],
+    measures: &Measures,
+    now: u64,
+) -> Metrics
     // claim: Each number, and the verdict, is the definition's, of what was seen, counted and measured.
-    ensures { AreMetrics baseline.now view.now measures.now now result }
+    ensures { AreMetrics baseline.now view.now seen.now measures.now now result }
 {
     let hall = &view.hall;
     let census = hall.tally.census;
     let events = events_since(baseline, &census, &view.counters);
-    let counts = counts_told(now, &events, &measures.counters);
+    let clock = measures.clock;
+    let counts = counts_told(measures.elapsed, clock.steps, &events, &measures.counters);
     Metrics {
         census,
         oldest_wait_age: age_of(now, hall.tally.oldest_waiting),
@@ -191,6 +228,7 @@ pub(crate) fn metrics_of(baseline: &Baseline, view: &View, measures: &Measures, 
         process: process_told(measures, hall.is_stopping),
         ports: measures.ports,
         limits: limits_of(&hall.policy, &baseline.settings),
-        problems: problems_of(&baseline.settings, view, &measures.memory, &counts),
+        noticed: noticed_by(measures),
+        problems: problems_of(&baseline.settings, view, seen, measures, now, &counts),
     }
 }

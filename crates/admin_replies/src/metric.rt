@@ -16,6 +16,7 @@ pub(crate) enum Metric {
     /// How long events took from their acceptance to their end.
     Event(TimeMetric),
     State(StateMetric),
+    Notice(NoticeMetric),
     Limit(LimitMetric),
     /// Whether something is wrong, by its place among the problems.
     Problem(u8),
@@ -77,6 +78,17 @@ pub(crate) enum LimitMetric {
     Age,
     Payload,
     Response,
+}
+
+/// What was noticed of the premises.
+#[derive(Clone, Copy)]
+pub(crate) enum NoticeMetric {
+    /// For how long a flush has been under way.
+    Flush,
+    /// By how much the clock was set last.
+    ClockStep,
+    ClockSteps,
+    LinesDropped,
 }
 
 /// Requests that were refused.

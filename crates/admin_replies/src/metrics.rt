@@ -1,6 +1,7 @@
 // The numbers that a monitor collects.
 
-use operator_view::{Census, Problem};
+use crate::measuring::ClockSet;
+use operator_view::{Census, PROBLEMS, Problem};
 use port_meters::{Ports, Refusals};
 use receipts::Lives;
 
@@ -30,8 +31,19 @@ pub struct Metrics {
     /// What was counted of connections and requests.
     pub ports: Ports,
     pub limits: Limits,
+    pub noticed: Premise,
     /// What is wrong, in the order in which it is told.
-    pub problems: [Option<Problem>; 9],
+    pub problems: [Option<Problem>; PROBLEMS],
+}
+
+/// What was noticed of the premises.
+#[derive(Clone, Copy)]
+pub struct Premise {
+    /// For how many seconds a flush has been under way, once these are five; else 0.
+    pub flush_seconds: u64,
+    pub clock: ClockSet,
+    /// How many lines standard error did not take.
+    pub lines_dropped: u64,
 }
 
 /// The settings that are numbers, with the retries and the age that are in force.

@@ -6,7 +6,7 @@ pub const PAGE: &str = r##"<!doctype html>
 <head>
 <meta charset="utf-8">
 <meta name="viewport" content="width=device-width, initial-scale=1">
-<meta http-equiv="Content-Security-Policy" content="default-src 'none'; connect-src 'self'; frame-src 'self'; img-src data:; base-uri 'none'; form-action 'none'; style-src 'sha256-bw1yV4ByBa9q66WphivbkTr/p+LLuW//C61/VbnIXWI='; script-src 'sha256-IUp32Fw3i7rFQyoI6NiDZ+ntEUHTl8u84vzCth1J7bk=' 'sha256-YrxuW5DNNPMENxJxZHF19M66TsEnSW7gU9xQnp/XBaQ='">
+<meta http-equiv="Content-Security-Policy" content="default-src 'none'; connect-src 'self'; frame-src 'self'; img-src data:; base-uri 'none'; form-action 'none'; style-src 'sha256-bw1yV4ByBa9q66WphivbkTr/p+LLuW//C61/VbnIXWI='; script-src 'sha256-ui1b3QW72lxS65Mmc4nQ4dTk0OmyKFy+ipL/DtkbpEE=' 'sha256-ygt5vVVC1o60ykuL5poRHTAwfNpf3BAz79869Ag6DrY='">
 <link rel="icon" href="data:,">
 <title>Lambda broker</title>
 <style>
@@ -97,8 +97,10 @@ td:not(.error, .wrap) { white-space: nowrap; }
 <ul id="legend"></ul>
 <h2 id="h-runs">Running</h2>
 <table id="runs" aria-labelledby="h-runs"></table><p class="soft" id="runs-none"></p>
-<h2 id="h-fails">Last failures, by error</h2>
-<table id="fails" aria-labelledby="h-fails"></table><p class="soft" id="fails-none"></p>
+<h2 id="h-places">Environments, by phase</h2>
+<table id="places" aria-labelledby="h-places"></table><p class="soft" id="places-none"></p><p class="soft" id="places-more"></p>
+<h2 id="h-fails">Failures, by error</h2>
+<table id="fails" aria-labelledby="h-fails"></table><p class="soft" id="fails-none"></p><p class="soft" id="fails-more"></p>
 <h2 id="h-waits">Oldest waits</h2>
 <table id="waits" aria-labelledby="h-waits"></table><p class="soft" id="waits-none"></p>
 <h2>The last <span id="seen">minutes</span></h2>
@@ -184,6 +186,31 @@ function pointsOf(samples, { of, by, times }) {
     return { at: sample.at, value: weight > 0 ? (total(sample) - total(before)) / weight * times : null };
   });
 }
+// Which program it is, and whether it is proved.
+function versionOf({ build_info: [{ labels: { version, state } }] = [{ labels: {} }] }) { return `${version}, ${state}`; }
+// Whether the broker tells of its events. Where a flush hangs, it does not: it tells what is wrong alone.
+function tellsEvents({ families }) { return Boolean(families.events); }
+// In which phase each environment is, and for how long: the longest in init or closing come first, then the longest busy.
+const ORDER = ["init", "closing", "busy", "ready"];
+function environmentsOf(families) {
+  const times = Object.fromEntries((families.environment_phase_seconds || []).map(({ labels, value }) => [labels.environment, value]));
+  return (families.environment_phase || []).map(({ labels: { environment, phase } }) => ({ environment, phase, time: times[environment] }))
+    .sort((one, other) => ORDER.indexOf(one.phase) - ORDER.indexOf(other.phase) || other.time - one.time);
+}
+// Failures by what is known of them, an error a line: its words, how many, the last of them; and of how many none is known.
+function failuresOf(all, known) {
+  const lines = {};
+  let unread = 0;
+  for (const failure of all) {
+    const said = known[`${failure.id} ${failure.starts}`];
+    if (said === undefined) unread++;
+    else {
+      const told = (failure.standing.includes("Age") ? "EventAgeExceeded: " : "") + said;
+      (lines[told] ||= { told, count: 0, last: failure }).count++;
+    }
+  }
+  return { lines: Object.values(lines), unread };
+}
 // What the page knows: how much each family is (count).
 function stateOf({ families, ...seen }) {
   const count = (...of) => sum(families, ...of);
@@ -191,13 +218,14 @@ function stateOf({ families, ...seen }) {
     ended: count("events", "success", "retries_exhausted", "event_age_exceeded") };
 }
 
-// What the broker says is wrong, a line each: its level, its reason, and what to do. The worst comes first.
+// What the broker says is wrong, a line each: its level, its reason, and what to do. Causes come before what follows from them.
 const BAD = "bad";
 function findings(text) {
   return text.split("\n").map((line) => /^(bad|look) (\w+): (.*)$/.exec(line)).filter(Boolean)
-    .map(([, level, reason, words]) => [level, reason.replaceAll("_", " "), words])
-    .sort((one, other) => (other[0] === BAD) - (one[0] === BAD));
+    .map(([, level, reason, words]) => [level, reason.replaceAll("_", " "), words]);
 }
+// The worst level of what was found.
+function levelOf(found) { return found.some(([level]) => level === BAD) ? BAD : found[0]?.[0]; }
 function decoded(text) {
   try { return decodeURIComponent(text); } catch { return text; }
 }
@@ -233,13 +261,13 @@ function answerOf({ responsePayload }) {
 // The first line. It has no numbers, so that a screen reader tells it once.
 function word(level) { return level === BAD ? "Bad" : "Look"; }
 function headline(found) {
-  const level = found[0]?.[0], titles = found.filter(([of]) => of === level).map(([, title]) => title);
+  const level = levelOf(found), titles = found.filter(([of]) => of === level).map(([, title]) => title);
   return level ? `${word(level)}: ${titles.join("; ")}.` : "The broker is well.";
 }
 </script>
 <script>
 "use strict";
-const EVERY = 3000, PATIENCE = 5000, SHOWN = 6, RUNNING = 16, FAILED = 24, LARGE = 65536, LISTED = 50, RECORDS = 25;
+const EVERY = 3000, PATIENCE = 5000, SHOWN = 6, RUNNING = 16, FAILED = 24, FAILURES = 1000, LARGE = 65536, LISTED = 50, RECORDS = 25;
 const STANDINGS = { waiting: "waiting", due_again: "due again", running: "running", success: "ended: Success",
   retries_exhausted: "ended: RetriesExhausted", event_age_exceeded: "ended: EventAgeExceeded" };
 const $ = (id) => document.getElementById(id);
@@ -347,7 +375,7 @@ function showFacts({ families, waits, now, count, waiting, ended }) {
     "commands not durable yet": number("pending_commands"),
     "throttled, interrupted": `${number("attempts_throttled_total")}, ${number("attempts_interrupted_total")}`,
     "switches, generation": `${number("switches_total")}, ${number("generation")}`,
-    "version, served for": `${families.build_info?.[0].labels.version}, ${span(now / 1000 - count("process_start_time_seconds"))}`,
+    "version, served for": `${versionOf(families)}, ${span(now / 1000 - count("process_start_time_seconds"))}`,
     "memory": `${whole(count("process_resident_memory_bytes") / 1048576)} MiB`,
   });
 }
@@ -364,7 +392,8 @@ function showSettings({ families, now, count }) {
     "events held": `at most ${number("table_limit")}`,
     "bytes of a payload, of a response": `at most ${number("payload_limit_bytes")}, ${number("response_limit_bytes")}`,
     "bytes of the disk": number("disk_bytes"),
-    "version": families.build_info?.[0].labels.version,
+    "version": versionOf(families),
+    "kit": families.build_info?.[0].labels.kit || "not known",
     "served since": `${stamp(1000 * started)}, for ${span(now / 1000 - started)}`,
   });
 }
@@ -389,6 +418,7 @@ function table(id, columns, none) {
   };
 }
 const showRuns = table("runs", [["event", "id"], ["environ\u00adment", "n"], ["age", "n"], ["deadline in", "n"]], "No event runs.");
+const showPlaces = table("places", [["environ\u00adment", ""], ["phase", ""], ["for", "n"]], "None was looked at yet.");
 const showFails = table("fails", [["error", "error"], ["events", "n"], ["last", "n wrap"]], "No event that failed is held.");
 const showList = table("list", [["event", "id"], ["stands", "wrap"], ["accepted", "n far"], ["due or ended", "n"], ["starts", "n"], ["failures", "n far"], ["bytes", "n far"]], "No such event is held.");
 const showRecords = table("records", [["event", "id"], ["ended", "wrap"], ["outcome", "wrap far"], ["starts", "n far"], ["error or response", "error"]], "No such record is held.");
@@ -471,7 +501,7 @@ async function readWaits(now) {
   showWaits(events.slice(0, SHOWN).map((e) => [[e.id, e.id], span((now - e.accepted) / 1000), until(e.moment, now), e.starts, e.failures]));
   return events;
 }
-let known = {}, shown = "";
+let known = {}, shown = "", unread = 0;
 async function lastError({ id, starts, payloadBytes }) {
   return known[`${id} ${starts}`] ?? (payloadBytes > LARGE ? "not read: the payload is large" : error((await json(`events/${id}`)).lastError));
 }
@@ -486,18 +516,24 @@ async function lastFailures() {
   } while (after);
   return all.sort((a, b) => b.moment - a.moment);
 }
-// Equal errors are one line. They are read where a count has changed.
+// Equal errors are one line. Where a count has changed, or some are not read, some more are, the last first.
 async function readFails(state) {
-  if (state === shown) return;
-  const last = (await lastFailures()).slice(0, FAILED), errors = await Promise.all(last.map(lastError)), lines = {};
-  known = {};
-  last.forEach(({ id, moment, standing, starts }, place) => {
-    const said = known[`${id} ${starts}`] = errors[place];
-    const told = (standing.includes("Age") ? "EventAgeExceeded: " : "") + said;
-    (lines[told] ||= [told, 0, [id, standing.startsWith("ended") ? stamp(moment) : "due again"]])[1]++;
-  });
-  showFails(Object.values(lines));
+  if (state === shown && !unread) return;
+  const all = await lastFailures(), near = all.slice(0, FAILURES), key = ({ id, starts }) => `${id} ${starts}`;
+  const next = near.filter((failure) => !(key(failure) in known)).slice(0, FAILED), errors = await Promise.all(next.map(lastError));
+  next.forEach((failure, place) => known[key(failure)] = errors[place]);
+  known = Object.fromEntries(near.map(key).filter((name) => name in known).map((name) => [name, known[name]]));
+  const told = failuresOf(near, known), older = all.length - near.length;
+  unread = told.unread;
+  showFails(told.lines.map(({ told, count, last }) => [told, count, [last.id, last.standing.startsWith("ended") ? stamp(last.moment) : "due again"]]));
+  const more = [unread && `${whole(unread)} more are read soon`, older && `${whole(older)} older ones are not read`].filter(Boolean).join("; ");
+  put($("fails-more"), more ? `Of ${whole(all.length)} failures, ${more}.` : "");
   shown = state;
+}
+function showEnvironments(families) {
+  const all = environmentsOf(families), near = all.slice(0, RUNNING);
+  showPlaces(near.map(({ environment, phase, time }) => [environment, phase, span(time)]));
+  put($("places-more"), all.length > near.length ? `${whole(all.length - near.length)} more are not shown.` : "");
 }
 
 // A screen reader is told only what has changed.
@@ -515,7 +551,7 @@ function showFound(found) {
     put(item.children[1] || add(item, "span"), text);
   });
 }
-let answered = 0, waits = [];
+let answered = 0, told_at = 0, waits = [];
 async function readNumbers(at) {
   const reply = await ask("metrics"), families = read(await reply.text()), health = await ask("healthz?deep");
   answered = at;
@@ -549,12 +585,15 @@ async function readLists({ now, families }) {
 function showState(seen) {
   const state = stateOf({ ...seen, waits }), found = findings(seen.said);
   put($("name"), seen.families.settings_info?.[0].labels.function || "Lambda broker");
-  showFacts(state);
-  showSettings(state);
-  showStandings(state);
   showFound(found);
+  if (tellsEvents(seen)) {
+    showFacts(state);
+    showSettings(state);
+    showStandings(state);
+    showEnvironments(seen.families);
+  }
   if (seen.said && !found.length) health(`Bad: the broker says ${seen.said.trim()}.`, BAD);
-  else health(headline(found), found[0]?.[0] ?? "good");
+  else health(headline(found), levelOf(found) ?? "good");
 }
 function showSilence(why) {
   showFound([]);
@@ -569,8 +608,15 @@ async function readAll(at) {
   } catch (why) {
     return showSilence(why);
   }
+  $("main").hidden = !tellsEvents(seen) && !told_at;
+  if (!tellsEvents(seen)) {
+    showState(seen);
+    $("main").className = "gone";
+    return `Read at ${stamp(at)}. ${told_at ? `The events stand below as they were at ${stamp(told_at)}.` : "Nothing is known of the events."}`;
+  }
   const missing = await readLists(seen);
   showState(seen);
+  told_at = at;
   return `Read at ${stamp(at)}, and again every ${EVERY / 1000} seconds${missing}.`;
 }
 let turns = 0;

@@ -12,31 +12,35 @@ use receipts::View;
 /// What is kept of a broker's numbers at one moment. But for those that wait, each was counted since the broker was opened.
 #[derive(Clone, Copy)]
 pub struct Sample {
-    /// The moment, and what a verdict is found by.
+    /// The moment, in milliseconds since 1970.
+    pub at: u64,
+    /// What a verdict is found by.
     pub counts: Counts,
-    pub accepted: u64,
     pub collected: u64,
     /// How many events wait, for any attempt.
     pub waiting: u64,
     pub written_bytes: u64,
 }
 
-/// What is kept of a broker that is seen so, when so much was counted and so many bytes were written, in milliseconds since 1970.
+/// What is kept of a broker that is seen so, when so much was counted and so many bytes were written, at this moment, after it was
+/// looked at for so long and the clock was set so often.
 pub fn sample_of(
     baseline: &Baseline,
     view: &View,
     counters: &Counters,
     written_bytes: u64,
-    now: u64,
+    at: u64,
+    elapsed: u64,
+    steps: u64,
 ) -> Sample
     // claim: A sample is the definition's, of what was seen and counted then.
-    ensures { result ≡ sample_told baseline.now view.now counters.now written_bytes now }
+    ensures { result ≡ sample_told baseline.now view.now counters.now written_bytes at elapsed steps }
 {
     let census = &view.hall.tally.census;
     let events = events_since(baseline, census, &view.counters);
     Sample {
-        counts: counts_told(now, &events, counters),
-        accepted: view.counters.accepted,
+        at,
+        counts: counts_told(elapsed, steps, &events, counters),
         collected: view.counters.collected,
         waiting: (census.waiting as u64).saturating_add(census.due_again as u64),
         written_bytes,
@@ -50,7 +54,7 @@ pub(crate) fn numbers_in(sample: &Sample) -> [u64; 12]
 {
     let counts = sample.counts;
     [
-        sample.accepted,
+        counts.accepted,
         counts.started,
         counts.succeeded,
         counts.failed,

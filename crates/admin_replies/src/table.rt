@@ -4,7 +4,7 @@ ghost use Rattle.admin_replies.specs.Lines.{line_of};
 ghost use Rattle.admin_replies.specs.Table.{lines_of};
 
 use crate::duration_table::DURATIONS;
-use crate::judged_table::{LIMITS, PROBLEMS};
+use crate::judged_table::{LIMITS, PREMISES, PROBLEMS, STALLED};
 use crate::metric::{
     HeldMetric, LifeMetric, Metric, PhaseMetric, RefusalMetric, StateMetric, TimeMetric,
     UnreadMetric, WaitMetric,
@@ -25,6 +25,8 @@ pub(crate) struct Row {
 pub(crate) enum Section {
     /// What is wrong.
     Problems,
+    /// That a flush hangs.
+    Stalled,
     /// Where the events stand.
     Held,
     /// How old the oldest are, and what waits.
@@ -43,6 +45,10 @@ pub(crate) enum Section {
     Commits,
     /// The disk and the process.
     Disk,
+    /// Whether the broker stops.
+    Stopping,
+    /// What was noticed of the premises.
+    Premises,
     /// What is allowed at most.
     Limits,
 }
@@ -320,7 +326,7 @@ const COMMITS: [Row; 11] = [
     },
 ];
 
-const DISK: [Row; 9] = [
+const DISK: [Row; 8] = [
     Row {
         head: "# HELP lambda_broker_switches_total Switches to the other segment of the disk.\n# TYPE lambda_broker_switches_total counter\n",
         name: "lambda_broker_switches_total",
@@ -357,16 +363,17 @@ const DISK: [Row; 9] = [
         metric: Metric::State(StateMetric::StartedAt),
     },
     Row {
-        head: "# HELP lambda_broker_stopping 1 while the broker stops, else 0.\n# TYPE lambda_broker_stopping gauge\n",
-        name: "lambda_broker_stopping",
-        metric: Metric::State(StateMetric::Stopping),
-    },
-    Row {
         head: "# HELP lambda_broker_device_fault 1 once the disk has failed, else 0.\n# TYPE lambda_broker_device_fault gauge\n",
         name: "lambda_broker_device_fault",
         metric: Metric::State(StateMetric::Fault),
     },
 ];
+
+const STOPPING: [Row; 1] = [Row {
+    head: "# HELP lambda_broker_stopping 1 while the broker stops, else 0.\n# TYPE lambda_broker_stopping gauge\n",
+    name: "lambda_broker_stopping",
+    metric: Metric::State(StateMetric::Stopping),
+}];
 
 impl Section {
     /// Its rows.
@@ -375,6 +382,7 @@ impl Section {
     {
         match self {
             Section::Problems => &PROBLEMS,
+            Section::Stalled => &STALLED,
             Section::Held => &HELD,
             Section::Waits => &WAITS,
             Section::Environments => &ENVIRONMENTS,
@@ -384,6 +392,8 @@ impl Section {
             Section::Ports => &PORTS,
             Section::Commits => &COMMITS,
             Section::Disk => &DISK,
+            Section::Stopping => &STOPPING,
+            Section::Premises => &PREMISES,
             Section::Limits => &LIMITS,
         }
     }

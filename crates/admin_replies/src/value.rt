@@ -1,13 +1,13 @@
 // The number that a metric names.
 ghost use Rattle.std.specs.Prelude.{◌≡◌, slice_index};
-ghost use Rattle.admin_replies.specs.Values.{or_zero, indicator, held_value, wait_value, phase_value, life_value, refusal_value, unread_value, open_value, spread_in, time_value, event_value, commit_value, state_value, limit_value, problem_value, value_of};
+ghost use Rattle.admin_replies.specs.Values.{or_zero, indicator, held_value, wait_value, phase_value, life_value, refusal_value, unread_value, open_value, spread_in, time_value, event_value, commit_value, state_value, notice_value, limit_value, problem_value, value_of};
 
 use crate::metric::{
-    HeldMetric, LifeMetric, LimitMetric, Metric, OpenMetric, PhaseMetric, RefusalMetric,
-    ReplyMetric, StateMetric, TimeMetric, UnreadMetric, WaitMetric,
+    HeldMetric, LifeMetric, LimitMetric, Metric, NoticeMetric, OpenMetric, PhaseMetric,
+    RefusalMetric, ReplyMetric, StateMetric, TimeMetric, UnreadMetric, WaitMetric,
 };
-use crate::metrics::{Limits, Metrics, Phases, Process};
-use operator_view::{Census, Problem};
+use crate::metrics::{Limits, Metrics, Phases, Premise, Process};
+use operator_view::{Census, PROBLEMS, Problem};
 use port_meters::{Ports, Refusals, Spread, UnreadCounts};
 use receipts::Lives;
 
@@ -20,6 +20,8 @@ pub(crate) enum Value {
     Milliseconds(u64),
     /// In seconds.
     Microseconds(u64),
+    /// So many milliseconds, in seconds, and whether they are below 0.
+    Signed(bool, u64),
 }
 
 fn or_zero(age: Option<u64>) -> u64
@@ -196,6 +198,17 @@ fn state_value(process: &Process, state: StateMetric) -> Value
     }
 }
 
+fn notice_value(noticed: &Premise, notice: NoticeMetric) -> Value
+    ensures { result ≡ notice_value noticed.now notice }
+{
+    match notice {
+        NoticeMetric::Flush => Value::Whole(noticed.flush_seconds),
+        NoticeMetric::ClockStep => Value::Signed(noticed.clock.is_back, noticed.clock.millis),
+        NoticeMetric::ClockSteps => Value::Whole(noticed.clock.steps),
+        NoticeMetric::LinesDropped => Value::Whole(noticed.lines_dropped),
+    }
+}
+
 fn limit_value(limits: &Limits, limit: LimitMetric) -> u64
     ensures { result ≡ limit_value limits.now limit }
 {
@@ -211,7 +224,7 @@ fn limit_value(limits: &Limits, limit: LimitMetric) -> u64
 }
 
 // 1 where there is a problem at this place, else 0.
-fn problem_value(problems: &[Option<Problem>; 9], place: u8) -> u64
+fn problem_value(problems: &[Option<Problem>; PROBLEMS], place: u8) -> u64
     ensures { result ≡ problem_value problems.now place }
 {
     match problems.get(place as usize) {
@@ -236,6 +249,7 @@ pub(crate) fn value_of(metrics: &Metrics, metric: Metric) -> Value
         Metric::Commit(commit) => commit_value(&metrics.process, commit),
         Metric::Event(time) => event_value(&metrics.lives, time),
         Metric::State(state) => state_value(&metrics.process, state),
+        Metric::Notice(notice) => notice_value(&metrics.noticed, notice),
         Metric::Limit(limit) => Value::Whole(limit_value(&metrics.limits, limit)),
         Metric::Problem(place) => Value::Whole(problem_value(&metrics.problems, place)),
     }

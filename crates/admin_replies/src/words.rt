@@ -1,23 +1,45 @@
 // What is wrong, in words that say what to do: `LEVEL REASON: WORDS` on a line.
-use operator_view::Problem;
+use crate::causes::{cause_of_refusals, cause_of_table, cause_of_waits};
+use crate::spans::span;
+use crate::table_words::{put_backlog, put_expire, put_records, put_refused, put_table};
+use operator_view::{PROBLEMS, Problem};
 use std::alloc::{AllocError, Global};
 
-// So many seconds, in the unit in which a person reads them.
-fn span(seconds: u64) -> (u64, &'static str) {
-    if seconds < 600 {
-        (seconds, "s")
-    } else if seconds < 36_000 {
-        (seconds / 60, "min")
-    } else {
-        (seconds / 3600, "h")
-    }
-}
-
-fn put_refused(out: &mut String, full: u64, busy: u64, seconds: u64) -> Result<(), AllocError> {
+fn put_hangs(out: &mut String, seconds: u64) -> Result<(), AllocError> {
     let (time, unit) = span(seconds);
     write!(
         out,
-        "bad callers_are_refused: In the last {time} {unit} {full} × 429: the table was full; collect records, and see why the others wait. {busy} × 503: too much was under way; look at commits and open requests.\n"
+        "bad disk_hangs: A flush of the disk has been under way for {time} {unit}: nobody is answered what waits for it. What was answered 202 is safe. Look at the device, and at the system's log.\n"
+    )
+}
+
+fn put_behind(out: &mut String, seconds: u64) -> Result<(), AllocError> {
+    let (time, unit) = span(seconds);
+    write!(
+        out,
+        "bad clock_is_behind: The system's clock is {time} {unit} behind the last command on the disk: until it has caught up, no event is due, times out or grows older. Set the clock right.\n"
+    )
+}
+
+fn put_jump(
+    out: &mut String,
+    expired: u64,
+    steps: u64,
+    ahead: u64,
+    seconds: u64,
+) -> Result<(), AllocError> {
+    let (time, unit) = span(seconds);
+    write!(
+        out,
+        "bad events_expired_by_a_jump: In the last {time} {unit} {expired} events were given up for their age, and the clock was set {steps} times"
+    )?;
+    if 0 < ahead {
+        let (by, of) = span(ahead);
+        write!(out, ", last by {by} {of} ahead")?;
+    }
+    write!(
+        out,
+        ": perhaps they were too old by a wrong clock alone. Their records are at /records/failure, and can be tried again; look at the clock.\n"
     )
 }
 
@@ -30,7 +52,41 @@ fn put_nobody_polls(
     let level = if 0 < due { "bad" } else { "look" };
     write!(
         out,
-        "{level} nobody_polls: A poll is missing in {without_poll} of {environments} environments, and {due} events are due. Start the runtime, or the extension that --extensions waits for; its log says why it ended.\n"
+        "{level} nobody_polls: A poll is missing in {without_poll} of {environments} environments"
+    )?;
+    if 0 < due {
+        write!(out, ", and {due} events are due")?;
+    }
+    write!(
+        out,
+        ". Start the runtime, or the extension that --extensions waits for; its log says why it ended.\n"
+    )
+}
+
+fn put_environment(
+    out: &mut String,
+    environment: u64,
+    unpolled: u64,
+    running: u64,
+) -> Result<(), AllocError> {
+    write!(out, "look environment_hangs:")?;
+    if 0 < unpolled {
+        let (time, unit) = span(unpolled);
+        write!(
+            out,
+            " Environment {environment} has lacked a poll for {time} {unit}, and others do not."
+        )?;
+    }
+    if 0 < running {
+        let (time, unit) = span(running);
+        write!(
+            out,
+            " An attempt has run for {time} {unit}, and others took less than 30 s: 'Running' on the page says where."
+        )?;
+    }
+    write!(
+        out,
+        " Is that environment's runtime there, and does it go on? Its log says; start it anew.\n"
     )
 }
 
@@ -44,34 +100,19 @@ fn put_nothing_ends(
     let (time, unit) = span(seconds);
     write!(
         out,
-        "bad nothing_ends: For {time} {unit}, while {due} events are due; the timeout is {timeout} s. Attempts begun lately: {started}. With none, start the runtimes anew; else they fail, or hang: read their logs.\n"
-    )
-}
-
-fn put_table(
-    out: &mut String,
-    name: &str,
-    held: u64,
-    most: u64,
-    ended: u64,
-) -> Result<(), AllocError> {
-    write!(
-        out,
-        "{name}: {held} of at most {most} events are held; when it is full, callers are told 429. {ended} have ended: collect their records, as examples/forward.py does. See why the others wait.\n"
-    )
-}
-
-fn put_expire(
-    out: &mut String,
-    expiring: u64,
-    expired: u64,
-    seconds: u64,
-) -> Result<(), AllocError> {
-    let (time, unit) = span(seconds);
-    write!(
-        out,
-        "bad events_expire: {expiring} events that wait have reached five sixths of their age; {expired} were given up in the last {time} {unit}. Bring up runtimes that take them; a changed --age is for later events alone.\n"
-    )
+        "bad nothing_ends: Nothing has ended for {time} {unit}, while {due} events are due; the timeout is {timeout} s. "
+    )?;
+    if 0 < started {
+        write!(
+            out,
+            "{started} attempts were begun lately: they fail, or hang. Read the runtimes' logs.\n"
+        )
+    } else {
+        write!(
+            out,
+            "No attempt was begun lately: start the runtimes anew.\n"
+        )
+    }
 }
 
 fn put_fail(out: &mut String, failed: u64, succeeded: u64, seconds: u64) -> Result<(), AllocError> {
@@ -93,31 +134,79 @@ fn put_slow(
     let mean = microseconds.checked_div(commits).unwrap_or(0) / 1000;
     write!(
         out,
-        "look commits_are_slow: {commits} commits in the last {time} {unit} took {mean} ms on average, {late} of them more than 500 ms. Nothing is lost: look at the device, and at who else writes to it.\n"
-    )
-}
-
-fn put_records(out: &mut String, records: u64, seconds: u64) -> Result<(), AllocError> {
-    let (time, unit) = span(seconds);
+        "look commits_are_slow: {commits} commits in the last {time} {unit} took {mean} ms on average"
+    )?;
+    if 0 < late {
+        write!(out, ", {late} of them more than 500 ms")?;
+    }
     write!(
         out,
-        "look records_not_collected: {records} records are held, the oldest for {time} {unit}. Does examples/forward.py run, or what else collects them, for success and for failure? Does its URL take them?\n"
+        ". Nothing is lost: look at the device, and at who else writes to it.\n"
     )
 }
 
-// What happened lately.
-fn put_happening(out: &mut String, problem: Problem) -> Result<(), AllocError> {
+fn put_busy(
+    out: &mut String,
+    environments: u64,
+    running: u64,
+    due: u64,
+    waited: u64,
+) -> Result<(), AllocError> {
+    let (time, unit) = span(waited);
+    write!(
+        out,
+        "look all_busy: All environments ({environments}) are busy while {due} events are due, the first for {time} {unit}."
+    )?;
+    if running < environments {
+        let others = environments - running;
+        write!(
+            out,
+            " In {others} of them no attempt runs: their runtimes have answered, and do not poll. Start them anew."
+        )?;
+    }
+    if 0 < running {
+        write!(
+            out,
+            " Serve with more --environments and runtimes, or make the function faster; 'Running' on the page shows what they do."
+        )?;
+    }
+    write!(out, "\n")
+}
+
+// What is wrong with the machine or an environment.
+fn put_cause_found(out: &mut String, problem: Problem) -> Result<(), AllocError> {
     match problem {
-        Problem::CallersAreRefused {
-            full,
-            busy,
-            seconds,
-        } => put_refused(out, full, busy, seconds),
-        Problem::EventsExpire {
-            expiring,
+        Problem::DiskHangs { seconds } => put_hangs(out, seconds),
+        Problem::ClockIsBehind { seconds } => put_behind(out, seconds),
+        Problem::EventsExpiredByAJump {
             expired,
+            steps,
+            ahead,
             seconds,
-        } => put_expire(out, expiring, expired, seconds),
+        } => put_jump(out, expired, steps, ahead, seconds),
+        Problem::NobodyPolls {
+            without_poll,
+            environments,
+            due,
+        } => put_nobody_polls(out, without_poll, environments, due),
+        Problem::EnvironmentHangs {
+            environment,
+            unpolled,
+            running,
+        } => put_environment(out, environment, unpolled, running),
+        Problem::NothingEnds {
+            seconds,
+            due,
+            timeout,
+            started,
+        } => put_nothing_ends(out, seconds, due, timeout, started),
+        _ => Ok(()),
+    }
+}
+
+// How attempts, commits and records go on.
+fn put_course(out: &mut String, problem: Problem) -> Result<(), AllocError> {
+    match problem {
         Problem::MostAttemptsFail {
             failed,
             succeeded,
@@ -129,43 +218,68 @@ fn put_happening(out: &mut String, problem: Problem) -> Result<(), AllocError> {
             late,
             seconds,
         } => put_slow(out, commits, microseconds, late, seconds),
-        _ => Ok(()),
+        Problem::AllBusy {
+            environments,
+            running,
+            due,
+            waited,
+        } => put_busy(out, environments, running, due, waited),
+        Problem::RecordsNotCollected { records, seconds } => put_records(out, records, seconds),
+        other => put_cause_found(out, other),
     }
 }
 
-fn put_problem(out: &mut String, problem: Problem) -> Result<(), AllocError> {
+// What follows from others among these problems, or any.
+fn put_problem(
+    out: &mut String,
+    problems: &[Option<Problem>; PROBLEMS],
+    problem: Problem,
+) -> Result<(), AllocError> {
     match problem {
-        Problem::NobodyPolls {
-            without_poll,
-            environments,
-            due,
-        } => put_nobody_polls(out, without_poll, environments, due),
-        Problem::NothingEnds {
+        Problem::BacklogGrows {
+            accepted,
+            ended,
+            waited,
             seconds,
-            due,
-            timeout,
-            started,
-        } => put_nothing_ends(out, seconds, due, timeout, started),
+        } => put_backlog(
+            out,
+            accepted,
+            ended,
+            waited,
+            seconds,
+            cause_of_waits(problems),
+        ),
         Problem::TableFull { held, most, ended } => {
-            put_table(out, "bad table_full", held, most, ended)
+            let cause = cause_of_table(problems, held, ended);
+            put_table(out, "bad table_full", (held, most, ended), cause)
         }
         Problem::TableNearlyFull { held, most, ended } => {
-            put_table(out, "look table_nearly_full", held, most, ended)
+            let cause = cause_of_table(problems, held, ended);
+            put_table(out, "look table_nearly_full", (held, most, ended), cause)
         }
-        Problem::RecordsNotCollected { records, seconds } => put_records(out, records, seconds),
-        other => put_happening(out, other),
+        Problem::CallersAreRefused {
+            full,
+            busy,
+            seconds,
+        } => put_refused(out, full, busy, seconds, cause_of_refusals(problems)),
+        Problem::EventsExpire {
+            expiring,
+            expired,
+            seconds,
+        } => put_expire(out, expiring, expired, seconds, cause_of_waits(problems)),
+        other => put_course(out, other),
     }
 }
 
 /// What is wrong, each problem on a line. Only want of memory is refused.
 pub(crate) fn problems_text(
     alloc: Global,
-    problems: &[Option<Problem>; 9],
+    problems: &[Option<Problem>; PROBLEMS],
 ) -> Result<Vec<u8>, AllocError> {
     let mut out = String::new(alloc);
     for problem in problems {
         if let Some(problem) = problem {
-            put_problem(&mut out, *problem)?;
+            put_problem(&mut out, problems, *problem)?;
         }
     }
     Ok(out.into_bytes())

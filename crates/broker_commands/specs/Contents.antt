@@ -8,6 +8,7 @@ use Rattle.checkpoint.specs.Image.{recovered}
 use Rattle.checkpoint.specs.declared.error.OpenError.TheVariants as open_error
 use Rattle.audit_report.specs.Report.{IsReportOn}
 use Rattle.audit_report.specs.declared.report.Report.{Report}
+use Rattle.disk_gates.specs.Versions.{is_newer_disk}
 use Rattle.broker_commands.specs.declared.opening.DiskError.{DiskError}
 use Rattle.broker_commands.specs.declared.opening.DiskError.TheVariants as disk_error
 use Rattle.broker_commands.specs.declared.contents.ContentsError.{ContentsError}
@@ -37,10 +38,11 @@ IsUnopened image (Open open_error.OldVersion) = recovered image ≡ Err open_err
 IsUnopened image (Open open_error.NotFormatted) = ⊥
 IsUnopened image (Open other) = Unit {0}
 
--- why an image is not formatted over: it has another size than it was formatted with, or one of those
+-- why an image is not formatted over: it has another size than it was formatted with, or is of a later version, or one of those
 abbrev pub IsOccupied : List ℕ → ContentsError → Type 0
 IsOccupied image (Disk (disk_error.Resized sectors)) = TellsResized image (Some (found.Displaced sectors))
 IsOccupied image (Disk (disk_error.Cut sector)) = TellsResized image (Some (found.Cut sector))
+IsOccupied image (Disk disk_error.NewerVersion) = is_newer_disk image ≡ true
 IsOccupied image (Disk other) = IsPassing other
 IsOccupied image other = IsUnopened image other
 

@@ -6,8 +6,9 @@ use Rattle.checkpoint.specs.declared.error.FormatError.TheVariants as format_err
 use Rattle.broker_commands.specs.declared.formatting.Function.{Function}
 use Rattle.broker_commands.specs.declared.formatting.NumericSettings.{NumericSettings}
 use Rattle.broker_commands.specs.declared.formatting.NewDiskError.{NewDiskError}
-use Rattle.broker_commands.specs.declared.formatting.NewDiskError.TheVariants.{File, Contents, Format}
+use Rattle.broker_commands.specs.declared.formatting.NewDiskError.TheVariants.{File, Contents, Disk, Format}
 use Rattle.broker_commands.specs.Contents.{is_contents_fault}
+use Rattle.broker_commands.specs.Opening.{is_disk_fault}
 
 -- the settings of the function that was told, with these numbers
 abbrev pub settings_for : Function → NumericSettings → Settings
@@ -28,5 +29,6 @@ settings_for function n = record {
 abbrev pub is_device_fault : NewDiskError → Bool
 is_device_fault (File file_error.Fault) = true
 is_device_fault (Contents why) = is_contents_fault why
+is_device_fault (Disk why) = is_disk_fault why
 is_device_fault (Format format_error.Fault) = true
 is_device_fault refusal = false

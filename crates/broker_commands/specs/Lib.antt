@@ -1,4 +1,5 @@
 pub mod Auditing
+pub mod Claims
 pub mod Configuring
 pub mod Contents
 pub mod Copying
@@ -6,4 +7,5 @@ pub mod Formatting
 pub mod Migrating
 pub mod Opening
 pub mod Status
+pub mod Versions
 pub mod laws

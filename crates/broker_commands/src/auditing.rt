@@ -2,17 +2,19 @@
 ghost use Rattle.std.specs.Prelude.{◌≡◌, ◌++◌, IfOk, OnOk, string_bytes};
 ghost use Rattle.broker_commands.specs.Auditing.{is_device_fault, lines_of_policy, lines_of_event, lines_of, IsTold, Answers};
 
+use crate::clock::now;
 use crate::opening::{DiskError, open_device_read_only};
+use crate::prospects::{Prospects, prospects_of};
 use async_core::Table;
-use audit_report::{
-    Report, all_records, audit, explain, figures, in_force_line, inspect, json_line,
-};
+use audit_report::{Report, all_records, explain, figures, in_force_line, inspect, json_line};
 use broker_core::OpenError;
+use port_meters::Lines;
 use sector_disk::Disk;
 use std::alloc::{AllocError, Global};
 use std::fs::File;
 use std::io::Eprint;
 use std::rt::Files;
+use std::time::Clock;
 use thiserror::Error;
 
 /// A disk that is to be audited.
@@ -48,6 +50,8 @@ pub struct More {
 pub struct Audit {
     pub report: Report,
     pub told: AuditOutput,
+    /// What becomes of it once it is served, where the clock tells.
+    pub prospects: Option<Prospects>,
 }
 
 /// What is printed of an audit.
@@ -152,42 +156,54 @@ fn told_of(
     }
 }
 
-// What a disk holds, and what else is asked for.
-fn with_more<D: Disk>(alloc: Global, disk: &mut D, asked: AuditRequest) -> Result<Audit, AuditError>
+// What a disk holds, what else is asked for, and what becomes of it by this moment.
+fn with_more<D: Disk>(
+    alloc: Global,
+    disk: &mut D,
+    asked: AuditRequest,
+    at: Option<u64>,
+) -> Result<Audit, AuditError>
     // claim: An audit tells what is asked for: report, what is in force and event, numbers, or records. [told_of]
     ensures { (D.view disk.old).honest → IfOk result (Answers (D.view disk.old).content asked) }
 {
     let (table, report) = inspect(alloc, disk)?;
     let told = told_of(alloc, &table, &report, asked)?;
-    Ok(Audit { report, told })
+    let prospects = match at {
+        Some(at) => Some(prospects_of(&table, at)),
+        None => None,
+    };
+    Ok(Audit {
+        report,
+        told,
+        prospects,
+    })
 }
 
-// What is asked of a disk, which is given up.
-fn audit_on<D: Disk + Drop>(
-    alloc: Global,
-    disk: D,
-    asked: AuditRequest,
-) -> Result<Audit, AuditError> {
-    let mut disk = disk;
-    if let AuditRequest::Report(
-        More {
-            in_force: false,
-            event: None,
-        },
-    ) = asked
-    {
-        let report = audit(alloc, disk)?;
-        let told = AuditOutput::Report(String::new(alloc));
-        return Ok(Audit { report, told });
+// Warns of what becomes of a disk once it is served. What memory is wanting for is not told.
+fn warn<R: Eprint + AllocGlobal>(
+    rt: &R,
+    path: &str,
+    prospects: &Prospects,
+) -> Result<(), AllocError> {
+    let (alloc, lines) = (rt.alloc(), Lines::new(rt.alloc())?);
+    if let Some(line) = prospects.age_line(alloc, path)? {
+        lines.tell(rt, line.as_str());
     }
-    with_more(alloc, &mut disk, asked)
+    if let Some(line) = prospects.clock_line(alloc, path)? {
+        lines.tell(rt, line.as_str());
+    }
+    Ok(())
 }
 
-/// Reads what a disk holds, which is opened for reading alone.
+/// Reads what a disk holds, which is opened for reading alone. What serving it now would give up is told on standard error.
 pub fn audit_disk<R>(rt: &R, old: &OldDisk<'_>) -> Result<Audit, AuditError>
 where
-    R: Files<File = File> + Eprint + AllocGlobal + Copy + Drop,
+    R: Files<File = File> + Eprint + Clock + AllocGlobal + Copy + Drop,
 {
-    let disk = open_device_read_only(rt, old.path)?;
-    audit_on(rt.alloc(), disk, old.asked)
+    let mut disk = open_device_read_only(rt, old.path)?;
+    let audit = with_more(rt.alloc(), &mut disk, old.asked, now(rt).ok())?;
+    if let Some(prospects) = &audit.prospects {
+        let _ = warn(rt, old.path, prospects);
+    }
+    Ok(audit)
 }

@@ -2,6 +2,7 @@
 use crate::argument::{Argument, command_of};
 use clap::builder::ValueParser;
 use clap::{Command, value_parser};
+use port_meters::BARE_VERSION;
 use std::alloc::{AllocError, Global};
 
 // The file or the device that a command is about.
@@ -13,6 +14,12 @@ fn disk<'a>() -> Argument<'a> {
 const RETRIES: &str = "Retries after a function error, 0 to 2";
 
 const AGE: &str = "Greatest age of an event in seconds, 60 to 21600";
+
+// Taking a claim away before anything else is written.
+fn unclaim<'a>() -> Argument<'a> {
+    let help = "Take away the claim of a broker that watched the disk and has ended";
+    Argument::flag("unclaim", help)
+}
 
 fn format_command<'a>(alloc: Global) -> Result<Command<'a>, AllocError> {
     let sectors = "Size of the disk in sectors of 512 bytes";
@@ -65,13 +72,14 @@ fn configure_command<'a>(alloc: Global) -> Result<Command<'a>, AllocError> {
         disk(),
         Argument::option("retries", RETRIES).of(value_parser!(u8)),
         Argument::option("age", AGE).of(value_parser!(u32)),
+        unclaim(),
     ];
     command_of(alloc, "configure", about, &told)
 }
 
 fn migrate_command<'a>(alloc: Global) -> Result<Command<'a>, AllocError> {
     let about = "Make a disk that an older version wrote one of this version; its events stay";
-    command_of(alloc, "migrate", about, &[disk()])
+    command_of(alloc, "migrate", about, &[disk(), unclaim()])
 }
 
 fn copy_command<'a>(alloc: Global) -> Result<Command<'a>, AllocError> {
@@ -95,6 +103,7 @@ fn copy_command<'a>(alloc: Global) -> Result<Command<'a>, AllocError> {
         Argument::option("name", "Another name of the function"),
         Argument::option("handler", "Another handler"),
         Argument::option("arn", "Another ARN"),
+        unclaim(),
     ];
     command_of(alloc, "copy", about, &told)
 }
@@ -112,40 +121,61 @@ fn reach<'a>(help: &'a str) -> Argument<'a> {
     Argument::usual("address", help, "127.0.0.1", ValueParser::String).called("IP")
 }
 
+// The options of `serve` that have a number.
+fn extensions<'a>() -> Argument<'a> {
+    let help = "Extensions for which an environment waits before its first event, 0 to 10";
+    Argument::usual("extensions", help, "0", value_parser!(u8).range(0..11))
+}
+
+fn threads<'a>() -> Argument<'a> {
+    let help =
+        "Threads that serve the callers, 1 to 32; where it is left out, one for each processor, 8 at most";
+    Argument::option("threads", help).of(value_parser!(u8).range(1..33))
+}
+
+fn body_memory<'a>() -> Argument<'a> {
+    let help =
+        "MiB of callers' bodies that are under way at once, 8 to 32767; those behind wait to be read";
+    let range = value_parser!(u16).range(8..32768);
+    Argument::usual("body-memory", help, "32", range).called("MIB")
+}
+
+fn clock_grace<'a>() -> Argument<'a> {
+    let help =
+        "Seconds for which the clock is not believed after it was set ahead by more than an hour, 0 to 86400";
+    let range = value_parser!(u32).range(0..86401);
+    Argument::usual("clock-grace", help, "0", range).called("SECONDS")
+}
+
 /// `serve`.
 pub(crate) fn serve_command<'a>(alloc: Global) -> Result<Command<'a>, AllocError> {
     let port = "Port of the callers, 1024 to 65519; environment n has the port n behind it";
     let dialect = "Whose words errors and names are in";
-    let extensions = "Extensions for which an environment waits before its first event, 0 to 10";
     let host = "A host name under which the ports are asked, beside localhost and addresses";
-    let threads =
-        "Threads that serve the callers, 1 to 32; where it is left out, one for each processor, 8 at most";
     let standby = "Wait for a disk that another program has open";
     let watch = "Claim the disk, and end with status 4 once another broker has taken it over";
     let discard =
         "Whose records are collected as soon as they are durable, so that nobody reads them";
     let admin = "Port of the operator, 1024 to 65535, on the loopback address";
-    let acts = "Let the operator act, too";
     let dialects = ValueParser::Names(&["profile", "aws"]);
     let sides = ValueParser::Names(&["success", "failure", "both"]);
     let told = [
         disk(),
+        Argument::option("name", "Serve the disk of this function alone"),
         Argument::needed("port", port).of(value_parser!(u16).range(1024..65520)),
         Argument::usual("dialect", dialect, "profile", dialects),
-        Argument::usual(
-            "extensions",
-            extensions,
-            "0",
-            value_parser!(u8).range(0..11),
-        ),
+        extensions(),
         reach("IP address of the callers' and the environments' ports"),
         Argument::option("host", host).called("NAME"),
-        Argument::option("threads", threads).of(value_parser!(u8).range(1..33)),
+        threads(),
+        body_memory(),
+        clock_grace(),
         Argument::flag("standby", standby),
         Argument::flag("watch", watch),
+        unclaim().without(&["watch"]),
         Argument::option("discard", discard).of(sides),
         Argument::option("admin", admin).of(value_parser!(u16).range(1024..65536)),
-        Argument::flag("acts", acts),
+        Argument::flag("acts", "Let the operator act, too"),
     ];
     command_of(
         alloc,
@@ -158,11 +188,15 @@ pub(crate) fn serve_command<'a>(alloc: Global) -> Result<Command<'a>, AllocError
 /// `stop`.
 pub(crate) fn stop_command<'a>(alloc: Global) -> Result<Command<'a>, AllocError> {
     let port = "Port of the broker's callers";
+    let lose = "End it though its disk is gone, by which all that was not saved is lost";
     let about =
         "Stop a broker that serves, as POST /broker/stop does, and wait until nobody listens there";
+    let name = "Stop it only if it serves the function of this name";
     let told = [
+        Argument::flag("lose", lose),
         Argument::needed("port", port).of(value_parser!(u16).range(1..65536)),
         reach("IP address of the callers' port"),
+        Argument::option("name", name),
     ];
     command_of(alloc, "stop", about, &told)
 }
@@ -171,9 +205,6 @@ fn trial_command<'a>(alloc: Global) -> Result<Command<'a>, AllocError> {
     let about = "Accept, commit and recover one event on a disk in memory";
     command_of(alloc, "trial", about, &[])
 }
-
-/// The version of the program.
-const VERSION: &str = "0.1.0";
 
 // A command's name.
 #[derive(Clone, Copy)]
@@ -229,7 +260,7 @@ pub(crate) fn commands<'a>(alloc: Global) -> Result<Command<'a>, AllocError> {
     let all = all_named(alloc)?;
     Command::new(alloc, "lambda_broker")
         .about("A broker for asynchronous invocations of one function")
-        .version(VERSION)
+        .version(BARE_VERSION)
         .subcommand_required(true)
         .subcommands(all)
 }

@@ -5,7 +5,7 @@ ghost use Rattle.retry_rules.specs.declared.settings.Field.{Field};
 
 use crate::clock::now;
 use crate::configured::{Configured, configure};
-use crate::opening::{Device, DiskError, open_device};
+use crate::opening::{Device, DiskError, open_unclaimed};
 use broker_core::{CommitError, IssueError, OpenError};
 use retry_rules::{BadSettings, Field, RetryPolicy};
 use std::alloc::AllocError;
@@ -25,6 +25,8 @@ pub struct NewPolicy<'a> {
     pub retries: Option<u8>,
     /// Greatest age of an event in seconds, 60 to 21600.
     pub age: Option<u32>,
+    /// Whether a claim that stands there is taken away first.
+    pub is_unclaimed: bool,
 }
 
 /// Why a disk was not configured.
@@ -95,7 +97,7 @@ where
     if let Some(field) = bad_option(new) {
         return Err(ConfiguringError::Settings(BadSettings { field }));
     }
-    let disk = open_device(rt, new.path)?;
+    let disk = open_unclaimed(rt, new.path, new.is_unclaimed)?;
     let now = now(rt)?;
     configure(rt.alloc(), disk, new, now)
 }

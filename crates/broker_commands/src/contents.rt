@@ -5,6 +5,7 @@ ghost use Rattle.resized_disk.specs.Blank.{is_blank};
 ghost use Rattle.broker_commands.specs.Contents.{IsFree, HoldsEvents, IsOccupied, IsUnopened, IsPassing, is_contents_fault};
 
 use crate::opening::{DiskError, check_size};
+use crate::versions::check_version;
 use audit_report::{Report, inspect};
 use checkpoint::OpenError;
 use resized_disk::{ResizedError, is_blank};
@@ -70,8 +71,8 @@ fn check_events<D: Disk>(alloc: Global, disk: &mut D) -> Result<(), ContentsErro
     }
 }
 
-/// Refuses what may not be formatted over: a disk that holds events, one of another size or one that cannot be opened, and what is
-/// neither zeros nor a formatted disk. Beside a barrier it only reads.
+/// Refuses what may not be formatted over: a disk that holds events, one of a newer version, one of another size or one that cannot be
+/// opened, and what is neither zeros nor a formatted disk. Beside a barrier it only reads.
 pub(crate) fn check_contents<D: Disk>(alloc: Global, disk: &mut D) -> Result<(), ContentsError>
     // claim: The check before a format passes only zeros, or a formatted disk without events. A refusal tells what is there, or
     // that it could not be looked at.
@@ -82,6 +83,9 @@ pub(crate) fn check_contents<D: Disk>(alloc: Global, disk: &mut D) -> Result<(),
         Ok(true) => return Ok(()),
         Ok(false) => {}
         Err(why) => return Err(ContentsError::Disk(why)),
+    }
+    if let Err(why) = check_version(disk) {
+        return Err(ContentsError::Disk(why));
     }
     match check_size(alloc, disk) {
         Ok(()) => check_events(alloc, disk),

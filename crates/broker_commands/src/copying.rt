@@ -4,7 +4,8 @@ ghost use Rattle.broker_commands.specs.Copying.{is_device_fault};
 
 use crate::contents::ContentsError;
 use crate::formatting::{check_place, text};
-use crate::opening::{DiskError, open, open_device};
+use crate::making::ready_place;
+use crate::opening::{DiskError, open, open_unclaimed};
 use crate::telltale::{Telltale, telltale_for};
 use broker_core::{Broker, OpenError};
 use checkpoint::least_sectors;
@@ -43,6 +44,8 @@ pub struct NewCopy<'a> {
     pub limits: NewLimits<'a>,
     /// Whether it is made whatever is there.
     pub is_forced: bool,
+    /// Whether a claim that stands on the old disk is taken away first.
+    pub is_unclaimed: bool,
 }
 
 /// What was copied.
@@ -137,10 +140,12 @@ where
 {
     let log = telltale_for(rt, new.path)?;
     let (file, place) = Place::open(rt, new.path)?;
+    let same = file.try_clone().map_err(FileError::from)?;
     let mut file = LoggedFile::new(file, log);
     if !new.is_forced {
         file = check_place(rt.alloc(), place, file)?;
     }
+    ready_place(rt, new.path, place, &same, sectors)?;
     place.make(rt, new.path, &file, sectors)?;
     Ok((file, place))
 }
@@ -222,6 +227,6 @@ where
     R: Files<File = File> + Eprint + AllocGlobal + Copy + Drop,
 {
     let change = change_for(rt.alloc(), &new.limits)?;
-    let disk = open_device(rt, new.old)?;
+    let disk = open_unclaimed(rt, new.old, new.is_unclaimed)?;
     copy_on(rt, disk, new, &change)
 }

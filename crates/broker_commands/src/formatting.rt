@@ -5,6 +5,7 @@ ghost use Rattle.checkpoint.specs.Image.{least_sectors};
 ghost use Rattle.broker_commands.specs.Formatting.{settings_for, is_device_fault};
 
 use crate::contents::{ContentsError, check_contents};
+use crate::making::ready_place;
 use crate::opening::DiskError;
 use crate::telltale::telltale_for;
 use broker_core::{FormatError, format};
@@ -63,6 +64,9 @@ pub enum NewDiskError {
     File(#[from] FileError),
     #[error("{0}")]
     Contents(#[from] ContentsError),
+    /// What is there was not closed, or not made larger.
+    #[error("{0}")]
+    Disk(#[from] DiskError),
     #[error("{0}")]
     Format(#[from] FormatError),
 }
@@ -75,6 +79,7 @@ impl NewDiskError {
         match self {
             NewDiskError::File(why) => matches!(why, FileError::Fault),
             NewDiskError::Contents(why) => why.is_device_fault(),
+            NewDiskError::Disk(why) => why.is_device_fault(),
             NewDiskError::Format(why) => matches!(why, FormatError::Fault),
             _ => false,
         }
@@ -201,10 +206,12 @@ where
     check_settings(&settings, new.sectors)?;
     let log = telltale_for(rt, new.path)?;
     let (file, place) = Place::open(rt, new.path)?;
+    let same = file.try_clone().map_err(FileError::from)?;
     let mut file = LoggedFile::new(file, log);
     if !new.is_forced {
         file = check_place(rt.alloc(), place, file)?;
     }
+    ready_place(rt, new.path, place, &same, new.sectors)?;
     place.make(rt, new.path, &file, new.sectors)?;
     format_place(rt, new, &settings, place, file)
 }

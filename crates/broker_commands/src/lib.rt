@@ -7,6 +7,7 @@
 mod address;
 mod argument;
 mod auditing;
+mod claims;
 mod clock;
 mod commands;
 mod configured;
@@ -14,15 +15,19 @@ mod configuring;
 mod contents;
 mod copying;
 mod formatting;
+mod making;
 mod migrating;
 mod opening;
 mod printing;
 mod probing;
+mod prospects;
 mod telltale;
+mod versions;
 mod words;
 
-pub use address::Address;
+pub use address::{Address, Stopping};
 pub use auditing::{Audit, AuditError, AuditOutput, AuditRequest, More, OldDisk, audit_disk};
+pub use claims::enter_claim;
 pub use clock::now;
 pub use configured::Configured;
 pub use configuring::{ConfiguringError, NewPolicy, configure_disk};
@@ -30,8 +35,11 @@ pub use contents::ContentsError;
 pub use copying::{Copied, CopyingError, NewCopy, NewLimits, copy_disk};
 pub use formatting::{Function, NewDisk, NewDiskError, NumericSettings, make_disk};
 pub use migrating::{Migrated, MigratingError, OldVersion, migrate_file};
-pub use opening::{Device, DiskError, check_size, open, open_device};
-pub use printing::{DONE, USAGE, print_fault, print_job, print_usage, refuse_for_memory};
+pub use opening::{Device, DiskError, check_size, open, open_device, open_device_by};
+pub use printing::{
+    DONE, USAGE, asks_for_version, print_fault, print_job, print_usage, refuse_for_memory,
+};
 pub use probing::Volume;
-pub use telltale::{Telltale, telltale_for};
+pub use prospects::{Prospects, prospects_of};
+pub use telltale::{Telltale, telltale_by, telltale_for};
 pub use words::{Job, Task, read_task};

@@ -2,7 +2,7 @@
 ghost use Rattle.std.specs.Prelude.{◌≡◌, IfOk, IfErr};
 ghost use Rattle.broker_commands.specs.Migrating.{is_device_fault, IsMigrated, IsMigratingReason};
 
-use crate::opening::{DiskError, open_device};
+use crate::opening::{DiskError, open_unclaimed};
 use audit_report::audit;
 use group_commit::{MigrateError, MigrateFailure, OpenError, migrate};
 use sector_disk::Disk;
@@ -17,6 +17,8 @@ use thiserror::Error;
 pub struct OldVersion<'a> {
     /// A file or a block device.
     pub path: &'a str,
+    /// Whether a claim that stands there is taken away first.
+    pub is_unclaimed: bool,
 }
 
 /// What a disk was migrated to.
@@ -79,6 +81,6 @@ pub fn migrate_file<R>(rt: &R, old: &OldVersion<'_>) -> Result<Migrated, Migrati
 where
     R: Files<File = File> + Eprint + AllocGlobal + Copy + Drop,
 {
-    let disk = open_device(rt, old.path)?;
+    let disk = open_unclaimed(rt, old.path, old.is_unclaimed)?;
     migrate_disk(rt.alloc(), disk)
 }

@@ -9,14 +9,21 @@ ghost use Rattle.broker_commands.specs.Opening.{is_disk_fault, TellsSize};
 ghost use Rattle.broker_commands.specs.declared.opening.DiskError.TheVariants as disk_error;
 ghost use Rattle.sector_disk.specs.declared.file.FileError.TheVariants as file_error;
 
-use crate::telltale::{Telltale, telltale_for};
+use crate::claims::enter_claim;
+use crate::telltale::{Telltale, telltale_by, telltale_for};
+use crate::versions::check_version;
 use broker_core::{Broker, OpenError, without_disk};
+use port_meters::Lines;
 use resized_disk::{Resized, ResizedError, resized};
-use sector_disk::{Disk, FileDisk, FileError, LoggedFile, lock_file, lock_file_read_only};
+use sector_disk::{
+    Disk, FaultLog, FileCall, FileDisk, FileError, LoggedFile, lock_file, lock_file_read_only,
+};
 use std::alloc::{AllocError, Global};
 use std::fs::File;
-use std::io::Eprint;
+use std::io;
+use std::io::{Eprint, ErrorKind};
 use std::rt::Files;
+use std::sync::Arc;
 use thiserror::Error;
 
 /// Why a disk in a file was not opened.
@@ -33,6 +40,12 @@ pub enum DiskError {
     /// Its one open segment goes on behind its half, since it was cut: at this sector an open gate stands where no frame has room.
     #[error("damaged at sector {sector}")]
     Cut { sector: u64 },
+    /// A later version of the format, which this program does not know, wrote it.
+    #[error("newer version")]
+    NewerVersion,
+    /// A broker that watches stands in its claim.
+    #[error("claimed")]
+    Claimed,
 }
 
 impl DiskError {
@@ -76,24 +89,68 @@ pub fn check_size<D: Disk>(alloc: Global, disk: &mut D) -> Result<(), DiskError>
     }
 }
 
-// A file as a disk whose faults are told and whose reads ask the device, of the size that it was formatted with.
-fn device<R>(rt: &R, path: &str, file: File) -> Result<Device<R>, DiskError>
+// Has the reads of a file that follow ask the device. A flush that finds no room is a fault of it: nobody asked for room.
+fn drop_cached<R>(log: Telltale<R>, file: &LoggedFile<Telltale<R>>) -> Result<(), DiskError>
 where
     R: Eprint + AllocGlobal + Copy + Drop,
 {
-    let file = LoggedFile::new(file, telltale_for(rt, path)?);
-    file.drop_cached()?;
+    match file.drop_cached() {
+        Err(FileError::NoRoom) => {
+            let why = io::Error::from(ErrorKind::StorageFull);
+            log.tell(FileCall::Sync, 0, &why);
+            Err(DiskError::File(FileError::Fault))
+        }
+        Err(why) => Err(DiskError::File(why)),
+        Ok(()) => Ok(()),
+    }
+}
+
+// A file as a disk whose faults are told so and whose reads ask the device, of a version that is known and of the size that it was
+// formatted with.
+fn device<R>(rt: &R, telltale: Telltale<R>, file: File) -> Result<Device<R>, DiskError>
+where
+    R: Eprint + AllocGlobal + Copy + Drop,
+{
+    let log = telltale.another()?;
+    let file = LoggedFile::new(file, telltale);
+    drop_cached(log, &file)?;
     let mut disk = FileDisk::over(file)?;
+    check_version(&mut disk)?;
     check_size(rt.alloc(), &mut disk)?;
     Ok(disk)
 }
 
-/// Opens the disk in a file for reading and writing, where it has the size that it was formatted with. Nothing is written.
+/// Opens the disk in a file for reading and writing, where its version is known and it has the size that it was formatted with.
+/// Nothing is written.
 pub fn open_device<R>(rt: &R, path: &str) -> Result<Device<R>, DiskError>
 where
     R: Files<File = File> + Eprint + AllocGlobal + Copy + Drop,
 {
-    device(rt, path, lock_file(rt, path)?)
+    let telltale = telltale_for(rt, path)?;
+    device(rt, telltale, lock_file(rt, path)?)
+}
+
+/// The same, where its faults are told by these lines.
+pub fn open_device_by<R>(rt: &R, path: &str, lines: &Arc<Lines>) -> Result<Device<R>, DiskError>
+where
+    R: Files<File = File> + Eprint + AllocGlobal + Copy + Drop,
+{
+    let telltale = telltale_by(rt, path, lines)?;
+    device(rt, telltale, lock_file(rt, path)?)
+}
+
+/// The same, where nobody claims the disk, or that claim is to be taken away: nobody stands there then.
+pub(crate) fn open_unclaimed<R>(
+    rt: &R,
+    path: &str,
+    is_unclaimed: bool,
+) -> Result<Device<R>, DiskError>
+where
+    R: Files<File = File> + Eprint + AllocGlobal + Copy + Drop,
+{
+    let mut disk = open_device(rt, path)?;
+    enter_claim(&mut disk, is_unclaimed)?;
+    Ok(disk)
 }
 
 /// Opens the disk in a file for reading alone, where it has the size that it was formatted with.
@@ -101,5 +158,6 @@ pub(crate) fn open_device_read_only<R>(rt: &R, path: &str) -> Result<Device<R>, 
 where
     R: Files<File = File> + Eprint + AllocGlobal + Copy + Drop,
 {
-    device(rt, path, lock_file_read_only(rt, path)?)
+    let telltale = telltale_for(rt, path)?;
+    device(rt, telltale, lock_file_read_only(rt, path)?)
 }

@@ -23,6 +23,7 @@ use broker_trial::{Trial, TrialError, run_trial};
 use clap::Error;
 use clap::error::ErrorKind;
 use disk_probe::{Probe, ProbeError};
+use port_meters::Lines;
 use sector_disk::Disk;
 use std::alloc::AllocGlobal;
 use std::fmt::Display;
@@ -67,6 +68,11 @@ where
     }
 }
 
+/// Whether words are no command since they ask for the version.
+pub fn asks_for_version(fault: &Error) -> bool {
+    matches!(fault.kind(), ErrorKind::DisplayVersion)
+}
+
 /// Prints why words are no command, or the help that they ask for: status 2, or 0 for help. Where memory was wanting to read them,
 /// that is printed, with status 1.
 pub fn print_usage<W: Write>(fault: &Error, out: &mut W) -> io::Result<u8>
@@ -97,10 +103,16 @@ fn print_trial<W: Write>(outcome: Result<Trial, TrialError>, out: &mut W) -> io:
 }
 
 // Says on standard error where an ARN does not end with the name of its function: records are told with the ARN.
-fn warn_of_arn<R: Eprint>(rt: &R, function: &Function<'_>) {
+fn warn_of_arn<R: Eprint + AllocGlobal>(rt: &R, function: &Function<'_>) {
     let Function { name, arn, .. } = *function;
-    if arn.rsplit(':').next() != Some(name) {
-        let _ = eprintln!(rt; "warning: the ARN {arn} does not end with the name {name}");
+    if arn.rsplit(':').next() == Some(name) {
+        return;
+    }
+    if let Ok(lines) = Lines::new(rt.alloc()) {
+        let line = format!(in rt.alloc();
+            "warning: the ARN {arn} does not end with the name {name}"
+        );
+        lines.tell_made(rt, line);
     }
 }
 

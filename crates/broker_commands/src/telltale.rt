@@ -1,25 +1,46 @@
 // Telling the faults of a disk on standard error.
+use port_meters::Lines;
 use sector_disk::{FaultLog, FileCall, SECTOR_SIZE};
 use std::alloc::AllocError;
 use std::io;
 use std::io::Eprint;
+use std::sync::Arc;
 
-/// Tells each fault of a disk in one line on standard error.
+/// Tells each fault of a disk in one line on standard error. Where that takes nothing at once the line is left out: who met the fault
+/// does not wait for who reads there.
 #[derive(Drop)]
 pub struct Telltale<R: Drop> {
     rt: R,
     path: String,
+    lines: Arc<Lines>,
 }
 
-/// One for the disk that this path names. It is refused where memory is.
-pub fn telltale_for<R>(rt: &R, path: &str) -> Result<Telltale<R>, AllocError>
+/// One for the disk that this path names, which tells by these lines. It is refused where memory is.
+pub fn telltale_by<R>(rt: &R, path: &str, lines: &Arc<Lines>) -> Result<Telltale<R>, AllocError>
 where
-    R: Eprint + AllocGlobal + Copy + Drop,
+    R: AllocGlobal + Copy + Drop,
 {
     Ok(Telltale {
         rt: *rt,
         path: String::from_str(rt.alloc(), path)?,
+        lines: Arc::try_clone(lines)?,
     })
+}
+
+/// One for the disk that this path names, of a command that tells nothing else. It is refused where memory is.
+pub fn telltale_for<R>(rt: &R, path: &str) -> Result<Telltale<R>, AllocError>
+where
+    R: AllocGlobal + Copy + Drop,
+{
+    let lines = Lines::new(rt.alloc())?;
+    telltale_by(rt, path, &lines)
+}
+
+impl<R: AllocGlobal + Copy + Drop> Telltale<R> {
+    /// Another one for the same disk, by the same lines. It is refused where memory is.
+    pub(crate) fn another(&self) -> Result<Telltale<R>, AllocError> {
+        telltale_by(&self.rt, self.path.as_str(), &self.lines)
+    }
 }
 
 // What a call was about to do.
@@ -34,15 +55,16 @@ fn doing(call: FileCall) -> &'static str {
 
 impl<R: Eprint + AllocGlobal + Copy + Drop> FaultLog for Telltale<R> {
     fn tell(&self, call: FileCall, at: u64, why: &io::Error) {
-        let rt = self.rt;
+        let alloc = self.rt.alloc();
         let path = self.path.as_str();
         let doing = doing(call);
         let sector = at / SECTOR_SIZE as u64;
-        let _ = match call {
+        let line = match call {
             FileCall::Read | FileCall::Write => {
-                eprintln!(rt; "device fault: {doing} {path} at sector {sector}: {why}")
+                format!(in alloc; "device fault: {doing} {path} at sector {sector}: {why}")
             }
-            _ => eprintln!(rt; "device fault: {doing} {path}: {why}"),
+            _ => format!(in alloc; "device fault: {doing} {path}: {why}"),
         };
+        self.lines.tell_made(&self.rt, line);
     }
 }

@@ -1,5 +1,5 @@
 // The words of the command line: which command they are, and what it is told.
-use crate::address::Address;
+use crate::address::{Address, Stopping};
 use crate::auditing::{AuditRequest, More, OldDisk};
 use crate::commands::{audit_command, commands, serve_command, stop_command};
 use crate::configuring::NewPolicy;
@@ -20,8 +20,8 @@ pub enum Task<'a> {
     Job(Job<'a>),
     /// Serves a disk until it is told to stop.
     Serve(Address<'a>),
-    /// Ends the broker whose callers' port this is, and waits for that.
-    Stop(SocketAddr),
+    /// Ends a broker, and waits for that.
+    Stop(Stopping<'a>),
 }
 
 /// A command that waits for nobody.
@@ -115,6 +115,7 @@ fn new_policy<'a>(matches: &ArgMatches<'a>) -> Option<NewPolicy<'a>> {
         path: matches.get_str("disk")?,
         retries: matches.get_one("retries"),
         age: matches.get_one("age"),
+        is_unclaimed: matches.get_flag("unclaim"),
     })
 }
 
@@ -137,12 +138,14 @@ fn new_copy<'a>(matches: &ArgMatches<'a>) -> Option<NewCopy<'a>> {
         sectors: matches.get_one("sectors"),
         limits: new_limits(matches),
         is_forced: matches.get_flag("force"),
+        is_unclaimed: matches.get_flag("unclaim"),
     })
 }
 
 fn old_version<'a>(matches: &ArgMatches<'a>) -> Option<OldVersion<'a>> {
     Some(OldVersion {
         path: matches.get_str("disk")?,
+        is_unclaimed: matches.get_flag("unclaim"),
     })
 }
 
@@ -182,6 +185,7 @@ fn discards(matches: &ArgMatches<'_>, side: &str) -> bool {
 fn address_at<'a>(matches: &ArgMatches<'a>, reach: IpAddr) -> Option<Address<'a>> {
     Some(Address {
         path: matches.get_str("disk")?,
+        name: matches.get_str("name"),
         reach,
         port: matches.get_one("port")?,
         host: matches.get_str("host"),
@@ -190,8 +194,11 @@ fn address_at<'a>(matches: &ArgMatches<'a>, reach: IpAddr) -> Option<Address<'a>
         dialect: dialect(matches.get_str("dialect")?),
         extensions: matches.get_one("extensions")?,
         threads: matches.get_one("threads"),
+        body_memory: matches.get_one("body-memory")?,
+        clock_grace: matches.get_one("clock-grace")?,
         is_standby: matches.get_flag("standby"),
         is_watched: matches.get_flag("watch"),
+        is_unclaimed: matches.get_flag("unclaim"),
         discards_success: discards(matches, "success"),
         discards_failure: discards(matches, "failure"),
     })
@@ -207,12 +214,16 @@ fn address<'a>(alloc: Global, matches: &ArgMatches<'a>) -> Result<Option<Task<'a
     }
 }
 
-fn stopped<'a>(alloc: Global, matches: &ArgMatches<'_>) -> Result<Option<Task<'a>>, Error> {
+fn stopped<'a>(alloc: Global, matches: &ArgMatches<'a>) -> Result<Option<Task<'a>>, Error> {
     let (Some(reach), Some(port)) = (matches.get_str("address"), matches.get_one("port")) else {
         return Ok(None);
     };
     match reach.parse::<IpAddr>() {
-        Ok(ip) => Ok(Some(Task::Stop(SocketAddr::new(ip, port)))),
+        Ok(ip) => Ok(Some(Task::Stop(Stopping {
+            at: SocketAddr::new(ip, port),
+            name: matches.get_str("name"),
+            loses: matches.get_flag("lose"),
+        }))),
         Err(_) => Err(bad_address(alloc, stop_command(alloc)?, reach)?),
     }
 }

@@ -20,6 +20,9 @@ pub enum OpeningError {
     /// A port is in use, or may not be used.
     #[error("port in use")]
     Port,
+    /// The system does not give so many threads to serve the callers, beside those that it takes else.
+    #[error("no room for {threads} threads of callers")]
+    Threads { threads: u8 },
     /// The clock could not be read, or a line not be printed.
     #[error("{0}")]
     System(#[from] io::Error),
@@ -28,6 +31,9 @@ pub enum OpeningError {
     Resume(#[from] IssueError),
     #[error("{0}")]
     Commit(#[from] CommitError),
+    /// It is another function's disk: this one's.
+    #[error("the disk is of function {name}")]
+    OtherFunction { name: String },
     /// The device failed before.
     #[error("device fault")]
     Broken,

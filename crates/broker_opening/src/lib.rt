@@ -7,16 +7,21 @@
 
 mod error;
 mod listening;
+mod naming;
 mod notes;
 mod opening;
 mod output;
+mod own_stamp;
 mod resting;
 mod standby;
 mod stopping;
+mod thread_room;
 
 pub use error::OpeningError;
-pub use notes::{note_stop, warn};
+pub use naming::check_name;
+pub use notes::{note_stop, warn, warn_of_unproved};
 pub use opening::{OpenedDisk, open_to_serve};
 pub use output::{Output, keep_numbers};
+pub use own_stamp::own_version;
 pub use standby::{OpenDisk, open_in_turn};
 pub use stopping::{StoppingError, ask_to_stop, stop_broker};

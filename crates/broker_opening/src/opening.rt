@@ -9,13 +9,15 @@ ghost use Rattle.broker_opening.specs.Opening.{RecoversAtRest, SwitchesRecovered
 
 use crate::error::OpeningError;
 use crate::listening::{Ports, listen_on_all};
+use crate::naming::check_name;
 use crate::resting::hall_at_rest;
+use crate::thread_room::caller_threads;
 use admin_port::{Admin, AdminPort};
 use broker_commands::{Address, open};
 use broker_core::Broker;
 use hall_core::Hall;
 use http_port::Listening;
-use port_meters::Opening;
+use port_meters::{Opening, Premises};
 use sector_disk::{Disk, Written};
 use std::alloc::{AllocError, AllocGlobal};
 use std::fs::File;
@@ -23,7 +25,8 @@ use std::io;
 use std::io::{Eprint, Write};
 use std::net::{Net, SocketAddr, TcpListener, TcpStream};
 use std::rt::Files;
-use std::sync::Wait;
+use std::sync::{Arc, Wait};
+use std::thread::Threads;
 use std::time::{Clock, Instant};
 
 /// A disk that is open to be served: the hall over it, in which nothing has come yet and nothing runs, and what is listened on.
@@ -32,6 +35,8 @@ pub struct OpenedDisk<H> {
     pub hall: H,
     /// The callers' port, and one for each environment behind it.
     pub listeners: Vec<Listening>,
+    /// How many threads serve the callers.
+    pub callers: u8,
     /// The operator's port over the hall.
     pub admin: Option<AdminPort>,
 }
@@ -84,7 +89,7 @@ fn announced<D: Disk, W: Write>(
 /// callers are served is printed. Where the disk was taken over from a broker that may still write to it, the live segment is switched
 /// before.
 ///
-/// It is refused where the disk, a port, the clock, memory or the output is. An attempt is then interrupted, or runs as before.
+/// It is refused where the disk, a port, the clock, memory, a thread or the output is. An attempt is then interrupted, or runs as before.
 pub fn open_to_serve<R, D, W>(
     rt: &R,
     disk: D,
@@ -92,6 +97,7 @@ pub fn open_to_serve<R, D, W>(
     is_takeover: bool,
     at: &Address<'_>,
     start: &io::Result<Instant>,
+    premises: &Arc<Premises>,
     out: &mut W,
 ) -> Result<OpenedDisk<Hall<Broker<D>>>, OpeningError>
 where
@@ -99,8 +105,13 @@ where
         + Clock
         + Wait
         + Eprint
+        + Threads
         + Net<Listener = TcpListener, Stream = TcpStream>
-        + AllocGlobal,
+        + AllocGlobal
+        + Copy
+        + Drop
+        + Send
+        + 'static,
     D: Disk + Drop,
     W: Write,
     ensures nothing { IfOk result (λ opened. pending_of opened.hall.issuer ≡ []) }
@@ -117,13 +128,24 @@ where
     ensures switches { IsTrue is_takeover → (D.view disk).honest → IfOk result (λ opened. SwitchesRecovered D.view disk opened.hall.issuer) }
 {
     let broker = open(rt.alloc(), disk)?;
+    check_name(rt.alloc(), &broker.table().settings().name, at.name)?;
     let environments = broker.table().settings().environments;
-    let mut ports = listen_on_all(rt, at, environments, written)?;
-    let hall = hall_at_rest(rt, broker, is_takeover, at, start, &mut ports.opening)?;
+    let mut ports = listen_on_all(rt, at, broker.table().settings(), written, premises)?;
+    let hall = hall_at_rest(
+        rt,
+        broker,
+        is_takeover,
+        at,
+        start,
+        premises.lines(),
+        &mut ports.opening,
+    )?;
+    let callers = caller_threads(*rt, at, environments)?;
     let (listeners, admin) = announced(&hall, ports, at, out)?;
     Ok(OpenedDisk {
         hall,
         listeners,
+        callers,
         admin,
     })
 }

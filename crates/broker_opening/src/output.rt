@@ -1,6 +1,7 @@
 // The output of the program, and the numbers of its streams.
 ghost use Rattle.std.specs.Prelude.{◌≡◌};
 
+use port_meters::{Stream, takes_a_line};
 use std::fs::{File, OpenOptions};
 use std::io;
 use std::io::{ErrorKind, Write};
@@ -15,25 +16,39 @@ const STANDARD_ERROR: i32 = 2;
 pub struct Output<W: Drop> {
     out: W,
     refusal: Option<ErrorKind>,
+    is_waited_for: bool,
 }
 
 impl<W: Write + Drop> Output<W> {
-    /// One that has taken all so far.
-    pub fn new(out: W) -> Output<W> {
-        Output { out, refusal: None }
+    /// Standard output, which has taken all so far. Where it is not waited for, a line that it does not take at once is left out, as
+    /// all behind it.
+    pub fn new(out: W, is_waited_for: bool) -> Output<W> {
+        Output {
+            out,
+            refusal: None,
+            is_waited_for,
+        }
     }
 
     /// Whether something was left out, though somebody reads it: a file has no room, say.
     pub fn is_cut(&self) -> bool {
         match self.refusal {
-            Some(kind) => kind != ErrorKind::BrokenPipe,
+            Some(kind) => !matches!(kind, ErrorKind::BrokenPipe | ErrorKind::WouldBlock),
             None => false,
+        }
+    }
+
+    // Leaves all out from now on, where it is not waited for and takes nothing at once.
+    fn wait_no_longer(&mut self) {
+        if self.refusal.is_none() && !self.is_waited_for && !takes_a_line(Stream::Output) {
+            self.refusal = Some(ErrorKind::WouldBlock);
         }
     }
 }
 
 impl<W: Write + Drop> Write for Output<W> {
     fn write(&mut self, buf: &[u8]) -> io::Result<usize> {
+        self.wait_no_longer();
         if self.refusal.is_some() {
             return Ok(buf.len());
         }
@@ -47,6 +62,7 @@ impl<W: Write + Drop> Write for Output<W> {
     }
 
     fn flush(&mut self) -> io::Result<()> {
+        self.wait_no_longer();
         if self.refusal.is_none() {
             if let Err(why) = self.out.flush() {
                 self.refusal = Some(why.kind());

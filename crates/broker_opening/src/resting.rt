@@ -10,11 +10,11 @@ ghost use Rattle.hall_core.specs.Fresh.{IsFresh};
 ghost use Rattle.broker_opening.specs.Opening.{ComesToRest, OpensAtRest};
 
 use crate::error::OpeningError;
-use crate::notes::note_opening;
+use crate::notes::{note_opening, note_prospects};
 use broker_commands::{Address, now};
 use broker_core::{Broker, CommitError, Durable};
 use hall_core::Hall;
-use port_meters::{Opening, micros_since};
+use port_meters::{Lines, Opening, micros_since};
 use sector_disk::Disk;
 use std::alloc::{AllocError, AllocGlobal, Global};
 use std::io;
@@ -85,6 +85,7 @@ fn bring_to_rest<R, D>(
     is_takeover: bool,
     at: &Address<'_>,
     start: &io::Result<Instant>,
+    lines: &Lines,
     opening: &mut Opening,
 ) -> Result<(), OpeningError>
 where
@@ -99,7 +100,8 @@ where
     opening.generation = broker.generation();
     resume(rt, broker, is_takeover, opening)?;
     opening.interrupted = broker.table().number().saturating_sub(before);
-    note_opening(rt, at, held, opening.interrupted, start);
+    note_opening(rt, lines, at, held, opening.interrupted, start);
+    note_prospects(rt, lines, at, broker.table());
     Ok(())
 }
 
@@ -136,6 +138,7 @@ pub(crate) fn hall_at_rest<R, D>(
     is_takeover: bool,
     at: &Address<'_>,
     start: &io::Result<Instant>,
+    lines: &Lines,
     opening: &mut Opening,
 ) -> Result<Hall<Broker<D>>, OpeningError>
 where
@@ -151,6 +154,6 @@ where
         IfOk result (λ hall. OpensAtRest D.view at.now.extensions history hall.issuer (view_of (issuer_of D.view) hall))) }
 {
     let mut broker = broker;
-    bring_to_rest(rt, &mut broker, is_takeover, at, start, opening)?;
+    bring_to_rest(rt, &mut broker, is_takeover, at, start, lines, opening)?;
     hall_over(rt.alloc(), broker, at)
 }

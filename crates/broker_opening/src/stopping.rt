@@ -1,9 +1,12 @@
 // Ending a broker from outside, in order.
-use std::alloc::AllocError;
+use broker_commands::Stopping;
+use std::alloc::{AllocError, Global};
+use std::fs::File;
 use std::io::{ErrorKind, Read, Write};
-use std::net::{Net, SocketAddr, TcpListener, TcpStream};
+use std::net::{IpAddr, Net, SocketAddr, TcpListener, TcpStream};
+use std::rt::Files;
 use std::time::{Clock, Duration};
-use std::{io, thread};
+use std::{fs, io, thread};
 use thiserror::Error;
 
 /// How many seconds a connection is waited for, and a reply.
@@ -14,6 +17,20 @@ const SHORT_PATIENCE: u64 = 1;
 const PAUSE: u64 = 50;
 /// How often the port is looked at: for a minute.
 const MOST_LOOKS: u32 = 1200;
+/// What asks a broker to stop.
+const STOP: &str = "/broker/stop";
+/// What asks one to end whose disk is gone. Any other stops as before: a query is not read.
+const LOSE: &str = "/broker/stop?lose";
+/// Where Linux shows the sockets of this machine, those of IPv4 and those of IPv6.
+const SOCKETS: &str = "/proc/net/tcp";
+
+const SOCKETS_OF_SIX: &str = "/proc/net/tcp6";
+/// The state of one that listens, there.
+const LISTENS: &str = "0A";
+/// How a reply begins that refuses a request whose path is right, and one whose path is not.
+const BAD: &[u8; 12] = b"HTTP/1.1 400";
+
+const MISSING: &[u8; 12] = b"HTTP/1.1 404";
 /// How a reply begins that takes what was asked.
 const TAKEN: &[u8; 10] = b"HTTP/1.1 2";
 
@@ -25,6 +42,12 @@ pub enum StoppingError {
     /// Nobody listens there.
     #[error("no broker on {at}")]
     Nobody { at: SocketAddr },
+    /// Somebody listens there, though not for this user.
+    #[error("no broker on {at} that this user reaches: a wall may keep it out")]
+    Unreachable { at: SocketAddr },
+    /// What listens there serves another function.
+    #[error("{at} does not serve the function {name}")]
+    AnotherFunction { at: SocketAddr, name: String },
     /// What listens there does not take the request: it is broken, or no broker.
     #[error("{at} does not take it")]
     NotTaken { at: SocketAddr },
@@ -55,18 +78,125 @@ where
     }
 }
 
+// How the system's table of sockets shows an address of IPv4: its last part first.
+fn place_of(alloc: Global, at: SocketAddr) -> Result<Option<String>, AllocError> {
+    let IpAddr::V4(ip) = at.ip() else {
+        return Ok(None);
+    };
+    let [first, second, third, fourth] = ip.octets();
+    let port = at.port();
+    let place = format!(in alloc; "{fourth:02X}{third:02X}{second:02X}{first:02X}:{port:04X}")?;
+    Ok(Some(place))
+}
+
+// Whether an address of that table is each address of this machine, and this port.
+fn is_everywhere(own: &str, port: &str) -> bool {
+    match own.strip_suffix(port) {
+        Some(ip) => ip.bytes().all(|digit| digit == b'0'),
+        None => false,
+    }
+}
+
+// Whether a line of that table is of one that listens at this place, or everywhere at this port.
+fn is_listener(line: &str, place: &Option<String>, port: &str) -> bool {
+    let mut fields = line.split_whitespace();
+    let Some(own) = fields.nth(1) else {
+        return false;
+    };
+    if fields.nth(1) != Some(LISTENS) {
+        return false;
+    }
+    matches!(place, Some(place) if place.as_str() == own) || is_everywhere(own, port)
+}
+
+// Whether somebody listens at an address of this machine, as one of the system's tables of sockets shows.
+fn listens<N>(rt: &N, table: &str, at: SocketAddr) -> Result<bool, AllocError>
+where
+    N: Files<File = File> + AllocGlobal,
+{
+    let number = at.port();
+    let port = format!(in rt.alloc(); ":{number:04X}")?;
+    let place = place_of(rt.alloc(), at)?;
+    match fs::read_to_string(rt, table) {
+        Ok(lines) => Ok(
+            lines
+                .lines()
+                .any(|line| is_listener(line, &place, port.as_str())),
+        ),
+        Err(_) => Ok(false),
+    }
+}
+
+// Why nobody takes a connection there.
+fn nobody<N: Files<File = File> + AllocGlobal>(rt: &N, at: SocketAddr) -> StoppingError {
+    for table in [SOCKETS, SOCKETS_OF_SIX] {
+        match listens(rt, table, at) {
+            Ok(true) => return StoppingError::Unreachable { at },
+            Ok(false) => {}
+            Err(why) => return StoppingError::OutOfMemory(why),
+        }
+    }
+    StoppingError::Nobody { at }
+}
+
+// Sends a request, whose reply is waited for so many seconds.
+fn send(socket: &mut TcpStream, request: &str, patience: u64) -> io::Result<()> {
+    socket.set_read_timeout(Some(Duration::from_secs(patience)))?;
+    socket.write_all(request.as_bytes())
+}
+
+// How the reply begins to an invocation of no known type. Where its path is that of the function it is refused as such, and as none
+// that is there else: nothing is invoked.
+fn reply_front<N: AllocGlobal>(
+    rt: &N,
+    socket: &mut TcpStream,
+    at: SocketAddr,
+    name: &str,
+) -> io::Result<[u8; 12]> {
+    let path = format!(in rt.alloc(); "/2015-03-31/functions/{name}/invocations")?;
+    let request = format!(in rt.alloc();
+        "POST {path} HTTP/1.1\r\nhost: {at}\r\nx-amz-invocation-type: none\r\ncontent-length: 0\r\nconnection: close\r\n\r\n"
+    )?;
+    send(socket, request.as_str(), PATIENCE)?;
+    let mut front = [0; BAD.len()];
+    match socket.read_exact(&mut front) {
+        Ok(()) => Ok(front),
+        Err(why) if why.kind() == ErrorKind::UnexpectedEof => Ok([0; BAD.len()]),
+        Err(why) => Err(why),
+    }
+}
+
+// Sees that the function of this name is served there.
+fn expect_function<N>(rt: &N, at: SocketAddr, name: &str) -> Result<(), StoppingError>
+where
+    N: Files<File = File> + AllocGlobal + Net<Listener = TcpListener, Stream = TcpStream>,
+{
+    let Some(mut socket) = connect(rt, at, PATIENCE)? else {
+        return Err(nobody(rt, at));
+    };
+    let front = reply_front(rt, &mut socket, at, name)?;
+    if front == *BAD {
+        return Ok(());
+    }
+    if front != *MISSING {
+        return Err(StoppingError::NotTaken { at });
+    }
+    let name = String::from_str(rt.alloc(), name)?;
+    Err(StoppingError::AnotherFunction { at, name })
+}
+
 // Asks for the end over a connection: whether that is taken within so many seconds. One that ends without a reply takes nothing.
 fn ask<N: AllocGlobal>(
     rt: &N,
     socket: &mut TcpStream,
     at: SocketAddr,
+    target: &str,
     patience: u64,
 ) -> io::Result<bool> {
     let request = format!(in rt.alloc();
-        "POST /broker/stop HTTP/1.1\r\nhost: {at}\r\ncontent-length: 0\r\nconnection: close\r\n\r\n"
+        "POST {target} HTTP/1.1\r\nhost: {at}\r\ncontent-length: 0\r\nconnection: close\r\n\r\n"
     )?;
-    socket.set_read_timeout(Some(Duration::from_secs(patience)))?;
-    socket.write_all(request.as_bytes())?;
+    send(socket, request.as_str(), patience)?;
     let mut front = [0; TAKEN.len()];
     match socket.read_exact(&mut front) {
         Ok(()) => Ok(front == *TAKEN),
@@ -99,22 +229,28 @@ where
     N: AllocGlobal + Net<Listener = TcpListener, Stream = TcpStream>,
 {
     match connect(rt, at, SHORT_PATIENCE)? {
-        Some(mut socket) => ask(rt, &mut socket, at, SHORT_PATIENCE),
+        Some(mut socket) => ask(rt, &mut socket, at, STOP, SHORT_PATIENCE),
         None => Ok(false),
     }
 }
 
-/// Asks the broker whose callers' port is there to stop, and waits until it listens no more, a minute at most.
+/// Asks the broker whose callers' port is there to stop, also where its disk is gone if it is to lose what it told, and waits until it
+/// listens no more, a minute at most. Where it is named what is to be served there, it is asked for that before.
 ///
-/// It is refused by `Nobody`, `NotTaken` and `StillOpen`, and where the system's calls or memory fail.
-pub fn stop_broker<N>(rt: &N, at: SocketAddr) -> Result<(), StoppingError>
+/// It is refused by `Nobody`, `Unreachable`, `AnotherFunction`, `NotTaken` and `StillOpen`, and where the system's calls or memory fail.
+pub fn stop_broker<N>(rt: &N, stopping: &Stopping<'_>) -> Result<(), StoppingError>
 where
-    N: AllocGlobal + Clock + Net<Listener = TcpListener, Stream = TcpStream>,
+    N: Files<File = File> + AllocGlobal + Clock + Net<Listener = TcpListener, Stream = TcpStream>,
 {
+    let at = stopping.at;
+    let target = if stopping.loses { LOSE } else { STOP };
+    if let Some(name) = stopping.name {
+        expect_function(rt, at, name)?;
+    }
     let Some(mut socket) = connect(rt, at, PATIENCE)? else {
-        return Err(StoppingError::Nobody { at });
+        return Err(nobody(rt, at));
     };
-    if !ask(rt, &mut socket, at, PATIENCE)? {
+    if !ask(rt, &mut socket, at, target, PATIENCE)? {
         return Err(StoppingError::NotTaken { at });
     }
     drop(socket);

@@ -4,6 +4,7 @@ pub mod Place
 pub mod Putting
 pub mod Settling
 pub mod Sight
+pub mod Standing
 pub mod Takeover
 pub mod Token
 pub mod Volume

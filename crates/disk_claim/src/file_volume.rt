@@ -1,6 +1,6 @@
 // The claim of a disk in a file.
 use crate::Volume;
-use crate::looking::{forget_file, forget_page, read_sector};
+use crate::looking::{forget_file, forget_sector, read_sector};
 use sector_disk::{Fault, FaultLog, FileCall, FileError, SECTOR_SIZE};
 use std::fs::File;
 use std::io;
@@ -46,7 +46,7 @@ impl<L: FaultLog + Drop> Volume for FileVolume<L> {
     ghost view = { λ volume. unclaimed };
 
     fn forget(&mut self) -> Result<(), Fault> {
-        self.note(forget_page(&self.file, self.sector))
+        self.note(forget_sector(&self.file, self.sector))
     }
 
     fn forget_all(&mut self) -> Result<(), Fault> {

@@ -1,5 +1,5 @@
 // Looking at a claim past what this machine kept of it.
-ghost use Rattle.std.specs.Prelude.{◌≡◌, IfOk};
+ghost use Rattle.std.specs.Prelude.{◌≡◌, ◌+◌, ◌%◌, ◌≤◌, ◌<◌, IfOk};
 ghost use Rattle.disk_claim.specs.Volume.{IsSameVolume};
 ghost use Rattle.disk_claim.specs.Token.{token_in};
 
@@ -12,8 +12,8 @@ use std::io::ErrorKind;
 use std::os::fd::AsRawFd;
 use std::os::unix::fs::FileExt;
 
-/// The bytes of a page, by which a machine keeps a file.
-const PAGE_SIZE: i64 = 8 * SECTOR_SIZE as i64;
+/// The most bytes of a file that a machine keeps as one. It drops them only where all of them are to be dropped.
+const MOST_KEPT: u64 = 1 << 21;
 
 // Where a sector begins, in bytes.
 fn place_of(sector: u64) -> io::Result<u64> {
@@ -21,6 +21,16 @@ fn place_of(sector: u64) -> io::Result<u64> {
         Some(at) => Ok(at),
         None => Err(io::Error::from(ErrorKind::InvalidInput)),
     }
+}
+
+// Where the bytes may begin that this machine keeps as one with those at this place.
+fn front_of(at: u64) -> u64
+    // claim: A look drops what was kept from a multiple of 2 MiB on, which lies less than that in front of the claim.
+    ensures whole { result % 2097152 ≡ 0 }
+    ensures front { result ≤ at }
+    ensures near { at < result + 2097152 }
+{
+    at - at % MOST_KEPT
 }
 
 // Drops what this machine kept of so many bytes of a file, as far as it is written. 0 bytes are all behind the place.
@@ -31,12 +41,12 @@ fn drop_kept(file: &File, at: i64, size: i64) -> io::Result<()> {
     }
 }
 
-/// Drops what this machine kept of the page of a sector.
-pub(crate) fn forget_page(file: &File, sector: u64) -> io::Result<()> {
-    let Ok(at) = i64::try_from(place_of(sector)?) else {
+/// Drops what this machine kept of a sector: all from the front of what it may keep as one with that to the end of the file.
+pub(crate) fn forget_sector(file: &File, sector: u64) -> io::Result<()> {
+    let Ok(at) = i64::try_from(front_of(place_of(sector)?)) else {
         return Err(io::Error::from(ErrorKind::InvalidInput));
     };
-    drop_kept(file, at - at % PAGE_SIZE, PAGE_SIZE)
+    drop_kept(file, at, 0)
 }
 
 /// Drops what this machine kept of a file.
@@ -53,7 +63,7 @@ pub(crate) fn read_sector(file: &File, sector: u64) -> io::Result<[u8; SECTOR_SI
 
 /// Reads a sector of a file from the device, and not what this machine kept of it: that is dropped before.
 pub fn look(file: &File, sector: u64) -> io::Result<[u8; SECTOR_SIZE]> {
-    forget_page(file, sector)?;
+    forget_sector(file, sector)?;
     read_sector(file, sector)
 }
 

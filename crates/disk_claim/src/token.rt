@@ -1,5 +1,5 @@
 // Who stands in a claim.
-ghost use Rattle.std.specs.Prelude.{◌≡◌, take, ◌++◌, replicate};
+ghost use Rattle.std.specs.Prelude.{◌≡◌, ◌↔◌, take, ◌++◌, replicate, IsTrue};
 ghost use Rattle.disk_claim.specs.Token.{token_in, claim_of};
 
 use sector_disk::SECTOR_SIZE;
@@ -24,6 +24,13 @@ impl Token {
         ensures { result.bytes ≡ bytes }
     {
         Token { bytes }
+    }
+
+    /// Whether it is nobody's.
+    pub fn is_nobody(self) -> bool
+        ensures { IsTrue result ↔ (self.bytes ≡ replicate 16 0) }
+    {
+        self == Token::NOBODY
     }
 
     /// Who stands in a claim of these bytes: its first 16.

@@ -22,6 +22,7 @@ pub record Shows (hall : HallView) (wanted : Sought) (at : ℕ) (status : HallSt
   pub durable : status.durable ≡ hall.issuer.durable
   pub policy : status.policy ≡ hall.issuer.table.policy
   pub tally : IsTally hall.issuer.table.rows at status.tally
+  pub last_moment : status.tally.last_moment ≡ hall.issuer.table.last_moment
   pub sought : status.sought ≡ wanted
   pub rows : status.rows ≡ rows_for wanted hall.issuer.table.rows
   pub open_slots : status.open_slots ≡ open_slot_count hall

@@ -64,7 +64,7 @@ where
         arrived,
         is_move_near,
         ..
-    } = arrive(&rt, port, call)?;
+    } = arrive(&rt, port, &front.premises, call)?;
     if is_move_near {
         front.ticker_wake.call(&rt);
     }

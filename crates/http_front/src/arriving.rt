@@ -13,7 +13,7 @@ use api_core::Call;
 use hall_core::{HallError, Issued};
 use invoke_records::Kind;
 use long_poll::{Arrived, Port};
-use port_meters::Moment;
+use port_meters::{Lines, Premises};
 use receipts::Trace;
 use std::io;
 use std::io::Eprint;
@@ -96,6 +96,7 @@ fn puts_one_off(issued: Option<Issued>) -> bool
 fn make_move<R: Wait + Eprint, L: Ledger, T: Trace>(
     rt: &R,
     port: &Port<L, T>,
+    lines: &Lines,
     now: u64,
     moves: &mut Moves,
 ) -> bool
@@ -103,7 +104,7 @@ fn make_move<R: Wait + Eprint, L: Ledger, T: Trace>(
 {
     match port.tick(rt, now).answer {
         Ok(Some(issued)) => {
-            note_timeout(rt, Some(issued));
+            note_timeout(rt, lines, Some(issued));
             moves.any = true;
             moves.is_one_near |= puts_off(issued);
             true
@@ -117,12 +118,17 @@ fn make_move<R: Wait + Eprint, L: Ledger, T: Trace>(
 }
 
 // Makes the moves that are due.
-fn make_moves<R: Wait + Eprint, L: Ledger, T: Trace>(rt: &R, port: &Port<L, T>, now: u64) -> Moves
+fn make_moves<R: Wait + Eprint, L: Ledger, T: Trace>(
+    rt: &R,
+    port: &Port<L, T>,
+    lines: &Lines,
+    now: u64,
+) -> Moves
     requires { now ≤ greatest_moment }
 {
     let mut moves = Moves::NONE;
     for _ in rt.forever() {
-        if !make_move(rt, port, now, &mut moves) {
+        if !make_move(rt, port, lines, now, &mut moves) {
             break;
         }
     }
@@ -133,13 +139,14 @@ fn make_moves<R: Wait + Eprint, L: Ledger, T: Trace>(rt: &R, port: &Port<L, T>, 
 fn follow<R: Wait + Eprint, L: Ledger, T: Trace>(
     rt: &R,
     port: &Port<L, T>,
+    lines: &Lines,
     now: u64,
     can_move: bool,
 ) -> Moves
     requires { now ≤ greatest_moment }
 {
     if can_move {
-        make_moves(rt, port, now)
+        make_moves(rt, port, lines, now)
     } else {
         Moves::NONE
     }
@@ -167,12 +174,14 @@ pub(crate) fn hand_over<R: Wait, L: Ledger, T: Trace>(
     }
 }
 
-/// A call comes to a port now, with two random words, and then the moves that are due are made.
+/// A call comes to a port now, by the clock of the premises, with two random words, and then the moves that are due are made. By their
+/// lines it is told which environment they reset.
 ///
 /// It is refused: `System` (the clock or the source of random words failed), and as the port refuses it.
 pub(crate) fn arrive<R: Wait + Clock + RandomSource + Eprint, L: Ledger, T: Trace>(
     rt: &R,
     port: &Port<L, T>,
+    premises: &Premises,
     call: Call,
 ) -> Result<Handed<L, T>, ArrivalError>
     ensures slot { IfOk result (λ handed. IsSlot handed.arrived.slot) }
@@ -183,13 +192,14 @@ pub(crate) fn arrive<R: Wait + Clock + RandomSource + Eprint, L: Ledger, T: Trac
 {
     let can_move = may_move(&call);
     let words = words_for(rt, &call)?;
-    let now = Moment::now(rt)?.millis();
+    let now = premises.moment(rt)?.millis();
     let reports = ResetReport::of(&call).is_some();
     let arrived = hand_over(rt, port, call, now, words)?;
+    let lines: &Lines = premises.lines();
     if !reports {
-        note_timeout(rt, arrived.issued());
+        note_timeout(rt, lines, arrived.issued());
     }
-    let moves = follow(rt, port, now, can_move);
+    let moves = follow(rt, port, lines, now, can_move);
     let issued = arrived.issued();
     Ok(Handed {
         arrived,

@@ -16,7 +16,7 @@ use front_board::Seated;
 use hall_core::{HallError, Sought};
 use invoke_records::{EventRow, Outcome, Standing};
 use long_poll::{Port, Waiting};
-use port_meters::{Machine, Moment};
+use port_meters::{Machine, Premises};
 use receipts::{SharedOpening, SharedTrace, Trace, Unreleased, View};
 use std::alloc::{AllocError, Global};
 use std::sync::ledger::Ledger;
@@ -132,13 +132,14 @@ struct Collected<R: Wait, L: Ledger, T: Trace> {
 fn ask<R: Wait + Clock + Drop + Copy, L: Ledger, T: Trace>(
     rt: R,
     port: &Arc<Port<L, T>>,
+    premises: &Premises,
     id: [u8; 16],
 ) -> Result<Waiting<R, L, T>, ArrivalError>
     ensures { IfOk result (λ waiting. IsDoneFor (Delete (Some id)) (hall_in waiting.seen.before.value.hall)
         (hall_in waiting.seen.after.value.hall) waiting.slot) }
 {
     let theirs = Arc::try_clone(port)?;
-    let now = Moment::now(&rt)?.millis();
+    let now = premises.moment(&rt)?.millis();
     let arrived = hand_over(&rt, port, Call::Delete(Some(id)), now, [0, 0])?;
     Ok(Waiting::new(rt, theirs, arrived))
 }
@@ -147,11 +148,12 @@ fn ask<R: Wait + Clock + Drop + Copy, L: Ledger, T: Trace>(
 fn collect<R: Wait + Clock + Drop + Copy, L: Ledger, T: Trace>(
     rt: R,
     port: &Arc<Port<L, T>>,
+    premises: &Premises,
     id: [u8; 16],
 ) -> Result<Collected<R, L, T>, ArrivalError>
     ensures { IfOk result (λ collected. collected.id ≡ id) }
 {
-    let waiting = ask(rt, port, id)?;
+    let waiting = ask(rt, port, premises, id)?;
     Ok(Collected { id, waiting })
 }
 
@@ -160,13 +162,14 @@ fn collect_all<R: Wait + Clock + Drop + Copy, L: Ledger, T: Trace>(
     rt: R,
     alloc: Global,
     port: &Arc<Port<L, T>>,
+    premises: &Premises,
     ids: &[[u8; 16]],
 ) -> Result<Vec<Collected<R, L, T>>, ArrivalError>
     ensures { IfOk result (λ all. map (λ collected. collected.id) all.items ≡ ids.now) }
 {
     let mut all = Vec::with_capacity(alloc, ids.len())?;
     for id in ids {
-        let collected = collect(rt, port, *id)?;
+        let collected = collect(rt, port, premises, *id)?;
         if all.push(collected).is_err() {
             return Err(ArrivalError::Hall(HallError::OutOfMemory));
         }
@@ -228,7 +231,7 @@ impl<R: Wait + Clock + Drop + Copy, L: Ledger, T: Trace> Collector<R, L, T> {
         let alloc = self.front.alloc;
         let rows = view.hall.rows.as_slice();
         let ids = next_unwanted(alloc, self.front.discarding.discard, rows)?;
-        collect_all(self.rt, alloc, &self.port, &ids)
+        collect_all(self.rt, alloc, &self.port, &self.front.premises, &ids)
     }
 
     // Collects what a view shows, and has it committed.

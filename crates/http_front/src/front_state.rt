@@ -12,7 +12,7 @@ use crate::wake::{Called, Wake};
 use api_core::{Call, Dialect};
 use broker_core::Durable;
 use long_poll::{Arrived, Bell, Port};
-use port_meters::Meters;
+use port_meters::{Meters, Premises};
 use receipts::{Office, Trace};
 use retry_rules::Settings;
 use std::alloc::{AllocError, Global};
@@ -69,6 +69,8 @@ pub struct FrontState<L: Ledger, T: Trace> {
     pub(crate) ending: CancellationToken,
     /// What is counted for an operator.
     pub(crate) meters: Arc<Meters>,
+    /// What is noticed beside the requests, and where lines are told.
+    pub(crate) premises: Arc<Premises>,
     /// The settings of the broker.
     pub(crate) settings: Settings,
     /// In which words requests are read and refused.
@@ -96,7 +98,7 @@ fn is_stop(call: &Call) -> bool
 
 impl<L: Ledger, T: Trace> FrontState<L, T> {
     /// A front over an office of a broker with these settings, of which so much is durable, which no thread serves yet. It reads
-    /// requests in this dialect, and collects the records that are discarded.
+    /// requests in this dialect, and collects the records that are discarded. What it tells on standard error goes by its premises.
     pub fn new(
         alloc: Global,
         office: Arc<Office<L, T>>,
@@ -104,6 +106,7 @@ impl<L: Ledger, T: Trace> FrontState<L, T> {
         durable: Durable,
         settings: Settings,
         discard: Discard,
+        premises: Arc<Premises>,
     ) -> Result<FrontState<L, T>, AllocError>
         ensures office { IfOk result (λ front. front.office ≡ office) }
         ensures settings { IfOk result (λ front. front.settings ≡ settings) }
@@ -124,6 +127,7 @@ impl<L: Ledger, T: Trace> FrontState<L, T> {
             ticker_wake: Wake::new(),
             ending,
             meters,
+            premises,
             settings,
             dialect,
             most,
@@ -157,7 +161,7 @@ impl<L: Ledger, T: Trace> FrontState<L, T> {
             arrived,
             has_command,
             is_move_near,
-        } = arrive(rt, port, call)?;
+        } = arrive(rt, port, &self.premises, call)?;
         Ok(Came {
             arrived,
             commits: self.wake.call_if(rt, stops || has_command),

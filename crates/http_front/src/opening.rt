@@ -15,6 +15,7 @@ use broker_core::{Broker, DiskHalf, Durable};
 use front_board::Seated;
 use hall_core::Hall;
 use long_poll::{AdminReader, Bell, Port};
+use port_meters::Premises;
 use receipts::{Desk, Office, Trace};
 use retry_rules::Settings;
 use sector_disk::Disk;
@@ -89,13 +90,14 @@ fn shared<L: Ledger, T: Trace>(
     durable: Durable,
     settings: Settings,
     discard: Discard,
+    premises: Arc<Premises>,
 ) -> Result<Arc<FrontState<L, T>>, AllocError>
     ensures dialect { IfOk result (λ front. front.value.dialect ≡ dialect) }
     ensures settings { IfOk result (λ front. front.value.settings ≡ settings) }
     ensures discards { IfOk result (λ front. front.value.discarding.discard ≡ discard) }
 {
     let office = Arc::new(alloc, office)?;
-    let front = FrontState::new(alloc, office, dialect, durable, settings, discard)?;
+    let front = FrontState::new(alloc, office, dialect, durable, settings, discard, premises)?;
     Ok(Arc::new(alloc, front)?)
 }
 
@@ -167,6 +169,7 @@ fn seat_all<L: Ledger, T: Trace, D: Disk + Drop>(
     dialect: Dialect,
     settings: Settings,
     discard: Discard,
+    premises: Arc<Premises>,
 ) -> Result<OpenedFront<L, T, D>, ServeError>
     requires desks { 2 ≤ vec_len desks }
     ensures ports { IsErrOf result ServeError.TooManyPorts → ⊥ }
@@ -177,7 +180,7 @@ fn seat_all<L: Ledger, T: Trace, D: Disk + Drop>(
 {
     let durable = half.durable();
     let seats = Seated::open(alloc, durable, desks.len() + 2)?;
-    let front = shared(alloc, office, dialect, durable, settings, discard)?;
+    let front = shared(alloc, office, dialect, durable, settings, discard, premises)?;
     furnish(alloc, front, desks, seats, half)
 }
 
@@ -188,6 +191,7 @@ pub(crate) fn open<L: Ledger, T: Trace, D: Disk + Drop>(
     hall: Hall<Broker<D>>,
     blank: Blank,
     discard: Discard,
+    premises: Arc<Premises>,
 ) -> Result<OpenedFront<L, T, D>, ServeError>
     requires nothing { pending_of hall.issuer ≡ [] }
     requires fresh { IsFresh (settings_of hall.issuer) hall }
@@ -205,7 +209,7 @@ pub(crate) fn open<L: Ledger, T: Trace, D: Disk + Drop>(
     let settings = hall.table().settings().copy()?;
     match Office::<L, T>::new(alloc, hall, blank) {
         Ok((office, desks, half)) => seat_all(
-            alloc, office, desks, half, dialect, settings, discard,
+            alloc, office, desks, half, dialect, settings, discard, premises,
         ),
         Err(failure) => Err(ServeError::Office(failure.cause)),
     }

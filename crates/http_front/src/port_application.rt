@@ -59,7 +59,8 @@ impl<R: Wait + Eprint + Drop, L: Ledger, T: Trace> Future for Replying<R, L, T> 
             Poll::Ready(told) => {
                 let status = told.answer.status();
                 self.front.meters.note_status(&self.rt, status);
-                note_report(&self.rt, self.number, self.report, status);
+                let lines = self.front.premises.lines();
+                note_report(&self.rt, lines, self.number, self.report, status);
                 Poll::Ready(Telling::new(told, self.id))
             }
         }

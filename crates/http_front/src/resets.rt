@@ -1,11 +1,8 @@
-// Environments that are reset, told on standard error for whoever keeps a log. Where that does not read, a line is left out, and no
-// port waits for it.
+// Environments that are reset, told on standard error for whoever keeps a log. No port waits for who reads there.
 use api_core::Call;
 use hall_core::Issued;
 use invoke_records::{Cause, Kind};
-use libc::STDERR_FILENO;
-use libc::net::{POLLOUT, poll};
-use libc::types::pollfd;
+use port_meters::Lines;
 use std::io::Eprint;
 use uuid::Uuid;
 
@@ -43,21 +40,10 @@ impl ResetReport {
     }
 }
 
-// Whether standard error takes a line at once: a pipe does as long as it has room for 4,096 bytes, which no line here has.
-fn takes_a_line() -> bool {
-    let mut asked = [pollfd {
-        fd: STDERR_FILENO,
-        events: POLLOUT,
-        revents: 0,
-    }];
-    poll(&mut asked, 0);
-    let [told] = asked;
-    told.revents == POLLOUT
-}
-
 /// Says that this environment was reset, where its report was answered with the status of one that was taken.
 pub(crate) fn note_report<R: Eprint>(
     rt: &R,
+    lines: &Lines,
     environment: u16,
     report: Option<ResetReport>,
     status: u16,
@@ -65,23 +51,27 @@ pub(crate) fn note_report<R: Eprint>(
     let Some(report) = report else {
         return;
     };
-    if status == TAKEN && takes_a_line() {
+    if status == TAKEN {
         let why = report.text();
-        let _ = eprintln!(rt; "environment {environment} was reset: {why}");
+        let line = format!(in lines.alloc(); "environment {environment} was reset: {why}");
+        lines.tell_made(rt, line);
     }
 }
 
 /// Says that an environment was reset since its event was not answered in time, where that was issued.
-pub(crate) fn note_timeout<R: Eprint>(rt: &R, issued: Option<Issued>) {
+pub(crate) fn note_timeout<R: Eprint>(rt: &R, lines: &Lines, issued: Option<Issued>) {
     let Some(issued) = issued else {
         return;
     };
-    if issued.kind != Kind::Fail(Cause::Timeout) || !takes_a_line() {
+    if issued.kind != Kind::Fail(Cause::Timeout) {
         return;
     }
     let mut buffer = Uuid::encode_buffer();
     let event = Uuid::from_bytes(issued.id)
         .hyphenated()
         .encode_lower(&mut buffer);
-    let _ = eprintln!(rt; "an environment was reset: event {event} was not answered in time");
+    let line = format!(in lines.alloc();
+        "an environment was reset: event {event} was not answered in time"
+    );
+    lines.tell_made(rt, line);
 }

@@ -23,7 +23,7 @@ use front_board::Seated;
 use hall_core::Hall;
 use http_port::Listening;
 use long_poll::{AdminReader, Port};
-use port_meters::{Beside, Machine};
+use port_meters::{Beside, Machine, Premises};
 use receipts::{Desk, SharedOpening, SharedTrace, Trace, desks};
 use retry_rules::Settings;
 use sector_disk::Disk;
@@ -258,7 +258,7 @@ fn port_count(settings: &Settings) -> u64
 /// the broker was stopped or its device failed and every open request was answered or its client has gone. The committer, on the
 /// calling thread, is asked by the gate beside that. What is beside the ports, where there is something, is served on a thread
 /// of its own, with a reader of the office and the callers' port to act at, until the front ends. On another one, records that
-/// are discarded are collected.
+/// are discarded are collected. What is told on standard error goes by these premises.
 ///
 /// The half over the disk is handed back: it is the hall's broker with what was committed since. On an honest disk a stop at any
 /// moment of the serving leaves a legal stop of its list: a beginning of that with all that was durable before.
@@ -273,6 +273,7 @@ pub fn serve<R, L, T, D, G, B>(
     callers: u8,
     beside: Option<B>,
     discard: Discard,
+    premises: Arc<Premises>,
     gate: &G,
 ) -> Result<Served<D, B::Served, G::Seen>, ServeError>
 where
@@ -303,6 +304,6 @@ where
     if listeners.len() as u64 > port_count(hall.table().settings()) {
         return Err(ServeError::TooManyPorts);
     }
-    let opened = open::<L, T, D>(rt.alloc(), hall, blank, discard)?;
+    let opened = open::<L, T, D>(rt.alloc(), hall, blank, discard, premises)?;
     Ok(run(rt, opened, listeners, callers, beside, gate)?)
 }

@@ -74,6 +74,7 @@ fn another(listening: &Listening) -> io::Result<Listening> {
         listener: listening.listener.try_clone()?,
         hosts: Arc::try_clone(&listening.hosts)?,
         meter: Arc::try_clone(&listening.meter)?,
+        room: listening.room.another()?,
     })
 }
 

@@ -93,7 +93,7 @@ fn sleep<R: Wait + Clock, L: Ledger, T: Trace>(
     let Some(quiet) = quiet else {
         return TickerSlept::Unknown(pause(rt, RETRY_PAUSE));
     };
-    match Moment::now(rt) {
+    match front.premises.moment(rt) {
         Ok(now) => {
             let (millis, seen) = pause_at(rt, front, quiet, now.millis()).split();
             let slept = front.ticker_wake.wait_at_most(rt, millis);
@@ -124,7 +124,7 @@ fn make_move<R: Wait + Eprint, L: Ledger, T: Trace>(
         Ok(Some(number)) => {
             let answered = desk.take_answered();
             front.bell.answer(rt, &answered, number);
-            note_timeout(rt, desk.issued());
+            note_timeout(rt, front.premises.lines(), desk.issued());
             seen.with(Tried::Made)
         }
         Ok(None) => seen.with(Tried::NothingDue),
@@ -147,7 +147,7 @@ fn tick<R: Wait + Clock + Eprint, L: Ledger, T: Trace>(
     ensures step { IfOk result.1 (λ looked. IsStep desk.old.steps desk.new.steps looked.seen.from.value looked.seen.to.value) }
     ensures told { result.0 ≡ false → desk.new.told ≡ desk.old.told }
 {
-    match Moment::now(rt) {
+    match front.premises.moment(rt) {
         Ok(at) => {
             let (tried, seen) = make_move(rt, front, desk, at).split();
             (tried.is_made(), Ok(Looked { seen, at, tried }))

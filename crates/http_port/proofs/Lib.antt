@@ -1,3 +1,4 @@
 pub mod Frames
 pub mod Made
+pub mod Room
 pub mod Sends

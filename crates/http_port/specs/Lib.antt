@@ -2,8 +2,10 @@ pub mod Answering
 pub mod Browsers
 pub mod Headers
 pub mod Hosts
+pub mod Place
 pub mod ReadBody
 pub mod Reading
+pub mod Room
 pub mod Serving
 pub mod Target
 pub mod Unread

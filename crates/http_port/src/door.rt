@@ -3,6 +3,7 @@ ghost use Rattle.std.specs.Prelude.{IfSome};
 
 use crate::answering::Body;
 use crate::application::Application;
+use crate::body_room::BodyRoom;
 use crate::connection_future::{ConnectionFuture, serve_until};
 use crate::connection_phase::PhaseCell;
 use crate::connections::Door;
@@ -56,6 +57,8 @@ pub(crate) struct HttpDoor<R, A> {
     pub(crate) hosts: Arc<Hosts>,
     /// Where its connections are counted.
     pub(crate) meter: Arc<PortMeter>,
+    /// What room the bodies of its requests have.
+    pub(crate) room: BodyRoom,
     pub(crate) timers: time::Handle,
     pub(crate) alarm: Rc<Alarm<R>>,
     pub(crate) limits: HttpLimits,
@@ -74,12 +77,14 @@ impl<R: Clock + Copy + Drop, A: Application> HttpDoor<R, A> {
         let application = Arc::try_clone(&self.application).ok()?;
         let hosts = Arc::try_clone(&self.hosts).ok()?;
         let phase_cell = Rc::clone(phase_cell).ok()?;
+        let room = self.room.another().ok()?;
         Some(Requests {
             rt: self.rt,
             alloc: self.alloc,
             application,
             hosts,
             phase_cell,
+            room,
         })
     }
 

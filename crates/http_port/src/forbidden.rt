@@ -16,6 +16,8 @@ pub(crate) enum Forbidden {
     CrossOrigin,
     /// It names a host that the port does not answer to.
     UnknownHost,
+    /// Its body comes in a transfer coding other than `chunked` (RFC 9112, section 6.1).
+    TransferCoding,
 }
 
 // Whether a browser says that a request is made neither by its user nor by a page of this port.
@@ -50,11 +52,27 @@ fn is_for_foreign_host(hosts: &Hosts, headers: &HeaderMap) -> bool
         .any(|host| hosts.is_foreign(host.as_bytes()))
 }
 
+// Whether this is a transfer coding that the port does not read.
+fn is_other_coding(coding: &[u8]) -> bool
+    ensures { result ≡ meant.is_other_coding coding.now }
+{
+    !coding.eq_ignore_ascii_case(b"chunked")
+}
+
+fn has_other_coding(headers: &HeaderMap) -> bool
+    ensures { result ≡ meant.any_value meant.is_other_coding "transfer-encoding" headers.now }
+{
+    headers
+        .get_all("transfer-encoding")
+        .iter()
+        .any(|coding| is_other_coding(coding.as_bytes()))
+}
+
 impl Forbidden {
     /// Why a request with these headers is refused. None where it is not.
     pub(crate) fn of(hosts: &Hosts, headers: &HeaderMap) -> Option<Forbidden>
-        // claim: Forbidden is a request with `Origin`, or a `Sec-Fetch-Site` other than `none` and `same-origin`; on a
-        // loopback address also one with a foreign `Host`. [Hosts::is_foreign; Hosts::of: here, elsewhere;
+        // claim: Forbidden is a request with `Origin`, or a `Sec-Fetch-Site` other than `none` and `same-origin`; on a loopback address
+        // also one with a foreign `Host`; and one with a transfer coding other than `chunked`. [Hosts::is_foreign; Hosts::of: here, elsewhere;
         // Listening::new: listener, hosts]
         ensures { result ≡ meant.forbidden_of hosts.now headers.now }
     {
@@ -62,6 +80,8 @@ impl Forbidden {
             Some(Forbidden::CrossOrigin)
         } else if is_for_foreign_host(hosts, headers) {
             Some(Forbidden::UnknownHost)
+        } else if has_other_coding(headers) {
+            Some(Forbidden::TransferCoding)
         } else {
             None
         }
@@ -78,6 +98,19 @@ impl Forbidden {
             Forbidden::UnknownHost => {
                 r#"{"errorMessage":"this host is not served here, see serve --host","errorType":"UnknownHost"}"#
             }
+            Forbidden::TransferCoding => {
+                r#"{"errorMessage":"no transfer coding but chunked is understood","errorType":"TransferCoding"}"#
+            }
+        }
+    }
+
+    // The status of its refusal.
+    fn status(self) -> StatusCode
+        ensures { result ≡ meant.forbidden_status self }
+    {
+        match self {
+            Forbidden::CrossOrigin | Forbidden::UnknownHost => StatusCode::FORBIDDEN,
+            Forbidden::TransferCoding => StatusCode::NOT_IMPLEMENTED,
         }
     }
 
@@ -85,6 +118,6 @@ impl Forbidden {
     pub(crate) fn refused(self, alloc: Global) -> Refused
         ensures { meant.IsForbidden self result }
     {
-        Refused::json(alloc, StatusCode::FORBIDDEN, self.text())
+        Refused::json(alloc, self.status(), self.text())
     }
 }

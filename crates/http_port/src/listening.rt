@@ -1,6 +1,7 @@
 // Where the requests of a port come.
 ghost use Rattle.std.specs.Prelude.{◌≡◌, IfOk};
 
+use crate::body_room::BodyRoom;
 use crate::hosts::Hosts;
 use port_meters::PortMeter;
 use std::alloc::{AllocError, AllocGlobal, Global};
@@ -8,12 +9,13 @@ use std::io;
 use std::net::{Net, SocketAddr, TcpListener, TcpStream};
 use std::sync::Arc;
 
-/// Where the requests of a port come, which hosts it answers to, and where its connections are counted.
+/// Where the requests of a port come, which hosts it answers to, where its connections are counted, and what room their bodies have.
 #[derive(Drop)]
 pub struct Listening {
     pub listener: TcpListener,
     pub hosts: Arc<Hosts>,
     pub meter: Arc<PortMeter>,
+    pub room: BodyRoom,
 }
 
 impl Listening {
@@ -23,6 +25,7 @@ impl Listening {
         listener: TcpListener,
         hosts: Hosts,
         meter: Arc<PortMeter>,
+        room: BodyRoom,
     ) -> Result<Listening, AllocError>
         ensures listener { IfOk result (λ listening. listening.listener ≡ listener) }
         ensures hosts { IfOk result (λ listening. listening.hosts.value ≡ hosts) }
@@ -32,6 +35,7 @@ impl Listening {
             listener,
             hosts,
             meter,
+            room,
         })
     }
 
@@ -42,6 +46,7 @@ impl Listening {
         address: SocketAddr,
         name: Option<&str>,
         meter: Arc<PortMeter>,
+        room: BodyRoom,
     ) -> io::Result<Listening>
     where
         R: Net<Listener = TcpListener, Stream = TcpStream> + AllocGlobal,
@@ -49,6 +54,6 @@ impl Listening {
         let listener = TcpListener::bind(rt, address)?;
         let reach = address.ip().to_canonical();
         let hosts = Hosts::of(rt.alloc(), reach, name)?;
-        Ok(Listening::new(rt.alloc(), listener, hosts, meter)?)
+        Ok(Listening::new(rt.alloc(), listener, hosts, meter, room)?)
     }
 }

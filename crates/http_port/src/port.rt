@@ -1,5 +1,6 @@
 // A port, served on a thread of its own.
 use crate::application::Application;
+use crate::body_room::BodyRoom;
 use crate::connections::{Connections, Door};
 use crate::door::HttpDoor;
 use crate::hosts::Hosts;
@@ -53,6 +54,7 @@ fn door_of<R, A>(
     application: A,
     hosts: Arc<Hosts>,
     meter: Arc<PortMeter>,
+    room: BodyRoom,
     timers: &time::Handle,
     limits: HttpLimits,
     ending: &CancellationToken,
@@ -73,6 +75,7 @@ where
         application,
         hosts,
         meter,
+        room,
         timers: timers.clone()?,
         alarm,
         limits,
@@ -165,6 +168,7 @@ where
         listener,
         hosts,
         meter,
+        room,
     } = listening;
     let coming = coming_of(
         rt.alloc(),
@@ -175,7 +179,7 @@ where
         ending,
     )?;
     let timers = runtime.handle().time();
-    let door = door_of(rt, application, hosts, meter, timers, limits, ending)?;
+    let door = door_of(rt, application, hosts, meter, room, timers, limits, ending)?;
     run_http(rt, runtime, door, coming)
 }
 
@@ -183,11 +187,13 @@ where
 /// request that it is in is still answered, where that takes no longer than five seconds.
 ///
 /// A connection is closed where a head does not come whole in the time of the limits, or no byte of one does. A body that does
-/// not come in its time is answered 408. A reply is waited for without a limit. While as many connections are open as the limits
+/// not come in its time is answered 408, and so is one for which there was no room for as long: it waits to be read while the bodies
+/// that are under way take all that the port has. A reply is waited for without a limit. While as many connections are open as the limits
 /// allow, nothing is accepted.
 ///
 /// A request that a browser makes for a web page, or that names a host which the port does not answer to, is refused by its head
-/// alone with 403: its body is not read, and the application is not asked.
+/// alone with 403, and one whose body has another transfer coding than `chunked` with 501: its body is not read, and the application
+/// is not asked.
 ///
 /// A reply to a request whose body was not read to its end says that its connection ends. Behind it, and behind the refusal of a
 /// head, what is left is read and thrown away, up to 8 MiB and for two seconds; then the connection is shut and closed. Each

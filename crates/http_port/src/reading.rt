@@ -45,6 +45,15 @@ impl Model for ReadBody {
 }
 
 impl ReadBody {
+    /// That of a request for whose body there was no memory before any of it was read.
+    pub(crate) fn without_memory() -> ReadBody
+        ensures { result ≡ Err BodyError.OutOfMemory }
+    {
+        ReadBody {
+            read: Err(BodyError::OutOfMemory),
+        }
+    }
+
     /// Its bytes, or why they were not read.
     pub fn into_result(self) -> Result<Vec<u8>, BodyError>
         ensures { bytes_read result ≡ self }
@@ -102,6 +111,15 @@ impl<I: Drop> Reading<I> {
             is_too_long,
             state: State::Left,
         }
+    }
+
+    /// How many bytes it takes at most: as many as its head says, and no more than are read. One that is refused by its head takes none.
+    pub(crate) fn size(&self) -> u64 {
+        if self.is_too_long {
+            return 0;
+        }
+        let most = self.body.size_hint();
+        most.upper().unwrap_or(most.lower())
     }
 
     /// What has become of it so far.

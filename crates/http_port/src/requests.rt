@@ -5,10 +5,12 @@ ghost use Rattle.futures.specs.Task.{IsArmed, Covers, Keeps};
 ghost use Rattle.futures.specs.Poll.{IfReady, OnPending};
 ghost use Rattle.http_port.specs.Answering.{message_of, IsSent};
 ghost use Rattle.http_port.specs.Reading.{Reads};
+ghost use Rattle.http_port.specs.Place.{HasPlace};
 ghost use Rattle.http_port.specs.Serving.{Answers, AnswersFor, IsAsked, Sends};
 
 use crate::answering::{HttpResponse, Refused, say_last, tell};
 use crate::application::Application;
+use crate::body_room::{BodyPlace, BodyRoom};
 use crate::connection_phase::{ConnectionPhase, PhaseCell};
 use crate::forbidden::Forbidden;
 use crate::hosts::Hosts;
@@ -36,11 +38,33 @@ pub(crate) struct Serving<R, A: Application, I: Drop> {
     // Why it is refused by its head alone, where it is.
     forbidden: Option<Forbidden>,
     head: Parts,
+    // The room that its body has. Nothing of it is read before.
+    place: BodyPlace,
     reading: Reading<I>,
     reply: Option<A::Future>,
     rt: R,
     // When its head was read. None where the clock does not tell.
     begun: Option<Instant>,
+}
+
+// Reads a body on, once it has its place.
+fn read_on<I: Drop>(
+    place: &mut BodyPlace,
+    reading: &mut Reading<I>,
+    cx: &mut Context<'_>,
+) -> Poll<ReadBody>
+    ensures value { IfReady result (Reads reading.old) }
+    ensures later { OnPending result ((body : _) → Reads reading.new body → Reads reading.old body) }
+    // claim: Nothing of a body is asked for before it has its place in the room of its port. [: placed; BodyPlace::poll: has]
+    ensures placed { ¬ (HasPlace place.new) → reading.new ≡ reading.old }
+    ensures armed { OnPending result (IsArmed cx.new) }
+    ensures kept { Keeps cx.old cx.new }
+{
+    match place.poll(cx) {
+        Poll::Pending => Poll::Pending,
+        Poll::Ready(false) => Poll::Ready(ReadBody::without_memory()),
+        Poll::Ready(true) => reading.poll(cx),
+    }
 }
 
 impl<R: Clock, A: Application, I: Drop> Serving<R, A, I> {
@@ -127,7 +151,7 @@ impl<R: Clock, A: Application, I: Drop> Serving<R, A, I> {
     fn poll_body(&mut self, cx: &mut Context<'_>) -> Poll<Result<A::Future, Refused>>
         requires { IfSome self.old.reply A.Future.can_poll }
         ensures value { IfReady result (λ answered. IfOk answered A.Future.can_poll) }
-        // claim: What is forbidden by its head is answered 403, its body unread, the application unasked. All else the
+        // claim: What is forbidden by its head is answered 403 or 501, its body unread, the application unasked. All else the
         // application answers, or 408 or 503. [: answers, later, unasked; Serving: gives; Requests: calls; Forbidden::refused]
         ensures answers { IfReady result (Answers A.answers self.old.forbidden self.old.reply
             (option_map arc_value self.old.application) self.old.head (Reads self.old.reading)) }
@@ -151,7 +175,7 @@ impl<R: Clock, A: Application, I: Drop> Serving<R, A, I> {
         if self.is_late() {
             return Poll::Ready(Err(Refused::late(self.alloc)));
         }
-        match self.reading.poll(cx) {
+        match read_on(&mut self.place, &mut self.reading, cx) {
             Poll::Pending => Poll::Pending,
             Poll::Ready(body) => Poll::Ready(self.answer(body)),
         }
@@ -211,6 +235,7 @@ pub(crate) struct Requests<R, A> {
     pub(crate) application: Arc<A>,
     pub(crate) hosts: Arc<Hosts>,
     pub(crate) phase_cell: Rc<PhaseCell>,
+    pub(crate) room: BodyRoom,
 }
 
 impl<R: Clock + Copy + Drop, A: Application, I: Drop> Service<Request<Incoming<I>>>
@@ -231,13 +256,15 @@ impl<R: Clock + Copy + Drop, A: Application, I: Drop> Service<Request<Incoming<I
     fn call(&self, req: Request<Incoming<I>>) -> Serving<R, A, I> {
         let (head, body) = req.into_parts();
         self.phase_cell.enter(ConnectionPhase::Body);
+        let reading = Reading::new(self.alloc, body, self.application.most());
         Serving {
             alloc: self.alloc,
             application: Arc::try_clone(&self.application).ok(),
             phase_cell: Rc::clone(&self.phase_cell).ok(),
             forbidden: Forbidden::of(&self.hosts, &head.headers),
             head,
-            reading: Reading::new(self.alloc, body, self.application.most()),
+            place: self.room.place(reading.size()),
+            reading,
             reply: None,
             rt: self.rt,
             begun: Instant::now(&self.rt).ok(),

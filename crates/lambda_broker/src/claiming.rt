@@ -1,25 +1,25 @@
 // Claiming the disk that is served.
-ghost use Rattle.std.specs.Prelude.{◌≡◌, ◌<◌};
-
+use crate::disk_look::DiskLook;
+use crate::lookout::Sights;
+use crate::owner::{function_of, is_formatted};
 use crate::serving::ServingError;
 use crate::turns::{SharedVolume, Turn};
-use broker_commands::{Address, Device, DiskError, telltale_for};
+use broker_commands::{Address, Device, DiskError, enter_claim, telltale_by};
 use broker_core::OpenError;
-use broker_opening::OpeningError;
+use broker_opening::{OpeningError, check_name};
 use disk_claim::{
     ClaimError, Claimed, FileVolume, SharedHolding, Token, Watch, WatchedDisk, claim, claim_sector,
 };
-use port_meters::Machine;
+use port_meters::{Lines, Machine, Premises};
 use rand::TryRng;
 use rand::rngs::SysRng;
-use sector_disk::{Disk, Fault, FileError, SECTOR_SIZE};
+use sector_disk::{Disk, FileError};
+use std::alloc::AllocGlobal;
 use std::fs::File;
 use std::io;
 use std::random::RandomSource;
 use std::rt::Files;
-
-/// How many sectors a formatted disk has at least.
-const LEAST_SECTORS: u64 = 6;
+use std::sync::Arc;
 
 /// Who watches the claim of a disk.
 pub(crate) type Watcher<R> = Watch<SharedVolume<R>>;
@@ -27,32 +27,30 @@ pub(crate) type Watcher<R> = Watch<SharedVolume<R>>;
 /// A disk that is served, whether it is claimed or not.
 pub(crate) type Watched<R> = WatchedDisk<Device<R>, SharedVolume<R>>;
 
-/// A disk that is to be served, and who looks at its claim once a second, where it is claimed.
+/// A disk that is to be served, and what is looked at once a second meanwhile.
 #[derive(Drop)]
 pub(crate) struct OwnDisk<D, W> {
     pub(crate) disk: D,
     /// Another broker claimed it and did not end in order, so that it may still write.
     pub(crate) is_takeover: bool,
-    pub(crate) lookout: Option<W>,
+    pub(crate) lookout: W,
 }
 
-// Whether the first byte of a sector is 1, as that of an open gate is.
-fn has_open_gate<D: Disk>(disk: &mut D, sector: u64) -> Result<bool, Fault>
-    requires { sector < (D.view disk.old).sectors }
-    ensures { (D.view disk.new).sectors ≡ (D.view disk.old).sectors }
+// Refuses a disk that is not formatted, or is another function's than the one that is asked for, before anything of it is written.
+fn check_owner<R, D: Disk>(rt: &R, at: &Address<'_>, disk: &mut D) -> Result<(), ServingError>
+where
+    R: AllocGlobal,
 {
-    let mut gate = [0; SECTOR_SIZE];
-    disk.read(sector, &mut gate)?;
-    Ok(gate[0] == 1)
-}
-
-// Whether one of its segments is open. Without one it is no broker's disk, or was never formatted, and is not to be written.
-fn is_formatted<D: Disk>(disk: &mut D) -> Result<bool, Fault> {
-    let sectors = disk.sectors();
-    if sectors < LEAST_SECTORS {
-        return Ok(false);
+    match is_formatted(disk) {
+        Ok(true) => {}
+        Ok(false) => return Err(ServingError::Opening(OpeningError::Open(OpenError::NotFormatted))),
+        Err(_) => return Err(ServingError::Broken),
     }
-    Ok(has_open_gate(disk, 0)? || has_open_gate(disk, sectors / 2)?)
+    match function_of(rt.alloc(), disk) {
+        Ok(Some(name)) => Ok(check_name(rt.alloc(), &name, at.name)?),
+        Ok(None) => Ok(()),
+        Err(_) => Err(ServingError::Broken),
+    }
 }
 
 // A token of random bytes.
@@ -70,11 +68,12 @@ fn watch_at<R>(
     own: Token,
     turn: &Turn,
     holding: &SharedHolding,
+    lines: &Arc<Lines>,
 ) -> Result<Watcher<R>, ServingError>
 where
     R: Files<File = File> + Machine,
 {
-    let log = telltale_for(rt, path)?;
+    let log = telltale_by(rt, path, lines)?;
     match FileVolume::open(rt, path, sector, log) {
         Ok(volume) => {
             let shared = SharedVolume::new(*rt, volume, turn.another()?);
@@ -89,43 +88,96 @@ fn not_opened(why: FileError) -> ServingError {
     ServingError::Opening(OpeningError::Disk(DiskError::File(why)))
 }
 
-/// The disk as it is served: claimed by a token of its own, where that is asked for, before anything is read that is served. What looks
-/// at the claim show is told to `holding`.
-///
-/// Refused: `NoSector` and `NotFormatted`, before anything is written; `Taken` where another broker claimed it right behind, and where
-/// the device, memory or random bytes fail: the own token may stand there then.
-pub(crate) fn own_disk<R>(
+// What is claimed of a disk.
+#[derive(Drop)]
+struct Claim<D, W> {
+    disk: D,
+    is_takeover: bool,
+    lookout: Option<W>,
+}
+
+// What is claimed of a disk in a file.
+type FileClaim<R> = Claim<Watched<R>, Watcher<R>>;
+
+// The disk as it is served by who does not watch it, where nobody claims it.
+fn unwatched<R>(rt: &R, at: &Address<'_>, disk: Device<R>) -> Result<FileClaim<R>, ServingError>
+where
+    R: Files<File = File> + Machine,
+{
+    let mut disk = disk;
+    if at.is_unclaimed {
+        check_owner(rt, at, &mut disk)?;
+    }
+    match enter_claim(&mut disk, at.is_unclaimed) {
+        Ok(()) => Ok(Claim {
+            disk: WatchedDisk::over(disk, None),
+            is_takeover: false,
+            lookout: None,
+        }),
+        Err(why) => Err(ServingError::Opening(OpeningError::Disk(why))),
+    }
+}
+
+// The disk, claimed by a token of its own, where that is asked for.
+fn claim_own<R>(
     rt: &R,
     at: &Address<'_>,
     disk: Device<R>,
     holding: &SharedHolding,
-) -> Result<OwnDisk<Watched<R>, Watcher<R>>, ServingError>
+    lines: &Arc<Lines>,
+) -> Result<FileClaim<R>, ServingError>
 where
     R: Files<File = File> + Machine,
 {
     if !at.is_watched {
-        return Ok(OwnDisk {
-            disk: WatchedDisk::over(disk, None),
-            is_takeover: false,
-            lookout: None,
-        });
+        return unwatched(rt, at, disk);
     }
     let Some(sector) = claim_sector(disk.sectors()) else {
         return Err(ServingError::Claim(ClaimError::NoSector));
     };
     let mut disk = disk;
-    match is_formatted(&mut disk) {
-        Ok(true) => {}
-        Ok(false) => return Err(ServingError::Opening(OpeningError::Open(OpenError::NotFormatted))),
-        Err(_) => return Err(ServingError::Broken),
-    }
+    check_owner(rt, at, &mut disk)?;
     let (token, turn) = (draw(rt)?, Turn::new(rt.alloc())?);
-    let lookout = watch_at(rt, at.path, sector, token, &turn, holding)?;
-    let watch = watch_at(rt, at.path, sector, token, &turn, holding)?;
+    let lookout = watch_at(rt, at.path, sector, token, &turn, holding, lines)?;
+    let watch = watch_at(rt, at.path, sector, token, &turn, holding, lines)?;
     let Claimed { disk, found } = claim(disk, watch)?;
-    Ok(OwnDisk {
+    Ok(Claim {
         disk,
         is_takeover: found != Token::NOBODY,
         lookout: Some(lookout),
+    })
+}
+
+/// The disk as it is served: claimed by a token of its own, where that is asked for, before anything is read that is served. What looks
+/// at the claim show is told to `holding`, and what else is looked at to the premises.
+///
+/// Refused: `Claimed` where somebody stands in the claim of a disk that is not to be claimed; `NoSector`, `NotFormatted` and
+/// `OtherFunction`, before anything is written; `Taken` where another broker claimed it right behind, and where the device, memory or
+/// random bytes fail: the own token may stand there then.
+pub(crate) fn own_disk<R>(
+    rt: &R,
+    at: &Address<'_>,
+    disk: Device<R>,
+    look: DiskLook,
+    premises: Arc<Premises>,
+    holding: &SharedHolding,
+) -> Result<OwnDisk<Watched<R>, Sights<R>>, ServingError>
+where
+    R: Files<File = File> + Machine,
+{
+    let Claim {
+        disk,
+        is_takeover,
+        lookout,
+    } = claim_own(rt, at, disk, holding, premises.lines())?;
+    let sights = Sights {
+        claim: lookout,
+        disk: look,
+        premises,
+    };
+    Ok(OwnDisk {
+        disk,
+        is_takeover,
+        lookout: sights,
     })
 }

@@ -3,12 +3,15 @@ ghost use Rattle.std.specs.Prelude.{◌≡◌, ◌≤◌, IfOk};
 ghost use Rattle.lambda_broker.specs.Status.{status_of_serving};
 
 use crate::serving::{ServingError, serve_disk};
-use broker_commands::{Address, DONE, Task, USAGE, print_fault, print_job, print_usage, read_task};
-use broker_opening::stop_broker;
+use broker_commands::{
+    Address, DONE, Stopping, Task, USAGE, asks_for_version, print_fault, print_job, print_usage,
+    read_task, refuse_for_memory,
+};
+use broker_opening::{own_version, stop_broker};
 use std::fs::File;
 use std::io;
 use std::io::{Eprint, Write};
-use std::net::{Net, SocketAddr, TcpListener, TcpStream};
+use std::net::{Net, TcpListener, TcpStream};
 use std::random::RandomSource;
 use std::rt::Files;
 use std::sync::Wait;
@@ -34,6 +37,7 @@ where
         + Drop
         + Send
         + 'static,
+    R::Dir: Send + 'static,
     W: Write,
     // claim: The program's status is 0 to 4, where its printing does not fail.
     ensures { IfOk result (λ status. status ≤ 4) }
@@ -41,8 +45,9 @@ where
     match read_task(rt.alloc(), words) {
         Ok(Some(Task::Job(job))) => print_job(&rt, &job, out),
         Ok(Some(Task::Serve(at))) => print_serve(rt, &at, out),
-        Ok(Some(Task::Stop(at))) => print_stop(&rt, at, out),
+        Ok(Some(Task::Stop(stopping))) => print_stop(&rt, &stopping, out),
         Ok(None) => Ok(USAGE),
+        Err(fault) if asks_for_version(&fault) => print_version(&rt, out),
         Err(fault) => print_usage(&fault, out),
     }
 }
@@ -62,6 +67,7 @@ where
         + Drop
         + Send
         + 'static,
+    R::Dir: Send + 'static,
     W: Write,
     ensures { IfOk result (λ status. status ≤ 4) }
 {
@@ -86,16 +92,41 @@ fn print_served<W: Write>(outcome: Result<(), ServingError>, out: &mut W) -> io:
     }
 }
 
-// Stops a broker that serves, and says so once it has ended.
-fn print_stop<R, W>(rt: &R, at: SocketAddr, out: &mut W) -> io::Result<u8>
+// Prints what was stopped: the address, and the function where that was asked for.
+fn print_stopped<W: Write>(stopping: &Stopping<'_>, out: &mut W) -> io::Result<()> {
+    let at = stopping.at;
+    match stopping.name {
+        Some(name) => writeln!(out, "stopped {name} on {at}"),
+        None => writeln!(out, "stopped {at}"),
+    }
+}
+
+// Prints which program this is.
+fn print_version<R, W>(rt: &R, out: &mut W) -> io::Result<u8>
 where
-    R: AllocGlobal + Clock + Net<Listener = TcpListener, Stream = TcpStream>,
+    R: Files<File = File> + AllocGlobal,
     W: Write,
     ensures { IfOk result (λ status. status ≤ 3) }
 {
-    match stop_broker(rt, at) {
+    match own_version(rt) {
+        Ok(version) => {
+            writeln!(out, "lambda_broker {version}")?;
+            Ok(DONE)
+        }
+        Err(_) => refuse_for_memory(out),
+    }
+}
+
+// Stops a broker that serves, and says so once it has ended.
+fn print_stop<R, W>(rt: &R, stopping: &Stopping<'_>, out: &mut W) -> io::Result<u8>
+where
+    R: Files<File = File> + AllocGlobal + Clock + Net<Listener = TcpListener, Stream = TcpStream>,
+    W: Write,
+    ensures { IfOk result (λ status. status ≤ 3) }
+{
+    match stop_broker(rt, stopping) {
         Ok(()) => {
-            writeln!(out, "stopped {at}")?;
+            print_stopped(stopping, out)?;
             Ok(DONE)
         }
         Err(fault) => print_fault(&fault, false, out),

@@ -1,11 +1,17 @@
-// Looking at a claim once a second.
+// Looking once a second at what a served disk rests on: its claim, its file, its flushes and the clock.
 use crate::claiming::Watcher;
+use crate::clock_look::ClockLook;
+use crate::disk_look::DiskLook;
+use crate::flush_look::{FlushLook, FlushSight};
 use broker_commands::Address;
 use broker_opening::ask_to_stop;
 use disk_claim::Holding;
-use port_meters::Machine;
-use std::alloc::{AllocError, Global};
+use port_meters::{Machine, Premises};
+use std::alloc::{AllocError, AllocGlobal, Global};
+use std::fs::File;
+use std::io::Eprint;
 use std::net::{IpAddr, Ipv4Addr, Ipv6Addr, SocketAddr, TcpListener};
+use std::rt::Files;
 use std::sync::{Arc, Condvar, Mutex, Wait};
 use std::thread::JoinHandle;
 use std::time::{Clock, Duration};
@@ -13,6 +19,9 @@ use std::{io, thread};
 
 /// How long is waited between two looks, in seconds.
 const PAUSE: u64 = 1;
+
+/// From how many seconds ahead on a clock is held back, where it is.
+const HELD_FROM: u64 = 3600;
 
 /// That a lookout is to end, which it sleeps for.
 #[derive(Drop)]
@@ -48,10 +57,19 @@ impl End {
     }
 }
 
-/// A thread that looks at a claim once a second, and asks the broker to stop that lost it.
+/// What is looked at once a second while a disk is served, and where it is told.
+#[derive(Drop)]
+pub(crate) struct Sights<R: Eprint + Clock + AllocGlobal + Copy + Drop> {
+    /// The disk's claim, where it is claimed.
+    pub(crate) claim: Option<Watcher<R>>,
+    pub(crate) disk: DiskLook,
+    pub(crate) premises: Arc<Premises>,
+}
+
+/// A thread that looks once a second, and asks the broker to stop that lost its claim or its disk.
 #[derive(Drop)]
 pub(crate) struct Lookout {
-    thread: JoinHandle<()>,
+    thread: JoinHandle<DiskLook>,
     end: Arc<End>,
 }
 
@@ -70,39 +88,133 @@ fn is_here<R: Machine>(rt: &R, ip: IpAddr) -> bool {
     TcpListener::bind(rt, SocketAddr::new(ip, 0)).is_ok()
 }
 
-// Looks until it is told to end. Where the claim is lost, the broker is asked to stop each time: one try may fail.
-fn look_out<R: Machine>(rt: &R, mut watch: Watcher<R>, end: &End, port: SocketAddr) {
-    for _ in rt.forever() {
-        if end.came_within_pause(rt) {
-            return;
+// Tells a line, where there is memory for it.
+fn tell<R: Machine>(rt: &R, premises: &Premises, line: Result<String, AllocError>) {
+    premises.lines().tell_made(rt, line);
+}
+
+impl<R: Files<File = File> + Machine> Sights<R> {
+    // Whether the claim is held, where there is one.
+    fn has_claim(&mut self) -> bool {
+        match &mut self.claim {
+            Some(watch) => watch.look() == Holding::Held,
+            None => true,
         }
-        if watch.look() != Holding::Held && is_here(rt, port.ip()) {
-            let _ = ask_to_stop(rt, port);
+    }
+
+    // Looks at the flush that is under way, and tells of one that takes long.
+    fn look_at_flush(&self, rt: &R, flush: &mut FlushLook) {
+        let (path, before) = (self.disk.path(), flush.seconds());
+        let seen = flush.look(self.disk.guard().flush());
+        let seconds = flush.seconds();
+        self.premises.note_flush(seconds);
+        match seen {
+            FlushSight::Long => {
+                let line = format!(in rt.alloc();
+                    "disk hangs: a flush of {path} has been under way for {seconds} s"
+                );
+                tell(rt, &self.premises, line);
+            }
+            FlushSight::Ended => {
+                let line = format!(in rt.alloc();
+                    "disk goes on: a flush of {path} took some {before} s"
+                );
+                tell(rt, &self.premises, line);
+            }
+            FlushSight::Short | FlushSight::StillLong => {}
+        }
+    }
+
+    // Looks at the clock, and tells of a step.
+    fn look_at_clock(&self, rt: &R, earlier: Option<ClockLook>) -> Option<ClockLook> {
+        let now = ClockLook::now(rt)?;
+        if let Some(step) = earlier.and_then(|earlier| now.step_since(&earlier)) {
+            self.premises.note_step(step);
+            tell(rt, &self.premises, self.step_words(rt.alloc(), step));
+        }
+        Some(now)
+    }
+
+    // What is told of a step of the clock.
+    fn step_words(&self, alloc: Global, step: i64) -> Result<String, AllocError> {
+        let seconds = Duration::from_millis(step.unsigned_abs()).as_secs();
+        let grace = self.premises.grace().as_secs();
+        if step < 0 {
+            format!(in alloc;
+                "the clock was set back by {seconds} s: waits, ages and timeouts go by it"
+            )
+        } else if seconds < HELD_FROM || grace == 0 {
+            format!(in alloc;
+                "the clock was set ahead by {seconds} s: waits, ages and timeouts go by it"
+            )
+        } else {
+            format!(in alloc;
+                "the clock was set ahead by {seconds} s: waits, ages and timeouts go by it in {grace} s"
+            )
         }
     }
 }
 
+/// Where a broker serves, as its lookout asks it to stop and tells how it is saved.
+#[derive(Drop)]
+struct Post {
+    port: SocketAddr,
+    // What is told once the disk is gone.
+    reach: IpAddr,
+}
+
+// Looks until it is told to end, and then once more at the disk. Where the claim or the disk is lost, the broker is asked to stop each
+// time: one try may fail.
+fn look_out<R>(rt: R, mut sights: Sights<R>, end: Arc<End>, post: Post) -> DiskLook
+where
+    R: Files<File = File> + Machine,
+{
+    let (mut flush, mut clock, mut was_there) = (FlushLook::new(), ClockLook::now(&rt), true);
+    for _ in rt.forever() {
+        let is_last = end.came_within_pause(&rt);
+        let is_there = sights.disk.look(&rt);
+        if was_there && !is_there {
+            tell(
+                &rt,
+                &sights.premises,
+                sights.disk.words(&rt, post.reach, post.port.port()),
+            );
+        }
+        was_there = is_there;
+        if is_last {
+            break;
+        }
+        sights.look_at_flush(&rt, &mut flush);
+        clock = sights.look_at_clock(&rt, clock);
+        if !(sights.has_claim() && is_there) && is_here(&rt, post.port.ip()) {
+            let _ = ask_to_stop(&rt, post.port);
+        }
+    }
+    let Sights { disk, .. } = sights;
+    disk
+}
+
 impl Lookout {
-    /// Starts one, where there is who watches.
-    pub(crate) fn start<R: Machine>(
-        rt: R,
-        watch: Option<Watcher<R>>,
-        at: &Address<'_>,
-    ) -> io::Result<Option<Lookout>> {
-        let Some(watch) = watch else {
-            return Ok(None);
-        };
+    /// Starts one.
+    pub(crate) fn start<R>(rt: R, sights: Sights<R>, at: &Address<'_>) -> io::Result<Lookout>
+    where
+        R: Files<File = File> + Machine,
+        R::Dir: Send + 'static,
+    {
         let end = End::new(rt.alloc())?;
         let theirs = Arc::try_clone(&end)?;
-        let port = own_address(at);
-        let thread = thread::spawn(&rt, move || look_out(&rt, watch, &theirs, port))?;
-        Ok(Some(Lookout { thread, end }))
+        let post = Post {
+            port: own_address(at),
+            reach: at.reach,
+        };
+        let thread = thread::spawn(&rt, move || look_out(rt, sights, theirs, post))?;
+        Ok(Lookout { thread, end })
     }
 
-    /// Ends it.
-    pub(crate) fn end<R: Machine>(self, rt: &R) {
+    /// Ends it: the disk, as it was looked at last.
+    pub(crate) fn end<R: Machine>(self, rt: &R) -> DiskLook {
         let Lookout { thread, end } = self;
         end.come(rt);
-        thread.join(rt);
+        thread.join(rt)
     }
 }

@@ -3,12 +3,16 @@
 #![tactic(auto)]
 
 mod claiming;
+mod clock_look;
 mod command_line;
+mod disk_look;
+mod flush_look;
 mod lookout;
+mod owner;
 mod serving;
 mod turns;
 
-use broker_commands::{DONE, refuse_for_memory};
+use broker_commands::{DONE, print_fault, refuse_for_memory};
 use broker_opening::{Output, keep_numbers};
 use std::io::{ErrorKind, Write};
 use std::process::ExitCode;
@@ -27,18 +31,32 @@ fn words_of<R: Env + AllocGlobal>(rt: &R) -> io::Result<Vec<String>> {
     Ok(words)
 }
 
-fn main(rt: HostRuntime) -> io::Result<ExitCode> {
+// Whether a disk is to be served: that waits for nobody who reads what it prints.
+fn serves(words: &io::Result<Vec<String>>) -> bool {
+    match words {
+        Ok(words) => matches!(words.get(1), Some(word) if word.as_str() == "serve"),
+        Err(_) => false,
+    }
+}
+
+// A fault is printed as a refusal is, and not by the runtime: that would wait for whoever reads standard error.
+fn main(rt: HostRuntime) -> ExitCode {
     let streams = keep_numbers(&rt);
-    let mut out = Output::new(io::writer(&rt));
-    let status = match words_of(&rt) {
-        Ok(words) => command_line::run(rt, &words, &mut out)?,
-        Err(fault) if fault.kind() == ErrorKind::OutOfMemory => { refuse_for_memory(&mut out)? }
-        Err(fault) => return Err(fault),
+    let words = words_of(&rt);
+    let mut out = Output::new(io::writer(&rt), !serves(&words));
+    let outcome = match words {
+        Ok(words) => command_line::run(rt, &words, &mut out),
+        Err(fault) if fault.kind() == ErrorKind::OutOfMemory => refuse_for_memory(&mut out),
+        Err(fault) => Err(fault),
     };
-    out.flush()?;
+    let status = match outcome {
+        Ok(status) => status,
+        Err(fault) => print_fault(&fault, false, &mut out).unwrap_or(CUT),
+    };
+    let _ = out.flush();
     drop(streams);
     if status == DONE && out.is_cut() {
-        return Ok(ExitCode::from(CUT));
+        return ExitCode::from(CUT);
     }
-    Ok(ExitCode::from(status))
+    ExitCode::from(status)
 }

@@ -5,28 +5,35 @@ ghost use Rattle.hall_core.specs.Fresh.{IsFresh};
 ghost use Rattle.receipts.specs.Desks.{desk_count};
 ghost use Rattle.lambda_broker.specs.Status as status;
 
-use crate::claiming::{OwnDisk, Watched, Watcher, own_disk};
-use crate::lookout::Lookout;
+use crate::claiming::{OwnDisk, Watched, own_disk};
+use crate::disk_look::DiskLook;
+use crate::lookout::{Lookout, Sights};
 use admin_port::AdminPort;
 use broker_commands::Address;
 use broker_core::Broker;
-use broker_opening::{OpenedDisk, OpeningError, note_stop, open_in_turn, open_to_serve, warn};
+use broker_opening::{
+    OpenedDisk, OpeningError, note_stop, open_in_turn, open_to_serve, own_version, warn,
+    warn_of_unproved,
+};
 use disk_claim::{ClaimError, Holding, SharedHolding};
+use disk_guard::{Guard, GuardedDisk};
 use hall_core::Hall;
 use http_front::{Discard, Ending, ServeError, WhenPending, serve};
 use http_port::Listening;
-use port_meters::Machine;
+use port_meters::{Lines, Machine, Premises};
 use receipts::{Gone, SharedOpening, SharedTrace, desks};
+use saving_port::{Saving, wait_to_lose};
 use sector_disk::{CountingDisk, Disk, Written};
 use std::alloc::AllocError;
 use std::fs::File;
+use std::io;
 use std::io::Write;
 use std::marker::Brand;
+use std::net::SocketAddr;
 use std::rt::Files;
+use std::sync::Arc;
 use std::sync::ledger::{Blank, Ledger};
-use std::thread::Threads;
-use std::time::Instant;
-use std::{io, thread};
+use std::time::{Duration, Instant};
 use thiserror::Error;
 
 /// Why a disk was not served, or not to its end.
@@ -50,6 +57,9 @@ pub enum ServingError {
     /// Another broker has claimed the disk.
     #[error("taken over")]
     TakenOver,
+    /// The file of the disk was removed, replaced or cut, and then the program was asked to end all the same.
+    #[error("disk is gone")]
+    DiskGone,
 }
 
 impl ServingError {
@@ -76,20 +86,6 @@ impl ServingError {
     }
 }
 
-/// How many threads serve the callers at most where nobody says how many.
-const MOST_THREADS: usize = 8;
-
-// How many threads serve the callers: as many as were asked for, else one for each processor, up to eight.
-fn caller_threads<R: Threads>(rt: &R, at: &Address<'_>) -> u8 {
-    if let Some(threads) = at.threads {
-        return threads;
-    }
-    match thread::available_parallelism(rt) {
-        Ok(found) => found.get().min(MOST_THREADS) as u8,
-        Err(_) => 1,
-    }
-}
-
 // Serves a hall by a ledger of the blank's, until the broker is stopped: the disk.
 fn serve_by<R, L, T, D>(
     rt: R,
@@ -99,6 +95,7 @@ fn serve_by<R, L, T, D>(
     callers: u8,
     admin: Option<AdminPort>,
     discard: Discard,
+    premises: Arc<Premises>,
 ) -> Result<D, ServingError>
 where
     R: Machine,
@@ -120,6 +117,7 @@ where
         callers,
         admin,
         discard,
+        premises,
         &WhenPending,
     )?;
     match served.ending {
@@ -136,6 +134,7 @@ fn serve_hall<R, T, D>(
     callers: u8,
     admin: Option<AdminPort>,
     discard: Discard,
+    premises: Arc<Premises>,
 ) -> Result<D, ServingError>
 where
     R: Machine,
@@ -146,7 +145,9 @@ where
     requires fresh { IsFresh (settings_of hall.issuer) hall }
 {
     let blank = Blank::new(desks(hall.table().settings()));
-    serve_by::<R, Brand, T, D>(rt, hall, blank, listeners, callers, admin, discard)
+    serve_by::<R, Brand, T, D>(
+        rt, hall, blank, listeners, callers, admin, discard, premises,
+    )
 }
 
 // Serves a disk that is open, by what is discarded: the disk.
@@ -154,6 +155,7 @@ fn serve_opened<R, T, D>(
     rt: R,
     opened: OpenedDisk<Hall<Broker<D>>>,
     at: &Address<'_>,
+    premises: Arc<Premises>,
 ) -> Result<D, ServingError>
 where
     R: Machine,
@@ -170,23 +172,46 @@ where
     let OpenedDisk {
         hall,
         listeners,
+        callers,
         admin,
     } = opened;
-    let callers = caller_threads(&rt, at);
-    serve_hall::<R, T, D>(rt, hall, listeners, callers, admin, discard)
+    serve_hall::<R, T, D>(rt, hall, listeners, callers, admin, discard, premises)
 }
 
-// Serves what is on a disk, once it is opened, while somebody may look at its claim: the disk.
+// Refuses all until what was told is saved, or is to be lost: the disk is gone.
+fn save<R>(rt: R, look: &DiskLook, at: &Address<'_>) -> Result<(), ServingError>
+where
+    R: Files<File = File> + Machine,
+{
+    let words = look.words(&rt, at.reach, at.port)?;
+    let Ok(words) = Arc::new(rt.alloc(), words) else {
+        return Err(ServingError::OutOfMemory(AllocError));
+    };
+    let saving = Saving {
+        callers: SocketAddr::new(at.reach, at.port),
+        admin: at.admin,
+        host: at.host,
+        dialect: at.dialect,
+        words,
+    };
+    wait_to_lose(rt, &saving)?;
+    Err(ServingError::DiskGone)
+}
+
+// Serves what is on a disk, once it is opened, while it is looked at what that rests on: the disk. Where that is gone, all is refused
+// until what was told is saved.
 fn serve_on<R, T, D, W>(
     rt: R,
-    own: OwnDisk<D, Watcher<R>>,
+    own: OwnDisk<D, Sights<R>>,
     written: Written,
     at: &Address<'_>,
     start: &io::Result<Instant>,
+    premises: &Arc<Premises>,
     out: &mut W,
 ) -> Result<D, ServingError>
 where
     R: Files<File = File> + Machine,
+    R::Dir: Send + 'static,
     T: SharedTrace + 'static,
     T::Opening: SharedOpening + 'static,
     D: Disk + Drop,
@@ -197,25 +222,49 @@ where
         is_takeover,
         lookout,
     } = own;
-    let opened = open_to_serve(&rt, disk, written, is_takeover, at, start, out)?;
+    let opened = open_to_serve(&rt, disk, written, is_takeover, at, start, premises, out)?;
+    let theirs = Arc::try_clone(premises)?;
     let lookout = Lookout::start(rt, lookout, at)?;
-    let served = serve_opened::<R, T, D>(rt, opened, at);
-    if let Some(lookout) = lookout {
-        lookout.end(&rt);
+    let served = serve_opened::<R, T, D>(rt, opened, at, theirs);
+    let look = lookout.end(&rt);
+    if look.guard().is_shut() {
+        save(rt, &look, at)?;
     }
     served
+}
+
+// Serves what is on a disk by what keeps no trace: the disk.
+fn serve_traceless<R, D, W>(
+    rt: R,
+    own: OwnDisk<D, Sights<R>>,
+    written: Written,
+    at: &Address<'_>,
+    start: &io::Result<Instant>,
+    premises: &Arc<Premises>,
+    out: &mut W,
+) -> Result<D, ServingError>
+where
+    R: Files<File = File> + Machine,
+    R::Dir: Send + 'static,
+    D: Disk + Drop,
+    W: Write,
+{
+    serve_on::<R, Gone, D, W>(rt, own, written, at, start, premises, out)
 }
 
 // Serves a disk, and gives its claim up at an orderly end.
 fn serve_own<R, W>(
     rt: R,
-    own: OwnDisk<Watched<R>, Watcher<R>>,
+    own: OwnDisk<Watched<R>, Sights<R>>,
+    guard: Arc<Guard>,
     at: &Address<'_>,
     start: &io::Result<Instant>,
+    premises: &Arc<Premises>,
     out: &mut W,
 ) -> Result<(), ServingError>
 where
     R: Files<File = File> + Machine,
+    R::Dir: Send + 'static,
     W: Write,
 {
     let OwnDisk {
@@ -225,14 +274,12 @@ where
     } = own;
     let written = Written::new(rt.alloc())?;
     let counted = OwnDisk {
-        disk: CountingDisk::over(disk, written.another()?),
+        disk: CountingDisk::over(GuardedDisk::over(disk, guard), written.another()?),
         is_takeover,
         lookout,
     };
-    let served = serve_on::<R, Gone, CountingDisk<Watched<R>>, W>(
-        rt, counted, written, at, start, out,
-    )?;
-    match served.into_inner().release() {
+    let served = serve_traceless(rt, counted, written, at, start, premises, out)?;
+    match served.into_inner().into_inner().release() {
         Ok(_) => Ok(()),
         Err(_) => Err(ServingError::Broken),
     }
@@ -253,14 +300,22 @@ fn ended(served: Result<(), ServingError>, holding: Holding) -> Result<(), Servi
 pub fn serve_disk<R, W>(rt: R, at: &Address<'_>, out: &mut W) -> Result<(), ServingError>
 where
     R: Files<File = File> + Machine,
+    R::Dir: Send + 'static,
     W: Write,
 {
-    let (disk, start) = open_in_turn(&rt, at, out)?;
-    warn(&rt, at);
-    let holding = SharedHolding::new(rt.alloc())?;
-    let own = own_disk(&rt, at, disk, &holding)?;
-    let served = serve_own(rt, own, at, &start, out);
+    let alloc = rt.alloc();
+    let grace = Duration::from_secs(u64::from(at.clock_grace));
+    let premises = Premises::new(alloc, Lines::new(alloc)?, grace)?;
+    let lines = premises.lines();
+    let (disk, start) = open_in_turn(&rt, at, lines, out)?;
+    warn_of_unproved(&rt, lines, &own_version(&rt)?);
+    warn(&rt, lines, at);
+    let guard = Guard::new(alloc)?;
+    let look = DiskLook::open(&rt, at.path, Arc::try_clone(&guard)?)?;
+    let holding = SharedHolding::new(alloc)?;
+    let own = own_disk(&rt, at, disk, look, Arc::try_clone(&premises)?, &holding)?;
+    let served = serve_own(rt, own, guard, at, &start, &premises, out);
     ended(served, holding.get())?;
-    note_stop(&rt, at);
+    note_stop(&rt, lines, at);
     Ok(())
 }

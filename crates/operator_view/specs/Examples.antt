@@ -56,6 +56,8 @@ tallied = record {
   first_due = Some 3000;
   due = 2;
   expiring = 0;
+  first_deadline = Some 5000;
+  last_moment = 8000;
 }
 
 -- ## Texts

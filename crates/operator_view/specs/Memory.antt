@@ -1,4 +1,5 @@
--- What is remembered of the looks at a broker: counts of two moments, and since when no event has ended.
+-- What is remembered of the looks at a broker: counts of two moments, and since when no event has ended. Moments are those of a
+-- clock that nobody sets.
 use Rattle.std.specs.Prelude.{ℕ, ◌-◌, ◌/◌, ◌==◌, nat_le, if◌then◌else◌}
 use Rattle.operator_view.specs.declared.memory.Counts.{Counts}
 use Rattle.operator_view.specs.declared.memory.Growth.{Growth}
@@ -8,21 +9,25 @@ use Rattle.operator_view.specs.declared.memory.Memory.{Memory}
 abbrev pub grown : (earlier seen : Counts) → Growth
 grown earlier seen = record {
   seconds = (seen.at - earlier.at) / 1000;
+  accepted = seen.accepted - earlier.accepted;
   started = seen.started - earlier.started;
   succeeded = seen.succeeded - earlier.succeeded;
   failed = seen.failed - earlier.failed;
+  ended = seen.ended - earlier.ended;
   expired = seen.expired - earlier.expired;
   commits = seen.commits - earlier.commits;
   commit_microseconds = seen.commit_microseconds - earlier.commit_microseconds;
   quick_commits = seen.quick_commits - earlier.quick_commits;
   refused_full = seen.refused_full - earlier.refused_full;
   refused_busy = seen.refused_busy - earlier.refused_busy;
+  clock_steps = seen.clock_steps - earlier.clock_steps;
 }
 
 -- nothing was counted until then
 abbrev pub none_at : ℕ → Counts
 none_at at = record {
   at = at;
+  accepted = 0;
   started = 0;
   succeeded = 0;
   failed = 0;
@@ -33,6 +38,7 @@ none_at at = record {
   quick_commits = 0;
   refused_full = 0;
   refused_busy = 0;
+  clock_steps = 0;
 }
 
 -- of a broker that is opened

@@ -4,7 +4,7 @@ ghost use Rattle.invoke_records.specs.declared.row.EventRow.{EventRow};
 ghost use Rattle.operator_view.specs.Census.{IsCensus, oldest_waiting, least};
 ghost use Rattle.operator_view.specs.Tally.{IsTally};
 
-use crate::moments::{due_of, end_of, expires_soon, is_due};
+use crate::moments::{deadline_of, due_of, end_of, expires_soon, is_due};
 use crate::numbers::{Census, Tally};
 use crate::standings::{ended_with, is_due_again, is_running, is_waiting, waits};
 use async_core::Table;
@@ -67,7 +67,8 @@ fn census_with(census: &Census, row: &EventRow) -> Census
 
 // A tally with one event more.
 fn tally_with(tally: &Tally, row: &EventRow, at: u64) -> Tally
-    ensures { (rows : List EventRow) → length rows < 2 ^ 63 → IsTally rows at tally.now → IsTally (rows ++ row.now ∷ []) at result }
+    ensures last_moment { result.last_moment ≡ tally.now.last_moment }
+    ensures counts { (rows : List EventRow) → length rows < 2 ^ 63 → IsTally rows at tally.now → IsTally (rows ++ row.now ∷ []) at result }
 {
     Tally {
         census: census_with(&tally.census, row),
@@ -76,11 +77,15 @@ fn tally_with(tally: &Tally, row: &EventRow, at: u64) -> Tally
         first_due: earlier(tally.first_due, due_of(row.standing)),
         due: counted(tally.due, is_due(at, row)),
         expiring: counted(tally.expiring, expires_soon(at, row)),
+        first_deadline: earlier(tally.first_deadline, deadline_of(row.standing)),
+        last_moment: tally.last_moment,
     }
 }
 
-fn none() -> Tally
-    ensures { (at : ℕ) → IsTally [] at result }
+// Of no event, by commands of which the last was of this moment.
+fn none(last_moment: u64) -> Tally
+    ensures last_moment { result.last_moment ≡ last_moment }
+    ensures counts { (at : ℕ) → IsTally [] at result }
 {
     Tally {
         census: Census {
@@ -97,16 +102,19 @@ fn none() -> Tally
         first_due: None,
         due: 0,
         expiring: 0,
+        first_deadline: None,
+        last_moment,
     }
 }
 
 /// The numbers of a table's events at this moment, in milliseconds since 1970. It copies no row and takes no memory.
 pub fn tally(table: &Table, at: u64) -> Tally
     // claim: A tally counts a table's rows by where they stand and by what is due at a moment, and has the acceptance of the
-    // first that waits, and the first of the moments at which one ended or is due.
-    ensures { IsTally table.now.table.rows at result }
+    // first that waits, the first of the moments at which one ended, is due or is to be done, and the last command's.
+    ensures last_moment { result.last_moment ≡ table.now.table.last_moment }
+    ensures counts { IsTally table.now.table.rows at result }
 {
-    let mut tally = none();
+    let mut tally = none(table.last_moment());
     for row in table.rows() {
         tally = tally_with(&tally, row, at);
     }

@@ -11,10 +11,10 @@ ghost use Rattle.operator_view.specs.Tally.{IsTally};
 ghost use Rattle.operator_view.specs.EventText.{event_text, detail_text, whole_characters, record_json};
 ghost use Rattle.operator_view.specs.ListText.{list_text};
 ghost use Rattle.operator_view.specs.Page.{start_behind, event_places, number_behind, record_places, last_id};
-ghost use Rattle.operator_view.specs.declared.verdict.Problem.TheVariants as problem;
+ghost use Rattle.operator_view.specs.declared.problem.Problem.TheVariants as problem;
 ghost use Rattle.operator_view.specs.Memory.{none_at, looked, lately, quiet_after};
-ghost use Rattle.operator_view.specs.Sights.{usual_growth, well, holding, quiet, but_lately, tried, committed, nothing, short_lived, looks};
-ghost use Rattle.operator_view.specs.Verdict.{callers_are_refused, nobody_polls, nothing_ends, table_full, table_nearly_full, events_expire, most_attempts_fail, commits_are_slow, records_not_collected, problems};
+ghost use Rattle.operator_view.specs.Sights.{usual_growth, well, holding, quiet, jumped, all_but, backlog, hanging, but_lately, tried, committed, nothing, short_lived, looks};
+ghost use Rattle.operator_view.specs.Verdict.{disk_hangs, clock_is_behind, events_expired_by_a_jump, environment_hangs, all_busy, backlog_grows, callers_are_refused, nobody_polls, nothing_ends, table_full, table_nearly_full, events_expire, most_attempts_fail, commits_are_slow, records_not_collected, problems};
 ghost use Rattle.operator_view.specs.Waiting.{expires_soon};
 ghost use Rattle.operator_view.specs.Examples.{event_row, rows, tallied, running_text, page_text, grown_old, grown_old_text};
 
@@ -66,12 +66,28 @@ pub fn texts()
 /// Known verdicts: none of a broker that is well, and one at the other side of each bound.
 pub fn verdicts()
     ensures well { problems well ≡ nothing }
+    ensures hangs { disk_hangs (record well { flush_seconds = 5 }) ≡ Some (problem.DiskHangs 5) }
+    ensures behind { clock_is_behind (record well { last_moment = 1005001 }) ≡ Some (problem.ClockIsBehind 5) }
+    ensures jumped { events_expired_by_a_jump (jumped 1 3000 4) ≡ Some (problem.EventsExpiredByAJump 4 1 3 200) }
+    ensures back { events_expired_by_a_jump (jumped 1 0 4) ≡ None }
+    ensures and_back { events_expired_by_a_jump (jumped 2 0 4) ≡ Some (problem.EventsExpiredByAJump 4 2 0 200) }
+    ensures long_ago { events_expired_by_a_jump (jumped 0 3000 4) ≡ None }
+    ensures gone { environment_hangs (hanging 60001 60000) ≡ Some (problem.EnvironmentHangs 2 60 0) }
+    ensures runs_on { environment_hangs (hanging 60000 60001) ≡ Some (problem.EnvironmentHangs 2 0 60) }
+    ensures all_are_gone { environment_hangs (record (hanging 60001 0) { without_poll = 2 }) ≡ None }
+    ensures all_are_slow { environment_hangs (record (hanging 0 60001) { environments = 5 }) ≡ None }
+    ensures all_busy { all_busy (all_but 2 989999) ≡ Some (problem.AllBusy 2 1 1 10) }
+    ensures one_free { all_busy (all_but 1 0) ≡ None }
+    ensures busy_for_a_moment { all_busy (all_but 2 990000) ≡ None }
+    ensures grows { backlog_grows (backlog 19 879999) ≡ Some (problem.BacklogGrows 20 19 120 200) }
+    ensures shrinks { backlog_grows (backlog 20 0) ≡ None }
+    ensures young_backlog { backlog_grows (backlog 0 880000) ≡ None }
     ensures refused { callers_are_refused (but_lately (record usual_growth { refused_full = 1 })) ≡ Some (problem.CallersAreRefused 1 0 200) }
     ensures busy { callers_are_refused (but_lately (record usual_growth { refused_busy = 1 })) ≡ Some (problem.CallersAreRefused 0 1 200) }
     ensures unpolled { nobody_polls (record well { without_poll = 1 }) ≡ Some (problem.NobodyPolls 1 2 1) }
-    ensures quiet { nothing_ends (quiet 990999) ≡ Some (problem.NothingEnds 9 1 3 30) }
-    ensures just_due { nothing_ends (record (quiet 0) { first_due = Some 991000 }) ≡ None }
-    ensures none_due { nothing_ends (record (quiet 0) { first_due = None }) ≡ None }
+    ensures quiet { nothing_ends (quiet 9001) ≡ Some (problem.NothingEnds 9 1 3 30) }
+    ensures just_due { nothing_ends (record (quiet 9001) { first_due = Some 991000 }) ≡ None }
+    ensures none_due { nothing_ends (record (quiet 9001) { first_due = None }) ≡ None }
     ensures four_fifths { table_nearly_full (holding 52) ≡ Some (problem.TableNearlyFull 52 64 7) }
     ensures nearly { table_nearly_full (holding 63) ≡ Some (problem.TableNearlyFull 63 64 7) }
     ensures not_full { table_full (holding 63) ≡ None }

@@ -11,8 +11,10 @@ const STALE: u64 = 600_000;
 /// What was counted since the broker was opened, at one moment. Each number only grows.
 #[derive(Clone, Copy)]
 pub struct Counts {
-    /// The moment, in milliseconds since 1970.
+    /// For how many milliseconds the broker was looked at by then, by a clock that nobody sets.
     pub at: u64,
+    /// How many events were accepted.
+    pub accepted: u64,
     /// How many attempts were started.
     pub started: u64,
     pub succeeded: u64,
@@ -30,21 +32,26 @@ pub struct Counts {
     pub refused_full: u64,
     /// How many requests were answered 503.
     pub refused_busy: u64,
+    /// How often the system's clock was set.
+    pub clock_steps: u64,
 }
 
 /// What happened lately: by how much the counts have grown in so many seconds.
 #[derive(Clone, Copy)]
 pub struct Growth {
     pub seconds: u64,
+    pub accepted: u64,
     pub started: u64,
     pub succeeded: u64,
     pub failed: u64,
+    pub ended: u64,
     pub expired: u64,
     pub commits: u64,
     pub commit_microseconds: u64,
     pub quick_commits: u64,
     pub refused_full: u64,
     pub refused_busy: u64,
+    pub clock_steps: u64,
 }
 
 impl Counts {
@@ -54,6 +61,7 @@ impl Counts {
     {
         Counts {
             at,
+            accepted: 0,
             started: 0,
             succeeded: 0,
             failed: 0,
@@ -64,6 +72,7 @@ impl Counts {
             quick_commits: 0,
             refused_full: 0,
             refused_busy: 0,
+            clock_steps: 0,
         }
     }
 
@@ -73,9 +82,11 @@ impl Counts {
     {
         Growth {
             seconds: self.at.saturating_sub(earlier.at) / 1000,
+            accepted: self.accepted.saturating_sub(earlier.accepted),
             started: self.started.saturating_sub(earlier.started),
             succeeded: self.succeeded.saturating_sub(earlier.succeeded),
             failed: self.failed.saturating_sub(earlier.failed),
+            ended: self.ended.saturating_sub(earlier.ended),
             expired: self.expired.saturating_sub(earlier.expired),
             commits: self.commits.saturating_sub(earlier.commits),
             commit_microseconds: self
@@ -84,6 +95,7 @@ impl Counts {
             quick_commits: self.quick_commits.saturating_sub(earlier.quick_commits),
             refused_full: self.refused_full.saturating_sub(earlier.refused_full),
             refused_busy: self.refused_busy.saturating_sub(earlier.refused_busy),
+            clock_steps: self.clock_steps.saturating_sub(earlier.clock_steps),
         }
     }
 }
@@ -100,7 +112,7 @@ pub struct Memory {
 }
 
 impl Memory {
-    /// Of a broker that is opened now, in milliseconds since 1970.
+    /// Of a broker that is looked at from now on.
     pub fn begun(now: u64) -> Memory
         ensures { result ≡ begun now }
     {

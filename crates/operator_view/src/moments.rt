@@ -1,7 +1,7 @@
 // When an event is due, and when it ended.
 ghost use Rattle.std.specs.Prelude.{◌≡◌};
 ghost use Rattle.operator_view.specs.Census.{end_of};
-ghost use Rattle.operator_view.specs.Waiting.{due_of, is_due, expires_soon};
+ghost use Rattle.operator_view.specs.Waiting.{deadline_of, due_of, is_due, expires_soon};
 
 use crate::standings::waits;
 use invoke_records::{EventRow, Standing};
@@ -32,6 +32,16 @@ pub(crate) fn expires_soon(now: u64, row: &EventRow) -> bool
 {
     let waited = u128::from(now.saturating_sub(row.accepted));
     waits(row.standing) && 5000 * u128::from(row.policy.age) <= 6 * waited
+}
+
+/// By when its attempt is to be done, if one runs.
+pub(crate) fn deadline_of(standing: Standing) -> Option<u64>
+    ensures { result ≡ deadline_of standing }
+{
+    match standing {
+        Standing::Running { deadline, .. } => Some(deadline),
+        _ => None,
+    }
 }
 
 /// When it ended, if it has.

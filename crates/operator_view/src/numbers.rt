@@ -28,4 +28,8 @@ pub struct Tally {
     pub due: usize,
     /// How many events that wait have then reached five sixths of their age.
     pub expiring: usize,
+    /// The first moment by which an attempt that runs is to be done.
+    pub first_deadline: Option<u64>,
+    /// The last command's moment.
+    pub last_moment: u64,
 }

@@ -1,3 +1,4 @@
 pub mod Counting
 pub mod Moments
 pub mod Spreading
+pub mod Stamps

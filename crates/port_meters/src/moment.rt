@@ -5,7 +5,7 @@ ghost use Rattle.port_meters.specs.Moments.{millis_in};
 
 use invoke_records::GREATEST_MOMENT;
 use std::io;
-use std::time::{Clock, SystemTime};
+use std::time::{Clock, Duration, SystemTime};
 
 /// Why there is no moment: the clock could not be read. Only a look at the clock gives it.
 #[derive(Drop)]
@@ -22,7 +22,7 @@ impl From<NoClock> for io::Error {
     }
 }
 
-/// A moment as the clock showed it. Only a look at the clock gives one.
+/// A moment as the clock showed it, or as it was told where the clock was held back. Only a look at the clock gives one.
 #[derive(Clone, Copy)]
 pub struct Moment {
     shown: SystemTime,
@@ -36,6 +36,16 @@ impl Moment {
         match SystemTime::now(rt) {
             Ok(shown) => Ok(Moment { shown }),
             Err(why) => Err(NoClock { why }),
+        }
+    }
+
+    // So many milliseconds before it, where that is no earlier than 1970.
+    pub(crate) fn before(self, millis: u64) -> Moment
+        ensures { FitsClock (system_time_nanos self.shown) → FitsClock (system_time_nanos result.shown) }
+    {
+        match self.shown.checked_sub(Duration::from_millis(millis)) {
+            Some(shown) => Moment { shown },
+            None => self,
         }
     }
 

@@ -10,11 +10,12 @@ use Rattle.http_header.specs.FieldValue.{plain_value}
 use Rattle.http_header.specs.HeaderMap.{insert}
 use Rattle.hyper.specs.declared.body.incoming.Incoming.{Incoming}
 use Rattle.http_port.specs.declared.forbidden.Forbidden.{Forbidden}
+use Rattle.http_port.specs.declared.forbidden.Forbidden.TheVariants.{CrossOrigin, UnknownHost, TransferCoding}
 use Rattle.http_port.specs.declared.hosts.Hosts.{Hosts}
 use Rattle.http_port.specs.declared.reading.BodyError.{BodyError}
 use Rattle.http_port.specs.declared.reading.Reading.{Reading}
 use Rattle.http_port.specs.Answering.{Message, message, message_of, status_alone, IsSent}
-use Rattle.http_port.specs.Browsers.{forbidden_of, forbidden_text, IsForbidden}
+use Rattle.http_port.specs.Browsers.{forbidden_of, forbidden_text, forbidden_status, IsForbidden}
 use Rattle.http_port.specs.Reading.{Reads}
 use Rattle.http_port.specs.Serving.{Answers, AnswersFor, IsAsked, ComesTo, Sends, IsAnswered, SendsReply, SendsRefusal}
 
@@ -23,10 +24,17 @@ use Rattle.http_port.specs.Serving.{Answers, AnswersFor, IsAsked, ComesTo, Sends
 pub other_status : {A : Type 0} (told other : Message) → told ≡ other → 400 ≤ other.status → told.status < 400 → A
 other_status told other is much status = absurd (omega (arith, much, ap (λ (m : Message). m.status) is, status))
 
+refuses_by_its_head : (why : Forbidden) → 400 ≤ forbidden_status why
+refuses_by_its_head CrossOrigin = lit≤ tt
+refuses_by_its_head UnknownHost = lit≤ tt
+refuses_by_its_head TransferCoding = lit≤ tt
+
 forbids_otherwise : {A : Type 0} (why : Forbidden) (told : Message) → IsForbidden why told → told.status < 400 → A
 forbids_otherwise why told (inl is) status =
-    other_status told (message 403 (insert [] (codes "content-type") (plain_value (codes "application/json"))) (forbidden_text why)) is (lit≤ tt) status
-forbids_otherwise why told (inr is) status = other_status told (message 403 [] (forbidden_text why)) is (lit≤ tt) status
+    other_status told (message (forbidden_status why) (insert [] (codes "content-type") (plain_value (codes "application/json"))) (forbidden_text why)) is
+    (refuses_by_its_head why) status
+forbids_otherwise why told (inr is) status =
+    other_status told (message (forbidden_status why) [] (forbidden_text why)) is (refuses_by_its_head why) status
 
 -- ## What a request is answered
 

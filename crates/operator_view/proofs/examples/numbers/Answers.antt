@@ -19,6 +19,7 @@ returns c = record {
     first_due = refl;
     due = refl;
     expiring = refl;
+    first_deadline = refl;
   };
   ends = refl;
 }

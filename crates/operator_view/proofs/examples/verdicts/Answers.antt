@@ -7,6 +7,22 @@ pub returns : goal.returns
 unfolding problems
 returns c = record {
   well = refl;
+  hangs = refl;
+  behind = refl;
+  jumped = refl;
+  back = refl;
+  and_back = refl;
+  long_ago = refl;
+  gone = refl;
+  runs_on = refl;
+  all_are_gone = refl;
+  all_are_slow = refl;
+  all_busy = refl;
+  one_free = refl;
+  busy_for_a_moment = refl;
+  grows = refl;
+  shrinks = refl;
+  young_backlog = refl;
   refused = refl;
   busy = refl;
   unpolled = refl;

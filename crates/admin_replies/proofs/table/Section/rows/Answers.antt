@@ -43,6 +43,18 @@ pub returns-in-Problems : goal.returns-in-Problems
 unfolding lines_of
 returns-in-Problems c = rw c.in-Problems.is refl
 
+pub returns-in-Stalled : goal.returns-in-Stalled
+unfolding lines_of
+returns-in-Stalled c = rw c.in-Stalled.is refl
+
+pub returns-in-Stopping : goal.returns-in-Stopping
+unfolding lines_of
+returns-in-Stopping c = rw c.in-Stopping.is refl
+
+pub returns-in-Premises : goal.returns-in-Premises
+unfolding lines_of
+returns-in-Premises c = rw c.in-Premises.is refl
+
 pub returns-in-Limits : goal.returns-in-Limits
 unfolding lines_of
 returns-in-Limits c = rw c.in-Limits.is refl

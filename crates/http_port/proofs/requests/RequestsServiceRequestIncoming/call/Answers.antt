@@ -13,13 +13,13 @@ returns-clause-called g c =
     let body = second_of c.into_parts-head.result (head_of c.args.req) (body_of c.args.req) c.into_parts-head.ensures in
     sends_of g.A.Future.Future.gives g.A.Response.IntoResponse.tells _ _
     (begins_for g.A.Application.answers c.args.self.now.hosts.value (arc_value c.args.self.now.application) c.args.req c.of.result None
-    (option_map arc_value c.ok.result) c.into_parts-head.result.0 c.new.result
+    (option_map arc_value c.ok.result) c.into_parts-head.result.0 c.new-reading.result
     (record {
-      forbids = c.of.ensures ∙ ap (λ (h : Hosts). forbidden_of h c.into_parts-head.result.0.headers) c.deref-2.ensures
+      forbids = c.of.ensures ∙ ap (λ (h : Hosts). forbidden_of h c.into_parts-head.result.0.headers) c.deref-3.ensures
           ∙ ap (λ (p : Parts). forbidden_of c.args.self.now.hosts.value p.headers) head;
       waits = refl;
       asks = copy_is arc_value c.try_clone.result c.ok.result (arc_value c.args.self.now.application) c.ok.ensures.value c.try_clone.ensures;
       its_head = head;
-      its_body = c.new.ensures.body ∙ body;
-      unread = c.new.ensures.bytes;
+      its_body = c.new-reading.ensures.body ∙ body;
+      unread = c.new-reading.ensures.bytes;
     }))

@@ -9,5 +9,5 @@ returns-in-Pending-clause-later g c = λ answered is.
     let asks = option_map arc_value c.args.self.now.application in
     answers_read g.A.Application.answers c.args.self.now.forbidden c.args.self.now.reply asks c.args.self.now.head (Reads c.args.self.now.reading) answered
     c.in_default.is (sym c.take.ensures.value ∙ c.in_default-take.is)
-    (reads_later g.A.Application.answers asks c.args.self.now.head (Reads c.args.self.now.reading) (Reads c.poll.new.self) answered c.in-Pending.ensures.same
-    (read_by g.A.Application.answers c.args.self.now.forbidden c.take.new.self asks c.args.self.now.head (Reads c.poll.new.self) answered c.in_default.is c.take.ensures.after is))
+    (reads_later g.A.Application.answers asks c.args.self.now.head (Reads c.args.self.now.reading) (Reads c.read_on.new.reading) answered c.in-Pending.ensures.later
+    (read_by g.A.Application.answers c.args.self.now.forbidden c.take.new.self asks c.args.self.now.head (Reads c.read_on.new.reading) answered c.in_default.is c.take.ensures.after is))

@@ -1,7 +1,7 @@
 use Rattle.std.proofs.Common.{◌≡◌, ◌∙◌, List, ℕ, codes, Err, refl, ap, sym, inl, inr}
 use Rattle.http_port.specs.Target.{target_in}
 use Rattle.admin_replies.specs.Requests.{asked_of, status_of}
-use Rattle.admin_port.proofs.application.AdminApplication.show.Goals as goal
+use Rattle.admin_port.proofs.application.AdminApplication.asked.Goals as goal
 
 pub returns-in-Err-clause-refused : goal.returns-in-Err-clause-refused
 returns-in-Err-clause-refused g c =
