@@ -42,9 +42,9 @@ def health(broker, query=""):
 
 
 def is_shut(broker):
-    """Whether the ports are those of a broker whose disk is gone."""
+    """Whether both ports are those of a broker whose disk is gone: each comes by itself."""
     try:
-        return health(broker)[1].startswith("disk is gone: ")
+        return health(broker)[1].startswith("disk is gone: ") and broker.ask("GET", "/").status == 503
     except OSError:
         return False
 
@@ -153,9 +153,19 @@ def without_an_operators_port_a_disk_that_is_gone_is_told_on_standard_error(brok
     same(broker.invoke("{}").status, 202)
     os.remove(broker.disk)
     copy_back(broker)
-    until("a refusal", lambda: broker.invoke("{}").status == 503)
-    same(broker.said("stop", "--port", broker.port, "--lose")[0], 0)
+    # As soon as the line says how: the port that serves may be there still, or none.
+    same(broker.said("stop", "--port", broker.port, "--lose"), (0, f"stopped 127.0.0.1:{broker.port}\n"))
     same(broker.ended(), (1, "refused: disk is gone\n"))
+
+
+@case()
+def a_broker_that_serves_is_stopped_in_order_where_it_is_to_lose_too(broker):
+    broker.serve()
+    same(broker.invoke("{}").status, 202)
+    same(broker.said("stop", "--port", broker.port, "--lose"), (0, f"stopped 127.0.0.1:{broker.port}\n"))
+    same(broker.ended()[0], 0)
+    same(broker.held(), 1)
+    same(broker.said("stop", "--port", broker.port, "--lose"), (1, f"refused: no broker on 127.0.0.1:{broker.port}\n"))
 
 
 @case()

@@ -5,8 +5,10 @@
 //! which it uses that nothing runs there.
 #![tactic(auto)]
 
+mod asking;
 mod error;
 mod listening;
+mod losing;
 mod naming;
 mod notes;
 mod opening;
@@ -17,6 +19,7 @@ mod standby;
 mod stopping;
 mod thread_room;
 
+pub use asking::ask_to_stop;
 pub use error::OpeningError;
 pub use naming::check_name;
 pub use notes::{note_stop, warn, warn_of_unproved};
@@ -24,4 +27,4 @@ pub use opening::{OpenedDisk, open_to_serve};
 pub use output::{Output, keep_numbers};
 pub use own_stamp::own_version;
 pub use standby::{OpenDisk, open_in_turn};
-pub use stopping::{StoppingError, ask_to_stop, stop_broker};
+pub use stopping::{StoppingError, stop_broker};

@@ -1,26 +1,19 @@
 // Ending a broker from outside, in order.
+use crate::asking::{PATIENCE, ReplyFront, STOP, ask, connect, reply_front};
+use crate::losing::lose;
 use broker_commands::Stopping;
 use std::alloc::{AllocError, Global};
 use std::fs::File;
-use std::io::{ErrorKind, Read, Write};
 use std::net::{IpAddr, Net, SocketAddr, TcpListener, TcpStream};
 use std::rt::Files;
 use std::time::{Clock, Duration};
 use std::{fs, io, thread};
 use thiserror::Error;
 
-/// How many seconds a connection is waited for, and a reply.
-const PATIENCE: u64 = 60;
-/// How many seconds each is waited for where the end is not.
-const SHORT_PATIENCE: u64 = 1;
 /// How many milliseconds it is waited before the port is looked at again.
-const PAUSE: u64 = 50;
+pub(crate) const PAUSE: u64 = 50;
 /// How often the port is looked at: for a minute.
-const MOST_LOOKS: u32 = 1200;
-/// What asks a broker to stop.
-const STOP: &str = "/broker/stop";
-/// What asks one to end whose disk is gone. Any other stops as before: a query is not read.
-const LOSE: &str = "/broker/stop?lose";
+pub(crate) const MOST_LOOKS: u32 = 1200;
 /// Where Linux shows the sockets of this machine, those of IPv4 and those of IPv6.
 const SOCKETS: &str = "/proc/net/tcp";
 
@@ -28,11 +21,9 @@ const SOCKETS_OF_SIX: &str = "/proc/net/tcp6";
 /// The state of one that listens, there.
 const LISTENS: &str = "0A";
 /// How a reply begins that refuses a request whose path is right, and one whose path is not.
-const BAD: &[u8; 12] = b"HTTP/1.1 400";
+const BAD: &ReplyFront = b"HTTP/1.1 400";
 
-const MISSING: &[u8; 12] = b"HTTP/1.1 404";
-/// How a reply begins that takes what was asked.
-const TAKEN: &[u8; 10] = b"HTTP/1.1 2";
+const MISSING: &ReplyFront = b"HTTP/1.1 404";
 
 /// Why a broker was not stopped, or not seen to end.
 #[derive(Debug, Drop, Error)]
@@ -56,26 +47,6 @@ pub enum StoppingError {
     StillOpen { at: SocketAddr },
     #[error("{0}")]
     System(#[from] io::Error),
-}
-
-// Whether nobody listens there, or whoever did closes at this moment.
-fn is_closed(why: &io::Error) -> bool {
-    matches!(
-        why.kind(),
-        ErrorKind::ConnectionRefused | ErrorKind::ConnectionReset
-    )
-}
-
-// A connection to a port, for which so many seconds are waited. None where nobody listens there.
-fn connect<N>(rt: &N, at: SocketAddr, patience: u64) -> io::Result<Option<TcpStream>>
-where
-    N: Net<Listener = TcpListener, Stream = TcpStream>,
-{
-    match TcpStream::connect_timeout(rt, &at, Duration::from_secs(patience)) {
-        Ok(socket) => Ok(Some(socket)),
-        Err(why) if is_closed(&why) => Ok(None),
-        Err(why) => Err(why),
-    }
 }
 
 // How the system's table of sockets shows an address of IPv4: its last part first.
@@ -127,8 +98,8 @@ where
     }
 }
 
-// Why nobody takes a connection there.
-fn nobody<N: Files<File = File> + AllocGlobal>(rt: &N, at: SocketAddr) -> StoppingError {
+/// Why nobody takes a connection there.
+pub(crate) fn nobody<N: Files<File = File> + AllocGlobal>(rt: &N, at: SocketAddr) -> StoppingError {
     for table in [SOCKETS, SOCKETS_OF_SIX] {
         match listens(rt, table, at) {
             Ok(true) => return StoppingError::Unreachable { at },
@@ -139,31 +110,13 @@ fn nobody<N: Files<File = File> + AllocGlobal>(rt: &N, at: SocketAddr) -> Stoppi
     StoppingError::Nobody { at }
 }
 
-// Sends a request, whose reply is waited for so many seconds.
-fn send(socket: &mut TcpStream, request: &str, patience: u64) -> io::Result<()> {
-    socket.set_read_timeout(Some(Duration::from_secs(patience)))?;
-    socket.write_all(request.as_bytes())
-}
-
-// How the reply begins to an invocation of no known type. Where its path is that of the function it is refused as such, and as none
-// that is there else: nothing is invoked.
-fn reply_front<N: AllocGlobal>(
-    rt: &N,
-    socket: &mut TcpStream,
-    at: SocketAddr,
-    name: &str,
-) -> io::Result<[u8; 12]> {
-    let path = format!(in rt.alloc(); "/2015-03-31/functions/{name}/invocations")?;
-    let request = format!(in rt.alloc();
+// An invocation of no known type. Where its path is that of the function it is refused as such, and as none that is there else: nothing
+// is invoked.
+fn invocation_of(alloc: Global, at: SocketAddr, name: &str) -> Result<String, AllocError> {
+    let path = format!(in alloc; "/2015-03-31/functions/{name}/invocations")?;
+    format!(in alloc;
         "POST {path} HTTP/1.1\r\nhost: {at}\r\nx-amz-invocation-type: none\r\ncontent-length: 0\r\nconnection: close\r\n\r\n"
-    )?;
-    send(socket, request.as_str(), PATIENCE)?;
-    let mut front = [0; BAD.len()];
-    match socket.read_exact(&mut front) {
-        Ok(()) => Ok(front),
-        Err(why) if why.kind() == ErrorKind::UnexpectedEof => Ok([0; BAD.len()]),
-        Err(why) => Err(why),
-    }
+    )
 }
 
 // Sees that the function of this name is served there.
@@ -174,7 +127,7 @@ where
     let Some(mut socket) = connect(rt, at, PATIENCE)? else {
         return Err(nobody(rt, at));
     };
-    let front = reply_front(rt, &mut socket, at, name)?;
+    let front = reply_front(&mut socket, invocation_of(rt.alloc(), at, name)?.as_str())?;
     if front == *BAD {
         return Ok(());
     }
@@ -183,28 +136,6 @@ where
     }
     let name = String::from_str(rt.alloc(), name)?;
     Err(StoppingError::AnotherFunction { at, name })
-}
-
-// Asks for the end over a connection: whether that is taken within so many seconds. One that ends without a reply takes nothing.
-fn ask<N: AllocGlobal>(
-    rt: &N,
-    socket: &mut TcpStream,
-    at: SocketAddr,
-    target: &str,
-    patience: u64,
-) -> io::Result<bool> {
-    let request = format!(in rt.alloc();
-        "POST {target} HTTP/1.1\r\nhost: {at}\r\ncontent-length: 0\r\nconnection: close\r\n\r\n"
-    )?;
-    send(socket, request.as_str(), patience)?;
-    let mut front = [0; TAKEN.len()];
-    match socket.read_exact(&mut front) {
-        Ok(()) => Ok(front == *TAKEN),
-        Err(why) if why.kind() == ErrorKind::UnexpectedEof => Ok(false),
-        // It may end so fast that its reply is lost: whether it ends is seen by its port.
-        Err(why) if why.kind() == ErrorKind::ConnectionReset => Ok(true),
-        Err(why) => Err(why),
-    }
 }
 
 // Waits until nobody listens on a port: whether that came.
@@ -221,21 +152,9 @@ where
     Ok(false)
 }
 
-/// Asks the broker whose callers' port is there to stop, and waits a second at most for a connection, another one for the reply, and
-/// not for its end: whether that was taken. It is not where nobody listens. Refused where the system's calls or memory fail, or what is
-/// waited for does not come in time.
-pub fn ask_to_stop<N>(rt: &N, at: SocketAddr) -> io::Result<bool>
-where
-    N: AllocGlobal + Net<Listener = TcpListener, Stream = TcpStream>,
-{
-    match connect(rt, at, SHORT_PATIENCE)? {
-        Some(mut socket) => ask(rt, &mut socket, at, STOP, SHORT_PATIENCE),
-        None => Ok(false),
-    }
-}
-
-/// Asks the broker whose callers' port is there to stop, also where its disk is gone if it is to lose what it told, and waits until it
-/// listens no more, a minute at most. Where it is named what is to be served there, it is asked for that before.
+/// Asks the broker whose callers' port is there to stop, and waits until it listens no more, a minute at most. If it is to lose what it
+/// told, one whose disk is gone ends too: it is asked for as long as it is there. Where it is named what is to be served there, it is
+/// asked for that before.
 ///
 /// It is refused by `Nobody`, `Unreachable`, `AnotherFunction`, `NotTaken` and `StillOpen`, and where the system's calls or memory fail.
 pub fn stop_broker<N>(rt: &N, stopping: &Stopping<'_>) -> Result<(), StoppingError>
@@ -243,14 +162,16 @@ where
     N: Files<File = File> + AllocGlobal + Clock + Net<Listener = TcpListener, Stream = TcpStream>,
 {
     let at = stopping.at;
-    let target = if stopping.loses { LOSE } else { STOP };
     if let Some(name) = stopping.name {
         expect_function(rt, at, name)?;
+    }
+    if stopping.loses {
+        return lose(rt, at);
     }
     let Some(mut socket) = connect(rt, at, PATIENCE)? else {
         return Err(nobody(rt, at));
     };
-    if !ask(rt, &mut socket, at, target, PATIENCE)? {
+    if !ask(rt, &mut socket, at, STOP, PATIENCE)? {
         return Err(StoppingError::NotTaken { at });
     }
     drop(socket);
