@@ -43,6 +43,7 @@ where
 }
 
 // How far the end has come of a broker that is to lose what it told.
+#[derive(Drop)]
 struct Losing {
     is_taken: bool,
     // For how many looks in a row nobody listened.
