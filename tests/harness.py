@@ -21,7 +21,6 @@ import subprocess
 import tempfile
 import threading
 import time
-import traceback
 
 HERE = os.path.dirname(os.path.abspath(__file__))
 EXAMPLES = os.path.join(HERE, "..", "examples")
@@ -65,6 +64,10 @@ class Apart(Skipped):
     """The same, for want of what no machine has to have."""
 
 
+class Late(AssertionError):
+    """What was waited for did not come in the time that a case gives it."""
+
+
 def build(folder, name):
     """Builds a library that is preloaded into the program."""
     made = os.path.join(folder, f"{name}.so")
@@ -91,7 +94,8 @@ def until(what, look, seconds=DEADLINE):
         found = look()
         if found:
             return found
-        assert time.monotonic() < end, f"{what} did not come"
+        if time.monotonic() >= end:
+            raise Late(f"{what} did not come")
         time.sleep(0.02)
 
 
@@ -576,25 +580,3 @@ def raise_open_files():
     """As many open files as the system lets this process have."""
     _, most = resource.getrlimit(resource.RLIMIT_NOFILE)
     resource.setrlimit(resource.RLIMIT_NOFILE, (most, most))
-
-
-def judge(run, settings):
-    """Runs a case: `ok`, `apart`, `skipped` or `FAILED`, why, and how long it took."""
-    began, broker = time.monotonic(), None
-    try:
-        broker = Broker(**settings)
-        run(broker)
-        return "ok", "", time.monotonic() - began
-    except Apart as why:
-        return "apart", str(why), time.monotonic() - began
-    except Skipped as why:
-        return "skipped", str(why), time.monotonic() - began
-    except Exception as why:
-        at = [f"{os.path.basename(frame.filename)}:{frame.lineno}" for frame in traceback.extract_tb(why.__traceback__)]
-        told = f"{type(why).__name__}: {why} (at {' '.join(at)})"
-        if broker and broker.served and broker.stderr():
-            told += f"\nits standard error: {broker.stderr()[-2000:]}"
-        return "FAILED", told, time.monotonic() - began
-    finally:
-        if broker:
-            broker.close()
