@@ -1,5 +1,7 @@
 """What `deploy/supervise` ends by itself: what hangs, what a new version takes the place of, and what a stop leaves to the next one."""
+import contextlib
 import fcntl
+import glob
 import json
 import os
 import pty
@@ -11,7 +13,7 @@ import sys
 import time
 
 from cases.supervised import FUNCTION, SUPERVISE, TWENTY, answered_at_once, connections, ended, event_of, supervised, until_polled
-from harness import DEADLINE, EXAMPLES, HERE, Apart, case, line_of, needs, same, until
+from harness import DEADLINE, EXAMPLES, HERE, Apart, Late, case, line_of, needs, same, until
 
 # How long an event of these cases may last, so that a busy machine answers one in time, and how long it may take behind that until
 # another process has answered the next one.
@@ -353,11 +355,25 @@ def a_new_version_is_started_at_once_where_the_old_one_fails_to_start(broker):
         assert time.monotonic() - began < 15, time.monotonic() - began
 
 
+def holders(terminal):
+    """Which processes have the other end of a terminal open: their numbers and names."""
+    number, found = os.path.basename(terminal), []
+    for info in glob.glob("/proc/[0-9]*/fdinfo/*"):
+        with contextlib.suppress(OSError):
+            with open(info) as told:
+                if re.search(f"^tty-index:\t{number}$", told.read(), re.M):
+                    process = info.split("/")[2]
+                    with open(f"/proc/{process}/cmdline") as words:
+                        found.append((process, words.read().replace("\0", " ")))
+    return found
+
+
 @case(slow=True)
 def a_terminal_that_goes_away_ends_it(broker):
     needs("setsid")
     broker.serve()
     here, there = pty.openpty()
+    terminal = os.ttyname(there)
     with supervised(broker, by=["setsid", "--ctty", SUPERVISE], stdin=there) as runtime:
         os.close(there)
         broker.until_parked(1)
@@ -367,8 +383,10 @@ def a_terminal_that_goes_away_ends_it(broker):
         another(runtime, process)
         broker.until_parked(1)
         os.close(here)
-        # (a program that another case began just now may hold it for as long as that takes)
-        same(runtime.program.wait(8 * DEADLINE), 0)
+        try:
+            same(runtime.program.wait(DEADLINE), 0)
+        except subprocess.TimeoutExpired as why:
+            raise Late(f"it has not ended; {holders(terminal)} have its terminal") from why
 
 
 # Restarts
