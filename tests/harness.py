@@ -264,7 +264,7 @@ def sends_much(ask, *words, **more):
             return ask(*words, **more)
         except (OSError, http.client.HTTPException) as why:
             assert time.monotonic() >= began + LINGER, f"the connection broke at once: {why!r}"
-    raise AssertionError("the rest was never sent in time")
+    raise Late("the rest was never sent in time")
 
 
 class Beside(threading.Thread):
@@ -284,7 +284,8 @@ class Beside(threading.Thread):
     def done(self, seconds=DEADLINE):
         """What it told, for which it waits."""
         self.join(seconds)
-        assert not self.is_alive(), "the call did not end"
+        if self.is_alive():
+            raise Late("the call did not end")
         if self.why:
             raise self.why
         return self.told
