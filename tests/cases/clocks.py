@@ -73,6 +73,21 @@ def a_clock_that_stays_ahead_is_believed_behind_its_grace(broker):
     matches(r"the clock was set ahead by (7199|7200) s: waits, ages and timeouts go by it in 4 s", broker.stderr().splitlines()[-1])
 
 
+@case({"age": 3600})
+def a_start_believes_the_clock_at_once(broker):
+    watch = broker.watches_disk()
+    broker.serve("--clock-grace", "600")
+    for _ in range(3):
+        broker.invoke("{}")
+    watch.ahead = 2 * HOUR
+    until("a step", lambda: broker.number("clock_steps_total") == 1)
+    time.sleep(2)
+    same((waiting(broker), given_up(broker)), (3, 0))
+    same(broker.stop(), (202, 0, ""))
+    broker.serve("--clock-grace", "600")
+    until("their end", lambda: given_up(broker) == 3)
+
+
 @case({"age": 600})
 def a_clock_that_is_less_than_an_hour_ahead_is_believed_at_once(broker):
     watch = broker.watches_disk()
