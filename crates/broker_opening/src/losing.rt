@@ -9,9 +9,9 @@ use std::{io, thread};
 
 /// What asks a broker to end whose disk is gone. Any other stops as before: a query is not read.
 const LOSE: &str = "/broker/stop?lose";
-/// For how many looks in a row nobody listens where it has ended: a second. One whose disk is gone leaves its port for a moment, and
-/// listens there again.
-const MOST_QUIET: u32 = 20;
+/// For how many looks in a row nobody listens where it has ended, and for how many it may not take what is asked: a second. One whose
+/// disk is gone leaves its port for a moment, and listens there again.
+const MOST_TRIES: u32 = 20;
 /// How each reply begins of a broker whose disk is gone, but to what ends it.
 const GONE: &ReplyFront = b"HTTP/1.1 503";
 
@@ -48,6 +48,8 @@ struct Losing {
     is_taken: bool,
     // For how many looks in a row nobody listened.
     quiet: u32,
+    // How often it was asked, and did not take it.
+    refused: u32,
 }
 
 impl Losing {
@@ -59,23 +61,37 @@ impl Losing {
         match seen {
             Seen::Nobody => {
                 self.quiet = self.quiet.saturating_add(1);
-                if self.quiet >= MOST_QUIET && !self.is_taken {
+                if self.quiet >= MOST_TRIES && !self.is_taken {
                     return Err(nobody(rt, at));
                 }
-                return Ok(self.quiet >= MOST_QUIET);
+                Ok(self.quiet >= MOST_TRIES)
             }
-            Seen::Other if self.is_taken => return Ok(self.quiet > 0),
-            Seen::Gone | Seen::Other => {}
+            Seen::Other if self.is_taken => Ok(self.quiet > 0),
+            Seen::Gone | Seen::Other => {
+                self.quiet = 0;
+                self.ask(rt, at)?;
+                Ok(false)
+            }
         }
-        self.quiet = 0;
+    }
+
+    // Asks it once more. It may close a connection without a reply as it leaves its port.
+    fn ask<N>(&mut self, rt: &N, at: SocketAddr) -> Result<(), StoppingError>
+    where
+        N: AllocGlobal + Net<Listener = TcpListener, Stream = TcpStream>,
+    {
         let Some(mut socket) = connect(rt, at, PATIENCE)? else {
-            return Ok(false);
+            return Ok(());
         };
-        if !ask(rt, &mut socket, at, LOSE, PATIENCE)? {
+        if ask(rt, &mut socket, at, LOSE, PATIENCE)? {
+            self.is_taken = true;
+            return Ok(());
+        }
+        self.refused = self.refused.saturating_add(1);
+        if self.refused >= MOST_TRIES {
             return Err(StoppingError::NotTaken { at });
         }
-        self.is_taken = true;
-        Ok(false)
+        Ok(())
     }
 }
 
@@ -88,6 +104,7 @@ where
     let mut losing = Losing {
         is_taken: false,
         quiet: 0,
+        refused: 0,
     };
     for _ in 0..MOST_LOOKS {
         let seen = look(rt, at)?;
