@@ -3,7 +3,7 @@ import contextlib
 import os
 import subprocess
 
-from harness import Skipped, case, same
+from harness import Skipped, case, same, until
 
 STOPPED = (202, 0, "")
 
@@ -59,6 +59,71 @@ def every_event_comes_along_to_a_larger_disk(broker):
     same((os.path.getsize(new), os.stat(new).st_mode & 0o777), (8192 * 512, 0o600))
     same(told(broker, new, events), told(broker, broker.disk, events))
     same(broker.command("audit", new).stdout.splitlines()[::2], ["generation 1 number " + told(broker, new)[0], "older none"])
+
+
+def rows(broker, disk):
+    """The events of a disk by their ids, as the operator's port shows them."""
+    broker.disk = disk
+    broker.serve()
+    told = broker.look("/events").json["events"]
+    same(broker.stop(), STOPPED)
+    return {row["id"]: row for row in told}
+
+
+@case({"timeout": 900, "age": 60})
+def with_an_age_what_has_not_ended_has_it_where_its_own_is_shorter(broker):
+    old, new, third = broker.disk, f"{broker.disk}.new", f"{broker.disk}.third"
+    ended, failed, waits, last = holds_much(broker)
+    before, number = rows(broker, old), told(broker, old)[0]
+    same([before[event]["age"] for event in (ended, failed, waits, last)], [60, 60, 60, 70])
+    same(copy(broker, new, "--age", 3600), (0, "copied 4 events to 4096 sectors\n"))
+    # A Configure stands before each command, and one at the end.
+    same(told(broker, new)[0], str(2 * int(number) + 1))
+    same(told(broker, new, (ended,))[1:], told(broker, old, (ended,))[1:])
+    same(rows(broker, new), {event: {**row, "age": row["age"] if event == ended else 3600} for event, row in before.items()})
+    same(copy(broker, third, "--age", 3599)[0], 0)
+    same(rows(broker, third), rows(broker, new))
+
+
+@case({"age": 60, "retries": 1})
+def what_would_be_given_up_runs_in_a_copy_with_a_longer_age(broker):
+    watch = broker.watches_disk()
+    broker.serve()
+    events = [broker.invoke(f"{n}").id for n in range(2)]
+    same(broker.next().id, events[0])
+    same(broker.respond(events[0], '{"errorMessage":"no"}', path="error").status, 202)
+    same(broker.next().id, events[1])
+    broker.kill()
+    watch.ahead = 600_000
+    new = f"{broker.disk}.new"
+    same(copy(broker, new, "--age", 900)[0], 0)
+    broker.serve()
+    until("their end", lambda: broker.number('events{standing="event_age_exceeded"}') == 2)
+    broker.kill()
+    broker.disk = new
+    broker.serve()
+    given = []
+    for _ in events:
+        given.append(broker.next().id)
+        same(broker.respond(given[-1], "1").status, 202)
+    same(sorted(given), sorted(events))
+    for _ in events:
+        context = broker.record().json["requestContext"]
+        # Its first attempt counts, whichever way it ended.
+        same(context["approximateInvokeCount"], 2)
+        same(broker.delete(context["requestId"]).status, 204)
+
+
+@case()
+def an_age_that_no_event_has_and_a_copy_onto_itself_are_refused(broker):
+    new, before = f"{broker.disk}.new", content_of(broker.disk)
+    for age in 0, 59, 21601, 2**32 - 1:
+        same(copy(broker, new, "--age", age), (1, "refused: bad settings: age\n"))
+    for words in (["--age", "x"], ["--age", -60], ["--age", 2**32], ["--age"]):
+        same(copy(broker, new, *words)[0], 2)
+    same(copy(broker, broker.disk), (1, "refused: OLD and NEW are one disk\n"))
+    same((os.path.exists(new), content_of(broker.disk) == before), (False, True))
+    same([copy(broker, f"{new}{age}", "--age", age)[0] for age in (60, 21600)], [0, 0])
 
 
 @case({"events": 2, "payload": 16, "response": 16})

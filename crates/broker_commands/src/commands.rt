@@ -90,6 +90,8 @@ fn copy_command<'a>(alloc: Global) -> Result<Command<'a>, AllocError> {
     let events = "Events that may be held at once, as many as before at least";
     let payload = "Greatest payload in bytes, as great as before at least";
     let response = "Greatest response in bytes, as great as before at least";
+    let age =
+        "Age in seconds of each event that has not ended, where it has a shorter one, 60 to 21600";
     let about = "Make a new disk with every event of an old one; its limits may be larger";
     let told = [
         Argument::place("disk", "OLD", old),
@@ -103,6 +105,7 @@ fn copy_command<'a>(alloc: Global) -> Result<Command<'a>, AllocError> {
         Argument::option("name", "Another name of the function"),
         Argument::option("handler", "Another handler"),
         Argument::option("arn", "Another ARN"),
+        Argument::option("age", age).of(value_parser!(u32)),
         unclaim(),
     ];
     command_of(alloc, "copy", about, &told)
@@ -193,7 +196,7 @@ pub(crate) fn stop_command<'a>(alloc: Global) -> Result<Command<'a>, AllocError>
         "Stop a broker that serves, as POST /broker/stop does, and wait until nobody listens there";
     let name = "Stop it only if it serves the function of this name";
     let told = [
-        Argument::flag("lose", lose),
+        Argument::flag("lose", lose).without(&["name"]),
         Argument::needed("port", port).of(value_parser!(u16).range(1..65536)),
         reach("IP address of the callers' port"),
         Argument::option("name", name),

@@ -7,10 +7,11 @@ use crate::formatting::{check_place, text};
 use crate::making::ready_place;
 use crate::opening::{DiskError, open, open_unclaimed};
 use crate::telltale::{Telltale, telltale_for};
+use aged_copy::copy_with_age;
 use broker_core::{Broker, OpenError};
 use checkpoint::least_sectors;
 use disk_copy::{Change, ChangeError, CopyError, copy, grown_settings};
-use retry_rules::{Settings, Text};
+use retry_rules::{Field, RetryPolicy, Settings, Text};
 use sector_disk::{Disk, FileDisk, FileError, LoggedFile, Place};
 use std::alloc::{AllocError, Global};
 use std::fs::File;
@@ -42,6 +43,8 @@ pub struct NewCopy<'a> {
     /// As many as the old disk has, where none is told.
     pub sectors: Option<u64>,
     pub limits: NewLimits<'a>,
+    /// The age of each event that has not ended and has a shorter one, in seconds.
+    pub age: Option<u32>,
     /// Whether it is made whatever is there.
     pub is_forced: bool,
     /// Whether a claim that stands on the old disk is taken away first.
@@ -62,6 +65,9 @@ pub struct Copied {
 pub enum CopyingError {
     #[error("out of memory")]
     OutOfMemory(#[from] AllocError),
+    /// The new disk is to be the old one.
+    #[error("OLD and NEW are one disk")]
+    OneDisk,
     /// The old disk in its file.
     #[error("{0}")]
     Disk(#[from] DiskError),
@@ -119,9 +125,25 @@ fn change_for(alloc: Global, limits: &NewLimits<'_>) -> Result<Change, AllocErro
     })
 }
 
-// Refuses a change that the old settings do not allow, and a size that does not suffice for it.
-fn check_change(old: &Settings, change: &Change, sectors: u64) -> Result<(), CopyingError> {
+// Whether events may have this age.
+fn is_bad_age(age: Option<u32>) -> bool {
+    match age {
+        Some(age) => RetryPolicy { retries: 0, age }.is_bad(),
+        None => false,
+    }
+}
+
+// Refuses a change that the old settings do not allow, an age that no event has, and a size that does not suffice.
+fn check_change(
+    old: &Settings,
+    change: &Change,
+    age: Option<u32>,
+    sectors: u64,
+) -> Result<(), CopyingError> {
     let settings = grown_settings(old, change)?;
+    if is_bad_age(age) {
+        return Err(CopyingError::Change(ChangeError::BadSettings { field: Field::Age }));
+    }
     let least = least_sectors(&settings);
     if sectors < least {
         return Err(CopyingError::TooSmall { least });
@@ -150,15 +172,19 @@ where
     Ok((file, place))
 }
 
-// Copies what a broker holds to a new disk. That is handed back, with the cause where it was refused.
+// Copies what a broker holds to a new disk, with an age where one is told. The disk is handed back, with the cause where it was refused.
 fn copy_onto<D: Disk, E: Disk>(
     alloc: Global,
     broker: &Broker<D>,
     disk: E,
     change: &Change,
+    age: Option<u32>,
 ) -> (E, Result<(), CopyError>) {
     let mut disk = disk;
-    let copied = copy(alloc, broker, &mut disk, change);
+    let copied = match age {
+        Some(age) => copy_with_age(alloc, broker, &mut disk, change, age),
+        None => copy(alloc, broker, &mut disk, change),
+    };
     (disk, copied)
 }
 
@@ -176,7 +202,7 @@ where
 {
     let (file, place) = new_place(rt, new, sectors)?;
     let disk = FileDisk::over(file)?;
-    let (disk, copied) = copy_onto(rt.alloc(), broker, disk, change);
+    let (disk, copied) = copy_onto(rt.alloc(), broker, disk, change, new.age);
     match copied {
         Ok(()) => Ok(()),
         Err(why) => {
@@ -198,7 +224,7 @@ where
     R: Files<File = File> + Eprint + AllocGlobal + Copy + Drop,
     D: Disk,
 {
-    check_change(broker.table().settings(), change, sectors)?;
+    check_change(broker.table().settings(), change, new.age, sectors)?;
     let events = broker.table().rows().count();
     copy_to_place(rt, broker, new, change, sectors)?;
     Ok(Copied { events, sectors })
@@ -220,12 +246,16 @@ where
     copy_broker(rt, &broker, new, change, sectors)
 }
 
-/// Makes a new disk with every event of an old one. The old disk is opened and read, and nobody else has it meanwhile. Then the new
-/// settings and the size are judged, then the file of the new disk, and then what is there, unless that is to be lost.
+/// Makes a new disk with every event of an old one. One path for both is refused. The old disk is opened and read, and nobody else has
+/// it meanwhile. Then the new settings, the age and the size are judged, then the file of the new disk, and then what is there, unless
+/// that is to be lost.
 pub fn copy_disk<R>(rt: &R, new: &NewCopy<'_>) -> Result<Copied, CopyingError>
 where
     R: Files<File = File> + Eprint + AllocGlobal + Copy + Drop,
 {
+    if new.old == new.path {
+        return Err(CopyingError::OneDisk);
+    }
     let change = change_for(rt.alloc(), &new.limits)?;
     let disk = open_unclaimed(rt, new.old, new.is_unclaimed)?;
     copy_on(rt, disk, new, &change)

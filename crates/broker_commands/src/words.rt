@@ -137,6 +137,7 @@ fn new_copy<'a>(matches: &ArgMatches<'a>) -> Option<NewCopy<'a>> {
         path: matches.get_str("new")?,
         sectors: matches.get_one("sectors"),
         limits: new_limits(matches),
+        age: matches.get_one("age"),
         is_forced: matches.get_flag("force"),
         is_unclaimed: matches.get_flag("unclaim"),
     })

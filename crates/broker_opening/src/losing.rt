@@ -15,18 +15,18 @@ const MOST_TRIES: u32 = 20;
 /// How each reply begins of a broker whose disk is gone, but to what ends it.
 const GONE: &ReplyFront = b"HTTP/1.1 503";
 
-// What is at a port.
+/// What is at a port.
 #[derive(Clone, Copy)]
-enum Seen {
+pub(crate) enum Seen {
     Nobody,
-    // A broker whose disk is gone.
+    /// A broker whose disk is gone.
     Gone,
-    // Another one, or what is none.
+    /// Another one, or what is none.
     Other,
 }
 
-// Looks at what is at a port.
-fn look<N>(rt: &N, at: SocketAddr) -> io::Result<Seen>
+/// Looks at what is at a port. Refused where the system's calls or memory fail.
+pub(crate) fn look<N>(rt: &N, at: SocketAddr) -> io::Result<Seen>
 where
     N: AllocGlobal + Net<Listener = TcpListener, Stream = TcpStream>,
 {

@@ -1,6 +1,6 @@
 // Ending a broker from outside, in order.
 use crate::asking::{PATIENCE, ReplyFront, STOP, ask, connect, reply_front};
-use crate::losing::lose;
+use crate::losing::{Seen, look, lose};
 use broker_commands::Stopping;
 use std::alloc::{AllocError, Global};
 use std::fs::File;
@@ -42,6 +42,9 @@ pub enum StoppingError {
     /// What listens there does not take the request: it is broken, or no broker.
     #[error("{at} does not take it")]
     NotTaken { at: SocketAddr },
+    /// The disk of the broker there is gone: it has the last copy.
+    #[error("{at} has lost its disk: save that as its line on standard error says, then --lose")]
+    DiskGone { at: SocketAddr },
     /// It takes the request, and listens still a minute later.
     #[error("{at} is still open")]
     StillOpen { at: SocketAddr },
@@ -152,11 +155,23 @@ where
     Ok(false)
 }
 
+// Why the request is not taken there.
+fn not_taken<N>(rt: &N, at: SocketAddr) -> io::Result<StoppingError>
+where
+    N: AllocGlobal + Net<Listener = TcpListener, Stream = TcpStream>,
+{
+    match look(rt, at)? {
+        Seen::Gone => Ok(StoppingError::DiskGone { at }),
+        Seen::Nobody | Seen::Other => Ok(StoppingError::NotTaken { at }),
+    }
+}
+
 /// Asks the broker whose callers' port is there to stop, and waits until it listens no more, a minute at most. If it is to lose what it
 /// told, one whose disk is gone ends too: it is asked for as long as it is there. Where it is named what is to be served there, it is
 /// asked for that before.
 ///
-/// It is refused by `Nobody`, `Unreachable`, `AnotherFunction`, `NotTaken` and `StillOpen`, and where the system's calls or memory fail.
+/// It is refused by `Nobody`, `Unreachable`, `AnotherFunction`, `NotTaken`, `DiskGone` and `StillOpen`, and where the system's calls or
+/// memory fail.
 pub fn stop_broker<N>(rt: &N, stopping: &Stopping<'_>) -> Result<(), StoppingError>
 where
     N: Files<File = File> + AllocGlobal + Clock + Net<Listener = TcpListener, Stream = TcpStream>,
@@ -172,7 +187,7 @@ where
         return Err(nobody(rt, at));
     };
     if !ask(rt, &mut socket, at, STOP, PATIENCE)? {
-        return Err(StoppingError::NotTaken { at });
+        return Err(not_taken(rt, at)?);
     }
     drop(socket);
     if wait_for_end(rt, at)? {

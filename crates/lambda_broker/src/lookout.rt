@@ -149,7 +149,7 @@ impl<R: Files<File = File> + Machine> Sights<R> {
             )
         } else {
             format!(in alloc;
-                "the clock was set ahead by {seconds} s: waits, ages and timeouts go by it in {grace} s"
+                "the clock was set ahead by {seconds} s: waits, ages and timeouts go by it in {grace} s, unless it is set right before"
             )
         }
     }

@@ -1,0 +1,4 @@
+pub mod Aging
+pub mod AgingSteps
+pub mod Copying
+pub mod CopySteps
