@@ -65,7 +65,7 @@ def saves_all(broker, lose):
     metrics = Asked(broker.admin, "GET", "/metrics").done()
     same((metrics.status, b'\nlambda_broker_problem{reason="disk_is_gone"} 1\n' in metrics.body), (200, True))
     # An end in order would lose what was told.
-    same(broker.said("stop", "--port", broker.port), (1, f"refused: 127.0.0.1:{broker.port} has lost its disk: save that as its line on standard error says, then --lose\n"))
+    same(broker.said("stop", "--port", broker.port), (1, f"refused: 127.0.0.1:{broker.port} refuses all, as where a disk is gone: its line on standard error says how to save it\n"))
     same((broker.ask("POST", "/broker/stop").status, broker.served.poll()), (503, None))
     same(broker.said("stop", "--port", broker.port, "--lose"), (0, f"stopped 127.0.0.1:{broker.port}\n"))
     same(broker.ended(), (1, "refused: disk is gone\n"))

@@ -306,6 +306,19 @@ def readings(root):
     return wrong
 
 
+def dead_links(root):
+    """The links of the package's pages that lead to no file of it."""
+    top, dead = os.path.join(root, "usr/share/doc/lambda-broker"), []
+    for at, _, names in os.walk(top):
+        for name in names:
+            if not name.endswith(".md"):
+                continue
+            for target in re.findall(r"\]\(([^)\s#:]+)[^)\s:]*\)", text_of(at, name)):
+                path = os.path.join(root, target[1:]) if target.startswith("/") else os.path.join(at, target)
+                dead += [(name, target)] if not os.path.exists(path) else []
+    return dead
+
+
 @case()
 def the_package_has_what_an_operator_needs(broker):
     if not shutil.which("dpkg-deb"):
@@ -333,6 +346,7 @@ def the_package_has_what_an_operator_needs(broker):
             page = file.read().replace("\\-", "-")
         same({*re.findall("^[.]SS (.*)$", page, re.M)}, commands)
         same(readings(root), [])
+        same(dead_links(root), [])
         same({*completed(root, "lambda_broker", "")}, {*commands, "--help"})
         for command in commands:
             options = {*re.findall("^ +(?:-., )?(--[a-z-]+)", broker.said(command, "--help")[1], re.M)}

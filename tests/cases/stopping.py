@@ -84,9 +84,15 @@ def stranger(reply):
 
 @case()
 def what_does_not_take_the_stop_is_no_broker_that_stops(broker):
-    for reply in b"", b"HTTP/1.1", b"HTTP/1.1 404 Not Found\r\n\r\n", b"HTTP/1.1 503 Service Unavailable\r\n\r\n", b"SSH-2.0-OpenSSH\r\n":
+    not_taken, refuses = "does not take it", "refuses all, as where a disk is gone: its line on standard error says how to save it"
+    for reply, why in (
+        (b"", not_taken), (b"HTTP/1.1", not_taken), (b"HTTP/1.1 404 Not Found\r\n\r\n", not_taken), (b"SSH-2.0-OpenSSH\r\n", not_taken),
+        (b"HTTP/1.1 503 Service Unavailable\r\n\r\n", refuses),
+    ):
         listener, port = stranger(reply)
-        same((reply, broker.said("stop", "--port", port)), (reply, (1, f"refused: 127.0.0.1:{port} does not take it\n")))
+        same((reply, broker.said("stop", "--port", port)), (reply, (1, f"refused: 127.0.0.1:{port} {why}\n")))
+        # Whatever is lost by it.
+        same((reply, broker.said("stop", "--port", port, "--lose")), (reply, (1, f"refused: 127.0.0.1:{port} does not take it\n")))
         listener.close()
 
 

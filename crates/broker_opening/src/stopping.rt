@@ -42,9 +42,9 @@ pub enum StoppingError {
     /// What listens there does not take the request: it is broken, or no broker.
     #[error("{at} does not take it")]
     NotTaken { at: SocketAddr },
-    /// The disk of the broker there is gone: it has the last copy.
-    #[error("{at} has lost its disk: save that as its line on standard error says, then --lose")]
-    DiskGone { at: SocketAddr },
+    /// Each request is answered 503 there, as by a broker whose disk is gone: that has the last copy.
+    #[error("{at} refuses all, as where a disk is gone: its line on standard error says how to save it")]
+    RefusesAll { at: SocketAddr },
     /// It takes the request, and listens still a minute later.
     #[error("{at} is still open")]
     StillOpen { at: SocketAddr },
@@ -161,7 +161,7 @@ where
     N: AllocGlobal + Net<Listener = TcpListener, Stream = TcpStream>,
 {
     match look(rt, at)? {
-        Seen::Gone => Ok(StoppingError::DiskGone { at }),
+        Seen::Gone => Ok(StoppingError::RefusesAll { at }),
         Seen::Nobody | Seen::Other => Ok(StoppingError::NotTaken { at }),
     }
 }
@@ -170,7 +170,7 @@ where
 /// told, one whose disk is gone ends too: it is asked for as long as it is there. Where it is named what is to be served there, it is
 /// asked for that before.
 ///
-/// It is refused by `Nobody`, `Unreachable`, `AnotherFunction`, `NotTaken`, `DiskGone` and `StillOpen`, and where the system's calls or
+/// It is refused by `Nobody`, `Unreachable`, `AnotherFunction`, `NotTaken`, `RefusesAll` and `StillOpen`, and where the system's calls or
 /// memory fail.
 pub fn stop_broker<N>(rt: &N, stopping: &Stopping<'_>) -> Result<(), StoppingError>
 where
