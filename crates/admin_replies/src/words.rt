@@ -17,7 +17,7 @@ fn put_behind(out: &mut String, seconds: u64) -> Result<(), AllocError> {
     let (time, unit) = span(seconds);
     write!(
         out,
-        "bad clock_is_behind: The system's clock is {time} {unit} behind the last command on the disk: until it has caught up, no event is due, times out or grows older. Set the clock right.\n"
+        "bad clock_is_behind: The system's clock is {time} {unit} behind the last command on the disk: until it has caught up, no retry is due, and nothing times out or grows older; new events run. Set the clock right. If it is right, see 'The system's clock' in docs/operating/watching.md.\n"
     )
 }
 
@@ -39,7 +39,7 @@ fn put_jump(
     }
     write!(
         out,
-        ": perhaps they were too old by a wrong clock alone. Their records are at /records/failure, and can be tried again; look at the clock.\n"
+        ": perhaps they were too old by a wrong clock alone. What is not discarded of them is at /records/failure, and can be tried again with --acts; look at the clock.\n"
     )
 }
 
