@@ -1,5 +1,5 @@
 -- What a copy with a longer age answers, and that its disk goes on with a history.
-use Rattle.std.proofs.Common.{◌≡◌, ◌↔◌, ◌⊎◌, inl, inr, ℕ, ◌+◌, ◌*◌, ◌^◌, ◌≤◌, ◌<◌, Bool, true, false, is_none, nat_lt, List, length, Option, None, Some, Result, Err, refl, sym, ap, subst, ◌∙◌, arith, ⊎_elim}
+use Rattle.std.proofs.Common.{◌≡◌, ◌↔◌, inl, inr, ℕ, ◌+◌, ◌*◌, ◌^◌, ◌≤◌, ◌<◌, Bool, true, false, is_none, nat_lt, List, length, Option, None, Some, Result, Err, refl, sym, ap, subst, ◌∙◌, arith, ⊎_elim}
 use Rattle.std.specs.Prelude.{if◌then◌else◌}
 use Rattle.std.proofs.lemmas.List.{take_all}
 use Rattle.std.proofs.lemmas.Bool.{and_from, cases_lt, le-ltb, lt-ltb, false≢true, true≢false}
@@ -30,7 +30,7 @@ use Rattle.disk_copy.specs.declared.change.ChangeError.{ChangeError}
 use Rattle.disk_copy.specs.declared.change.ChangeError.TheVariants as change_error
 use Rattle.disk_copy.specs.declared.error.CopyError.{CopyError}
 use Rattle.disk_copy.specs.declared.error.CopyError.TheVariants as copy_error
-use Rattle.disk_copy.specs.Copying.{settings_for, of_change, of_seed, misfit, first_cause, IsCopyReason, GoesOnWith}
+use Rattle.disk_copy.specs.Copying.{settings_for, of_change, of_seed, misfit, first_cause, IsCopyReason}
 use Rattle.aged_copy.specs.Aging.{aged}
 use Rattle.aged_copy.specs.Copying.{age_cause, refusal_with_age, has_numbers, IsAgedReason, GoesOnFrom}
 use Rattle.aged_copy.specs.CopySteps.{IsUnprepared}

@@ -1,25 +1,24 @@
 -- What a legal history leaves, with a longer age for events that have not ended, is left by a legal history too: before each of its
 -- commands stands a Configure that sets the age by which the next event is judged.
-use Rattle.std.proofs.Common.{◌≡◌, ℕ, ◌+◌, ◌*◌, ◌≤◌, ◌<◌, List, [], ◌∷◌, ◌++◌, length, length-append, Bool, true, false, refl, sym, ap, subst, ◌∙◌, arith, Option, None, nat_lt}
-use Rattle.std.specs.Prelude.{if◌then◌else◌, ◌||◌}
-use Rattle.std.proofs.lemmas.Bool.{ltb-false, ltb-true, le-ltb, or_parts, or_from}
+use Rattle.std.proofs.Common.{◌≡◌, ℕ, ◌+◌, ◌*◌, ◌≤◌, List, [], ◌∷◌, ◌++◌, length, length-append, Bool, true, false, refl, sym, ap, subst, ◌∙◌, arith, None, nat_lt}
+use Rattle.std.specs.Prelude.{if◌then◌else◌}
+use Rattle.std.proofs.lemmas.Bool.{ltb-false, le-ltb, or_parts, or_from}
 use Rattle.retry_rules.specs.declared.settings.Settings.{Settings}
 use Rattle.retry_rules.specs.declared.policy.RetryPolicy.{RetryPolicy}
 use Rattle.retry_rules.specs.Settings.{bad_field, is_outside, is_bad_policy, policy_of}
 use Rattle.invoke_records.specs.Spelling.{greatest_moment}
 use Rattle.invoke_records.specs.declared.command.Command.{Command}
 use Rattle.invoke_records.specs.declared.command.Kind.TheVariants.{Configure}
-use Rattle.invoke_records.specs.declared.row.EventRow.{EventRow}
 use Rattle.invoke_records.specs.declared.snapshot.Snapshot.{Snapshot}
 use Rattle.async_core.specs.History.{IsLegal, table_of, refusal_of}
 use Rattle.async_core.specs.Policies.{policy_by}
 use Rattle.async_core.specs.Checks.{shape_checks, clock_check, state_checks, refusal_in}
-use Rattle.async_core.specs.Rules.{situation_at, refusal_at, rows_after, table_after, empty_table}
+use Rattle.async_core.specs.Rules.{situation_at, refusal_at, rows_after, table_after}
 use Rattle.async_core.specs.laws.Held.{legally}
 use Rattle.async_core.specs.laws.Rows.{in_force_good}
 use Rattle.async_core.specs.laws.Refusals.{first_failed-none}
 use Rattle.async_core.specs.laws.Tables.{refusal-of_table, table_of-more, table_of-nil, number-table_of, legal_time, applied-by_history, IsLegal-more, IsLegal-nil, in_force-by_history}
-use Rattle.aged_copy.specs.Aging.{age_by, row_by, aged_row, aged}
+use Rattle.aged_copy.specs.Aging.{age_by, aged}
 use Rattle.aged_copy.proofs.Rows.{rows_by, MayBe, choices, MayBe-choices, chosen-rows_by}
 use Rattle.aged_copy.proofs.Steps.{policy_by_choice, table_by, Next, next}
 

@@ -1,12 +1,10 @@
 -- Rows of which some have a longer age, by a list of choices.
-use Rattle.std.proofs.Common.{◌≡◌, ℕ, ◌+◌, ◌*◌, ◌≤◌, List, [], ◌∷◌, ◌++◌, length, map, Bool, true, false, not, cond, refl, sym, ap, ◌∙◌, arith, Option, Some, None, nat_lt}
+use Rattle.std.proofs.Common.{◌≡◌, ℕ, ◌+◌, ◌≤◌, List, [], ◌∷◌, ◌++◌, length, map, Bool, true, false, not, cond, refl, sym, ap, ◌∙◌, arith, Option, Some, nat_lt}
 use Rattle.std.specs.Prelude.{find, if◌then◌else◌}
-use Rattle.std.specs.List.{count_by, list_any}
-use Rattle.std.specs.Str.{bytes_eq}
+use Rattle.std.specs.List.{count_by}
 use Rattle.std.proofs.lemmas.Bool.{true≢false, false≢true, ltb-true}
 use Rattle.invoke_records.specs.declared.row.EventRow.{EventRow}
-use Rattle.invoke_records.specs.declared.row.Standing.{Standing}
-use Rattle.async_core.specs.Standings.{is_ended, is_running, runs_in}
+use Rattle.async_core.specs.Standings.{is_ended, is_running}
 use Rattle.async_core.specs.Rules.{has_id, standing_or_unknown, too_old_or_zero, running_at, is_busy_at, change_row, remove_row}
 use Rattle.async_core.specs.laws.Lives.{count_by-cons}
 use Rattle.aged_copy.specs.Aging.{age_by, row_by, aged_row}

@@ -1,15 +1,12 @@
 -- One command after a table of which some rows have a longer age: it is legal there too, and leaves such a table.
-use Rattle.std.proofs.Common.{◌≡◌, ℕ, ◌+◌, ◌*◌, ◌≤◌, ◌<◌, List, [], ◌∷◌, ◌++◌, length, Bool, true, false, not, cond, refl, sym, ap, subst, ◌∙◌, arith, Option, Some, None, nat_lt}
-use Rattle.std.specs.Prelude.{find, if◌then◌else◌, ◌||◌}
-use Rattle.std.proofs.lemmas.Bool.{true≢false, false≢true, ltb-false, le-ltb, lt-leb, leb-false, or_parts, or_from}
+use Rattle.std.proofs.Common.{◌≡◌, ℕ, ◌+◌, ◌*◌, ◌≤◌, ◌<◌, List, [], ◌∷◌, Bool, true, false, not, refl, sym, ap, subst, ◌∙◌, arith, None, nat_lt}
+use Rattle.std.specs.Prelude.{find, ◌||◌}
+use Rattle.std.proofs.lemmas.Bool.{true≢false, false≢true, le-ltb, lt-leb, leb-false, or_parts}
 use Rattle.retry_rules.specs.declared.settings.Settings.{Settings}
 use Rattle.retry_rules.specs.declared.policy.RetryPolicy.{RetryPolicy}
-use Rattle.retry_rules.specs.Settings.{is_outside, is_bad_policy}
-use Rattle.invoke_records.specs.Spelling.{greatest_moment}
 use Rattle.invoke_records.specs.declared.command.Command.{Command}
 use Rattle.invoke_records.specs.declared.command.Kind.{Kind}
 use Rattle.invoke_records.specs.declared.command.Kind.TheVariants.{Accept, Start, Succeed, Fail, Throttle, Interrupt, Expire, Collect, Configure}
-use Rattle.invoke_records.specs.declared.command.Cause.{Cause}
 use Rattle.invoke_records.specs.declared.command.Cause.TheVariants.{Reported, Timeout, Exited}
 use Rattle.invoke_records.specs.declared.row.EventRow.{EventRow}
 use Rattle.invoke_records.specs.declared.row.Standing.{Standing}
@@ -17,11 +14,11 @@ use Rattle.invoke_records.specs.declared.row.Standing.TheVariants as standing
 use Rattle.invoke_records.specs.declared.snapshot.Snapshot.{Snapshot}
 use Rattle.async_core.specs.declared.situation.Situation.{Situation}
 use Rattle.async_core.specs.Standings.{is_ended, is_running, is_due}
-use Rattle.async_core.specs.Checks.{shape_checks, clock_check, state_checks, failure_checks, refusal_in}
-use Rattle.async_core.specs.Rules.{standing_or_unknown, too_old_or_zero, row_at, has_id, standing_at, situation_at, refusal_at, change_row, remove_row, row_after, rows_after, table_after}
+use Rattle.async_core.specs.Checks.{shape_checks, clock_check, state_checks, refusal_in}
+use Rattle.async_core.specs.Rules.{standing_or_unknown, too_old_or_zero, has_id, standing_at, situation_at, refusal_at, change_row, row_after, rows_after}
 use Rattle.async_core.specs.laws.Refusals.{NoneFails, first_failed-none, judged_by_state, shape_passes, clock_passes, state_passes}
 use Rattle.aged_copy.specs.Aging.{age_by, row_by}
-use Rattle.aged_copy.proofs.Rows.{rows_by, MayBe, length-rows_by, running-rows_by, busy-rows_by, standing-rows_by, too_old-rows_by, too_old-same, MayBe-changed, changed-rows_by, removed-rows_by, last_choice, more-rows_by, MayBe-front, least-age_by}
+use Rattle.aged_copy.proofs.Rows.{rows_by, MayBe, length-rows_by, running-rows_by, busy-rows_by, standing-rows_by, too_old-rows_by, too_old-same, MayBe-changed, changed-rows_by, removed-rows_by, last_choice, more-rows_by, MayBe-front}
 
 -- ## A later end of its time
 

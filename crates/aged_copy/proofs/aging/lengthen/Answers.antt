@@ -1,4 +1,4 @@
-use Rattle.std.proofs.Common.{◌≡◌, ◌∙◌, sym, ap, ◌+◌, ◌*◌, map, true, nat_le}
+use Rattle.std.proofs.Common.{◌∙◌, sym, ap, ◌+◌, ◌*◌, map, nat_le}
 use Rattle.std.specs.List.{list_all}
 use Rattle.std.proofs.lemmas.Bool.{and_parts}
 use Rattle.invoke_records.specs.Spelling.{greatest_number}
