@@ -179,7 +179,7 @@ fn with_more<D: Disk>(
     })
 }
 
-// Warns of what becomes of a disk once it is served. What memory is wanting for is not told.
+// Warns of what becomes of a disk once it is served.
 fn warn<R: Eprint + AllocGlobal>(
     rt: &R,
     path: &str,
@@ -203,7 +203,7 @@ where
     let mut disk = open_device_read_only(rt, old.path)?;
     let audit = with_more(rt.alloc(), &mut disk, old.asked, now(rt).ok())?;
     if let Some(prospects) = &audit.prospects {
-        let _ = warn(rt, old.path, prospects);
+        warn(rt, old.path, prospects)?;
     }
     Ok(audit)
 }
