@@ -221,28 +221,38 @@ def a_copy_that_finds_no_room_leaves_nothing_behind(broker):
         same(content_of(new), bytes(512))
 
 
-@case({"sectors": 64, "events": 8, "payload": 64, "response": 64})
-def a_stop_within_a_copy_leaves_no_disk_or_the_whole(broker):
-    """Killed in each write, of which a part was done, and before each flush: the new disk is not formatted or has all, and the old
-    one stays as it is."""
+def is_none_or_whole_at_each_stop(broker, *words):
+    """Killed in each write, of which a part was done, and before each flush: the new disk is not formatted or is that of a copy with
+    these words, byte for byte, and the old one stays as it is."""
     broker.serve()
     for n in range(5):
         same(broker.invoke(f"{n}").status, 202)
     same(broker.stop(), STOPPED)
-    before, wanted = content_of(broker.disk), told(broker, broker.disk)
-    new, watch, seen = broker.disk + ".new", broker.watches_disk(), []
+    new, before = broker.disk + ".new", content_of(broker.disk)
+    same(copy(broker, new, *words)[0], 0)
+    whole, watch, seen = content_of(new), broker.watches_disk(), []
     for word, torn in ("kill_write", 0), ("kill_write", 1), ("kill_write", 700), ("kill_flush", 0):
         for number in range(1, 50):
             put(new, b"")
             watch.clear()
-            watch.torn, done = torn, setattr(watch, word, number) or broker.command("copy", broker.disk, new, env={"WATCH_DISK": new})
+            watch.torn, done = torn, setattr(watch, word, number) or broker.command("copy", broker.disk, new, *words, env={"WATCH_DISK": new})
             watch.clear()
             assert content_of(broker.disk) == before, "the old disk was changed"
             if done.returncode == 0:
                 break
             status, line = broker.said("audit", new)
             seen.append(line if status else "whole")
-            same(told(broker, new) if status == 0 else wanted, wanted)
-        same(told(broker, new), wanted)
+            same(status != 0 or content_of(new) == whole, True)
+        same(content_of(new) == whole, True)
     same(sorted(set(seen)), ["refused: not formatted\n", "whole"])
     assert len(seen) > 10, f"only {len(seen)} stops were made"
+
+
+@case({"sectors": 64, "events": 8, "payload": 64, "response": 64})
+def a_stop_within_a_copy_leaves_no_disk_or_the_whole(broker):
+    is_none_or_whole_at_each_stop(broker)
+
+
+@case({"sectors": 64, "events": 8, "payload": 64, "response": 64, "age": 60})
+def a_stop_within_a_copy_with_an_age_leaves_no_disk_or_the_whole(broker):
+    is_none_or_whole_at_each_stop(broker, "--age", 3600)

@@ -1,4 +1,4 @@
--- What the private steps of a longer age give. No public contract cites it.
+-- What the private steps of a longer age give, and which numbers a row may have. Public contracts cite the latter alone.
 use Rattle.std.specs.Prelude.{ℕ, ◌-◌, ◌*◌, ◌^◌, min, Bool, ◌&&◌, nat_le}
 use Rattle.invoke_records.specs.declared.row.EventRow.{EventRow}
 use Rattle.invoke_records.specs.Spelling.{greatest_number}

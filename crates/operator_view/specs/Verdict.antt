@@ -12,7 +12,7 @@ use Rattle.operator_view.specs.declared.problem.Problem.TheVariants as problem
 abbrev pub disk_hangs : Sight → Option Problem
 disk_hangs s = if nat_lt 0 s.flush_seconds then Some (problem.DiskHangs s.flush_seconds) else None
 
--- the last command was of a moment that comes in more than five seconds: until then no event is due, too old or timed out
+-- the last command was of a moment that comes in more than five seconds: until then no retry is due, and nothing is too old or timed out
 abbrev pub clock_is_behind : Sight → Option Problem
 clock_is_behind s =
     if nat_lt 5000 (s.last_moment - s.at) then Some (problem.ClockIsBehind ((s.last_moment - s.at) / 1000)) else None
