@@ -114,6 +114,33 @@ def what_would_be_given_up_runs_in_a_copy_with_a_longer_age(broker):
         same(broker.delete(context["requestId"]).status, 204)
 
 
+@case({"sectors": 8194, "events": 1024, "payload": 64, "response": 64, "age": 60})
+def a_full_table_comes_along_with_an_age_to_a_disk_with_a_sector_for_a_claim(broker):
+    broker.serve()
+    same({broker.invoke(f"{n}").status for n in range(1024)}, {202})
+    same(broker.stop(), STOPPED)
+    new = f"{broker.disk}.new"
+    same(copy(broker, new, "--age", 3600, "--sectors", 8193), (0, "copied 1024 events to 8193 sectors\n"))
+    # The operator's port lists 100 by itself.
+    same({row["age"] for row in rows(broker, new).values()}, {3600})
+    same(broker.held(), 1024)
+
+
+@case({"sectors": 64, "events": 8, "payload": 64, "response": 64})
+def copies_with_an_age_of_copies_end_in_a_refusal_that_leaves_nothing(broker):
+    broker.serve()
+    same(broker.invoke("{}").status, 202)
+    same(broker.stop(), STOPPED)
+    for n in range(61):
+        new = f"{broker.disk}.{n}"
+        same(copy(broker, new, "--age", 60), (0, "copied 1 events to 64 sectors\n"))
+        same(told(broker, new)[0], str(2 ** (n + 2) - 1))
+        broker.disk = new
+    # The next number would be 2^63 - 1, and they end at 2^62.
+    same(copy(broker, f"{new}.more", "--age", 60), (1, "refused: bad table\n"))
+    same((os.path.exists(f"{new}.more"), broker.held()), (False, 1))
+
+
 @case()
 def an_age_that_no_event_has_is_refused(broker):
     new, before = f"{broker.disk}.new", content_of(broker.disk)
