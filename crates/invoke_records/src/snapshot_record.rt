@@ -8,7 +8,7 @@ ghost use Rattle.invoke_records.specs.Reading.{sound, Gives, FailsBy, rows_at, s
 ghost use Rattle.invoke_records.specs.Records.{Finds};
 
 use crate::command::GREATEST_MOMENT;
-use crate::order::are_in_order;
+use crate::order::are_in_order_by_set;
 use crate::reader::Reader;
 use crate::row_reading::read_row;
 use crate::snapshot::{GREATEST_NUMBER, MOST_ROWS};
@@ -48,7 +48,8 @@ fn read_snapshot(
     let count = reader.sized(0, MOST_ROWS);
     let rest = reader.end()?;
     let (rows, rest) = read_rows(alloc, version, count, rest)?;
-    if !are_in_order(&rows) {
+    let are_ordered = are_in_order_by_set(alloc, &rows)?;
+    if !are_ordered {
         return Err(RecordError::BadKind);
     }
     let rows = Rows::from_vec(rows);
@@ -114,12 +115,13 @@ impl Snapshot {
         encode_snapshot(alloc, self)
     }
 
-    /// Whether the snapshot has a spelling, refused as by `encode`. It takes no memory.
-    pub fn check(&self) -> Result<(), RecordError>
+    /// Whether the snapshot has a spelling, refused as by `encode`. It needs no memory, and with some for the rows' ids it takes a
+    /// time that grows little faster than the rows.
+    pub fn check(&self, alloc: Global) -> Result<(), RecordError>
         ensures fault { result ≡ sound (snapshot_fault self.now) tt }
         ensures spelled { OnOk result (IsSnapshot self.now) }
     {
-        check_snapshot(self)
+        check_snapshot(alloc, self)
     }
 
     /// How long the spelling of a snapshot that has one is. It walks the rows once.

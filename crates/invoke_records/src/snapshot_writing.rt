@@ -34,7 +34,7 @@ fn rows_are_within(rows: &[EventRow])
 }
 
 /// Why a snapshot has no spelling, if it has none.
-pub fn check_snapshot(s: &Snapshot) -> Result<(), RecordError>
+pub fn check_snapshot(alloc: Global, s: &Snapshot) -> Result<(), RecordError>
     ensures fault { result ≡ sound (snapshot_fault s.now) tt }
     ensures spelled { OnOk result (IsSnapshot s.now) }
 {
@@ -46,7 +46,7 @@ pub fn check_snapshot(s: &Snapshot) -> Result<(), RecordError>
         return Err(RecordError::TooLong);
     }
     check_rows(rows)?;
-    if !are_in_order(rows) {
+    if !are_in_order(alloc, rows) {
         return Err(RecordError::BadKind);
     }
     rows_are_within(rows);
@@ -107,7 +107,7 @@ pub fn encode_snapshot(alloc: Global, s: &Snapshot) -> Result<Vec<u8>, RecordErr
     ensures spelled { OnOk result (IsSnapshot s.now) }
     ensures refused { IfErr result (FailsBy (snapshot_fault s.now)) }
 {
-    check_snapshot(s)?;
+    check_snapshot(alloc, s)?;
     let mut out = Writer::new(alloc);
     out.add(&snapshot_head(s));
     add_rows(&mut out, s.rows.as_slice());

@@ -16,12 +16,12 @@ returns-in_err-rows c =
     let read = snapshot_read c.args.version c.args.bytes.now c.new-reader.result c.limit64-number.new.self c.limit64-last_moment.new.self c.policy_in-policy.new.self c.sized-count.new.self c.limit64-number.result c.limit64-last_moment.result c.policy_in-policy.result c.sized-count.result c.new-reader.ensures c.limit64-number.ensures c.limit64-last_moment.ensures c.policy_in-policy.ensures c.sized-count.ensures in
     rw (p.1, p.2, read, c.in_ok-rest.ensures) (fails_then c.in_err-rows.field-0.0 _ _ c.in_err-rows.ensures)
 
-pub returns-then-not-are_in_order : goal.returns-then-not-are_in_order
-returns-then-not-are_in_order c =
+pub returns-then-not-are_ordered : goal.returns-then-not-are_ordered
+returns-then-not-are_ordered c =
     let read = snapshot_read c.args.version c.args.bytes.now c.new-reader.result c.limit64-number.new.self c.limit64-last_moment.new.self c.policy_in-policy.new.self c.sized-count.new.self c.limit64-number.result c.limit64-last_moment.result c.policy_in-policy.result c.sized-count.result c.new-reader.ensures c.limit64-number.ensures c.limit64-last_moment.ensures c.policy_in-policy.ensures c.sized-count.ensures in
-    rw (read, c.in_ok-rest.ensures, c.in_ok-rows.ensures, ← c.deref.ensures.value, ← c.are_in_order.ensures, c.if-not-are_in_order.true) refl
+    rw (read, c.in_ok-rest.ensures, c.in_ok-rows.ensures, ← c.deref.ensures.value, ← c.in_ok-are_ordered.ensures, c.if-not-are_ordered.true) refl
 
 pub returns : goal.returns
 returns c =
     let read = snapshot_read c.args.version c.args.bytes.now c.new-reader.result c.limit64-number.new.self c.limit64-last_moment.new.self c.policy_in-policy.new.self c.sized-count.new.self c.limit64-number.result c.limit64-last_moment.result c.policy_in-policy.result c.sized-count.result c.new-reader.ensures c.limit64-number.ensures c.limit64-last_moment.ensures c.policy_in-policy.ensures c.sized-count.ensures in
-    rw (read, c.in_ok-rest.ensures, c.in_ok-rows.ensures, c.from_vec-rows.ensures, ← c.deref.ensures.value, ← c.are_in_order.ensures, c.if-not-are_in_order.false) refl
+    rw (read, c.in_ok-rest.ensures, c.in_ok-rows.ensures, c.from_vec-rows.ensures, ← c.deref.ensures.value, ← c.in_ok-are_ordered.ensures, c.if-not-are_ordered.false) refl

@@ -1,6 +1,6 @@
 use Rattle.std.proofs.Common.{◌≡◌, drop}
 use Rattle.invoke_records.specs.Spelling.{are_in_order}
-use Rattle.invoke_records.proofs.order.are_in_order.Given as goal
+use Rattle.invoke_records.proofs.order.are_compared.Given as goal
 
 abbrev pub invariant-loop-i : goal.invariant-loop-i
 invariant-loop-i l = are_in_order (drop l.i l.rows) ≡ are_in_order l.rows
