@@ -1,5 +1,5 @@
 -- The first that moves where no environment is ready and fewer run than may.
-use Rattle.std.proofs.Common.{◌≡◌, ℕ, ◌*◌, ◌-◌, ◌≤◌, ◌<◌, zero, suc, List, [], ◌∷◌, length, Bool, true, false, Option, Some, None, refl, sym, ap, ◌∙◌, subst, arith, ◌⊎◌, inl, inr, All, Contains, get_or, filter, cond, nat_le, min, is_some}
+use Rattle.std.proofs.Common.{◌≡◌, ℕ, ◌<◌, zero, suc, List, [], ◌∷◌, length, Bool, true, false, Option, Some, None, refl, sym, ap, ◌∙◌, subst, arith, ◌⊎◌, inl, inr, All, Contains, get_or, filter, cond, nat_le, min, is_some}
 use Rattle.std.specs.Prelude.{option_map}
 use Rattle.std.proofs.lemmas.Bool.{true≢false, leb-true, le-leb}
 use Rattle.std.proofs.lemmas.List.Elements.{All-contains_itself, All-filter, All-contains, filter_passes}

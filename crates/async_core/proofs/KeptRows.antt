@@ -1,10 +1,8 @@
 -- The indexes stay those of the rows, and the first row of an index.
-use Rattle.std.proofs.Common.{◌≡◌, ℕ, ◌+◌, ◌≤◌, zero, suc, List, [], ◌∷◌, ◌++◌, length, Bool, true, false, ◌&&◌, ◌==◌, cond, Option, Some, None, refl, sym, ap, ◌∙◌, subst, arith, inl, inr, All, Contains, nat_le}
-use Rattle.std.specs.Prelude.{IsSome, option_map, IfSome, unwrap_or}
-use Rattle.std.specs.List.{count_by}
-use Rattle.std.specs.Map.{lookup, set_value, remove_entry, values_of, keys_of}
+use Rattle.std.proofs.Common.{◌≡◌, ℕ, ◌+◌, ◌≤◌, zero, suc, List, [], ◌∷◌, ◌++◌, Bool, true, false, ◌&&◌, ◌==◌, cond, Option, Some, None, refl, sym, ap, ◌∙◌, subst, arith, inl, inr, All, Contains, nat_le}
+use Rattle.std.specs.Prelude.{IsSome, option_map, IfSome}
+use Rattle.std.specs.Map.{lookup, set_value, values_of, keys_of}
 use Rattle.std.specs.Str.{bytes_eq}
-use Rattle.std.proofs.lemmas.List.{length-map}
 use Rattle.std.specs.BTreeMap as tree
 use Rattle.std.specs.BTreeSet as sorted
 use Rattle.std.specs.BTreeMap.{BTreeMap, is_at}
@@ -13,20 +11,20 @@ use Rattle.std.specs.Ordering.{nat_cmp, is_eq}
 use Rattle.std.specs.Cmp.{nat_cmp_total, unsigned_tied}
 use Rattle.std.proofs.lemmas.Bool.{true≢false, and_parts, and_from, eqb-true, eq-eqb, leb-true, leb-false, le-leb}
 use Rattle.std.proofs.lemmas.Cmp.{eq_by_cmp_equiv}
-use Rattle.std.proofs.lemmas.List.Sums.{sum_by-append, count_by-le-length}
-use Rattle.std.proofs.lemmas.Map.Entries.{sum_by-set_value, sum_by-remove_entry}
 use Rattle.std.proofs.lemmas.Map.Keys.{IsDistinct-from_sorted}
 use Rattle.std.proofs.lemmas.Map.Views.{All-values_from_lookup}
 use Rattle.invoke_records.specs.declared.row.EventRow.{EventRow}
 use Rattle.async_core.specs.declared.keys.Facts.{Facts}
 use Rattle.async_core.specs.declared.keys.Index.{Index}
 use Rattle.async_core.specs.Choice.{NotBefore}
-use Rattle.async_core.specs.Standings.{is_running}
-use Rattle.async_core.specs.Rules.{running_at}
+use Rattle.invoke_records.specs.declared.row.Standing.TheVariants.{Unknown}
+use Rattle.async_core.specs.declared.tally.Tally.{Tally}
+use Rattle.async_core.specs.Tallies.{IsTallied, Retallies}
 use Rattle.async_core.specs.Ids.{by_id, is_named, has_name, PutsRow, TakesRow, IsFirstPlace}
 use Rattle.async_core.specs.Keys.{Key, index_rank, by_key, facts_of, key_in, is_key, has_key, AreKeys, put_facts, Switches, StaysAt, IsAtMost, IsFirstKey, within, key_within, row_key, IsFirstBy}
 use Rattle.async_core.specs.Kept.{facts_in, IsIndexed, Enters, StaysOut}
 use Rattle.async_core.proofs.HeldRows.{row_in}
+use Rattle.async_core.proofs.Tallied.{tally_more, tally_changed, tally_fewer}
 use Rattle.async_core.proofs.HeldIds.{none_next, held_more, held_undone, held_fewer, is_name_at}
 
 -- ## Ids
@@ -73,10 +71,7 @@ is_there o r is = rw is refl
 pub some_injective : {A : Type 0} {x y : A} → Some x ≡ Some y → x ≡ y
 some_injective h = cc
 
-abbrev pub runs : EventRow → ℕ
-runs r = cond (is_running r.standing) 1 0
-
-module _ (m : BTreeMap ℕ EventRow) (s : BTreeSet (List ℕ × ℕ)) (keys : BTreeSet Key) (running n : ℕ) (indexed : IsIndexed m s keys running n) where
+module _ (m : BTreeMap ℕ EventRow) (s : BTreeSet (List ℕ × ℕ)) (keys : BTreeSet Key) (tally : Tally) (n : ℕ) (indexed : IsIndexed m s keys tally n) where
   absent : (id : List ℕ) → is_named s id n ≡ false
   absent id = indexed.held.named id n ∙ ap (has_name id) (none_next m s n indexed.held (tree.get nat_cmp m n) refl)
 
@@ -85,39 +80,33 @@ module _ (m : BTreeMap ℕ EventRow) (s : BTreeSet (List ℕ × ℕ)) (keys : BT
 
   -- ## An event that does not come in
 
-  pub stays_out : (s' : BTreeSet (List ℕ × ℕ)) (keys' : BTreeSet Key) → StaysOut n s s' keys keys' → IsIndexed m s' keys' running n
+  pub stays_out : (s' : BTreeSet (List ℕ × ℕ)) (keys' : BTreeSet Key) → StaysOut n s s' keys keys' → IsIndexed m s' keys' tally n
   stays_out s' keys' stays = record {
     held = record { ordered = indexed.held.ordered; below = indexed.held.below; named = λ id q. stays.0 absent id q ∙ indexed.held.named id q };
     keyed = stays.1 (facts_in m) indexed.keyed no_facts;
-    counted = indexed.counted;
+    tallied = indexed.tallied;
   }
 
   pub goes_again : (m' : BTreeMap ℕ EventRow) (s' s'' : BTreeSet (List ℕ × ℕ)) (keys' keys'' : BTreeSet Key) (id : List ℕ) (facts : Facts) → tree.IsUnchanged m m' → Enters n id facts s s' keys keys' → sorted.Updates by_id s' s'' (id, n) false
-      → Switches n (Some facts) None keys' keys'' → IsIndexed m' s'' keys'' running n
+      → Switches n (Some facts) None keys' keys'' → IsIndexed m' s'' keys'' tally n
   goes_again m' s' s'' keys' keys'' id facts same enters removed switched =
       let entered : AreKeys (put_facts n (Some facts) (facts_in m)) keys' = enters.1 (facts_in m) indexed.keyed no_facts in
       let left : AreKeys (put_facts n None (put_facts n (Some facts) (facts_in m))) keys'' = switched (put_facts n (Some facts) (facts_in m)) entered (put_here n (Some facts) (facts_in m)) in
       record {
         held = held_undone m s n indexed.held s' s'' m' id same enters.0 removed;
         keyed = alike _ (facts_in m') keys'' (λ q. put_back n (Some facts) (facts_in m) no_facts q (n == q) refl ∙ ap (λ es. option_map facts_of (lookup (is_at (nat_cmp q)) es)) (sym same)) left;
-        counted = indexed.counted ∙ ap (λ es. running_at (values_of es)) (sym same);
+        tallied = subst (λ es. IsTallied (values_of es) tally) (sym same) indexed.tallied;
       }
 
   -- ## An event that comes
 
-  pub comes_in : (m' : BTreeMap ℕ EventRow) (s' : BTreeSet (List ℕ × ℕ)) (keys' : BTreeSet Key) (r : EventRow) (facts : Facts) (now next : ℕ) → facts ≡ facts_of r → next ≡ n + 1 → now + 0 ≡ running + runs r → PutsRow m n r m' → Enters n r.id facts s s' keys keys'
+  pub comes_in : (m' : BTreeMap ℕ EventRow) (s' : BTreeSet (List ℕ × ℕ)) (keys' : BTreeSet Key) (r : EventRow) (facts : Facts) (now : Tally) (next : ℕ) → facts ≡ facts_of r → next ≡ n + 1 → Retallies tally Unknown r.standing now → PutsRow m n r m' → Enters n r.id facts s s' keys keys'
       → values_of m'.entries ≡ values_of m.entries ++ r ∷ [] → IsIndexed m' s' keys' now next
   comes_in m' s' keys' r facts now next of_row is count put enters rows = record {
     held = held_more m s n indexed.held m' s' r next is put enters.0;
     keyed = alike _ (facts_in m') keys' (facts_put m m' n (Some r) put.1) (subst (λ f. AreKeys (put_facts n (Some f) (facts_in m)) keys') of_row (enters.1 (facts_in m) indexed.keyed no_facts));
-    counted = no_more now ∙ count ∙ ap (λ k. k + runs r) indexed.counted ∙ sym (ap running_at rows ∙ sum_by-append (λ (x : EventRow). cond (is_running x.standing) 1 0) (values_of m.entries) (r ∷ []) ∙ one_more (running_at (values_of m.entries)) (runs r));
+    tallied = subst (λ es. IsTallied es now) (sym rows) (tally_more (values_of m.entries) r tally now indexed.tallied count);
   }
-    where
-      no_more : (a : ℕ) → a ≡ a + 0
-      no_more a = omega arith
-
-      one_more : (a b : ℕ) → a + (0 + b) ≡ a + b
-      one_more a b = omega arith
 
   -- ## The first row of an index
 
@@ -219,30 +208,17 @@ module _ (m : BTreeMap ℕ EventRow) (s : BTreeSet (List ℕ × ℕ)) (keys : BT
 
   -- ## A change of an event
 
-  pub some_run : (p : ℕ) (r : EventRow) → tree.get nat_cmp m p ≡ Some r → runs r ≤ running
-  some_run p r there =
-      let fewer : count_by (λ (x : EventRow). is_running x.standing) (values_of (remove_entry (is_at (nat_cmp p)) m.entries)) + runs r ≡ running_at (values_of m.entries) =
-      subst (λ (o : Option EventRow). count_by (λ (x : EventRow). is_running x.standing) (values_of (remove_entry (is_at (nat_cmp p)) m.entries)) + unwrap_or (option_map runs o) 0 ≡ running_at (values_of m.entries)) there
-      (sum_by-remove_entry runs (is_at (nat_cmp p)) m.entries) in
-      rw indexed.counted (omega (arith, fewer))
-
-  pub few_run : running ≤ length m.entries
-  few_run = rw indexed.counted (omega (arith, count_by-le-length (λ (x : EventRow). is_running x.standing) (values_of m.entries), length-map m.entries (λ (e : ℕ × EventRow). e.1)))
-
   -- the row of an event is another one now
-  pub changes : (m' : BTreeMap ℕ EventRow) (keys' : BTreeSet Key) (p : ℕ) (r w : EventRow) (now : ℕ) → tree.get nat_cmp m p ≡ Some r → w.id ≡ r.id → m'.entries ≡ set_value (is_at (nat_cmp p)) m.entries w → tree.Updates nat_cmp m m' p (Some w)
-      → tree.IsOrdered nat_cmp m' → now + runs r ≡ running + runs w → (old new : Facts) → old ≡ facts_of r → new ≡ facts_of w → Switches p (Some old) (Some new) keys keys' → IsIndexed m' s keys' now n
-  changes m' keys' p r w now there same entries update ordered count old new of_old of_new switched = record {
+  pub changes : (m' : BTreeMap ℕ EventRow) (keys' : BTreeSet Key) (p : ℕ) (r w : EventRow) (now : Tally) → tree.get nat_cmp m p ≡ Some r → w.id ≡ r.id → m'.entries ≡ set_value (is_at (nat_cmp p)) m.entries w → tree.Updates nat_cmp m m' p (Some w)
+      → tree.IsOrdered nat_cmp m' → (old new : Facts) → Retallies tally old.standing new.standing now → old ≡ facts_of r → new ≡ facts_of w → Switches p (Some old) (Some new) keys keys' → IsIndexed m' s keys' now n
+  changes m' keys' p r w now there same entries update ordered old new count of_old of_new switched = record {
     held = record {
       ordered = ordered;
       below = λ q found. indexed.held.below q (was_there q (is_at (nat_cmp p) q) refl found);
       named = λ id q. indexed.held.named id q ∙ names_stay id q (is_at (nat_cmp p) q) refl;
     };
     keyed = alike _ (facts_in m') keys' (facts_put m m' p (Some w) update) (subst (λ f. AreKeys (put_facts p (Some f) (facts_in m)) keys') of_new (switched (facts_in m) indexed.keyed (ap (λ o. option_map facts_of o) there ∙ ap (λ f. Some f) (sym of_old))));
-    counted =
-        let moved = sum_by-set_value runs (is_at (nat_cmp p)) m.entries r w there in
-        let same_list : running_at (values_of m'.entries) ≡ running_at (values_of (set_value (is_at (nat_cmp p)) m.entries w)) = ap (λ es. running_at (values_of es)) entries in
-        omega (arith, moved, same_list, count, indexed.counted);
+    tallied = subst (λ es. IsTallied (values_of es) now) (sym entries) (tally_changed m tally indexed.tallied p r there old of_old w new now of_new count);
   }
     where
       place_same : (q : ℕ) → is_at (nat_cmp p) q ≡ true → p ≡ q
@@ -258,29 +234,19 @@ module _ (m : BTreeMap ℕ EventRow) (s : BTreeSet (List ℕ × ℕ)) (keys : BT
           ∙ ap (has_name id) (sym (update.0 q ∙ ap (λ b. cond b (Some w) (tree.get nat_cmp m q)) here))
       names_stay id q false apart = ap (has_name id) (sym (update.0 q ∙ ap (λ b. cond b (Some w) (tree.get nat_cmp m q)) apart))
 
-  pub stays : (keys' : BTreeSet Key) (p : ℕ) (r : EventRow) (old : Facts) → tree.get nat_cmp m p ≡ Some r → old ≡ facts_of r → StaysAt p (Some old) keys keys' → IsIndexed m s keys' running n
+  pub stays : (keys' : BTreeSet Key) (p : ℕ) (r : EventRow) (old : Facts) → tree.get nat_cmp m p ≡ Some r → old ≡ facts_of r → StaysAt p (Some old) keys keys' → IsIndexed m s keys' tally n
   stays keys' p r old there of_old same = record {
     held = indexed.held;
     keyed = same (facts_in m) indexed.keyed (ap (λ o. option_map facts_of o) there ∙ ap (λ f. Some f) (sym of_old));
-    counted = indexed.counted;
+    tallied = indexed.tallied;
   }
 
   -- ## An event that goes
 
-  pub goes : (m' : BTreeMap ℕ EventRow) (s' : BTreeSet (List ℕ × ℕ)) (keys' : BTreeSet Key) (id : List ℕ) (p : ℕ) (r : EventRow) (now : ℕ) → IsFirstPlace s id (Some p) → tree.get nat_cmp m p ≡ Some r → TakesRow m p m' → sorted.Updates by_id s s' (id, p) false
-      → now + runs r ≡ running + 0 → (old : Facts) → old ≡ facts_of r → Switches p (Some old) None keys keys' → IsIndexed m' s' keys' now n
-  goes m' s' keys' id p r now first there taken removed count old of_old switched = record {
+  pub goes : (m' : BTreeMap ℕ EventRow) (s' : BTreeSet (List ℕ × ℕ)) (keys' : BTreeSet Key) (id : List ℕ) (p : ℕ) (r : EventRow) (now : Tally) → IsFirstPlace s id (Some p) → tree.get nat_cmp m p ≡ Some r → TakesRow m p m' → sorted.Updates by_id s s' (id, p) false
+      → (old : Facts) → Retallies tally old.standing Unknown now → old ≡ facts_of r → Switches p (Some old) None keys keys' → IsIndexed m' s' keys' now n
+  goes m' s' keys' id p r now first there taken removed old count of_old switched = record {
     held = held_fewer m s n indexed.held id p first m' s' taken removed;
     keyed = alike _ (facts_in m') keys' (facts_put m m' p None taken.1) (switched (facts_in m) indexed.keyed (ap (λ o. option_map facts_of o) there ∙ ap (λ f. Some f) (sym of_old)));
-    counted =
-        let fewer : count_by (λ (x : EventRow). is_running x.standing) (values_of (remove_entry (is_at (nat_cmp p)) m.entries)) + runs r ≡ running_at (values_of m.entries) =
-        subst (λ (o : Option EventRow). count_by (λ (x : EventRow). is_running x.standing) (values_of (remove_entry (is_at (nat_cmp p)) m.entries)) + unwrap_or (option_map runs o) 0 ≡ running_at (values_of m.entries)) there
-        (sum_by-remove_entry runs (is_at (nat_cmp p)) m.entries) in
-        let same_list : running_at (values_of m'.entries) ≡ running_at (values_of (remove_entry (is_at (nat_cmp p)) m.entries)) = ap (λ es. running_at (values_of es)) taken.0 in
-        omega (arith, fewer, same_list, count, indexed.counted);
+    tallied = subst (λ es. IsTallied (values_of es) now) (sym taken.0) (tally_fewer m tally indexed.tallied p r there old of_old now count);
   }
-
--- ## Counts as the code makes them
-
-pub recount : (a b : ℕ) (ran runs_now x y : Bool) → ran ≡ x → runs_now ≡ y → a + cond ran 1 0 ≡ b + cond runs_now 1 0 → a + cond x 1 0 ≡ b + cond y 1 0
-recount a b ran runs_now x y p q h = rw (← p, ← q) h

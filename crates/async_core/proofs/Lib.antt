@@ -7,6 +7,7 @@ pub mod HeldRows
 pub mod HeldIds
 pub mod KeySteps
 pub mod FirstKeys
+pub mod Tallied
 pub mod KeptRows
 pub mod Ranks
 pub mod Walks

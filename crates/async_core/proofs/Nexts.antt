@@ -15,7 +15,8 @@ use Rattle.async_core.specs.declared.choice.Order.TheVariants as orders
 use Rattle.async_core.specs.Standings.{is_running}
 use Rattle.async_core.specs.History.{held, standing_in, running_count, row_of, table_of, last_number}
 use Rattle.async_core.specs.Rules.{running_at}
-use Rattle.async_core.specs.Choice.{move_of, ripe_at, rank, NotBefore, moving, move_at, environment_for, IsNextAt, IsChosenAs, IsFirstHeld, IsFirstRunning, IsOldestEnded, ended_on, IsNextMove}
+use Rattle.async_core.specs.Choice.{move_of, ripe_at, rank, NotBefore, moving, move_at, environment_for, IsNextAt, IsChosen, IsChosenAs, IsFirstHeld, IsFirstRunning, IsOldestEnded, IsNextEnded, ended_on, IsNextMove}
+use Rattle.async_core.specs.Tallies.{ended_at, ended_count}
 use Rattle.async_core.specs.laws.Tables.{count_by-map}
 
 -- ## Rows and events
@@ -147,6 +148,10 @@ module _ {A : Type 0} (s : Settings) (h : List Command) (order : Order) (test : 
             subst (λ n. n ≤ key other) own.1 after,
       )
 
+as_row : (order : Order) (rows : List EventRow) (found : Option EventRow) → IsChosen order rows found → IsChosenAs order rows (λ (r : EventRow). r) found
+as_row order rows None none = none
+as_row order rows (Some row) least = (row, refl, least)
+
 module _ (s : Settings) (table : Snapshot) (h : List Command) (is : table ≡ table_of s h) where
   rows_are : {A : Type 0} (order : Order) (view : EventRow → A) (result : Option A) → IsChosenAs order table.rows view result → IsChosenAs order (map (row_of s h) (held h)) view result
   unfolding table_of
@@ -161,3 +166,12 @@ module _ (s : Settings) (table : Snapshot) (h : List Command) (is : table ≡ ta
   oldest_ended-by_history side result chosen =
       first_by_rows s h (orders.Ended side) (λ e. ended_on side (standing_in s h e.1)) (λ e. last_number e.1 h) (λ (r : EventRow). r.id) (λ e. e.1) (λ e. refl) (λ e. refl) result
       (rows_are (orders.Ended side) (λ (r : EventRow). r.id) result chosen)
+
+  pub next_ended-by_history : (side : Side) (behind : ℕ) (result : Option EventRow) → IsChosen (orders.EndedBehind side behind) table.rows result → IsNextEnded s h side behind result
+  next_ended-by_history side behind result chosen =
+      first_by_rows s h (orders.EndedBehind side behind) (λ e. ended_on side (standing_in s h e.1) && nat_lt behind (last_number e.1 h)) (λ e. last_number e.1 h) (λ (r : EventRow). r) (row_of s h) (λ e. refl) (λ e. refl) result
+      (rows_are (orders.EndedBehind side behind) (λ (r : EventRow). r) result (as_row (orders.EndedBehind side behind) table.rows result chosen))
+
+  pub ended_count-by_history : (side : Side) → ended_at side table.rows ≡ ended_count s h side
+  unfolding table_of
+  ended_count-by_history side = ap (λ (t : Snapshot). ended_at side t.rows) is ∙ count_by-map (λ (r : EventRow). ended_on side r.standing) (row_of s h) (held h)

@@ -18,6 +18,7 @@ use Rattle.std.proofs.lemmas.Map.Views.{IfSome-lookup_from_All}
 use Rattle.invoke_records.specs.declared.row.EventRow.{EventRow}
 use Rattle.async_core.specs.declared.keys.Index.{Index}
 use Rattle.async_core.specs.Keys.{Key, index_rank, by_key, IsAtMost, facts_of, key_in, within, key_within, row_key}
+use Rattle.async_core.specs.declared.tally.Tally.{Tally}
 use Rattle.async_core.specs.Kept.{IsIndexed, HasKeyed}
 use Rattle.async_core.proofs.KeptRows.{rows_all, stands}
 use Rattle.async_core.proofs.KeySteps.{tie_both}
@@ -140,14 +141,14 @@ none_to_come rows keys i last coming more ended are = λ a b q r has le there.
 
 -- ## The rows that stand in an index
 
-module _ (m : BTreeMap ℕ EventRow) (s : BTreeSet (List ℕ × ℕ)) (keys : BTreeSet Key) (running n : ℕ) (indexed : IsIndexed m s keys running n) (i : Index) (last : ℕ) (more : List EventRow) (has : HasKeyed m keys i last more) where
+module _ (m : BTreeMap ℕ EventRow) (s : BTreeSet (List ℕ × ℕ)) (keys : BTreeSet Key) (tally : Tally) (n : ℕ) (indexed : IsIndexed m s keys tally n) (i : Index) (last : ℕ) (more : List EventRow) (has : HasKeyed m keys i last more) where
   standing_there : (q : ℕ) (r : EventRow) → tree.get nat_cmp m q ≡ Some r → (o : Option (ℕ × ℕ)) → key_in (facts_of r) i ≡ o → is_some (key_within 0 (Some last) o) ≡ true → Contains more r
   standing_there q r there None key some = absurd (true≢false (sym some))
   standing_there q r there (Some at) key some = by_test (within 0 (Some last) at) refl
     where
       by_test : (b : Bool) → within 0 (Some last) at ≡ b → Contains more r
-      by_test true inside = has at.0 at.1 q r (stands m s keys running n indexed i q r at there key) (leb-true at.0 last (and_parts _ _ inside).1) there
+      by_test true inside = has at.0 at.1 q r (stands m s keys tally n indexed i q r at there key) (leb-true at.0 last (and_parts _ _ inside).1) there
       by_test false outside = absurd (true≢false (sym some ∙ ap (λ b. is_some (cond b (Some at) None)) outside))
 
   pub has_those : All (λ (r : EventRow). is_some (row_key i 0 (Some last) r) ≡ true → Contains more r) (values_of m.entries)
-  has_those = rows_all m s keys running n indexed (λ r. is_some (row_key i 0 (Some last) r) ≡ true → Contains more r) (λ q r there some. standing_there q r there (key_in (facts_of r) i) refl some)
+  has_those = rows_all m s keys tally n indexed (λ r. is_some (row_key i 0 (Some last) r) ≡ true → Contains more r) (λ q r there some. standing_there q r there (key_in (facts_of r) i) refl some)

@@ -1,5 +1,5 @@
 -- Which event goes next: what an event would do now, the moment from which it has something to do, and who goes first.
-use Rattle.std.specs.Prelude.{◌≡◌, ℕ, ◌+◌, ◌*◌, ◌<◌, ◌≤◌, min, ◌⊎◌, Bool, true, false, ◌&&◌, ◌||◌, ◌==◌, List, [], ◌∷◌, ◌++◌, Option, Some, None, IsSome, is_some, unwrap_or, if◌then◌else◌, nat_lt, nat_le, All, Contains, option_map}
+use Rattle.std.specs.Prelude.{◌≡◌, ℕ, ◌<◌, ◌≤◌, min, ◌⊎◌, Bool, true, false, ◌&&◌, ◌||◌, ◌==◌, List, [], ◌∷◌, ◌++◌, Option, Some, None, IsSome, is_some, unwrap_or, if◌then◌else◌, nat_lt, nat_le, All, Contains, option_map}
 use Rattle.retry_rules.specs.declared.settings.Settings.{Settings}
 use Rattle.invoke_records.specs.Spelling.{greatest_moment}
 use Rattle.invoke_records.specs.declared.command.Command.{Command}
@@ -17,7 +17,7 @@ use Rattle.async_core.specs.declared.choice.Order.{Order}
 use Rattle.async_core.specs.declared.choice.Order.TheVariants as order
 use Rattle.async_core.specs.declared.choice.Move.{Move}
 use Rattle.async_core.specs.Standings.{is_running}
-use Rattle.async_core.specs.History.{held, standing_in, too_old_from, running_count, is_busy_in, refusal_of, last_number, last_moment}
+use Rattle.async_core.specs.History.{held, standing_in, too_old_from, running_count, is_busy_in, row_of, refusal_of, last_number, last_moment}
 use Rattle.async_core.specs.Rules.{running_at, too_old_at}
 
 -- ## Moves
@@ -85,6 +85,7 @@ ended_on side other = false
 -- the rank of a row, if it has one: the least goes first
 abbrev pub rank : Order → EventRow → Option (ℕ × ℕ)
 rank (order.Ended side) r = if ended_on side r.standing then Some (r.last_number, 0) else None
+rank (order.EndedBehind side behind) r = if ended_on side r.standing && nat_lt behind r.last_number then Some (r.last_number, 0) else None
 rank (order.Running above) r = if is_running r.standing && nat_lt above r.number then Some (r.number, 0) else None
 rank (order.Moving now has_ready is_full) r =
     option_map (λ (kind : Kind). (ripe_by (too_old_at r) r.standing, r.number))
@@ -200,3 +201,9 @@ abbrev pub IsOldestEnded : Settings → List Command → Side → Option (List �
 IsOldestEnded s history side result =
     IsFirstHeld (λ event. ended_on side (standing_in s history event.1))
     (λ event. last_number event.1 history) (λ event. event.1) history result
+
+-- of the events that ended on this side by a later command than this one, the one that ended first, as its row
+abbrev pub IsNextEnded : Settings → List Command → Side → ℕ → Option EventRow → Type 0
+IsNextEnded s history side behind result =
+    IsFirstHeld (λ event. ended_on side (standing_in s history event.1) && nat_lt behind (last_number event.1 history))
+    (λ event. last_number event.1 history) (λ event. row_of s history event) history result

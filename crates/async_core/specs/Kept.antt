@@ -8,7 +8,9 @@ use Rattle.std.specs.BTreeSet as sorted
 use Rattle.std.specs.BTreeSet.{BTreeSet, contains}
 use Rattle.invoke_records.specs.declared.row.EventRow.{EventRow}
 use Rattle.async_core.specs.declared.keys.Facts.{Facts}
-use Rattle.async_core.specs.Rules.{running_at, too_old_at}
+use Rattle.async_core.specs.Rules.{too_old_at}
+use Rattle.async_core.specs.declared.tally.Tally.{Tally}
+use Rattle.async_core.specs.Tallies.{IsTallied}
 use Rattle.async_core.specs.Ids.{by_id, is_named, IsHeld}
 use Rattle.async_core.specs.declared.keys.Index.{Index}
 use Rattle.async_core.specs.Keys.{Key, by_key, index_rank, row_key, AreKeys, Switches, StaysAt, facts_of, idle_key}
@@ -19,12 +21,12 @@ use Rattle.async_core.specs.declared.choice.Order.{Order}
 abbrev pub facts_in : BTreeMap ℕ EventRow → ℕ → Option Facts
 facts_in rows place = option_map facts_of (tree.get nat_cmp rows place)
 
--- the ids, the keys and the count are those of the rows
+-- the ids, the keys and the tally are those of the rows
 pub record IsIndexed (rows : BTreeMap ℕ EventRow) (ids : BTreeSet (List ℕ × ℕ))
-    (keys : BTreeSet Key) (running next : ℕ) : Type 0 where
+    (keys : BTreeSet Key) (tally : Tally) (next : ℕ) : Type 0 where
   pub held : IsHeld rows ids next
   pub keyed : AreKeys (facts_in rows) keys
-  pub counted : running ≡ running_at (values_of rows.entries)
+  pub tallied : IsTallied (values_of rows.entries) tally
 
 -- an id comes to a place, with its keys
 abbrev pub Enters : ℕ → List ℕ → Facts → BTreeSet (List ℕ × ℕ) → BTreeSet (List ℕ × ℕ) → BTreeSet Key → BTreeSet Key → Type 0

@@ -10,6 +10,7 @@ pub mod Histories
 pub mod Readers
 pub mod Ids
 pub mod Keys
+pub mod Tallies
 pub mod Kept
 pub mod Choice
 pub mod NextMoment

@@ -29,6 +29,8 @@ pub struct Move {
 pub enum Order {
     /// Those that ended on this side, by the number of the command that ended them.
     Ended(Side),
+    /// Those that ended on this side by a later command than this one, by the number of that command.
+    EndedBehind(Side, u64),
     /// Those that run and were accepted by a later command than this one, by the number of that command.
     Running(u64),
     /// Those that have a move at this moment, by the moment from which they have something to do, and then by
@@ -118,7 +120,7 @@ pub(crate) fn is_on(side: Side, outcome: Outcome) -> bool
     }
 }
 
-fn ended_on(side: Side, standing: Standing) -> bool
+pub(crate) fn ended_on(side: Side, standing: Standing) -> bool
     ensures { result ≡ meant.ended_on side standing }
 {
     match standing {
@@ -131,6 +133,15 @@ fn ended_rank(side: Side, row: &EventRow) -> Option<(u128, u64)>
     ensures { result ≡ meant.rank (Order.Ended side) row.now }
 {
     if ended_on(side, row.standing) {
+        return Some((u128::from(row.last_number), 0));
+    }
+    None
+}
+
+fn ended_rank_behind(side: Side, behind: u64, row: &EventRow) -> Option<(u128, u64)>
+    ensures { result ≡ meant.rank (Order.EndedBehind side behind) row.now }
+{
+    if ended_on(side, row.standing) && behind < row.last_number {
         return Some((u128::from(row.last_number), 0));
     }
     None
@@ -161,6 +172,7 @@ fn rank(order: Order, row: &EventRow) -> Option<(u128, u64)>
 {
     match order {
         Order::Ended(side) => ended_rank(side, row),
+        Order::EndedBehind(side, behind) => ended_rank_behind(side, behind, row),
         Order::Running(above) => running_rank(above, row),
         Order::Moving(now, has_ready, is_full) => moving_rank(now, has_ready, is_full, row),
     }

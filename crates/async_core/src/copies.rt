@@ -21,7 +21,7 @@ fn copy_answer(answer: &Answer) -> Result<Answer, AllocError>
 }
 
 /// An equal row in memory of its own.
-pub(crate) fn copy_row(row: &EventRow) -> Result<EventRow, AllocError>
+pub fn copy_row(row: &EventRow) -> Result<EventRow, AllocError>
     ensures { IfOk result (λ copy. copy ≡ row.now) }
 {
     let payload = row.payload.copy()?;

@@ -1,11 +1,12 @@
 // The events that are held: their rows in the order of acceptance, found by id and by the indexes.
-ghost use Rattle.std.specs.Prelude.{◌≡◌, ◌+◌, ◌++◌, ◌∷◌, [], ◌<◌, ◌≤◌, ◌^◌, length, find, option_map, OnOk, OnErr, IfOk, if◌then◌else◌};
+ghost use Rattle.std.specs.Prelude.{◌≡◌, ◌++◌, ◌∷◌, [], ◌<◌, ◌^◌, length, find, option_map, OnOk, OnErr, IfOk};
 ghost use Rattle.std.specs.Option.{option_copied};
 ghost use Rattle.std.specs.BTreeMap as tree;
 ghost use Rattle.std.specs.Map.{values_of};
 ghost use Rattle.std.specs.Cmp.Lexicographic.{pointwise};
 ghost use Rattle.async_core.specs.Equality as meant;
 ghost use Rattle.async_core.specs.Rules.{has_id, remove_row, running_at};
+ghost use Rattle.async_core.specs.Tallies.{ended_at};
 ghost use Rattle.async_core.specs.Steps as step;
 ghost use Rattle.async_core.specs.Ids.{PutsRow, TakesRow, SetsRow, ForRowAt};
 ghost use Rattle.async_core.specs.Kept.{Enters, StaysOut, ChoosesByKeys, ChoosesUpTo};
@@ -13,15 +14,15 @@ ghost use Rattle.async_core.specs.Keys as keyed;
 ghost use Rattle.async_core.specs.Keys.{within, row_key, IsFirstBy};
 
 use crate::changes::{standing_after, update};
-use crate::choice::{Order, better};
+use crate::choice::{Order, Side, better};
 use crate::copies::copy_row;
 use crate::equality::same_row;
 use crate::ids::first_place;
 use crate::keys::{
     Facts, Index, Key, facts_of, first_key, insert_keys, rank, remove_keys, switch_keys,
 };
-use crate::standings::is_running;
-use invoke_records::{Answer, Command, EventRow};
+use crate::tally::Tally;
+use invoke_records::{Answer, Command, EventRow, Standing};
 use retry_rules::Settings;
 use std::alloc::{AllocError, Global};
 use std::collections::btree_map::Values;
@@ -36,8 +37,7 @@ pub(crate) struct Held {
     /// Each row's id with its place.
     ids: BTreeSet<([u8; 16], u64)>,
     keys: BTreeSet<Key>,
-    /// How many run.
-    running: usize,
+    tally: Tally,
     /// The place of the row that comes next.
     next: u64,
 }
@@ -52,7 +52,7 @@ impl Model for Held {
 
     ghost view = { λ h. values_of h.rows.entries };
 
-    ghost invariant = { λ h. IsIndexed h.rows h.ids h.keys h.running h.next };
+    ghost invariant = { λ h. IsIndexed h.rows h.ids h.keys h.tally h.next };
 }
 
 fn put_row(rows: &mut BTreeMap<u64, EventRow>, place: u64, row: EventRow) -> Result<(), AllocError>
@@ -104,18 +104,6 @@ fn enter(
         return Err(error);
     }
     Ok(())
-}
-
-/// How many run, where of these one ran or not, and runs or not now.
-fn recounted(running: usize, ran: bool, runs: bool) -> usize
-    requires some { (if ran then 1 else 0) ≤ running }
-    requires fits { running < 2 ^ 63 }
-    ensures { result + (if ran then 1 else 0) ≡ running + (if runs then 1 else 0) }
-{
-    if ran == runs {
-        return running;
-    }
-    if runs { running + 1 } else { running - 1 }
 }
 
 /// The row that goes first in this order: of some rows where this one goes first, if there is one, and of those whose
@@ -184,7 +172,7 @@ impl Held {
             rows: BTreeMap::new(alloc),
             ids: BTreeSet::new(alloc),
             keys: BTreeSet::new(alloc),
-            running: 0,
+            tally: Tally::empty(),
             next: 0,
         }
     }
@@ -200,7 +188,14 @@ impl Held {
     pub(crate) fn running(&self) -> usize
         ensures { result ≡ running_at self.now }
     {
-        self.running
+        self.tally.running
+    }
+
+    /// How many of them have ended on this side.
+    pub(crate) fn ended(&self, side: Side) -> usize
+        ensures { result ≡ ended_at side self.now }
+    {
+        self.tally.ended(side)
     }
 
     /// The first row of this id.
@@ -270,7 +265,7 @@ impl Held {
         let place = self.next;
         let facts = facts_of(&row);
         let _held = self.rows.len();
-        let running = recounted(self.running, false, is_running(row.standing));
+        let tally = self.tally.with(Standing::Unknown, row.standing);
         let id = row.id;
         let Some(next) = place.checked_add(1) else {
             return Err(AllocError);
@@ -281,7 +276,7 @@ impl Held {
             let _ = self.ids.remove(&(id, place));
             return Err(error);
         }
-        self.running = running;
+        self.tally = tally;
         self.next = next;
         Ok(())
     }
@@ -294,12 +289,12 @@ impl Held {
             if let Some(row) = self.rows.get(&place) {
                 let _held = self.rows.len();
                 let facts = facts_of(row);
-                let running = recounted(self.running, is_running(facts.standing), false);
+                let tally = self.tally.with(facts.standing, Standing::Unknown);
                 remove_keys(&mut self.keys, place, facts);
                 let id = *id;
                 let _ = self.ids.remove(&(id, place));
                 take_row(&mut self.rows, place);
-                self.running = running;
+                self.tally = tally;
             }
         }
     }
@@ -326,10 +321,9 @@ impl Held {
         let _held = self.rows.len();
         let old = facts_of(row);
         let new = changed_facts(row, settings, number, command);
-        let (ran, runs) = (is_running(old.standing), is_running(new.standing));
-        let running = recounted(self.running, ran, runs);
+        let tally = self.tally.with(old.standing, new.standing);
         switch_keys(&mut self.keys, place, old, new)?;
-        self.running = running;
+        self.tally = tally;
         change_row(&mut self.rows, place, settings, number, command, answer);
         Ok(())
     }

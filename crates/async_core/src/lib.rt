@@ -22,8 +22,10 @@ mod readers;
 mod situation;
 mod standings;
 mod table;
+mod tally;
 
 pub use choice::{Move, Side};
+pub use copies::copy_row;
 pub use illegal::{ApplyError, Illegal};
 pub use readers::Ended;
 pub use table::Table;

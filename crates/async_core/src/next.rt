@@ -3,8 +3,9 @@ ghost use Rattle.std.specs.Prelude.{◌≡◌, false};
 ghost use Rattle.std.specs.Option.{option_copied};
 ghost use Rattle.async_core.specs.Kept.{NoneExpired};
 ghost use Rattle.invoke_records.specs.declared.row.EventRow.{EventRow};
-ghost use Rattle.async_core.specs.Choice.{IsChosen, IsChosenAs, IsNextAt, IsNextMove, IsLegalIfFree, IsFirstRunning, IsOldestEnded, environment_for, row_move};
+ghost use Rattle.async_core.specs.Choice.{IsChosen, IsChosenAs, IsNextAt, IsNextMove, IsLegalIfFree, IsFirstRunning, IsOldestEnded, IsNextEnded, environment_for, row_move};
 ghost use Rattle.async_core.specs.Histories.{ForEachHistory};
+ghost use Rattle.async_core.specs.Tallies.{ended_at, ended_count};
 
 use crate::Table;
 use crate::choice::{Move, Order, Side, is_ranked, move_by};
@@ -105,6 +106,16 @@ fn ended_first(held: &Held, side: Side) -> Option<&EventRow>
     }
 }
 
+fn ended_behind(held: &Held, side: Side, behind: u64) -> Option<&EventRow>
+    ensures { IsChosen (Order.EndedBehind side behind) held.now (option_copied result) }
+{
+    let low = u128::from(behind) + 1;
+    match side {
+        Side::Success => held.first_in(Index::Success, low, None),
+        Side::Failure => held.first_in(Index::Failure, low, None),
+    }
+}
+
 fn first_running(held: &Held, after: u64) -> Option<(u64, [u8; 16])>
     ensures { IsChosenAs (Order.Running after) held.now (λ (r : EventRow). (r.number, r.id)) result }
 {
@@ -141,6 +152,24 @@ impl Table {
         ensures by_history { ForEachHistory self.now (λ s history. IsOldestEnded s history side result) }
     {
         first_ended(&self.held, side)
+    }
+
+    /// The row of the event that ended first of those held that ended on this side by a later command than this one.
+    pub fn next_ended(&self, side: Side, behind: u64) -> Option<&EventRow>
+        // claim: The event that ended next on a side, behind a command, is that of the history, with its row.
+        ensures by_row { IsChosen (Order.EndedBehind side behind) self.now.table.rows (option_copied result) }
+        ensures by_history { ForEachHistory self.now (λ s history. IsNextEnded s history side behind (option_copied result)) }
+    {
+        ended_behind(&self.held, side, behind)
+    }
+
+    /// How many of the events that are held have ended on this side: records that wait to be collected.
+    pub fn ended_count(&self, side: Side) -> usize
+        // claim: A table counts the events that have ended on a side as the history has them.
+        ensures by_row { result ≡ ended_at side self.now.table.rows }
+        ensures by_history { ForEachHistory self.now (λ s history. result ≡ ended_count s history side) }
+    {
+        self.held.ended(side)
     }
 
     /// What is to be done next at this moment, where this environment is ready or none is: the move of the event that

@@ -1,5 +1,5 @@
 // What a table says of one event. No reader takes memory.
-ghost use Rattle.std.specs.Prelude.{◌≡◌, Some, find, option_map};
+ghost use Rattle.std.specs.Prelude.{◌≡◌, Some, IfOk, find, option_map};
 ghost use Rattle.std.specs.Option.{option_copied};
 ghost use Rattle.async_core.specs.Readers.{told, outcome_by, accepted_at, accepted_after, payload_at, payload_after, counts_at, counts_after, judge_at, judge_after, ending_at, ending_after};
 ghost use Rattle.async_core.specs.Rules.{has_id, row_at, standing_at};
@@ -8,8 +8,10 @@ ghost use Rattle.async_core.specs.Policies.{pair_of};
 ghost use Rattle.async_core.specs.Histories.{ForEachLegalHistory};
 
 use crate::Table;
+use crate::copies::copy_row;
 use crate::held::Held;
 use invoke_records::{Answer, EventRow, Outcome, Standing};
+use std::alloc::AllocError;
 
 /// An event that has ended, as its destination record tells it.
 #[derive(Clone, Copy)]
@@ -23,6 +25,15 @@ pub struct Ended<'a> {
     pub at: u64,
     /// How many attempts were started.
     pub starts: u32,
+}
+
+fn row_in(held: &Held, id: &[u8; 16]) -> Result<Option<EventRow>, AllocError>
+    ensures { IfOk result (λ row. row ≡ find (has_id id.now) held.now) }
+{
+    match held.find(id) {
+        Some(row) => Ok(Some(copy_row(row)?)),
+        None => Ok(None),
+    }
 }
 
 fn accepted_in(held: &Held, id: &[u8; 16]) -> Option<u64>
@@ -96,6 +107,14 @@ impl Table {
     {
         let policy = self.policy();
         (policy.retries, policy.age)
+    }
+
+    /// The row of an event, if it is held, in memory of its own.
+    pub fn row(&self, id: &[u8; 16]) -> Result<Option<EventRow>, AllocError>
+        // claim: A table copies the row of one event.
+        ensures { IfOk result (λ row. row ≡ row_at self.now.table id.now) }
+    {
+        row_in(&self.held, id)
     }
 
     /// How an event ended, if it is held and has ended.

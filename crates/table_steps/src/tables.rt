@@ -5,7 +5,7 @@ use async_core::{Ended, Side, Table};
 use case_runner::{
     StepReply, TextBuffer, Words, id_of, kind_word, number_of_id, read_command, read_environment,
 };
-use invoke_records::{Answer, EventRow, Outcome, Standing};
+use invoke_records::{Answer, Outcome, Standing};
 use std::alloc::{AllocError, Global};
 
 fn outcome_word(outcome: Outcome) -> &'static str {
@@ -113,16 +113,44 @@ fn event_step(table: &Table, word: &str, id: &[u8; 16], answer: &mut TextBuffer)
     }
 }
 
-// `success` or `failure`: the event that ended first on that side.
+// `success` or `failure`.
+fn read_side(words: &mut Words) -> Option<Side> {
+    match words.word() {
+        "success" => Some(Side::Success),
+        "failure" => Some(Side::Failure),
+        _ => None,
+    }
+}
+
+// The event that ended first on a side.
 fn oldest(table: &Table, words: &mut Words) -> StepReply {
-    let side = match words.word() {
-        "success" => Side::Success,
-        "failure" => Side::Failure,
-        _ => return StepReply::Unreadable,
+    let Some(side) = read_side(words) else {
+        return StepReply::Unreadable;
     };
     match table.oldest_ended(side) {
         Some(id) => StepReply::Number(number_of_id(&id)),
         None => StepReply::NONE,
+    }
+}
+
+// The event that ended first on a side behind a command, and the command that ended it.
+fn ended_next(table: &Table, words: &mut Words, answer: &mut TextBuffer) -> StepReply {
+    let Some(side) = read_side(words) else {
+        return StepReply::Unreadable;
+    };
+    words.expect("behind");
+    let Some(row) = table.next_ended(side, words.number()) else {
+        return StepReply::NONE;
+    };
+    answer.add_number(number_of_id(&row.id));
+    answer.add_with(" by ", row.last_number);
+    StepReply::Told
+}
+
+fn ended_count(table: &Table, words: &mut Words) -> StepReply {
+    match read_side(words) {
+        Some(side) => StepReply::Number(table.ended_count(side) as u64),
+        None => StepReply::Unreadable,
     }
 }
 
@@ -162,28 +190,20 @@ fn judge(alloc: Global, table: &Table, words: &mut Words) -> StepReply {
     }
 }
 
-fn spell_row(alloc: Global, rows: &[EventRow], event: u64, answer: &mut TextBuffer) -> StepReply {
-    for row in rows {
-        if number_of_id(&row.id) == event {
-            return spelling(row.encode(alloc), answer);
-        }
+// The spelling of one event's row.
+fn spell_row(alloc: Global, table: &Table, event: u64, answer: &mut TextBuffer) -> StepReply {
+    match table.row(&id_of(event)) {
+        Ok(Some(row)) => spelling(row.encode(alloc), answer),
+        Ok(None) => StepReply::NONE,
+        Err(_) => StepReply::NoMemory,
     }
-    StepReply::NONE
 }
 
-// `snapshot` or `row EVENT`: the spelling of the table's snapshot, or of one event's row of it.
-fn spell_part(
-    alloc: Global,
-    table: &Table,
-    event: Option<u64>,
-    answer: &mut TextBuffer,
-) -> StepReply {
-    let Ok(snapshot) = table.snapshot() else {
-        return StepReply::NoMemory;
-    };
-    match event {
-        Some(event) => spell_row(alloc, snapshot.rows.as_slice(), event, answer),
-        None => spelling(snapshot.encode(alloc), answer),
+// The spelling of the table's snapshot.
+fn spell_all(alloc: Global, table: &Table, answer: &mut TextBuffer) -> StepReply {
+    match table.snapshot() {
+        Ok(snapshot) => spelling(snapshot.encode(alloc), answer),
+        Err(_) => StepReply::NoMemory,
     }
 }
 
@@ -197,14 +217,16 @@ pub fn table_step(
 ) -> StepReply {
     match word {
         "oldest" => oldest(table, words),
+        "ended-next" => ended_next(table, words, answer),
+        "ended-count" => ended_count(table, words),
         "running" => running(table, words, answer),
         "next" => next_move(table, words, answer),
         "judge" => judge(alloc, table, words),
         "number" => StepReply::Number(table.number()),
         "moment" => StepReply::Number(table.last_moment()),
         "in-force" => tell_policy(Some(table.in_force()), answer),
-        "snapshot" => spell_part(alloc, table, None, answer),
-        "row" => spell_part(alloc, table, Some(words.number()), answer),
+        "snapshot" => spell_all(alloc, table, answer),
+        "row" => spell_row(alloc, table, words.number(), answer),
         _ => {
             // The words are left to another step where it is none of an event's.
             let mut others = *words;

@@ -1,8 +1,7 @@
 -- Lemmas: what one command more at the end of a history changes in the life of an event and in what is held.
 use Rattle.std.proofs.Common.{◌≡◌, ℕ, ◌+◌, ◌-◌, ◌≤◌, List, [], ◌∷◌, ◌++◌, length, Bool, true, false, not, ◌&&◌, ◌||◌, cond, refl, ap, ◌∙◌, arith, filter, length-append, take, drop, Option, Some, None, zero-add}
 use Rattle.std.specs.List.{list_any, after_last, suffix_len, last_or, count_by}
-use Rattle.std.proofs.lemmas.List.{reverse-append, drop-append-le, take-append-le}
-use Rattle.std.proofs.Math.Seq.{take-append_seam}
+use Rattle.std.proofs.lemmas.List.{reverse-append, drop-append-le}
 use Rattle.std.proofs.lemmas.List.Folds.{list_any-append}
 use Rattle.std.proofs.lemmas.List.Elements.{filter-append}
 use Rattle.std.proofs.lemmas.List.Sums.{suffix_len-le-length, sum_by-append, sum_by-cons}

@@ -1,8 +1,7 @@
 -- Lemmas: what good settings bound, and that a command of the shape that they ask has a spelling.
 use Rattle.std.proofs.Common.{◌≡◌, ℕ, ◌≤◌, ◌<◌, List, [], ◌∷◌, length, Bool, true, false, not, ◌||◌, refl, arith, Option, Some, None, nat_lt, if◌then◌else◌}
 use Rattle.std.proofs.lemmas.Bool.{ltb-true, ltb-false, not-false, le-ltb, or_parts, or_from}
-use Rattle.retry_rules.specs.Settings.{bad_field, first_bad, checks, is_outside, policy_of, is_bad_policy}
-use Rattle.retry_rules.specs.declared.policy.RetryPolicy.{RetryPolicy}
+use Rattle.retry_rules.specs.Settings.{bad_field, first_bad, checks, policy_of, is_bad_policy}
 use Rattle.retry_rules.specs.declared.settings.Settings.{Settings}
 use Rattle.retry_rules.specs.declared.settings.Field.{Field}
 use Rattle.invoke_records.specs.Spelling.{greatest_moment, is_bad_environment, is_bad_id, is_bad_detail, most_bytes, least_bytes}

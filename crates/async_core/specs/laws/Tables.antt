@@ -29,7 +29,7 @@ use Rattle.async_core.specs.laws.Lives.{last_moment-snoc, in_force-snoc, in_forc
 use Rattle.async_core.specs.laws.Rows.{times_held-cons, rows_by}
 use Rattle.async_core.specs.laws.Refusals.{NoneFails, shape_passes}
 use Rattle.async_core.specs.laws.Shapes.{limits, shaped}
-use Rattle.async_core.specs.laws.Held.{times_held, size, is_nil, bytes_eq-true, held_once, IsLegal-front, IsLegal-last, IsLegal-take, slice_get-before, slice_get-seam}
+use Rattle.async_core.specs.laws.Held.{times_held, size, is_nil, bytes_eq-true, held_once, IsLegal-front, IsLegal-last, slice_get-before, slice_get-seam}
 
 -- ## The row of an event
 

@@ -1,10 +1,8 @@
 -- The row at the first place of the id is changed, with its keys.
 use Rattle.std.proofs.Common.{◌∙◌, ap, sym, refl}
 use Rattle.std.specs.Map.{values_of}
-use Rattle.async_core.specs.Standings.{is_running}
-use Rattle.async_core.specs.declared.keys.Facts.{Facts}
 use Rattle.async_core.proofs.HeldIds.{unchanged_none, changed_first}
-use Rattle.async_core.proofs.KeptRows.{stays, changes, recount}
+use Rattle.async_core.proofs.KeptRows.{stays, changes}
 use Rattle.async_core.proofs.held.Held.change.Goals as goal
 
 pub returns-in_default-clause-ok : goal.returns-in_default-clause-ok
@@ -17,8 +15,8 @@ pub invariant_of-self-2 : goal.invariant_of-self-2
 invariant_of-self-2 c =
     let there = sym c.in-Some-get.ensures.value in
     let set = c.change_row.ensures c.in-Some-get.row.now there in
-    changes _ _ _ _ _ c.self.invariant c.change_row.new.rows c.switch_keys.new.keys c.in-Some.place c.in-Some-get.row.now _ c.recounted-running.result there refl set.0 set.1 set.2
-    (recount _ _ c.is_running-ran.result c.is_running-runs.result _ _ (c.is_running-ran.ensures ∙ ap (λ (f : Facts). is_running f.standing) c.facts_of-old.ensures) (c.is_running-runs.ensures ∙ ap (λ (f : Facts). is_running f.standing) c.changed_facts-new.ensures) c.recounted-running.ensures) c.facts_of-old.result c.changed_facts-new.result c.facts_of-old.ensures c.changed_facts-new.ensures c.in_ok-switch_keys.ensures.ok
+    changes _ _ _ _ _ c.self.invariant c.change_row.new.rows c.switch_keys.new.keys c.in-Some.place c.in-Some-get.row.now _ c.with-tally.result there refl set.0 set.1 set.2
+    c.facts_of-old.result c.changed_facts-new.result c.with-tally.ensures c.facts_of-old.ensures c.changed_facts-new.ensures c.in_ok-switch_keys.ensures.ok
 
 pub returns-clause-ok : goal.returns-clause-ok
 returns-clause-ok c =

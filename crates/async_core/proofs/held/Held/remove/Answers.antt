@@ -1,15 +1,13 @@
 -- The row at the first place of the id goes, with its id and keys.
-use Rattle.std.proofs.Common.{◌∙◌, ap, sym, false, refl}
-use Rattle.async_core.specs.Standings.{is_running}
-use Rattle.async_core.specs.declared.keys.Facts.{Facts}
+use Rattle.std.proofs.Common.{sym}
 use Rattle.async_core.proofs.HeldIds.{removed_none, removed_first}
-use Rattle.async_core.proofs.KeptRows.{goes, recount}
+use Rattle.async_core.proofs.KeptRows.{goes}
 use Rattle.async_core.proofs.held.Held.remove.Goals as goal
 
 pub invariant_of-self : goal.invariant_of-self
 invariant_of-self c =
-    goes _ _ _ _ _ c.self.invariant c.take_row.new.rows c.remove.new.self c.remove_keys.new.keys c.args.id.now c.in-Some.place c.in-Some-get.row.now c.recounted-running.result c.in-Some.ensures (sym c.in-Some-get.ensures.value)
-    c.take_row.ensures c.remove.ensures.updates (recount _ _ c.is_running.result false _ false (c.is_running.ensures ∙ ap (λ (f : Facts). is_running f.standing) c.facts_of-facts.ensures) refl c.recounted-running.ensures) c.facts_of-facts.result c.facts_of-facts.ensures c.remove_keys.ensures
+    goes _ _ _ _ _ c.self.invariant c.take_row.new.rows c.remove.new.self c.remove_keys.new.keys c.args.id.now c.in-Some.place c.in-Some-get.row.now c.with-tally.result c.in-Some.ensures (sym c.in-Some-get.ensures.value)
+    c.take_row.ensures c.remove.ensures.updates c.facts_of-facts.result c.with-tally.ensures c.facts_of-facts.ensures c.remove_keys.ensures
 
 pub returns-in-Some-get : goal.returns-in-Some-get
 returns-in-Some-get c = rw (← c.self.view_is) ((removed_first _ _ _ c.self.invariant.held c.args.id.now c.in-Some.place c.in-Some.ensures c.take_row.new.rows c.take_row.ensures))
