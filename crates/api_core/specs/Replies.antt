@@ -1,14 +1,13 @@
 -- The reply of an answer: its status, its headers in their order, and the bytes of its body.
-use Rattle.std.specs.Prelude.{ℕ, ◌≤◌, Bool, true, List, [], ◌∷◌, ◌++◌, codes, count_by, decimal, bytes_eq, if◌then◌else◌}
+use Rattle.std.specs.Prelude.{ℕ, ◌≤◌, Bool, true, List, [], ◌∷◌, ◌++◌, codes, decimal, bytes_eq, if◌then◌else◌}
 use Rattle.std.specs.List.{list_any}
 use Prim.Native.String.{String}
 use Rattle.retry_rules.specs.declared.settings.Settings.{Settings}
 use Rattle.invoke_records.specs.Spelling.{greatest_moment}
 use Rattle.invoke_records.specs.declared.row.EventRow.{EventRow}
-use Rattle.async_core.specs.declared.choice.Side.{Side}
 use Rattle.async_core.specs.declared.choice.Side.TheVariants.{Success, Failure as Failed}
-use Rattle.async_core.specs.Choice.{ended_on}
 use Rattle.async_core.specs.Readers.{Ending, told}
+use Rattle.async_core.specs.Tallies.{ended_at}
 use Rattle.destination_json.specs.Json.{in_quotes, member, object}
 use Rattle.destination_json.specs.Record.{id_text, latest, record_text}
 use Rattle.api_core.specs.declared.dialect.Dialect.{Dialect}
@@ -49,13 +48,9 @@ pub data Told : Type 0 where
   not_supported : Stream → Told
   refused : Audience → Refusal → Told
 
--- how many of these events have ended on this side
-abbrev pub ended_count : Side → List EventRow → ℕ
-ended_count side rows = count_by (λ (r : EventRow). ended_on side r.standing) rows
-
 -- a table of these events is full
 abbrev pub full_of : List EventRow → Told
-full_of rows = table_full (ended_count Success rows) (ended_count Failed rows)
+full_of rows = table_full (ended_at Success rows) (ended_at Failed rows)
 
 abbrev pub told_by : Answer → Told
 told_by (answer.Accepted id) = accepted id

@@ -12,7 +12,6 @@ mod body;
 mod call;
 mod calls;
 mod checks;
-mod counting;
 mod dialect;
 mod drafts;
 pub mod examples;

@@ -7,7 +7,6 @@ ghost use Rattle.api_core.specs.declared.dialect.Dialect.TheVariants.{Aws};
 ghost use Rattle.api_core.specs.declared.dialect.Audience.TheVariants.{Caller};
 ghost use Rattle.api_core.specs.Replies.{reply_of_told, registered, runtime_headers, with_request_id};
 
-use crate::counting::ended_count;
 use crate::drafts::HeaderDraft;
 use crate::reply::FixedHeader;
 use crate::texts::{
@@ -187,10 +186,8 @@ fn refusing(
 fn service_full(alloc: Global, settings: &Settings, table: &Table) -> Result<Reply, AllocError>
     ensures { IfOk result (λ reply. reply ≡ reply_of_told Aws settings.now (full_of table.now.table.rows)) }
 {
-    let snapshot = table.snapshot()?;
-    let rows = snapshot.rows.as_slice();
-    let successes = ended_count(rows, Side::Success);
-    let failures = ended_count(rows, Side::Failure);
+    let successes = table.ended_count(Side::Success);
+    let failures = table.ended_count(Side::Failure);
     let message = full_message(alloc, settings, successes, failures)?;
     service_reply(alloc, Refusal::TooManyEvents, &message)
 }

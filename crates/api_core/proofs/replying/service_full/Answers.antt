@@ -5,8 +5,6 @@ returns c =
     rw (
       c.deref.ensures.value,
       c.in_ok-message.ensures,
-      c.ended_count-successes.ensures,
-      c.ended_count-failures.ensures,
-      c.as_slice-rows.ensures,
-      c.in_ok-snapshot.ensures,
+      c.ended_count-successes.ensures.by_row,
+      c.ended_count-failures.ensures.by_row,
     ) at c.service_reply.ensures
