@@ -47,7 +47,7 @@ fn prepare(
     if sectors < least {
         return Err(SeedError::TooSmall { least });
     }
-    if !may_stand(settings, snapshot) {
+    if !may_stand(alloc, settings, snapshot) {
         return Err(SeedError::BadKind);
     }
     let header = spell_header(alloc, 1, snapshot.size() as usize, settings)?;

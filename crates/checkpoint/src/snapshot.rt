@@ -56,11 +56,11 @@ fn is_within(settings: &Settings, snapshot: &Snapshot) -> bool
 }
 
 // The snapshot has a spelling and is within the settings' limits.
-pub(crate) fn may_stand(settings: &Settings, snapshot: &Snapshot) -> bool
+pub(crate) fn may_stand(alloc: Global, settings: &Settings, snapshot: &Snapshot) -> bool
     ensures exact { result ≡ may_stand settings.now snapshot.now }
     ensures spelled { result ≡ true → IsSnapshot snapshot.now }
 {
-    snapshot.check().is_ok() && is_within(settings, snapshot)
+    snapshot.check(alloc).is_ok() && is_within(settings, snapshot)
 }
 
 // The snapshot that fills these sectors, of which the header speaks, if it is one.

@@ -43,7 +43,8 @@ impl Opened {
         ensures inside { IfOk result (LiesIn self.now) }
         ensures count { IfOk result (λ staged. count_of staged ≡ length commands.now) }
 
-        // claim: A staged batch changes no table: a live disk stays live with its own, and a crash meanwhile leaves that.
+        // claim: A staged batch changes no table: where nothing waited for a flush, a live disk stays live with its own, and a
+        // crash meanwhile leaves that.
         ensures staged { Stages (D.view disk.old) (D.view disk.new) self.now commands.now result }
         ensures any_moment { LeavesTable (D.view disk.old) (D.view disk.new) self.now }
     {
@@ -81,8 +82,8 @@ impl Opened {
         ensures inside { IfOk result (LiesIn self.new) }
         ensures count { IfOk result (λ next. count_of next ≡ length commands.now) }
 
-        // claim: One barrier makes a staged batch durable and stages the next. A crash meanwhile leaves the table from before,
-        // or after the whole staged batch, and nothing of the next.
+        // claim: Where nothing waited for a flush, one barrier makes a staged batch durable and stages the next. A crash
+        // meanwhile leaves the table from before, or after the whole staged batch, and nothing of the next.
         ensures advanced { Advances (D.view disk.old) (D.view disk.new) self.old self.new staged commands.now result }
         ensures any_moment { LeavesWithStaged (D.view disk.old) (D.view disk.new) self.old staged }
     {
@@ -104,7 +105,8 @@ impl Opened {
         ensures end { end_of self.new ≡ end_of self.old }
         ensures number { OnOk result (number_of self.new ≡ number_of self.old + count_of staged) }
 
-        // claim: A staged batch that is opened is durable. A crash meanwhile leaves the table with it or without.
+        // claim: Where nothing waited for a flush, a staged batch that is opened is durable. A crash meanwhile leaves the
+        // table with it or without.
         ensures opened { Opens (D.view disk.old) (D.view disk.new) self.old self.new staged result }
         ensures any_moment { LeavesWithStaged (D.view disk.old) (D.view disk.new) self.old staged }
     {

@@ -120,7 +120,7 @@ fn prepare(
     ensures spelled { OnOk result (IsSnapshot snapshot.now) }
     ensures header { IfOk result (λ r. r.0.items ≡ header_text generation (length (snapshot_text snapshot.now)) settings.now) }
 {
-    if !may_stand(settings, snapshot) {
+    if !may_stand(alloc, settings, snapshot) {
         return Err(SwitchError::BadKind);
     }
     let header = spell_header(alloc, generation, snapshot.size() as usize, settings)?;

@@ -45,8 +45,8 @@ impl Journal {
         ensures inside { IfOk result (LiesIn self.now) }
         ensures number { IfOk result (λ staged. count_of staged ≡ length commands.now) }
 
-        // claim: A staged frame is no part of the log: at each moment a crash leaves the frames from before, which Ok leaves
-        // with the batch behind their closed gate.
+        // claim: Where nothing waited for a flush, a staged frame is no part of the log: at each moment a crash leaves the
+        // frames from before, which Ok leaves with the batch behind their closed gate.
         ensures staged { Stages (D.view disk.old) (D.view disk.new) self.now commands.now result }
         ensures any_moment { LeavesBefore (D.view disk.old) (D.view disk.new) self.now }
     {
@@ -92,8 +92,8 @@ impl Journal {
         ensures inside { IfOk result (LiesIn self.new) }
         ensures next_number { IfOk result (λ next. count_of next ≡ length commands.now) }
 
-        // claim: One barrier adds a staged batch to the log and stages the next. At each moment a crash leaves the frames from
-        // before, or those and the staged batch, and nothing of the next.
+        // claim: Where nothing waited for a flush, one barrier adds a staged batch to the log and stages the next. At each
+        // moment a crash leaves the frames from before, or those and the staged batch, and nothing of the next.
         ensures advanced { Advances (D.view disk.old) (D.view disk.new) self.old self.new staged commands.now result }
         ensures any_moment { LeavesWithStaged (D.view disk.old) (D.view disk.new) self.old staged }
     {
@@ -128,7 +128,8 @@ impl Journal {
         ensures generation { generation_of self.new ≡ generation_of self.old }
         ensures number { OnOk result (number_of self.new ≡ number_of self.old + count_of staged) }
 
-        // claim: Opening a staged frame adds its batch. At each moment a crash leaves the frames with it or without.
+        // claim: Where nothing waited for a flush, opening a staged frame adds its batch. At each moment a crash leaves the
+        // frames with it or without.
         ensures opened { Opens (D.view disk.old) (D.view disk.new) self.old self.new staged result }
         ensures any_moment { LeavesWithStaged (D.view disk.old) (D.view disk.new) self.old staged }
     {
