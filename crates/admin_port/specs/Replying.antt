@@ -18,7 +18,7 @@ use Rattle.admin_replies.specs.Collecting.{ids_in}
 use Rattle.admin_replies.specs.Telling.{TellsOf, TellsAtOnce}
 use Rattle.admin_replies.specs.declared.admin_refusal.AdminRefusal.{AdminRefusal}
 use Rattle.admin_replies.specs.declared.admin_request.AdminRequest.{AdminRequest}
-use Rattle.hall_core.specs.declared.looking.Sought.{Sought}
+use Rattle.hall_core.specs.declared.seeking.Sought.{Sought}
 use Rattle.receipts.specs.declared.view.View.{View}
 use Rattle.receipts.specs.declared.view.Unreleased.{Unreleased}
 use Rattle.long_poll.specs.declared.pending_view.DurableView.{DurableView}

@@ -149,7 +149,7 @@ where
         ensures refused { IfErr result (RefusesRetry head.now id) }
     {
         let id = acts.named(head, id)?;
-        match self.look(Sought::Rows) {
+        match self.look(Sought::Event(id)) {
             Ok(view) => acts.retry(self.rt, id, view),
             Err(_) => Err(Refused::bare(self.context.alloc, StatusCode::SERVICE_UNAVAILABLE)),
         }

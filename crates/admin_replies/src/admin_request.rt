@@ -42,12 +42,12 @@ pub enum AdminRequest {
 impl AdminRequest {
     /// What is sought of a table to tell this.
     pub fn sought(&self) -> Sought
-        // claim: Rows are sought for lists, events and records alone.
+        // claim: All rows are sought for lists of events and of records alone, and for one event its own.
         ensures { result ≡ sought_by self.now }
     {
         match self {
-            AdminRequest::Events { .. } | AdminRequest::Event(_) | AdminRequest::Records { .. } =>
-                Sought::Rows,
+            AdminRequest::Events { .. } | AdminRequest::Records { .. } => Sought::Rows,
+            AdminRequest::Event(id) => Sought::Event(*id),
             _ => Sought::Numbers,
         }
     }

@@ -1,4 +1,5 @@
 mod Kept
+mod FirstEnded
 mod OpenCount
 mod Points
 pub mod Settled

@@ -3,6 +3,7 @@ pub mod SlotSteps
 pub mod Issuing
 pub mod Doing
 pub mod Hall
+pub mod Seeking
 pub mod HallStatus
 pub mod Fresh
 pub mod Halves

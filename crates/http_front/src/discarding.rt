@@ -13,7 +13,7 @@ use crate::wake::{Slept, Wake};
 use api_core::Call;
 use broker_core::Ticket;
 use front_board::Seated;
-use hall_core::{HallError, Sought};
+use hall_core::{HallError, Sides, Sought};
 use invoke_records::{EventRow, Outcome, Standing};
 use long_poll::{Port, Waiting};
 use port_meters::{Machine, Premises};
@@ -40,6 +40,17 @@ pub struct Discard {
 }
 
 impl Discard {
+    // The same, as it is sought of a table.
+    fn sides(self) -> Sides
+        ensures success { result.success ≡ self.success }
+        ensures failure { result.failure ≡ self.failure }
+    {
+        Sides {
+            success: self.success,
+            failure: self.failure,
+        }
+    }
+
     // Whether there are such sides.
     fn is_any(self) -> bool {
         self.success || self.failure
@@ -205,7 +216,13 @@ impl<R: Wait + Clock + Drop + Copy, L: Ledger, T: Trace> Collector<R, L, T> {
         match self.seen.take() {
             Some(seen) => Ok(seen),
             // (no number is asked for, so no moment is)
-            None => self.front.office.look(&self.rt, Sought::Rows, 0).answer,
+            None => {
+                let sides = self.front.discarding.discard.sides();
+                self.front
+                    .office
+                    .look(&self.rt, Sought::Ended(sides), 0)
+                    .answer
+            }
         }
     }
 

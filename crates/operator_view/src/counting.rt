@@ -82,8 +82,8 @@ fn tally_with(tally: &Tally, row: &EventRow, at: u64) -> Tally
     }
 }
 
-// Of no event, by commands of which the last was of this moment.
-fn none(last_moment: u64) -> Tally
+/// The numbers of no event, where the last command was of this moment. They take no look at a table.
+pub fn no_tally(last_moment: u64) -> Tally
     ensures last_moment { result.last_moment ≡ last_moment }
     ensures counts { (at : ℕ) → IsTally [] at result }
 {
@@ -114,7 +114,7 @@ pub fn tally(table: &Table, at: u64) -> Tally
     ensures last_moment { result.last_moment ≡ table.now.table.last_moment }
     ensures counts { IsTally table.now.table.rows at result }
 {
-    let mut tally = none(table.last_moment());
+    let mut tally = no_tally(table.last_moment());
     for row in table.rows() {
         tally = tally_with(&tally, row, at);
     }

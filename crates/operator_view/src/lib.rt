@@ -27,7 +27,7 @@ mod standings;
 mod verdict;
 
 pub use accepting::events_page;
-pub use counting::tally;
+pub use counting::{no_tally, tally};
 pub use detail::event_json;
 pub use ending::records_page;
 pub use error::PageError;

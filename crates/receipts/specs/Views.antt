@@ -1,7 +1,7 @@
 -- What an operator is shown of an office, once all of it is durable.
 use Rattle.std.specs.Prelude.{◌≡◌, ℕ, List}
 use Rattle.broker_core.specs.Issuer.{issued_in}
-use Rattle.hall_core.specs.declared.looking.Sought.{Sought}
+use Rattle.hall_core.specs.declared.seeking.Sought.{Sought}
 use Rattle.hall_core.specs.Hall.{HallView}
 use Rattle.hall_core.specs.HallStatus.{Shows}
 use Rattle.receipts.specs.declared.mark.Mark.{Mark}

@@ -5,7 +5,7 @@ use Rattle.operator_view.proofs.counting.tally.Goals as goal
 
 pub loop-row-init : goal.loop-row-init
 loop-row-init c =
-    ([], c.into_iter-row-iterator.ensures.into_iter_gives ∙ c.rows-row-items.ensures.rows, subst (λ (l : List EventRow). length l < 2 ^ 63) c.rows-row-items.ensures.rows c.rows-row-items.ensures.fits, c.none-tally.ensures.counts c.args.at, c.none-tally.ensures.last_moment ∙ c.last_moment.ensures)
+    ([], c.into_iter-row-iterator.ensures.into_iter_gives ∙ c.rows-row-items.ensures.rows, subst (λ (l : List EventRow). length l < 2 ^ 63) c.rows-row-items.ensures.rows c.rows-row-items.ensures.fits, c.no_tally-tally.ensures.counts c.args.at, c.no_tally-tally.ensures.last_moment ∙ c.last_moment.ensures)
 
 pub loop-row-preserved : goal.loop-row-preserved
 loop-row-preserved c =

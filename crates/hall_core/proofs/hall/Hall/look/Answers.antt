@@ -5,7 +5,7 @@ use Rattle.hall_plans.specs.Past.{calls_in, calls_of}
 use Rattle.hall_plans.specs.Environments.{ForEachMade}
 use Rattle.hall_plans.specs.Showing.{AreShownAfter}
 use Rattle.hall_core.specs.Hall.{HallView, ForEachPast, view_of}
-use Rattle.hall_core.specs.HallStatus.{rows_for}
+use Rattle.hall_core.specs.Seeking.{AreRowsFor, counted_for}
 use Rattle.operator_view.specs.Tally.{IsTally}
 use Rattle.hall_core.proofs.hall.Hall.look.Goals as goal
 
@@ -21,10 +21,10 @@ returns g c = record {
   issued = c.number.ensures ∙ ap (λ (s : State). s.table.number) c.table-table.ensures;
   durable = c.number-2.ensures ∙ c.durable.ensures;
   policy = c.policy.ensures ∙ ap (λ (s : State). s.table.policy) c.table-table.ensures;
-  tally = subst (λ (s : State). IsTally s.table.rows c.args.at c.tally.result) c.table-table.ensures c.tally.ensures.counts;
-  last_moment = c.tally.ensures.last_moment ∙ ap (λ (s : State). s.table.last_moment) c.table-table.ensures;
+  tally = subst (λ (s : State). IsTally (counted_for c.args.sought s.table.rows) c.args.at c.numbers_for.result) c.table-table.ensures c.numbers_for.ensures.counts;
+  last_moment = c.numbers_for.ensures.last_moment ∙ ap (λ (s : State). s.table.last_moment) c.table-table.ensures;
   sought = refl;
-  rows = c.in_ok-rows.ensures ∙ ap (λ (s : State). rows_for c.args.sought s.table.rows) c.table-table.ensures;
+  rows = subst (λ (s : State). AreRowsFor c.args.sought s.table.rows c.in_ok-rows.rows) c.table-table.ensures c.in_ok-rows.ensures;
   open_slots = c.open_slots.ensures.by_parts;
   stopping = refl;
   numbers = c.in_ok-environments.ensures.numbers;
