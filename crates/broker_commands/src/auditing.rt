@@ -4,6 +4,7 @@ ghost use Rattle.broker_commands.specs.Auditing.{is_device_fault, lines_of_polic
 
 use crate::clock::now;
 use crate::opening::{DiskError, open_device_read_only};
+use crate::progress::Progress;
 use crate::prospects::{Prospects, prospects_of};
 use async_core::Table;
 use audit_report::{Report, all_records, explain, figures, in_force_line, inspect, json_line};
@@ -14,6 +15,7 @@ use std::alloc::{AllocError, Global};
 use std::fs::File;
 use std::io::Eprint;
 use std::rt::Files;
+use std::sync::Arc;
 use std::time::Clock;
 use thiserror::Error;
 
@@ -196,12 +198,17 @@ fn warn<R: Eprint + AllocGlobal>(
 }
 
 /// Reads what a disk holds, which is opened for reading alone. What serving it now would give up is told on standard error.
-pub fn audit_disk<R>(rt: &R, old: &OldDisk<'_>) -> Result<Audit, AuditError>
+pub fn audit_disk<R>(
+    rt: &R,
+    progress: &Arc<Progress<R>>,
+    old: &OldDisk<'_>,
+) -> Result<Audit, AuditError>
 where
     R: Files<File = File> + Eprint + Clock + AllocGlobal + Copy + Drop,
 {
-    let mut disk = open_device_read_only(rt, old.path)?;
+    let mut disk = open_device_read_only(rt, progress, old.path)?;
     let audit = with_more(rt.alloc(), &mut disk, old.asked, now(rt).ok())?;
+    progress.end();
     if let Some(prospects) = &audit.prospects {
         warn(rt, old.path, prospects)?;
     }

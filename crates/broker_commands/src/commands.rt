@@ -21,6 +21,13 @@ fn unclaim<'a>() -> Argument<'a> {
     Argument::flag("unclaim", help)
 }
 
+// Writing all of a new file.
+fn allocate<'a>() -> Argument<'a> {
+    let help =
+        "Write all of a new file, so that there is room for all of it; else only what must be";
+    Argument::flag("allocate", help)
+}
+
 fn format_command<'a>(alloc: Global) -> Result<Command<'a>, AllocError> {
     let sectors = "Size of the disk in sectors of 512 bytes";
     let timeout = "Timeout of an attempt in seconds, 1 to 900";
@@ -33,6 +40,7 @@ fn format_command<'a>(alloc: Global) -> Result<Command<'a>, AllocError> {
     let told = [
         disk(),
         Argument::flag("force", "Format it whatever is there, which is lost"),
+        allocate(),
         Argument::needed("sectors", sectors).of(value_parser!(u64)),
         Argument::needed("name", "Name of the function"),
         Argument::needed("handler", "Handler of the function"),
@@ -98,6 +106,7 @@ fn copy_command<'a>(alloc: Global) -> Result<Command<'a>, AllocError> {
         Argument::place("new", "NEW", new),
         Argument::option("sectors", sectors).of(value_parser!(u64)),
         Argument::flag("force", "Make it whatever is there, which is lost"),
+        allocate(),
         Argument::option("environments", environments).of(value_parser!(u8)),
         Argument::option("events", events).of(value_parser!(u16)),
         Argument::option("payload", payload).of(value_parser!(u32)),

@@ -5,7 +5,8 @@ ghost use Rattle.retry_rules.specs.declared.settings.Field.{Field};
 
 use crate::clock::now;
 use crate::configured::{Configured, configure};
-use crate::opening::{Device, DiskError, open_unclaimed};
+use crate::opening::{DiskError, ToldDevice, open_unclaimed};
+use crate::progress::Progress;
 use broker_core::{CommitError, IssueError, OpenError};
 use retry_rules::{BadSettings, Field, RetryPolicy};
 use std::alloc::AllocError;
@@ -13,6 +14,7 @@ use std::fs::File;
 use std::io;
 use std::io::Eprint;
 use std::rt::Files;
+use std::sync::Arc;
 use std::time::Clock;
 use thiserror::Error;
 
@@ -84,8 +86,9 @@ fn bad_option(new: &NewPolicy<'_>) -> Option<Field>
 /// what is on it. Nobody else has the disk meanwhile.
 pub fn configure_disk<'a, R>(
     rt: &R,
+    progress: &Arc<Progress<R>>,
     new: &NewPolicy<'a>,
-) -> Result<Configured<'a, Device<R>>, ConfiguringError>
+) -> Result<Configured<'a, ToldDevice<R>>, ConfiguringError>
 where
     R: Files<File = File> + Clock + Eprint + AllocGlobal + Copy + Drop,
     // claim: A value out of range is refused first, retries before age. A value asked for is told as asked. What is returned
@@ -97,7 +100,7 @@ where
     if let Some(field) = bad_option(new) {
         return Err(ConfiguringError::Settings(BadSettings { field }));
     }
-    let disk = open_unclaimed(rt, new.path, new.is_unclaimed)?;
+    let disk = open_unclaimed(rt, progress, new.path, new.is_unclaimed)?;
     let now = now(rt)?;
     configure(rt.alloc(), disk, new, now)
 }

@@ -4,19 +4,24 @@ ghost use Rattle.broker_commands.specs.Copying.{is_device_fault};
 
 use crate::contents::ContentsError;
 use crate::formatting::{check_place, text};
-use crate::making::ready_place;
+use crate::making::{Zeros, make_zeros};
+use crate::mounts::check_mount_at;
 use crate::opening::{DiskError, open, open_unclaimed};
+use crate::progress::{Progress, progress_of};
 use crate::telltale::{Telltale, telltale_for};
 use aged_copy::copy_with_age;
 use broker_core::{Broker, OpenError};
 use checkpoint::least_sectors;
 use disk_copy::{Change, ChangeError, CopyError, copy, grown_settings};
+use disk_progress::ProgressDisk;
 use retry_rules::{Field, RetryPolicy, Settings, Text};
-use sector_disk::{Disk, FileDisk, FileError, LoggedFile, Place};
+use sector_disk::{Disk, FileDisk, FileError, LoggedFile, Place, SECTOR_SIZE};
 use std::alloc::{AllocError, Global};
 use std::fs::File;
 use std::io::Eprint;
 use std::rt::Files;
+use std::sync::Arc;
+use std::time::Clock;
 use thiserror::Error;
 
 /// What a copy has other than the old disk. What is absent stays as it is.
@@ -47,6 +52,8 @@ pub struct NewCopy<'a> {
     pub age: Option<u32>,
     /// Whether it is made whatever is there.
     pub is_forced: bool,
+    /// Whether all of a new file is written, so that there is room for all of it.
+    pub is_allocated: bool,
     /// Whether a claim that stands on the old disk is taken away first.
     pub is_unclaimed: bool,
 }
@@ -154,21 +161,28 @@ fn check_change(
 // The file of the new disk, where it may be made one, and made zeros.
 fn new_place<R>(
     rt: &R,
+    progress: &Arc<Progress<R>>,
     new: &NewCopy<'_>,
     sectors: u64,
 ) -> Result<(LoggedFile<Telltale<R>>, Place), CopyingError>
 where
-    R: Files<File = File> + Eprint + AllocGlobal + Copy + Drop,
+    R: Files<File = File> + Clock + Eprint + AllocGlobal + Copy + Drop,
 {
+    check_mount_at(rt, new.path)?;
     let log = telltale_for(rt, new.path)?;
     let (file, place) = Place::open(rt, new.path)?;
     let same = file.try_clone().map_err(FileError::from)?;
     let mut file = LoggedFile::new(file, log);
     if !new.is_forced {
-        file = check_place(rt.alloc(), place, file)?;
+        let log = progress_of(progress, new.path, place.size())?;
+        file = check_place(rt.alloc(), place, file, log)?;
     }
-    ready_place(rt, new.path, place, &same, sectors)?;
-    place.make(rt, new.path, &file, sectors)?;
+    let zeros = Zeros {
+        path: new.path,
+        sectors,
+        is_allocated: new.is_allocated,
+    };
+    make_zeros(rt, &zeros, place, &same, &file, progress)?;
     Ok((file, place))
 }
 
@@ -191,22 +205,26 @@ fn copy_onto<D: Disk, E: Disk>(
 // Copies what a broker holds to a new disk in a file, which is given back where that fails.
 fn copy_to_place<R, D>(
     rt: &R,
+    progress: &Arc<Progress<R>>,
     broker: &Broker<D>,
     new: &NewCopy<'_>,
     change: &Change,
     sectors: u64,
 ) -> Result<(), CopyingError>
 where
-    R: Files<File = File> + Eprint + AllocGlobal + Copy + Drop,
+    R: Files<File = File> + Clock + Eprint + AllocGlobal + Copy + Drop,
     D: Disk,
 {
-    let (file, place) = new_place(rt, new, sectors)?;
-    let disk = FileDisk::over(file)?;
+    let size = sectors.saturating_mul(SECTOR_SIZE as u64);
+    let log = progress_of(progress, new.path, size)?;
+    let (file, place) = new_place(rt, progress, new, sectors)?;
+    let disk = ProgressDisk::over(FileDisk::over(file)?, log);
     let (disk, copied) = copy_onto(rt.alloc(), broker, disk, change, new.age);
     match copied {
         Ok(()) => Ok(()),
         Err(why) => {
-            place.give_back(rt, new.path, &disk.into_file());
+            let file = disk.into_inner().into_file();
+            place.give_back(rt, new.path, &file);
             Err(CopyingError::Copy(why))
         }
     }
@@ -215,48 +233,54 @@ where
 // Judges a copy of a broker, and makes it.
 fn copy_broker<R, D>(
     rt: &R,
+    progress: &Arc<Progress<R>>,
     broker: &Broker<D>,
     new: &NewCopy<'_>,
     change: &Change,
     sectors: u64,
 ) -> Result<Copied, CopyingError>
 where
-    R: Files<File = File> + Eprint + AllocGlobal + Copy + Drop,
+    R: Files<File = File> + Clock + Eprint + AllocGlobal + Copy + Drop,
     D: Disk,
 {
     check_change(broker.table().settings(), change, new.age, sectors)?;
     let events = broker.table().rows().count();
-    copy_to_place(rt, broker, new, change, sectors)?;
+    copy_to_place(rt, progress, broker, new, change, sectors)?;
     Ok(Copied { events, sectors })
 }
 
 // Copies what is on a disk, which is given up.
 fn copy_on<R, D>(
     rt: &R,
+    progress: &Arc<Progress<R>>,
     disk: D,
     new: &NewCopy<'_>,
     change: &Change,
 ) -> Result<Copied, CopyingError>
 where
-    R: Files<File = File> + Eprint + AllocGlobal + Copy + Drop,
+    R: Files<File = File> + Clock + Eprint + AllocGlobal + Copy + Drop,
     D: Disk + Drop,
 {
     let sectors = new.sectors.unwrap_or(disk.sectors());
     let broker = open(rt.alloc(), disk)?;
-    copy_broker(rt, &broker, new, change, sectors)
+    copy_broker(rt, progress, &broker, new, change, sectors)
 }
 
 /// Makes a new disk with every event of an old one. One path for both is refused. The old disk is opened and read, and nobody else has
 /// it meanwhile. Then the new settings, the age and the size are judged, then the file of the new disk, and then what is there, unless
 /// that is to be lost.
-pub fn copy_disk<R>(rt: &R, new: &NewCopy<'_>) -> Result<Copied, CopyingError>
+pub fn copy_disk<R>(
+    rt: &R,
+    progress: &Arc<Progress<R>>,
+    new: &NewCopy<'_>,
+) -> Result<Copied, CopyingError>
 where
-    R: Files<File = File> + Eprint + AllocGlobal + Copy + Drop,
+    R: Files<File = File> + Clock + Eprint + AllocGlobal + Copy + Drop,
 {
     if new.old == new.path {
         return Err(CopyingError::OneDisk);
     }
     let change = change_for(rt.alloc(), &new.limits)?;
-    let disk = open_unclaimed(rt, new.old, new.is_unclaimed)?;
-    copy_on(rt, disk, new, &change)
+    let disk = open_unclaimed(rt, progress, new.old, new.is_unclaimed)?;
+    copy_on(rt, progress, disk, new, &change)
 }

@@ -5,11 +5,14 @@ ghost use Rattle.checkpoint.specs.Image.{least_sectors};
 ghost use Rattle.broker_commands.specs.Formatting.{settings_for, is_device_fault};
 
 use crate::contents::{ContentsError, check_contents};
-use crate::making::ready_place;
+use crate::making::{Zeros, make_zeros};
+use crate::mounts::check_mount_at;
 use crate::opening::DiskError;
+use crate::progress::{Progress, progress_of};
 use crate::telltale::telltale_for;
 use broker_core::{FormatError, format};
 use checkpoint::least_sectors;
+use disk_progress::{ProgressDisk, ProgressLog};
 use retry_rules::{BadSettings, Settings, Text};
 use sector_disk::{
     FaultLog, FileDisk, FileError, LoggedFile, Place, RandomAccessFile, SECTOR_SIZE,
@@ -18,6 +21,8 @@ use std::alloc::{AllocError, Global};
 use std::fs::File;
 use std::io::Eprint;
 use std::rt::Files;
+use std::sync::Arc;
+use std::time::Clock;
 use thiserror::Error;
 
 /// The function that a disk is formatted for.
@@ -51,6 +56,8 @@ pub struct NewDisk<'a> {
     pub numbers: NumericSettings,
     /// Whether it is formatted whatever is there.
     pub is_forced: bool,
+    /// Whether all of a new file is written, so that there is room for all of it.
+    pub is_allocated: bool,
 }
 
 /// Why a disk was not made and formatted.
@@ -156,21 +163,22 @@ fn check_part<L: FaultLog + Drop>(
     }
 }
 
-/// Refuses a file or a device that may not be formatted over.
-pub(crate) fn check_place<L: FaultLog + Drop>(
+/// Refuses a file or a device that may not be formatted over. How far it was read is told to this log.
+pub(crate) fn check_place<L: FaultLog + Drop, P: ProgressLog + Drop>(
     alloc: Global,
     place: Place,
     file: LoggedFile<L>,
+    log: P,
 ) -> Result<LoggedFile<L>, ContentsError> {
     if place.size() % SECTOR_SIZE as u64 != 0 {
         return check_part(file, place.size());
     }
     let mut disk = match FileDisk::over(file) {
-        Ok(disk) => disk,
+        Ok(disk) => ProgressDisk::over(disk, log),
         Err(why) => return Err(ContentsError::Disk(DiskError::File(why))),
     };
     check_contents(alloc, &mut disk)?;
-    Ok(disk.into_file())
+    Ok(disk.into_inner().into_file())
 }
 
 // Formats a disk of zeros that was made there, or gives it back.
@@ -198,20 +206,30 @@ where
 
 /// Makes a disk of zeros and formats it. Its settings are judged first, then whether so many sectors suffice for them, then the
 /// file or device, and then what is there, unless that is to be lost. What is refused is as it was, but for `Fault`.
-pub fn make_disk<R>(rt: &R, new: &NewDisk<'_>) -> Result<(), NewDiskError>
+pub fn make_disk<R>(
+    rt: &R,
+    progress: &Arc<Progress<R>>,
+    new: &NewDisk<'_>,
+) -> Result<(), NewDiskError>
 where
-    R: Files<File = File> + Eprint + AllocGlobal + Copy + Drop,
+    R: Files<File = File> + Clock + Eprint + AllocGlobal + Copy + Drop,
 {
     let settings = settings(rt.alloc(), &new.function, &new.numbers)?;
     check_settings(&settings, new.sectors)?;
+    check_mount_at(rt, new.path)?;
     let log = telltale_for(rt, new.path)?;
     let (file, place) = Place::open(rt, new.path)?;
     let same = file.try_clone().map_err(FileError::from)?;
     let mut file = LoggedFile::new(file, log);
     if !new.is_forced {
-        file = check_place(rt.alloc(), place, file)?;
+        let log = progress_of(progress, new.path, place.size())?;
+        file = check_place(rt.alloc(), place, file, log)?;
     }
-    ready_place(rt, new.path, place, &same, new.sectors)?;
-    place.make(rt, new.path, &file, new.sectors)?;
+    let zeros = Zeros {
+        path: new.path,
+        sectors: new.sectors,
+        is_allocated: new.is_allocated,
+    };
+    make_zeros(rt, &zeros, place, &same, &file, progress)?;
     format_place(rt, new, &settings, place, file)
 }

@@ -17,10 +17,13 @@ mod copying;
 mod formatting;
 mod making;
 mod migrating;
+mod mounts;
 mod opening;
 mod printing;
 mod probing;
+mod progress;
 mod prospects;
+mod site;
 mod telltale;
 mod versions;
 mod words;
@@ -35,11 +38,13 @@ pub use contents::ContentsError;
 pub use copying::{Copied, CopyingError, NewCopy, NewLimits, copy_disk};
 pub use formatting::{Function, NewDisk, NewDiskError, NumericSettings, make_disk};
 pub use migrating::{Migrated, MigratingError, OldVersion, migrate_file};
-pub use opening::{Device, DiskError, check_size, open, open_device, open_device_by};
+pub use mounts::{Overlay, overlay_of};
+pub use opening::{Device, DiskError, ToldDevice, check_size, open, open_device_by};
 pub use printing::{
     DONE, USAGE, asks_for_version, print_fault, print_job, print_usage, refuse_for_memory,
 };
 pub use probing::Volume;
+pub use progress::{DiskProgress, Progress};
 pub use prospects::{Prospects, prospects_of};
 pub use telltale::{Telltale, telltale_by, telltale_for};
 pub use words::{Job, Task, read_task};

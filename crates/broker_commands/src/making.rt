@@ -1,32 +1,30 @@
-// Readying what a path names to be made a disk of zeros, so that a stop leaves no older half of what stood there.
+// Making what a path names a disk of zeros, so that a stop leaves no older half of what stood there.
 ghost use Rattle.std.specs.Prelude.{◌≡◌, ◌*◌, ◌<◌, ◌^◌, IfOk};
 
 use crate::opening::{Device, DiskError};
+use crate::progress::{Progress, progress_of};
+use crate::site::{Kept, PIECE, SECTOR, Site};
 use crate::telltale::telltale_for;
 use disk_gates::{LEAST_SECTORS, close_gates, order_of};
-use sector_disk::{Disk, FaultLog, FileCall, FileDisk, FileError, LoggedFile, Place, SECTOR_SIZE};
+use sector_disk::{Disk, FaultLog, FileCall, FileDisk, FileError, LoggedFile, Place};
 use std::alloc::{AllocError, Global};
 use std::fs::File;
-use std::io;
 use std::io::Eprint;
-use std::os::unix::fs::FileExt;
 use std::rt::Files;
-
-/// The bytes of a sector, as places are counted.
-const SECTOR: u64 = SECTOR_SIZE as u64;
+use std::sync::Arc;
+use std::time::Clock;
 
 /// How many sectors a file can have: its size in bytes is below 2^63.
 const MOST_SECTORS: u64 = (1 << 54) - 1;
 
-/// How many bytes of zeros are written at once.
-const PIECE_SIZE: usize = 128 * SECTOR_SIZE;
-
-// A sector of a file as it was, or what there is of it.
+/// A disk of zeros that is to be made.
 #[derive(Clone, Copy)]
-struct Kept {
-    at: u64,
-    count: usize,
-    bytes: [u8; SECTOR_SIZE],
+pub(crate) struct Zeros<'a> {
+    /// A file or a block device.
+    pub(crate) path: &'a str,
+    pub(crate) sectors: u64,
+    /// Whether all of a new file is written, and not only what must be.
+    pub(crate) is_allocated: bool,
 }
 
 // The sectors by which a file shows a disk.
@@ -43,46 +41,10 @@ fn sectors_of(alloc: Global, told: &[u64]) -> Result<Vec<u64>, AllocError> {
     Ok(Vec::from_slice(alloc, told)?)
 }
 
-// A file that is to be made a disk of zeros.
-#[derive(Drop)]
-struct Site<'a, R> {
-    rt: &'a R,
-    path: &'a str,
-    file: &'a File,
-    // How many bytes it has.
-    size: u64,
-}
-
 impl<R> Site<'_, R>
 where
-    R: Files<File = File> + Eprint + AllocGlobal + Copy + Drop,
+    R: Files<File = File> + Clock + Eprint + AllocGlobal + Copy + Drop,
 {
-    // Tells of a call that failed, where the device did.
-    fn note<T: Drop>(
-        &self,
-        call: FileCall,
-        at: u64,
-        answered: io::Result<T>,
-    ) -> Result<T, FileError> {
-        match answered {
-            Ok(done) => Ok(done),
-            Err(why) => {
-                let error = FileError::from(io::Error::from(why.kind()));
-                if error == FileError::Fault {
-                    self.tell(call, at, &why);
-                }
-                Err(error)
-            }
-        }
-    }
-
-    // Tells of a fault, unless memory is wanting.
-    fn tell(&self, call: FileCall, at: u64, why: &io::Error) {
-        if let Ok(log) = telltale_for(self.rt, self.path) {
-            log.tell(call, at, why);
-        }
-    }
-
     // Whether it is to be larger. Refuses more sectors than a file can have, and another size of a device than its own.
     fn is_to_grow(&self, sectors: u64) -> Result<bool, FileError>
         ensures { IfOk result (λ told. 512 * sectors < 2 ^ 63) }
@@ -128,16 +90,6 @@ where
         })
     }
 
-    // The sector as it is, or what there is of it.
-    fn keep(&self, sector: u64) -> Result<Kept, FileError> {
-        let at = sector.saturating_mul(SECTOR).min(self.size);
-        let count = (self.size - at).min(SECTOR) as usize;
-        let mut bytes = [0; SECTOR_SIZE];
-        let read = self.file.read_exact_at(&mut bytes[..count], at);
-        self.note(FileCall::Read, at, read)?;
-        Ok(Kept { at, count, bytes })
-    }
-
     // Each of these sectors as it is.
     fn keep_all(&self, marks: &Marks) -> Result<Vec<Kept>, DiskError> {
         let mut kept = Vec::new(self.rt.alloc());
@@ -146,24 +98,6 @@ where
             kept.push(sector).map_err(AllocError::from)?;
         }
         Ok(kept)
-    }
-
-    // Writes a sector, durably.
-    fn put(&self, kept: &Kept) -> Result<(), FileError> {
-        let count = kept.count.min(SECTOR_SIZE);
-        let written = self.file.write_all_at(&kept.bytes[..count], kept.at);
-        self.note(FileCall::Write, kept.at, written)?;
-        self.note(FileCall::Sync, 0, self.file.sync_data())
-    }
-
-    // Makes a sector zeros, durably, where it is not.
-    fn clear(&self, sector: u64) -> Result<(), FileError> {
-        let Kept { at, count, bytes } = self.keep(sector)?;
-        if bytes.iter().all(|byte| *byte == 0) {
-            return Ok(());
-        }
-        let bytes = [0; SECTOR_SIZE];
-        self.put(&Kept { at, count, bytes })
     }
 
     // Closes the gates of the disk that stands there, and makes what is behind them zeros.
@@ -181,16 +115,8 @@ where
 
     // Makes it larger: what is new is written, so that room is found to be wanting before anything else is lost.
     fn grow(&self, size: u64) -> Result<(), FileError> {
-        self.note(FileCall::Size, size, self.file.set_len(size))?;
-        let zeros = [0; PIECE_SIZE];
-        let mut done = self.size;
-        while done < size {
-            let count = (size - done).min(PIECE_SIZE as u64);
-            let written = self.file.write_all_at(&zeros[..count as usize], done);
-            self.note(FileCall::Write, done, written)?;
-            done += count;
-        }
-        Ok(())
+        self.resize(size)?;
+        self.write_zeros(self.size, size, 0)
     }
 
     // Gives it its size again, and what was closed, in reverse. Nobody is told where that fails.
@@ -219,38 +145,106 @@ where
             }
         }
     }
+
+    // Readies what stands there to be made zeros. The gates of a disk are closed, that of the older segment first, and then the sectors
+    // behind them made zeros, each durably. Only then a file that is to be larger is: where there is no room, what stood there stands
+    // there again.
+    fn ready(&self, sectors: u64) -> Result<(), DiskError>
+        ensures { IfOk result (λ done. 512 * sectors < 2 ^ 63) }
+    {
+        let is_to_grow = self.is_to_grow(sectors)?;
+        if self.size == 0 {
+            return Ok(());
+        }
+        let marks = self.marks()?;
+        if is_to_grow {
+            self.close_and_grow(marks, sectors)
+        } else {
+            self.close(&marks)
+        }
+    }
+
+    // Gives a file without bytes its size. Its bytes are zeros then, and no room is taken for them but where a disk begins and where its
+    // second segment does: there a disk that is formatted is written first.
+    fn extend(&self, sectors: u64) -> Result<(), FileError>
+        requires { 512 * sectors < 2 ^ 63 }
+    {
+        let (size, half) = (sectors * SECTOR, sectors / 2 * SECTOR);
+        self.resize(size)?;
+        if size <= 2 * PIECE {
+            return self.write_zeros(0, size, 0);
+        }
+        self.write_zeros(0, PIECE, 0)?;
+        self.write_zeros(half, half + PIECE, PIECE)
+    }
+
+    // Makes it zeros and durable, where that was readied.
+    fn fill(&self, zeros: &Zeros<'_>) -> Result<(), FileError>
+        requires { 512 * zeros.now.sectors < 2 ^ 63 }
+    {
+        let size = zeros.sectors * SECTOR;
+        if self.size > 0 {
+            self.write_zeros(0, self.size.min(size), size.saturating_sub(self.size))?;
+        } else if zeros.is_allocated {
+            self.write_zeros(0, size, 0)?;
+        } else {
+            self.extend(zeros.sectors)?;
+        }
+        if self.size > size {
+            self.resize(size)?;
+        }
+        self.settle()
+    }
 }
 
-/// Readies what a path names to be made a disk of zeros of so many sectors, by a `Place`. The gates of what stands there are closed,
-/// that of the older segment first, and then the sectors behind them made zeros, each durably. Only then a file that is to be larger is:
-/// where there is no room, what stood there stands there again.
-///
-/// Refused: `OtherSize` where a block device has not that many sectors, `NoRoom`, and `Fault`.
-pub(crate) fn ready_place<R>(
+// Makes what a path names zeros.
+fn try_make<R>(
     rt: &R,
-    path: &str,
+    zeros: &Zeros<'_>,
     place: Place,
     file: &File,
-    sectors: u64,
+    progress: &Arc<Progress<R>>,
 ) -> Result<(), DiskError>
 where
-    R: Files<File = File> + Eprint + AllocGlobal + Copy + Drop,
+    R: Files<File = File> + Clock + Eprint + AllocGlobal + Copy + Drop,
 {
-    let size = place.size();
+    let path = zeros.path;
+    let log = progress_of(progress, path, zeros.sectors.saturating_mul(SECTOR))?;
     let site = Site {
         rt,
         path,
         file,
-        size,
+        size: place.size(),
+        log,
     };
-    let is_to_grow = site.is_to_grow(sectors)?;
-    if size == 0 {
-        return Ok(());
-    }
-    let marks = site.marks()?;
-    if is_to_grow {
-        site.close_and_grow(marks, sectors)
-    } else {
-        site.close(&marks)
+    site.ready(zeros.sectors)?;
+    site.fill(zeros)?;
+    Ok(())
+}
+
+/// Makes what a path names a disk of zeros of so many sectors, durably; what it held is lost. What stands there is closed first, so that a
+/// stop leaves no older half of it. A new file, and one without bytes, is given its size, and only what a format writes first has room
+/// then, unless room for all is asked for. All else is written whole. Where it is refused, it is given back. Both files are the one that
+/// the path was opened as.
+///
+/// Refused: `OtherSize` where a block device has not that many sectors, `NoRoom`, `PermissionDenied`, and `Fault`.
+pub(crate) fn make_zeros<R, L>(
+    rt: &R,
+    zeros: &Zeros<'_>,
+    place: Place,
+    same: &File,
+    file: &LoggedFile<L>,
+    progress: &Arc<Progress<R>>,
+) -> Result<(), DiskError>
+where
+    R: Files<File = File> + Clock + Eprint + AllocGlobal + Copy + Drop,
+    L: FaultLog + Drop,
+{
+    match try_make(rt, zeros, place, same, progress) {
+        Ok(()) => Ok(()),
+        Err(why) => {
+            place.give_back(rt, zeros.path, file);
+            Err(why)
+        }
     }
 }

@@ -3,6 +3,7 @@ ghost use Rattle.std.specs.Prelude.{◌≡◌, IfOk, IfErr};
 ghost use Rattle.broker_commands.specs.Migrating.{is_device_fault, IsMigrated, IsMigratingReason};
 
 use crate::opening::{DiskError, open_unclaimed};
+use crate::progress::Progress;
 use audit_report::audit;
 use group_commit::{MigrateError, MigrateFailure, OpenError, migrate};
 use sector_disk::Disk;
@@ -10,6 +11,8 @@ use std::alloc::Global;
 use std::fs::File;
 use std::io::Eprint;
 use std::rt::Files;
+use std::sync::Arc;
+use std::time::Clock;
 use thiserror::Error;
 
 /// A disk of version 1 of the format that is to be migrated.
@@ -77,10 +80,14 @@ fn migrate_disk<D: Disk + Drop>(alloc: Global, disk: D) -> Result<Migrated, Migr
 
 /// Migrates a disk of version 1 of the format. The file is judged first, and then what is on it. Nobody else has the disk
 /// meanwhile.
-pub fn migrate_file<R>(rt: &R, old: &OldVersion<'_>) -> Result<Migrated, MigratingError>
+pub fn migrate_file<R>(
+    rt: &R,
+    progress: &Arc<Progress<R>>,
+    old: &OldVersion<'_>,
+) -> Result<Migrated, MigratingError>
 where
-    R: Files<File = File> + Eprint + AllocGlobal + Copy + Drop,
+    R: Files<File = File> + Clock + Eprint + AllocGlobal + Copy + Drop,
 {
-    let disk = open_unclaimed(rt, old.path, old.is_unclaimed)?;
+    let disk = open_unclaimed(rt, progress, old.path, old.is_unclaimed)?;
     migrate_disk(rt.alloc(), disk)
 }

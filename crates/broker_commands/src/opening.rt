@@ -10,13 +10,17 @@ ghost use Rattle.broker_commands.specs.declared.opening.DiskError.TheVariants as
 ghost use Rattle.sector_disk.specs.declared.file.FileError.TheVariants as file_error;
 
 use crate::claims::enter_claim;
+use crate::mounts::check_mount;
+use crate::progress::{DiskProgress, Progress, progress_of};
 use crate::telltale::{Telltale, telltale_by, telltale_for};
 use crate::versions::check_version;
 use broker_core::{Broker, OpenError, without_disk};
+use disk_progress::ProgressDisk;
 use port_meters::Lines;
 use resized_disk::{Resized, ResizedError, resized};
 use sector_disk::{
-    Disk, FaultLog, FileCall, FileDisk, FileError, LoggedFile, lock_file, lock_file_read_only,
+    Disk, FaultLog, FileCall, FileDisk, FileError, LoggedFile, SECTOR_SIZE, lock_file,
+    lock_file_read_only,
 };
 use std::alloc::{AllocError, Global};
 use std::fs::File;
@@ -24,6 +28,7 @@ use std::io;
 use std::io::{Eprint, ErrorKind};
 use std::rt::Files;
 use std::sync::Arc;
+use std::time::Clock;
 use thiserror::Error;
 
 /// Why a disk in a file was not opened.
@@ -46,6 +51,9 @@ pub enum DiskError {
     /// A broker that watches stands in its claim.
     #[error("claimed")]
     Claimed,
+    /// It is seen through an overlay mount: who opens the file below it does not see its lock.
+    #[error("seen through an overlay mount, which locks it apart from the file below")]
+    Overlay,
 }
 
 impl DiskError {
@@ -59,6 +67,9 @@ impl DiskError {
 
 /// A disk in a file, each fault of which is told on standard error.
 pub type Device<R> = FileDisk<LoggedFile<Telltale<R>>>;
+
+/// The same, of which is told how far the work on it is.
+pub type ToldDevice<R> = ProgressDisk<Device<R>, DiskProgress<R>>;
 
 /// The broker on a disk, which is given up where it is not opened.
 pub fn open<D: Disk + Drop>(alloc: Global, disk: D) -> Result<Broker<D>, OpenError>
@@ -105,59 +116,86 @@ where
     }
 }
 
-// A file as a disk whose faults are told so and whose reads ask the device, of a version that is known and of the size that it was
-// formatted with.
-fn device<R>(rt: &R, telltale: Telltale<R>, file: File) -> Result<Device<R>, DiskError>
+// A file as a disk whose faults are told so and whose reads ask the device.
+fn device<R>(telltale: Telltale<R>, file: File) -> Result<Device<R>, DiskError>
 where
     R: Eprint + AllocGlobal + Copy + Drop,
 {
     let log = telltale.another()?;
     let file = LoggedFile::new(file, telltale);
     drop_cached(log, &file)?;
-    let mut disk = FileDisk::over(file)?;
+    Ok(FileDisk::over(file)?)
+}
+
+// A disk of a version that is known, and of the size that it was formatted with.
+fn checked<D: Disk + Drop>(alloc: Global, disk: D) -> Result<D, DiskError> {
+    let mut disk = disk;
     check_version(&mut disk)?;
-    check_size(rt.alloc(), &mut disk)?;
+    check_size(alloc, &mut disk)?;
     Ok(disk)
 }
 
-/// Opens the disk in a file for reading and writing, where its version is known and it has the size that it was formatted with.
-/// Nothing is written.
-pub fn open_device<R>(rt: &R, path: &str) -> Result<Device<R>, DiskError>
+// The file of a disk, locked, where that keeps others out.
+fn lock_own<R>(rt: &R, path: &str) -> Result<File, DiskError>
 where
-    R: Files<File = File> + Eprint + AllocGlobal + Copy + Drop,
+    R: Files<File = File> + AllocGlobal,
 {
-    let telltale = telltale_for(rt, path)?;
-    device(rt, telltale, lock_file(rt, path)?)
+    let file = lock_file(rt, path)?;
+    check_mount(rt, &file)?;
+    Ok(file)
 }
 
-/// The same, where its faults are told by these lines.
+/// Opens the disk in a file for reading and writing, where its version is known and it has the size that it was formatted with.
+/// Nothing is written. It is refused `Overlay` where its lock would keep nobody out who opens the file below. Its faults are told by these
+/// lines.
 pub fn open_device_by<R>(rt: &R, path: &str, lines: &Arc<Lines>) -> Result<Device<R>, DiskError>
 where
     R: Files<File = File> + Eprint + AllocGlobal + Copy + Drop,
 {
     let telltale = telltale_by(rt, path, lines)?;
-    device(rt, telltale, lock_file(rt, path)?)
+    checked(rt.alloc(), device(telltale, lock_own(rt, path)?)?)
 }
 
-/// The same, where nobody claims the disk, or that claim is to be taken away: nobody stands there then.
+// A file as a disk of a command, of which is told how far the work on it is.
+fn told_device<R>(
+    rt: &R,
+    progress: &Arc<Progress<R>>,
+    path: &str,
+    file: File,
+) -> Result<ToldDevice<R>, DiskError>
+where
+    R: Clock + Eprint + AllocGlobal + Copy + Drop,
+{
+    let disk = device(telltale_for(rt, path)?, file)?;
+    let size = disk.sectors().saturating_mul(SECTOR_SIZE as u64);
+    let log = progress_of(progress, path, size)?;
+    checked(rt.alloc(), ProgressDisk::over(disk, log))
+}
+
+/// Opens the disk in a file for a command that may write it, where nobody claims it, or that claim is to be taken away: nobody stands
+/// there then.
 pub(crate) fn open_unclaimed<R>(
     rt: &R,
+    progress: &Arc<Progress<R>>,
     path: &str,
     is_unclaimed: bool,
-) -> Result<Device<R>, DiskError>
+) -> Result<ToldDevice<R>, DiskError>
 where
-    R: Files<File = File> + Eprint + AllocGlobal + Copy + Drop,
+    R: Files<File = File> + Clock + Eprint + AllocGlobal + Copy + Drop,
 {
-    let mut disk = open_device(rt, path)?;
+    let mut disk = told_device(rt, progress, path, lock_own(rt, path)?)?;
     enter_claim(&mut disk, is_unclaimed)?;
     Ok(disk)
 }
 
-/// Opens the disk in a file for reading alone, where it has the size that it was formatted with.
-pub(crate) fn open_device_read_only<R>(rt: &R, path: &str) -> Result<Device<R>, DiskError>
+/// Opens the disk in a file for reading alone, where its version is known and it has the size that it was formatted with.
+pub(crate) fn open_device_read_only<R>(
+    rt: &R,
+    progress: &Arc<Progress<R>>,
+    path: &str,
+) -> Result<ToldDevice<R>, DiskError>
 where
-    R: Files<File = File> + Eprint + AllocGlobal + Copy + Drop,
+    R: Files<File = File> + Clock + Eprint + AllocGlobal + Copy + Drop,
 {
-    let telltale = telltale_for(rt, path)?;
-    device(rt, telltale, lock_file_read_only(rt, path)?)
+    told_device(rt, progress, path, lock_file_read_only(rt, path)?)
 }

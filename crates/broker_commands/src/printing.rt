@@ -17,6 +17,7 @@ use crate::copying::{Copied, CopyingError, copy_disk};
 use crate::formatting::{Function, NewDiskError, make_disk};
 use crate::migrating::{Migrated, MigratingError, migrate_file};
 use crate::probing::probe_volume;
+use crate::progress::{Progress, ended};
 use crate::words::Job;
 use audit_report::Older;
 use broker_trial::{Trial, TrialError, run_trial};
@@ -31,6 +32,7 @@ use std::fs::File;
 use std::io;
 use std::io::{Eprint, Write};
 use std::rt::Files;
+use std::sync::Arc;
 use std::time::Clock;
 
 /// The command did what it was asked to.
@@ -54,16 +56,39 @@ where
     ensures job { IfOk result IsJobStatus }
     ensures small { IfOk result (λ status. status ≤ 3) }
 {
+    match Progress::new(rt) {
+        Ok(progress) => print_job_by(rt, &progress, job, out),
+        Err(_) => refuse_for_memory(out),
+    }
+}
+
+// The same, where it is told so how far the work is. That goes before anything is printed.
+fn print_job_by<R, W>(
+    rt: &R,
+    progress: &Arc<Progress<R>>,
+    job: &Job<'_>,
+    out: &mut W,
+) -> io::Result<u8>
+where
+    R: Files<File = File> + Clock + Eprint + AllocGlobal + Copy + Drop,
+    W: Write,
+    ensures job { IfOk result IsJobStatus }
+    ensures small { IfOk result (λ status. status ≤ 3) }
+{
     match job {
         Job::Trial => print_trial(run_trial(rt.alloc()), out),
         Job::Format(new) => {
             warn_of_arn(rt, &new.function);
-            print_format(new.sectors, make_disk(rt, new), out)
+            let made = ended(progress, make_disk(rt, progress, new));
+            print_format(new.sectors, made, out)
         }
-        Job::Audit(old) => print_audit(audit_disk(rt, old), out),
-        Job::Configure(new) => print_configure(told_by(configure_disk(rt, new)), out),
-        Job::Migrate(old) => print_migrate(migrate_file(rt, old), out),
-        Job::Copy(new) => print_copy(copy_disk(rt, new), out),
+        Job::Audit(old) => print_audit(ended(progress, audit_disk(rt, progress, old)), out),
+        Job::Configure(new) => {
+            let configured = told_by(configure_disk(rt, progress, new));
+            print_configure(ended(progress, configured), out)
+        }
+        Job::Migrate(old) => print_migrate(ended(progress, migrate_file(rt, progress, old)), out),
+        Job::Copy(new) => print_copy(ended(progress, copy_disk(rt, progress, new)), out),
         Job::Probe(volume) => print_probe(probe_volume(rt, volume), out),
     }
 }

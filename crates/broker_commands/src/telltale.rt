@@ -3,7 +3,7 @@ use port_meters::Lines;
 use sector_disk::{FaultLog, FileCall, SECTOR_SIZE};
 use std::alloc::AllocError;
 use std::io;
-use std::io::Eprint;
+use std::io::{Eprint, ErrorKind};
 use std::sync::Arc;
 
 /// Tells each fault of a disk in one line on standard error. Where that takes nothing at once the line is left out: who met the fault
@@ -53,17 +53,26 @@ fn doing(call: FileCall) -> &'static str {
     }
 }
 
+// What stands before a reason by which no room was left: a disk whose sectors have no room yet meets that at a write or a flush.
+fn room_wanting(why: &io::Error) -> &'static str {
+    match why.kind() {
+        ErrorKind::StorageFull | ErrorKind::QuotaExceeded => "no room on its file system: ",
+        _ => "",
+    }
+}
+
 impl<R: Eprint + AllocGlobal + Copy + Drop> FaultLog for Telltale<R> {
     fn tell(&self, call: FileCall, at: u64, why: &io::Error) {
         let alloc = self.rt.alloc();
         let path = self.path.as_str();
         let doing = doing(call);
         let sector = at / SECTOR_SIZE as u64;
+        let room = room_wanting(why);
         let line = match call {
             FileCall::Read | FileCall::Write => {
-                format!(in alloc; "device fault: {doing} {path} at sector {sector}: {why}")
+                format!(in alloc; "device fault: {doing} {path} at sector {sector}: {room}{why}")
             }
-            _ => format!(in alloc; "device fault: {doing} {path}: {why}"),
+            _ => format!(in alloc; "device fault: {doing} {path}: {room}{why}"),
         };
         self.lines.tell_made(&self.rt, line);
     }

@@ -64,6 +64,7 @@ fn new_disk<'a>(matches: &ArgMatches<'a>) -> Option<NewDisk<'a>> {
         function: function(matches)?,
         numbers: numbers(matches)?,
         is_forced: matches.get_flag("force"),
+        is_allocated: matches.get_flag("allocate"),
     })
 }
 
@@ -139,6 +140,7 @@ fn new_copy<'a>(matches: &ArgMatches<'a>) -> Option<NewCopy<'a>> {
         limits: new_limits(matches),
         age: matches.get_one("age"),
         is_forced: matches.get_flag("force"),
+        is_allocated: matches.get_flag("allocate"),
         is_unclaimed: matches.get_flag("unclaim"),
     })
 }
