@@ -1,2 +1,3 @@
 pub mod Guarded
+pub mod Marks
 pub mod Sight

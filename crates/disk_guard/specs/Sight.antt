@@ -1,5 +1,5 @@
 -- What became of a disk that is served, by what its file is known by (stat of POSIX).
-use Rattle.std.specs.Prelude.{Bool, ◌==◌, ◌&&◌, nat_lt, if◌then◌else◌}
+use Rattle.std.specs.Prelude.{Bool, ◌==◌, ◌&&◌, not, nat_lt, if◌then◌else◌}
 use Rattle.disk_guard.specs.declared.identity.Identity.{Identity}
 use Rattle.disk_guard.specs.declared.identity.AtPath.{AtPath}
 use Rattle.disk_guard.specs.declared.identity.AtPath.TheVariants.{Is, Nothing, Unknown}
@@ -13,11 +13,18 @@ is_same_file one other =
     then one.device == other.device
     else (one.system == other.system) && (one.number == other.number)
 
--- where nothing can be told of the path, a file without a name is gone
+-- a file that had a name and has none any more; a mount of that file alone shows it still
+abbrev pub has_lost_its_name : (opened now : Identity) → Bool
+has_lost_its_name opened now = not opened.is_device && (nat_lt 0 opened.links && (now.links == 0))
+
+abbrev pub sight_by_name : (opened now : Identity) → DiskSight
+sight_by_name opened now = if has_lost_its_name opened now then Gone else There
+
+-- where nothing can be told of the path, it is gone by its names
 abbrev pub sight_by_path : (opened now : Identity) → AtPath → DiskSight
-sight_by_path opened now (Is found) = if is_same_file opened found then There else Replaced
+sight_by_path opened now (Is found) = if is_same_file opened found then sight_by_name opened now else Replaced
 sight_by_path opened now Nothing = Gone
-sight_by_path opened now Unknown = if now.links == 0 then Gone else There
+sight_by_path opened now Unknown = sight_by_name opened now
 
 -- a file that has fewer bytes is cut, whatever its path names
 abbrev pub sight_of : (opened now : Identity) → AtPath → DiskSight

@@ -3,7 +3,7 @@ ghost use Rattle.std.specs.Prelude.{◌≡◌};
 ghost use Rattle.disk_guard.specs.Guarded.{counted};
 
 use crate::guard::Guard;
-use sector_disk::{Disk, Fault};
+use sector_disk::{Disk, Fault, SECTOR_SIZE};
 use std::sync::Arc;
 
 /// A disk of which each call fails once its guard is shut. Until then it does what the disk within does.
@@ -67,14 +67,28 @@ impl<D: Disk> Disk for GuardedDisk<D> {
         if self.guard.is_shut() {
             return Err(fault(&mut self.failed));
         }
-        self.inner.read(at, out)
+        self.guard.turn();
+        let read = self.inner.read(at, out);
+        self.guard.turn();
+        if read.is_ok() {
+            self.guard
+                .note_read(self.inner.sectors() / 2 <= at, at, &*out);
+        }
+        read
     }
 
     fn write(&mut self, at: u64, bytes: &[u8]) -> Result<(), Fault> {
         if self.guard.is_shut() {
             return Err(fault(&mut self.failed));
         }
-        self.inner.write(at, bytes)
+        self.guard.forget(at, (bytes.len() / SECTOR_SIZE) as u64);
+        self.guard.turn();
+        let written = self.inner.write(at, bytes);
+        self.guard.turn();
+        if written.is_ok() {
+            self.guard.note_write(at, bytes);
+        }
+        written
     }
 
     fn barrier(&mut self) -> Result<(), Fault> {

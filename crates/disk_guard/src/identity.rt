@@ -1,6 +1,6 @@
 // What a file is known by, and what became of one that is served.
 ghost use Rattle.std.specs.Prelude.{◌≡◌};
-ghost use Rattle.disk_guard.specs.Sight.{is_same_file, sight_of};
+ghost use Rattle.disk_guard.specs.Sight.{is_same_file, has_lost_its_name, sight_of};
 
 use std::fs::{File, Metadata};
 use std::io::{ErrorKind, Seek, SeekFrom};
@@ -35,6 +35,8 @@ pub enum DiskSight {
     Replaced,
     /// It has fewer bytes than before.
     Cut,
+    /// Other bytes stand in it than were written.
+    Overwritten,
 }
 
 /// What is seen at a path.
@@ -87,6 +89,13 @@ fn is_same_file(one: &Identity, other: &Identity) -> bool
     one.system == other.system && one.number == other.number
 }
 
+// Whether it had a name, and has none any more. What shows that file alone at a path of its own keeps it there.
+fn has_lost_its_name(opened: &Identity, now: &Identity) -> bool
+    ensures { result ≡ has_lost_its_name opened.now now.now }
+{
+    !opened.is_device && 0 < opened.links && now.links == 0
+}
+
 /// What became of a disk that was opened as this, where its open file is this now and so its path.
 pub fn sight_of(opened: &Identity, now: &Identity, at_path: &AtPath) -> DiskSight
     // claim: A served disk counts as gone, replaced or cut just where the definition says so of its file and its path.
@@ -96,10 +105,9 @@ pub fn sight_of(opened: &Identity, now: &Identity, at_path: &AtPath) -> DiskSigh
         return DiskSight::Cut;
     }
     match at_path {
-        AtPath::Is(found) if is_same_file(opened, found) => DiskSight::There,
-        AtPath::Is(_) => DiskSight::Replaced,
+        AtPath::Is(found) if !is_same_file(opened, found) => DiskSight::Replaced,
         AtPath::Nothing => DiskSight::Gone,
-        AtPath::Unknown if now.links == 0 => DiskSight::Gone,
-        AtPath::Unknown => DiskSight::There,
+        AtPath::Is(_) | AtPath::Unknown if has_lost_its_name(opened, now) => DiskSight::Gone,
+        AtPath::Is(_) | AtPath::Unknown => DiskSight::There,
     }
 }
