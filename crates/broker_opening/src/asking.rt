@@ -7,7 +7,7 @@ use std::time::Duration;
 /// How many seconds a connection is waited for, and a reply.
 pub(crate) const PATIENCE: u64 = 60;
 /// How many seconds each is waited for where the end is not.
-const SHORT_PATIENCE: u64 = 1;
+pub(crate) const SHORT_PATIENCE: u64 = 1;
 /// What asks a broker to stop.
 pub(crate) const STOP: &str = "/broker/stop";
 /// How a reply begins that takes what was asked.
@@ -26,11 +26,14 @@ fn is_closed(why: &io::Error) -> bool {
     )
 }
 
-// Whether a connection was closed before its reply.
-fn is_cut(why: &io::Error) -> bool {
+// Whether a connection was closed before its reply, or no reply came in time.
+fn is_without_reply(why: &io::Error) -> bool {
     matches!(
         why.kind(),
-        ErrorKind::UnexpectedEof | ErrorKind::ConnectionReset
+        ErrorKind::UnexpectedEof
+            | ErrorKind::ConnectionReset
+            | ErrorKind::WouldBlock
+            | ErrorKind::TimedOut
     )
 }
 
@@ -53,18 +56,22 @@ fn send(socket: &mut TcpStream, request: &str, patience: u64) -> io::Result<()> 
 }
 
 // Sends a request, and reads how its reply begins.
-fn read_front(socket: &mut TcpStream, request: &str) -> io::Result<ReplyFront> {
-    send(socket, request, PATIENCE)?;
+fn read_front(socket: &mut TcpStream, request: &str, patience: u64) -> io::Result<ReplyFront> {
+    send(socket, request, patience)?;
     let mut front = NO_REPLY;
     socket.read_exact(&mut front)?;
     Ok(front)
 }
 
-/// How the reply begins to a request, which is waited for a minute at most: zeros where there is none. Refused where the system's calls
-/// fail.
-pub(crate) fn reply_front(socket: &mut TcpStream, request: &str) -> io::Result<ReplyFront> {
-    match read_front(socket, request) {
-        Err(why) if is_cut(&why) => Ok(NO_REPLY),
+/// How the reply begins to a request, which is waited for so many seconds at most: zeros where there is none. Refused where the system's
+/// calls fail.
+pub(crate) fn reply_front(
+    socket: &mut TcpStream,
+    request: &str,
+    patience: u64,
+) -> io::Result<ReplyFront> {
+    match read_front(socket, request, patience) {
+        Err(why) if is_without_reply(&why) => Ok(NO_REPLY),
         read => read,
     }
 }

@@ -22,7 +22,7 @@ mod thread_room;
 pub use asking::ask_to_stop;
 pub use error::OpeningError;
 pub use naming::check_name;
-pub use notes::{note_stop, warn, warn_of_unproved};
+pub use notes::{note_stop, warn, warn_of_layers, warn_of_unproved};
 pub use opening::{OpenedDisk, open_to_serve};
 pub use output::{Output, keep_numbers};
 pub use own_stamp::own_version;

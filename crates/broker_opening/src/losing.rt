@@ -13,7 +13,7 @@ const LOSE: &str = "/broker/stop?lose";
 /// disk is gone leaves its port for a moment, and listens there again.
 const MOST_TRIES: u32 = 20;
 /// How each reply begins of a broker whose disk is gone, but to what ends it.
-const GONE: &ReplyFront = b"HTTP/1.1 503";
+pub(crate) const GONE: &ReplyFront = b"HTTP/1.1 503";
 
 /// What is at a port.
 #[derive(Clone, Copy)]
@@ -25,18 +25,18 @@ pub(crate) enum Seen {
     Other,
 }
 
-/// Looks at what is at a port. Refused where the system's calls or memory fail.
-pub(crate) fn look<N>(rt: &N, at: SocketAddr) -> io::Result<Seen>
+/// Looks at what is at a port, where so many seconds are waited for its answer. Refused where the system's calls or memory fail.
+pub(crate) fn look<N>(rt: &N, at: SocketAddr, patience: u64) -> io::Result<Seen>
 where
     N: AllocGlobal + Net<Listener = TcpListener, Stream = TcpStream>,
 {
-    let Some(mut socket) = connect(rt, at, PATIENCE)? else {
+    let Some(mut socket) = connect(rt, at, patience)? else {
         return Ok(Seen::Nobody);
     };
     let request = format!(in rt.alloc();
         "GET / HTTP/1.1\r\nhost: {at}\r\nconnection: close\r\n\r\n"
     )?;
-    match reply_front(&mut socket, request.as_str())? {
+    match reply_front(&mut socket, request.as_str(), patience)? {
         front if front == *GONE => Ok(Seen::Gone),
         _ => Ok(Seen::Other),
     }
@@ -107,7 +107,7 @@ where
         refused: 0,
     };
     for _ in 0..MOST_LOOKS {
-        let seen = look(rt, at)?;
+        let seen = look(rt, at, PATIENCE)?;
         if losing.go_on(rt, at, seen)? {
             return Ok(());
         }

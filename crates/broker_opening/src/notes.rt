@@ -83,3 +83,11 @@ pub fn warn_of_unproved<R: Eprint>(rt: &R, lines: &Lines, version: &Version) {
         lines.tell(rt, "warning: this program is not proved");
     }
 }
+
+/// Says that a disk lies in layers, as those of a container are: they may go with it, and who is outside sees no lock there.
+pub fn warn_of_layers<R: Eprint>(rt: &R, lines: &Lines, path: &str) {
+    let line = format!(in lines.alloc();
+        "warning: {path} lies in an overlay, as the layers of a container are: it may go with the container, and no lock of it is seen outside"
+    );
+    lines.tell_made(rt, line);
+}

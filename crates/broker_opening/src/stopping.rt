@@ -1,6 +1,6 @@
 // Ending a broker from outside, in order.
-use crate::asking::{PATIENCE, ReplyFront, STOP, ask, connect, reply_front};
-use crate::losing::{Seen, look, lose};
+use crate::asking::{PATIENCE, ReplyFront, SHORT_PATIENCE, STOP, ask, connect, reply_front};
+use crate::losing::{GONE, Seen, look, lose};
 use broker_commands::Stopping;
 use std::alloc::{AllocError, Global};
 use std::fs::File;
@@ -14,6 +14,10 @@ use thiserror::Error;
 pub(crate) const PAUSE: u64 = 50;
 /// How often the port is looked at: for a minute.
 pub(crate) const MOST_LOOKS: u32 = 1200;
+/// How many looks there are in a second.
+const LOOKS_A_SECOND: u32 = 20;
+/// For how many looks it is seen whether a broker comes back that has left its port: one whose disk is gone does.
+const LOOKS_BACK: u32 = 10;
 /// Where Linux shows the sockets of this machine, those of IPv4 and those of IPv6.
 const SOCKETS: &str = "/proc/net/tcp";
 
@@ -130,9 +134,16 @@ where
     let Some(mut socket) = connect(rt, at, PATIENCE)? else {
         return Err(nobody(rt, at));
     };
-    let front = reply_front(&mut socket, invocation_of(rt.alloc(), at, name)?.as_str())?;
+    let front = reply_front(
+        &mut socket,
+        invocation_of(rt.alloc(), at, name)?.as_str(),
+        PATIENCE,
+    )?;
     if front == *BAD {
         return Ok(());
+    }
+    if front == *GONE {
+        return Err(StoppingError::RefusesAll { at });
     }
     if front != *MISSING {
         return Err(StoppingError::NotTaken { at });
@@ -141,29 +152,61 @@ where
     Err(StoppingError::AnotherFunction { at, name })
 }
 
-// Waits until nobody listens on a port: whether that came.
-fn wait_for_end<N>(rt: &N, at: SocketAddr) -> io::Result<bool>
+// What is at a port: who is there is looked at each second, since a broker whose disk is gone leaves its port for a moment alone.
+fn look_again<N>(rt: &N, at: SocketAddr, number: u32) -> io::Result<Seen>
 where
-    N: Clock + Net<Listener = TcpListener, Stream = TcpStream>,
+    N: AllocGlobal + Net<Listener = TcpListener, Stream = TcpStream>,
 {
-    for _ in 0..MOST_LOOKS {
-        if connect(rt, at, PATIENCE)?.is_none() {
-            return Ok(true);
+    if number % LOOKS_A_SECOND == 0 {
+        return look(rt, at, SHORT_PATIENCE);
+    }
+    match connect(rt, at, PATIENCE)? {
+        Some(_) => Ok(Seen::Other),
+        None => Ok(Seen::Nobody),
+    }
+}
+
+// Waits until nobody listens on a port, or a broker whose disk is gone: which of both came, or neither.
+fn wait_for_end<N>(rt: &N, at: SocketAddr) -> io::Result<Seen>
+where
+    N: AllocGlobal + Clock + Net<Listener = TcpListener, Stream = TcpStream>,
+{
+    for number in 0..MOST_LOOKS {
+        match look_again(rt, at, number)? {
+            Seen::Other => thread::sleep(rt, Duration::from_millis(PAUSE)),
+            seen => return Ok(seen),
         }
-        thread::sleep(rt, Duration::from_millis(PAUSE));
+    }
+    Ok(Seen::Other)
+}
+
+// Whether a broker comes back that took the request: its disk is gone, which it saw at its end.
+fn comes_back<N>(rt: &N, at: SocketAddr) -> io::Result<bool>
+where
+    N: AllocGlobal + Clock + Net<Listener = TcpListener, Stream = TcpStream>,
+{
+    for _ in 0..LOOKS_BACK {
+        match look(rt, at, PATIENCE)? {
+            Seen::Nobody => thread::sleep(rt, Duration::from_millis(PAUSE)),
+            Seen::Gone => return Ok(true),
+            Seen::Other => return Ok(false),
+        }
     }
     Ok(false)
 }
 
-// Why the request is not taken there.
+// Why the request is not taken there. One whose disk is gone may close a connection without a reply, and leave its port for a moment.
 fn not_taken<N>(rt: &N, at: SocketAddr) -> io::Result<StoppingError>
 where
-    N: AllocGlobal + Net<Listener = TcpListener, Stream = TcpStream>,
+    N: AllocGlobal + Clock + Net<Listener = TcpListener, Stream = TcpStream>,
 {
-    match look(rt, at)? {
-        Seen::Gone => Ok(StoppingError::RefusesAll { at }),
-        Seen::Nobody | Seen::Other => Ok(StoppingError::NotTaken { at }),
+    for _ in 0..LOOKS_BACK {
+        match look(rt, at, PATIENCE)? {
+            Seen::Gone => return Ok(StoppingError::RefusesAll { at }),
+            Seen::Nobody | Seen::Other => thread::sleep(rt, Duration::from_millis(PAUSE)),
+        }
     }
+    Ok(StoppingError::NotTaken { at })
 }
 
 /// Asks the broker whose callers' port is there to stop, and waits until it listens no more, a minute at most. If it is to lose what it
@@ -190,9 +233,13 @@ where
         return Err(not_taken(rt, at)?);
     }
     drop(socket);
-    if wait_for_end(rt, at)? {
-        Ok(())
-    } else {
-        Err(StoppingError::StillOpen { at })
+    let refuses_all = match wait_for_end(rt, at)? {
+        Seen::Nobody => comes_back(rt, at)?,
+        Seen::Gone => true,
+        Seen::Other => return Err(StoppingError::StillOpen { at }),
+    };
+    if refuses_all {
+        return Err(StoppingError::RefusesAll { at });
     }
+    Ok(())
 }

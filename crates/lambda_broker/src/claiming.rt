@@ -1,4 +1,5 @@
 // Claiming the disk that is served.
+use crate::clock_look::ClockLook;
 use crate::disk_look::DiskLook;
 use crate::lookout::Sights;
 use crate::owner::{function_of, is_formatted};
@@ -159,6 +160,7 @@ pub(crate) fn own_disk<R>(
     at: &Address<'_>,
     disk: Device<R>,
     look: DiskLook,
+    clock: Option<ClockLook>,
     premises: Arc<Premises>,
     holding: &SharedHolding,
 ) -> Result<OwnDisk<Watched<R>, Sights<R>>, ServingError>
@@ -173,6 +175,7 @@ where
     let sights = Sights {
         claim: lookout,
         disk: look,
+        clock,
         premises,
     };
     Ok(OwnDisk {

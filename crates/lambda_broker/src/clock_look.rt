@@ -4,6 +4,8 @@ use std::time::{Clock, Duration, Instant};
 
 /// From how many seconds on a step of the clock is one.
 const LEAST_STEP: u64 = 1;
+/// How many milliseconds may go by while both clocks are read. Who is held up between them for longer would see a step.
+const LONGEST_LOOK: u128 = 100;
 
 /// The system's clock beside the one that only goes on, at a look.
 #[derive(Clone, Copy)]
@@ -13,11 +15,13 @@ pub(crate) struct ClockLook {
 }
 
 impl ClockLook {
-    /// Both clocks now. None where one cannot be read.
+    /// Both clocks now. None where one cannot be read, or this thread was held up meanwhile.
     pub(crate) fn now<R: Clock>(rt: &R) -> Option<ClockLook> {
+        let begun = Instant::now(rt).ok()?;
         let shown = Moment::now(rt).ok()?.millis();
         let steady = Instant::now(rt).ok()?;
-        Some(ClockLook { shown, steady })
+        let took = steady.saturating_duration_since(begun).as_millis();
+        (took <= LONGEST_LOOK).then_some(ClockLook { shown, steady })
     }
 
     /// By how many milliseconds the clock was set between an earlier look and this one: ahead, or back where they are negative. None

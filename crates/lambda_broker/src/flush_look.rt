@@ -37,6 +37,11 @@ impl FlushLook {
         if LONG <= self.looks { self.looks } else { 0 }
     }
 
+    /// Whether the flush that is under way was at an earlier look, too.
+    pub(crate) fn is_same(&self) -> bool {
+        0 < self.looks
+    }
+
     /// Looks at the number of the flush that is under way, if one is.
     pub(crate) fn look(&mut self, flush: Option<u64>) -> FlushSight {
         let was_long = LONG <= self.looks;

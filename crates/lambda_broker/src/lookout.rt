@@ -63,6 +63,8 @@ pub(crate) struct Sights<R: Eprint + Clock + AllocGlobal + Copy + Drop> {
     /// The disk's claim, where it is claimed.
     pub(crate) claim: Option<Watcher<R>>,
     pub(crate) disk: DiskLook,
+    /// The clock before the disk was opened.
+    pub(crate) clock: Option<ClockLook>,
     pub(crate) premises: Arc<Premises>,
 }
 
@@ -93,6 +95,14 @@ fn tell<R: Machine>(rt: &R, premises: &Premises, line: Result<String, AllocError
     premises.lines().tell_made(rt, line);
 }
 
+/// Where a broker serves, as its lookout asks it to stop and tells how it is saved.
+#[derive(Drop)]
+struct Post {
+    port: SocketAddr,
+    // What is told once the disk is gone.
+    reach: IpAddr,
+}
+
 impl<R: Files<File = File> + Machine> Sights<R> {
     // Whether the claim is held, where there is one.
     fn has_claim(&mut self) -> bool {
@@ -105,7 +115,7 @@ impl<R: Files<File = File> + Machine> Sights<R> {
     // Looks at the flush that is under way, and tells of one that takes long.
     fn look_at_flush(&self, rt: &R, flush: &mut FlushLook) {
         let (path, before) = (self.disk.path(), flush.seconds());
-        let seen = flush.look(self.disk.guard().flush());
+        let seen = flush.look(self.disk.guard().call());
         let seconds = flush.seconds();
         self.premises.note_flush(seconds);
         match seen {
@@ -125,14 +135,39 @@ impl<R: Files<File = File> + Machine> Sights<R> {
         }
     }
 
-    // Looks at the clock, and tells of a step.
-    fn look_at_clock(&self, rt: &R, earlier: Option<ClockLook>) -> Option<ClockLook> {
-        let now = ClockLook::now(rt)?;
-        if let Some(step) = earlier.and_then(|earlier| now.step_since(&earlier)) {
-            self.premises.note_step(step);
-            tell(rt, &self.premises, self.step_words(rt.alloc(), step));
+    // Whether all stands in the disk that was read and written. Who took it over may write there.
+    fn is_as_written(&mut self, rt: &R) -> bool {
+        if self.disk.is_as_written(rt) || !self.has_claim() {
+            return true;
         }
-        Some(now)
+        self.disk.note_overwritten();
+        false
+    }
+
+    // Looks at the disk, its path and its bytes, and tells once that it is gone: whether it is there. Its bytes are not read where a flush
+    // hangs, since a read may hang as well.
+    fn look_at_disk(&mut self, rt: &R, flush: &FlushLook, post: &Post) -> bool {
+        let was_there = !self.disk.guard().is_shut();
+        let is_there = self.disk.look(rt) && (flush.is_same() || self.is_as_written(rt));
+        if was_there && !is_there {
+            let words = self.disk.words(rt, post.reach, post.port.port());
+            tell(rt, &self.premises, words);
+        }
+        is_there
+    }
+
+    // Looks at the clock, and tells of a step since it was seen last.
+    fn look_at_clock(&mut self, rt: &R) {
+        let Some(now) = ClockLook::now(rt) else {
+            return;
+        };
+        if let Some(earlier) = self.clock {
+            if let Some(step) = now.step_since(&earlier) {
+                self.premises.note_step(step);
+                tell(rt, &self.premises, self.step_words(rt.alloc(), step));
+            }
+        }
+        self.clock = Some(now);
     }
 
     // What is told of a step of the clock.
@@ -141,7 +176,7 @@ impl<R: Files<File = File> + Machine> Sights<R> {
         let grace = self.premises.grace().as_secs();
         if step < 0 {
             format!(in alloc;
-                "the clock was set back by {seconds} s: waits, ages and timeouts go by it"
+                "the clock was set back by {seconds} s: until it has caught up nothing grows older and nothing is due"
             )
         } else if seconds < HELD_FROM || grace == 0 {
             format!(in alloc;
@@ -149,18 +184,10 @@ impl<R: Files<File = File> + Machine> Sights<R> {
             )
         } else {
             format!(in alloc;
-                "the clock was set ahead by {seconds} s: waits, ages and timeouts go by it in {grace} s, unless it is set right before"
+                "the clock was set ahead by {seconds} s: waits, ages and timeouts go by it in {grace} s. If it is right, a restart believes it at once"
             )
         }
     }
-}
-
-/// Where a broker serves, as its lookout asks it to stop and tells how it is saved.
-#[derive(Drop)]
-struct Post {
-    port: SocketAddr,
-    // What is told once the disk is gone.
-    reach: IpAddr,
 }
 
 // Looks until it is told to end, and then once more at the disk. Where the claim or the disk is lost, the broker is asked to stop each
@@ -169,23 +196,15 @@ fn look_out<R>(rt: R, mut sights: Sights<R>, end: Arc<End>, post: Post) -> DiskL
 where
     R: Files<File = File> + Machine,
 {
-    let (mut flush, mut clock, mut was_there) = (FlushLook::new(), ClockLook::now(&rt), true);
+    let mut flush = FlushLook::new();
     for _ in rt.forever() {
         let is_last = end.came_within_pause(&rt);
-        let is_there = sights.disk.look(&rt);
-        if was_there && !is_there {
-            tell(
-                &rt,
-                &sights.premises,
-                sights.disk.words(&rt, post.reach, post.port.port()),
-            );
-        }
-        was_there = is_there;
+        let is_there = sights.look_at_disk(&rt, &flush, &post);
         if is_last {
             break;
         }
         sights.look_at_flush(&rt, &mut flush);
-        clock = sights.look_at_clock(&rt, clock);
+        sights.look_at_clock(&rt);
         if !(sights.has_claim() && is_there) && is_here(&rt, post.port.ip()) {
             let _ = ask_to_stop(&rt, post.port);
         }

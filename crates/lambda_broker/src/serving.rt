@@ -6,6 +6,7 @@ ghost use Rattle.receipts.specs.Desks.{desk_count};
 ghost use Rattle.lambda_broker.specs.Status as status;
 
 use crate::claiming::{OwnDisk, Watched, own_disk};
+use crate::clock_look::ClockLook;
 use crate::disk_look::DiskLook;
 use crate::lookout::{Lookout, Sights};
 use admin_port::AdminPort;
@@ -13,7 +14,7 @@ use broker_commands::Address;
 use broker_core::Broker;
 use broker_opening::{
     OpenedDisk, OpeningError, note_stop, open_in_turn, open_to_serve, own_version, warn,
-    warn_of_unproved,
+    warn_of_layers, warn_of_unproved,
 };
 use disk_claim::{ClaimError, Holding, SharedHolding};
 use disk_guard::{Guard, GuardedDisk};
@@ -26,7 +27,6 @@ use saving_port::{Saving, wait_to_lose};
 use sector_disk::{CountingDisk, Disk, Written};
 use std::alloc::AllocError;
 use std::fs::File;
-use std::io;
 use std::io::Write;
 use std::marker::Brand;
 use std::net::SocketAddr;
@@ -34,7 +34,11 @@ use std::rt::Files;
 use std::sync::Arc;
 use std::sync::ledger::{Blank, Ledger};
 use std::time::{Duration, Instant};
+use std::{io, thread};
 use thiserror::Error;
+
+/// How long is waited until a port is tried again on which what was told is to be saved, in seconds.
+const PAUSE: u64 = 1;
 
 /// Why a disk was not served, or not to its end.
 #[derive(Debug, Drop, Error)]
@@ -57,7 +61,10 @@ pub enum ServingError {
     /// Another broker has claimed the disk.
     #[error("taken over")]
     TakenOver,
-    /// The file of the disk was removed, replaced or cut, and then the program was asked to end all the same.
+    /// Another file was put where the disk was, between its opening and the first look at it.
+    #[error("another file is at its path since it was opened")]
+    Replaced,
+    /// The file of the disk was removed, replaced, cut or overwritten, and then the program was asked to end all the same.
     #[error("disk is gone")]
     DiskGone,
 }
@@ -178,24 +185,34 @@ where
     serve_hall::<R, T, D>(rt, hall, listeners, callers, admin, discard, premises)
 }
 
-// Refuses all until what was told is saved, or is to be lost: the disk is gone.
-fn save<R>(rt: R, look: &DiskLook, at: &Address<'_>) -> Result<(), ServingError>
+// Refuses all until what was told is saved, or is to be lost: the disk is gone. It is refused where a port, a thread or memory is.
+fn try_to_save<R>(rt: R, look: &DiskLook, at: &Address<'_>) -> io::Result<()>
 where
     R: Files<File = File> + Machine,
 {
     let words = look.words(&rt, at.reach, at.port)?;
-    let Ok(words) = Arc::new(rt.alloc(), words) else {
-        return Err(ServingError::OutOfMemory(AllocError));
-    };
     let saving = Saving {
         callers: SocketAddr::new(at.reach, at.port),
         admin: at.admin,
         host: at.host,
         dialect: at.dialect,
-        words,
+        words: Arc::new(rt.alloc(), words).map_err(|_| AllocError)?,
     };
-    wait_to_lose(rt, &saving)?;
-    Err(ServingError::DiskGone)
+    wait_to_lose(rt, &saving)
+}
+
+// The same, for as long as it is refused: an end would destroy the last copy of what was told.
+fn save<R>(rt: R, look: &DiskLook, at: &Address<'_>) -> ServingError
+where
+    R: Files<File = File> + Machine,
+{
+    for _ in rt.forever() {
+        if try_to_save(rt, look, at).is_ok() {
+            break;
+        }
+        thread::sleep(&rt, Duration::from_secs(PAUSE));
+    }
+    ServingError::DiskGone
 }
 
 // Serves what is on a disk, once it is opened, while it is looked at what that rests on: the disk. Where that is gone, all is refused
@@ -228,7 +245,7 @@ where
     let served = serve_opened::<R, T, D>(rt, opened, at, theirs);
     let look = lookout.end(&rt);
     if look.guard().is_shut() {
-        save(rt, &look, at)?;
+        return Err(save(rt, &look, at));
     }
     served
 }
@@ -310,10 +327,21 @@ where
     let (disk, start) = open_in_turn(&rt, at, lines, out)?;
     warn_of_unproved(&rt, lines, &own_version(&rt)?);
     warn(&rt, lines, at);
-    let guard = Guard::new(alloc)?;
+    let (guard, clock) = (Guard::new(alloc)?, ClockLook::now(&rt));
     let look = DiskLook::open(&rt, at.path, Arc::try_clone(&guard)?)?;
+    if look.is_in_layers(&rt) {
+        warn_of_layers(&rt, lines, at.path);
+    }
     let holding = SharedHolding::new(alloc)?;
-    let own = own_disk(&rt, at, disk, look, Arc::try_clone(&premises)?, &holding)?;
+    let own = own_disk(
+        &rt,
+        at,
+        disk,
+        look,
+        clock,
+        Arc::try_clone(&premises)?,
+        &holding,
+    )?;
     let served = serve_own(rt, own, guard, at, &start, &premises, out);
     ended(served, holding.get())?;
     note_stop(&rt, lines, at);
