@@ -1,0 +1,5 @@
+mod Asked
+mod FirstPlace
+mod SameTexts
+mod Joining
+mod Sorting

@@ -1,0 +1,7 @@
+use Rattle.std.proofs.Common.{◌≡◌, ◌++◌, take}
+use Rattle.std.specs.List.{flat_map}
+use Rattle.signed_requests.specs.Encoding.{path_byte}
+use Rattle.signed_requests.proofs.encoding.push_parts.Given as goal
+
+abbrev pub invariant-loop-b : goal.invariant-loop-b
+invariant-loop-b l = l.out.items ≡ l.initial.out.items ++ flat_map path_byte (take l.b-index l.path)

@@ -1,0 +1,17 @@
+pub mod Hmac
+pub mod Encoding
+pub mod Canonical
+pub mod Stamp
+pub mod Authorization
+pub mod Signing
+pub mod Rights
+pub mod Keys
+pub mod Judging
+pub mod Steps
+pub mod Pairs
+pub mod Claims
+pub mod Requests
+pub mod Entries
+pub mod KeysRead
+pub mod Askers
+pub mod Says
