@@ -12,8 +12,8 @@ from http.client import HTTPConnection
 API = "/2020-01-01/extension"
 
 
-def ask(broker, method, path, body=None, headers={}):
-    broker.request(method, path, body, headers)
+def ask(broker, method, path, body=None, headers=None):
+    broker.request(method, path, body, headers or {})
     reply = broker.getresponse()
     return reply.status, reply.headers, reply.read()
 

@@ -9,7 +9,7 @@ while [ "$left" -ne 0 ]; do
     id=$(tr -d '\r' < "$head" | sed -n 's/^lambda-runtime-aws-request-id: //Ip')
     rm "$head"
     [ -n "$id" ] || exit 1
-    answer=$(printf '%s' "$event" | tr a-z A-Z)
+    answer=$(printf '%s' "$event" | tr '[:lower:]' '[:upper:]')
     curl -s -o /dev/null -d "$answer" "$api/invocation/$id/response" || exit 1
     left=$((left - 1))
 done

@@ -1,11 +1,13 @@
-"""The forwarder of `examples/`: a record is collected once its URL has taken it, and not before."""
+"""`deploy/lambda_forward` to a URL: a record is collected once that has taken it, and not before."""
 import http.client
 import http.server
 import os
 import subprocess
 import threading
 
-from harness import EXAMPLES, Beside, case, same, until
+from harness import HERE, Beside, case, same, until
+
+FORWARD = os.path.join(HERE, "..", "deploy", "lambda_forward")
 
 LOGIN = b"<html>please log in</html>"
 
@@ -109,10 +111,10 @@ def die_in(said):
 class Forwarder:
     """The forwarder of the successes of a broker, to this URL."""
 
-    def __init__(self, broker, url, *words, port=None, env={}):
+    def __init__(self, broker, url, *words, port=None, env=None):
         self.told = open(os.path.join(broker.folder, "forwarded"), "w+")
-        words = [os.path.join(EXAMPLES, "forward.py"), port or broker.port, "success", url, *words]
-        self.process = subprocess.Popen(list(map(str, words)), stderr=self.told, env={**os.environ, **env})
+        words = [FORWARD, port or broker.port, "success", url, *words]
+        self.process = subprocess.Popen(list(map(str, words)), stderr=self.told, env={**os.environ, **(env or {})})
 
     def until_told(self, text):
         """Waits until it has said this on standard error: all that it has said."""
@@ -367,5 +369,5 @@ def words_that_the_forwarder_does_not_understand_are_usage_faults(broker):
         (1, "success", url, "--proxy", "h"), (1, "success", url, "--proxy", "https://h:1"), (1, "success", url, "--proxy", "http://h"),
         (1, "success", url, "--jobs", 0), (1, "success", url, "--jobs", 2),
     ):
-        done = subprocess.run([os.path.join(EXAMPLES, "forward.py"), *map(str, words)], capture_output=True, text=True, timeout=60)
+        done = subprocess.run([FORWARD, *map(str, words)], capture_output=True, text=True, timeout=60)
         same((words, done.returncode, "usage:" in done.stderr), (words, 2, True))
