@@ -115,11 +115,11 @@ def needs(*words):
 CASES = []
 
 
-def case(settings={}, slow=False):
+def case(settings=None, slow=False):
     """A case, which is given a broker with these settings. One that waits for a limit of the program is slow: it begins first."""
 
     def note(run):
-        CASES.append((run, settings, slow))
+        CASES.append((run, settings or {}, slow))
         return run
 
     return note
@@ -165,12 +165,22 @@ class Ports:
         self.lock.close()
 
 
+class Kept:
+    """Ports that stay this case's while nothing is served on them."""
+
+    def __init__(self, ports):
+        self.first, self.ports = ports.first, ports
+
+    def close(self):
+        pass
+
+
 class Watch:
     """What a preloaded library counts of a disk's flushes and writes, and what it is told to do to them; see `watch_disk.c`."""
 
     WORDS = (
         "flushes flushed writes written folder_flushes prints hold_flush release fail_flush fail_write kill_flush kill_write "
-        "torn kill_print keep reads fail_read record ahead back fail_with drops drop_at drop_size"
+        "torn kill_print keep reads fail_read record ahead back fail_with drops drop_at drop_size hold_write"
     ).split()
 
     def __init__(self, folder, disk):
@@ -217,9 +227,9 @@ class Answer:
 class Asked:
     """A request that was sent. Its reply may come later."""
 
-    def __init__(self, port, method, path, body=None, headers={}):
+    def __init__(self, port, method, path, body=None, headers=None):
         self.connection = http.client.HTTPConnection("127.0.0.1", port, timeout=DEADLINE)
-        self.connection.request(method, path, body, headers)
+        self.connection.request(method, path, body, headers or {})
         self.answer = None
 
     def is_answered(self):
@@ -320,12 +330,12 @@ class Broker:
 
     # Its commands
 
-    def command(self, *words, under=(), env={}):
+    def command(self, *words, under=(), env=None):
         """Runs the program with these words, as the command that the words `under` are told to run."""
         watch = self.watch.env if self.watch else {}
         return subprocess.run(
             [*under, Built.program, *map(str, words)],
-            capture_output=True, text=True, timeout=4 * DEADLINE, env={**os.environ, **watch, **env},
+            capture_output=True, text=True, timeout=4 * DEADLINE, env={**os.environ, **watch, **(env or {})},
         )
 
     def said(self, *words, **more):
@@ -445,7 +455,7 @@ class Broker:
     def socket(self, environment=0):
         return socket.create_connection(("127.0.0.1", self.port + environment), timeout=DEADLINE)
 
-    def send(self, method, path, body=None, headers={}, environment=0):
+    def send(self, method, path, body=None, headers=None, environment=0):
         return Asked(self.port + environment, method, path, body, headers)
 
     def ask(self, *words, **more):
@@ -495,7 +505,7 @@ class Broker:
 
     # What its operator sees
 
-    def send_look(self, path, method="GET", headers={}):
+    def send_look(self, path, method="GET", headers=None):
         return Asked(self.admin, method, path, None, headers)
 
     def look(self, *words, **more):

@@ -38,6 +38,7 @@ struct share {
     volatile uint64_t fail_with;         /* what fails does so with this error, and not as a device does */
     volatile uint64_t drops;             /* how often something was dropped that the machine kept of it .. */
     volatile uint64_t drop_at, drop_size; /* .. and from where on, and how many bytes, last */
+    volatile uint64_t hold_write;        /* from this write on each waits, until `release` is its number or above */
 };
 
 static struct share *share;
@@ -139,6 +140,7 @@ static ssize_t write_at(int file, const void *bytes, size_t count, off_t at) {
         if (torn) next(file, bytes, torn, at);
         end_here();
     }
+    while (share->hold_write && share->hold_write <= number && share->release < number) usleep(1000);
     if (share->fail_write && share->fail_write <= number) return failed();
     if (share->record) note(1, at, bytes, count);
     ssize_t result = next(file, bytes, count, at);

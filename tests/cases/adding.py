@@ -342,6 +342,37 @@ def an_add_says_who_collects_records(broker):
         # Who collects all keeps none.
         for words in ("--discard", "both"), ("--forward-success", URL, "--forward-failure", URL):
             status, told, why = ctl(root, "add", "x", *SMALL, "--arn", ARN, *words)
-            same((status, told, "--keep-records is for records that are neither posted nor discarded" in why), (2, "", True))
+            same((status, told, "--keep-records is for records that are neither sent nor discarded" in why), (2, "", True))
         status, _, why = ctl(root, "add", "x", "--handler", "a.b", "--arn", ARN)
         same((status, "64 places" in why), (2, True))
+
+
+@case()
+def sizes_may_be_told_in_kib_and_more(broker):
+    limits = "--handler", "app.main", "--events", 1, "--keep-records", "--arn", ARN
+    with a_root() as root:
+        done(root, "add", "my-function", *limits, "--payload", "1M", "--response", "256K")
+        # However a size is told, it is the same one.
+        same(done(root, "add", "my-function", *limits, "--payload", 1048576, "--response", "262144"), [STANDS])
+        done(root, "remove", "my-function")
+        told = done(root, "add", "my-function", *limits, "--payload", "1024K", "--response", "1K")
+        assert any(line.startswith("in force: ") and line.endswith(" payload 1048576 response 262144") for line in told), told
+        assert any(line.startswith("not in force: --response 1024. It is 262144: ") for line in told), told
+        status, _, why = ctl(root, "add", "g", *limits, "--payload", "2G")
+        same((status, "refused: bad settings: payload" in why, os.path.exists(disk_of(root, "g"))), (1, True, False))
+        for bad in "1m", "1KiB", "K", "1.5M", "-1", "1 K", "":
+            status, told, why = ctl(root, "add", "g", *limits, f"--payload={bad}")
+            same((bad, status, told, "a size is a number of bytes" in why), (bad, 2, "", True))
+
+
+@case()
+def an_add_may_have_all_of_a_disk_written(broker):
+    with a_root() as root:
+        done(root, "add", "my-function", *ADD)
+        done(root, "add", "g", *SMALL, "--arn", arn_of("g"), "--allocate")
+        holed, whole = (os.stat(disk_of(root, name)) for name in ("my-function", "g"))
+        same(holed.st_size, whole.st_size)
+        assert holed.st_blocks < whole.st_blocks and whole.st_blocks * 512 >= whole.st_size, (holed, whole)
+        # It is of the one format: with it or without it, the function stands.
+        same(done(root, "add", "g", *SMALL, "--arn", arn_of("g")), ["g is there already: nothing was changed"])
+        same(done(root, "add", "my-function", *ADD, "--allocate"), [STANDS])

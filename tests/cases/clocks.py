@@ -2,7 +2,7 @@
 import re
 import time
 
-from harness import case, matches, same, until
+from harness import OPENING, Beside, case, matches, same, until
 
 FAILURE = '{"errorMessage":"no","errorType":"Failed"}'
 HOUR = 3_600_000
@@ -44,6 +44,19 @@ def a_clock_that_is_a_year_ahead_for_seconds_gives_nothing_up(broker):
     same(event in given, True)
 
 
+@case({"age": 3600})
+def a_clock_that_is_set_while_the_disk_is_opened_is_noticed(broker):
+    watch = broker.watches_disk()
+    watch.hold_flush = OPENING
+    serving = Beside(broker.serve)
+    until("a flush", lambda: watch.flushes == OPENING)
+    watch.ahead = 2 * HOUR
+    watch.let_go()
+    serving.done()
+    until("a step", lambda: broker.number("clock_steps_total") == 1)
+    same(broker.stop(), (202, 0, ""))
+
+
 @case({"age": 3600, "retries": 2})
 def a_retry_that_falls_into_a_jump_is_due_in_its_minute(broker):
     watch = broker.watches_disk()
@@ -70,7 +83,7 @@ def a_clock_that_stays_ahead_is_believed_behind_its_grace(broker):
     watch.ahead = 2 * HOUR
     until("their end", lambda: given_up(broker) == 3)
     same(4 <= time.monotonic() - began, True)
-    matches(r"the clock was set ahead by (7199|7200) s: waits, ages and timeouts go by it in 4 s, unless it is set right before", broker.stderr().splitlines()[-1])
+    matches(r"the clock was set ahead by (7199|7200) s: waits, ages and timeouts go by it in 4 s[.] If it is right, a restart believes it at once", broker.stderr().splitlines()[-1])
 
 
 @case({"age": 3600})

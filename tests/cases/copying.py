@@ -114,7 +114,7 @@ def what_would_be_given_up_runs_in_a_copy_with_a_longer_age(broker):
         same(broker.delete(context["requestId"]).status, 204)
 
 
-@case({"sectors": 8194, "events": 1024, "payload": 64, "response": 64, "age": 60})
+@case({"sectors": 8194, "events": 1024, "payload": 64, "response": 64, "age": 600})
 def a_full_table_comes_along_with_an_age_to_a_disk_with_a_sector_for_a_claim(broker):
     broker.serve()
     same({broker.invoke(f"{n}").status for n in range(1024)}, {202})
@@ -241,7 +241,7 @@ def small_room(folder):
 def a_copy_that_finds_no_room_leaves_nothing_behind(broker):
     with small_room(os.path.join(broker.folder, "room")) as room:
         new = os.path.join(room, "new")
-        same(copy(broker, new), (1, "refused: no room for so many sectors\n"))
+        same(copy(broker, new, "--allocate"), (1, "refused: no room for so many sectors\n"))
         same(os.listdir(room), [])
         put(new, bytes(512))
         same(copy(broker, new), (1, "refused: no room for so many sectors\n"))

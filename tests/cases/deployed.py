@@ -13,14 +13,14 @@ import time
 from urllib.parse import quote
 
 from cases.proxy import before
-from harness import ARN, DEADLINE, EVENT, EXAMPLES, HERE, RUNTIME, Apart, Asked, Broker, Built, case, matches, same, until
+from harness import ARN, DEADLINE, EVENT, HERE, RUNTIME, Apart, Asked, Broker, Built, case, matches, same, until
 
 TOP = os.path.join(HERE, "..")
 DEPLOY = os.path.join(TOP, "deploy")
 # What the units run, and where it is here.
 INSTALLED = {"/usr/bin/lambda-broker-ctl": os.path.join(DEPLOY, "lambda-broker-ctl"), "/usr/bin/lambda_broker": None}
 INSTALLED |= {"/usr/lib/lambda_broker/supervise": os.path.join(DEPLOY, "supervise")}
-INSTALLED |= {"/usr/lib/lambda_broker/forward.py": os.path.join(EXAMPLES, "forward.py"), "/usr/sbin/nft": "/bin/true"}
+INSTALLED |= {"/usr/lib/lambda_broker/lambda_forward": os.path.join(DEPLOY, "lambda_forward"), "/usr/sbin/nft": "/bin/true"}
 # How many seconds a poll is parked behind nginx, which by itself waits for 60; deploy/check has it park for longer.
 PARKED = int(os.environ.get("LAMBDA_BROKER_PARKED", "65"))
 SEND_MAIL = ARN.replace("my-function", "send-mail")
@@ -135,7 +135,7 @@ def a_forwarder_that_dies_loses_no_record_behind_nginx(broker):
         url = f"http://127.0.0.1:{proxy.port}/2015-03-31/functions/send-mail/invocations"
         for more in (), ("--admin", str(broker.admin), "--jobs", "2"):
             events = {broker.live("{}", "1") for _ in range(4)}
-            words = [os.path.join(EXAMPLES, "forward.py"), str(broker.port), "success", url, *more]
+            words = [os.path.join(DEPLOY, "lambda_forward"), str(broker.port), "success", url, *more]
             for last in False, False, True:
                 forwarder = subprocess.Popen(words, stderr=subprocess.DEVNULL)
                 before_it = second.number("events_accepted_total")
@@ -231,7 +231,7 @@ class Prometheus:
         self.started.kill()
         self.started.wait()
 
-    def ask(self, path, port=None, headers={}):
+    def ask(self, path, port=None, headers=None):
         with contextlib.suppress(OSError):
             return Asked(port or self.port, "GET", path, None, headers).done()
 
@@ -240,7 +240,7 @@ class Prometheus:
         reply = self.ask(f"/api/v1/query?query={quote(text)}")
         return [float(each["value"][1]) for each in reply.json["data"]["result"]] if reply and reply.status == 200 else []
 
-    def rows(self, port=None, headers={}):
+    def rows(self, port=None, headers=None):
         """The brokers on its page, and what it says is wrong with each."""
         page = self.ask("/consoles/lambda_broker.html", port, headers)
         found = re.findall('<a href="/brokers/([^/]+)/">.*?<td class="words">(.*?)</td>', page.body.decode() if page else "", re.S)

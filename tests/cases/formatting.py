@@ -162,11 +162,11 @@ def a_new_file_is_for_its_owner_alone(broker):
 
 
 @contextlib.contextmanager
-def small_room(folder):
-    """A file system of 64 KiB."""
+def small_room(folder, size="64k"):
+    """A file system of 64 KiB, or of this size."""
     room = os.path.join(folder, "room")
     os.mkdir(room)
-    words = ["mount", "-t", "tmpfs", "-o", "size=64k", "lambda_broker_tests", room]
+    words = ["mount", "-t", "tmpfs", "-o", f"size={size}", "lambda_broker_tests", room]
     if os.getuid() != 0 or subprocess.run(words, capture_output=True).returncode != 0:
         raise Skipped("no file system can be mounted")
     try:
@@ -180,10 +180,11 @@ def where_there_is_no_room_nothing_is_left_and_nothing_is_changed(broker):
     with small_room(broker.folder) as room:
         made = os.path.join(room, "disk")
         refused = 1, "refused: no room for so many sectors\n"
-        same((broker.said(*words_of(made, 4096)), os.listdir(room)), (refused, []))
+        for more in (), ("--allocate",):
+            same((more, broker.said(*words_of(made, 4096), *more), os.listdir(room)), (more, refused, []))
         for content in b"", bytes(20 * 512), blank(64):
             put(made, content)
-            for more in (), ("--force",):
+            for more in (), ("--force",), ("--allocate",), ("--allocate", "--force"):
                 same((len(content), more, broker.said(*words_of(made, 4096), *more)), (len(content), more, refused))
                 same((len(content), more, content_of(made) == content), (len(content), more, True))
         os.remove(made)

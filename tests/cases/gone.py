@@ -2,9 +2,11 @@
 import os
 import re
 import shutil
+import socket
+import subprocess
 import time
 
-from harness import INVOKE, EVENT, Asked, case, same, statuses, until
+from harness import INVOKE, EVENT, Asked, Skipped, case, needs, same, statuses, until
 
 REFUSED = b'{"errorMessage":"broker is not available","errorType":"Unavailable"}'
 
@@ -39,6 +41,14 @@ def copy_back(broker):
 def health(broker, query=""):
     told = Asked(broker.admin, "GET", f"/healthz{query}").done()
     return told.status, told.body.decode()
+
+
+def binds(free, port):
+    try:
+        free.bind(("127.0.0.1", port))
+        return True
+    except OSError:
+        return False
 
 
 def is_shut(broker):
@@ -120,6 +130,71 @@ def an_end_in_order_right_behind_a_removal_keeps_the_last_copy(broker):
         same(broker.ended()[0], 1)
         os.replace(f"{broker.disk}.saved", broker.disk)
     same(broker.held(), 5)
+
+
+@case()
+def a_stop_right_behind_a_removal_says_that_the_broker_stays(broker):
+    broker.serve()
+    same(broker.invoke("{}").status, 202)
+    os.remove(broker.disk)
+    refused = 1, f"refused: 127.0.0.1:{broker.port} refuses all, as where a disk is gone: its line on standard error says how to save it\n"
+    begun = time.monotonic()
+    same(broker.said("stop", "--port", broker.port, "--name", "my-function"), refused)
+    # It does not wait for the end of a port that is another one by then.
+    assert time.monotonic() - begun < 40, time.monotonic() - begun
+    same(broker.served.poll(), None)
+    until("an end of all", lambda: is_shut(broker))
+    for words in (), ("--name", "my-function"):
+        same(broker.said("stop", "--port", broker.port, *words), refused)
+    copy_back(broker)
+    same(broker.said("stop", "--port", broker.port, "--lose")[0], 0)
+    os.replace(f"{broker.disk}.saved", broker.disk)
+    same(broker.held(), 1)
+
+
+@case()
+def a_disk_that_is_shown_by_a_mount_of_it_alone_is_gone_where_it_is_removed(broker):
+    """As a container is given one file: it has its name there, and no other any more."""
+    needs("mount", "umount")
+    shown = os.path.join(broker.folder, "shown")
+    open(shown, "w").close()
+    if subprocess.run(["mount", "--bind", broker.disk, shown], stderr=subprocess.DEVNULL).returncode:
+        raise Skipped("nothing can be mounted here")
+    own, broker.disk = broker.disk, shown
+    try:
+        broker.serve()
+        same(broker.invoke("{}").status, 202)
+        os.remove(own)
+        until("an end of all", lambda: is_shut(broker))
+        with open(shown, "rb") as left, open(own, "wb") as saved:
+            shutil.copyfileobj(left, saved)
+        same(broker.said("stop", "--port", broker.port, "--lose")[0], 0)
+        same(broker.ended()[0], 1)
+    finally:
+        subprocess.run(["umount", shown], check=True)
+    broker.disk = own
+    same(broker.held(), 1)
+
+
+@case()
+def who_takes_the_port_of_a_disk_that_is_gone_does_not_end_its_broker(broker):
+    broker.serve()
+    same(broker.invoke("{}").status, 202)
+    # A request that is half sent keeps the front from its end, and who has the port meanwhile keeps the next from it.
+    with broker.socket() as half:
+        half.sendall(b"POST / HTTP/1.1\r\ncontent-length: 10\r\n\r\n")
+        os.remove(broker.disk)
+        with socket.socket() as other:
+            other.setsockopt(socket.SOL_SOCKET, socket.SO_REUSEADDR, 1)
+            until("a free port", lambda: binds(other, broker.port))
+            other.listen()
+            time.sleep(9)
+            same(broker.served.poll(), None)
+    until("an end of all", lambda: is_shut(broker))
+    copy_back(broker)
+    same(broker.said("stop", "--port", broker.port, "--lose")[0], 0)
+    os.replace(f"{broker.disk}.saved", broker.disk)
+    same(broker.held(), 1)
 
 
 @case()

@@ -24,9 +24,9 @@ ADD = *SMALL, "--arn", ARN
 ETC, UNITS = "etc/lambda_broker", "etc/systemd/system"
 
 
-def run(*words, env={}):
+def run(*words, env=None):
     """Status, standard output and standard error of a command."""
-    more = {"capture_output": True, "text": True, "timeout": 4 * DEADLINE, "env": {**os.environ, **env}}
+    more = {"capture_output": True, "text": True, "timeout": 4 * DEADLINE, "env": {**os.environ, **(env or {})}}
     done = subprocess.run([*map(str, words)], **more)
     return done.returncode, done.stdout, done.stderr
 
@@ -109,7 +109,7 @@ def a_function_is_added_once(broker):
         same(values_of(root, envs[0]), wanted)
         same(values_of(root, envs[1]), {"PORT": str(port), "SIDE": "failure", "URL": url, "WORDS": f"--admin {port + 19}"})
         wanted = {"RUNTIME": "/usr/bin/my-runtime --fast", "EXTENSIONS": "", "AWS_LAMBDA_RUNTIME_API": f"127.0.0.1:{port + 2}"}
-        same(values_of(root, envs[3]), {**wanted, "_HANDLER": '"a.b\'\\$c"', "LAMBDA_TASK_ROOT": "/srv/x"})
+        same(values_of(root, envs[3]), {**wanted, "_HANDLER": '"a.b\'\\$c"', "FUNCTION_ARN": ARN, "LAMBDA_TASK_ROOT": "/srv/x"})
         parts = {f"lambda_runtime@my-function:{n}.service" for n in (1, 2)} | {"lambda_forward@my-function:failure.service"}
         found = dict(line.split("=") for line in text_of(root, drop_in).splitlines() if "=" in line)
         same([{*found[key].split()} for key in ("Wants", "PropagatesStopTo")], 2 * [parts])
@@ -120,6 +120,37 @@ def a_function_is_added_once(broker):
         status, told, why = ctl(root, "add", "my-function", *ADD)
         same((status, told, why.splitlines()[1]), (1, "", "nothing was changed"))
         same(tree(root), there)
+
+
+QUEUE, BUS = "arn:aws:sqs:us-east-2:123456789012:results", "arn:aws:events:us-east-2:123456789012:event-bus/a/b.c"
+OTHER = "arn:aws:lambda:us-east-2:123456789012:function:x:$LATEST"
+
+
+@case()
+def records_go_to_what_arns_name(broker):
+    url = "http://127.0.0.1:1/x"
+    for words, wanted in (
+        (("--on-success", OTHER, "--on-failure", BUS, "--dead-letter", QUEUE), {"success": f"--to {OTHER}", "failure": f"--to {BUS} --dead-letter {QUEUE}"}),
+        (("--discard", "success", "--dead-letter", QUEUE), {"failure": f"--dead-letter {QUEUE}"}),
+        (("--on-success", QUEUE, "--forward-failure", url, "--dead-letter", QUEUE), {"success": f"--to {QUEUE}", "failure": f"--dead-letter {QUEUE}"}),
+    ):
+        with a_root() as root:
+            told = done(root, "add", "my-function", *LIMITS, "--arn", ARN, *words)
+            port = int(matches("my-function: callers ([0-9]+), .*", told[-1])[0])
+            found = {side: f"etc/lambda_forward/my-function:{side}.env" for side in ("success", "failure")}
+            found = {side: values_of(root, path) for side, path in found.items() if os.path.exists(os.path.join(root, path))}
+            urls = {"URL": url} if url in words else {}
+            base = {side: {"PORT": str(port), "SIDE": side, **(urls if side == "failure" else {})} for side in wanted}
+            same(found, {side: {**base[side], "WORDS": f"--admin {port + 19} {to}"} for side, to in wanted.items()})
+            units = {f"lambda_forward@my-function:{side}.service" for side in wanted}
+            drop_in = text_of(root, f"{UNITS}/lambda_broker@my-function.service.d/function.conf")
+            same({*re.search("^Wants=(.*)$", drop_in, re.M)[1].split()}, units)
+            same(done(root, "add", "my-function", *LIMITS, "--arn", ARN, *words), ["my-function is there already: nothing was changed"])
+    wrong = ("--on-success", "x"), ("--on-success", f"{QUEUE}.fifo"), ("--on-success", "arn:aws:s3:::bucket"), ("--dead-letter", BUS)
+    wrong += ("--on-success", QUEUE, "--forward-success", url), ("--on-success", QUEUE, "--discard", "success"), ("--dead-letter", QUEUE, "--discard", "both")
+    with a_root() as root:
+        for words in wrong:
+            same((words, ctl(root, "add", "my-function", *ADD, *words)[0]), (words, 2))
 
 
 @case()
@@ -230,8 +261,8 @@ def a_broker_is_served_and_ended_by_its_unit(broker):
             ports.close()
 
 
-FILES = """usr/bin/lambda_broker usr/bin/lambda-broker-ctl usr/lib/lambda_broker/forward.py usr/lib/lambda_broker/function.py
-usr/lib/lambda_broker/supervise
+FILES = """usr/bin/lambda_broker usr/bin/lambda-broker-ctl usr/lib/lambda_broker/lambda_forward usr/lib/lambda_broker/function.py
+usr/lib/lambda_broker/function.js usr/lib/lambda_broker/supervise
 usr/lib/sysusers.d/lambda_broker.conf
 usr/lib/systemd/system/lambda_broker@.service usr/lib/systemd/system/lambda_runtime@.service
 usr/lib/systemd/system/lambda_forward@.service usr/lib/systemd/system/lambda_walls.service
@@ -245,7 +276,7 @@ usr/share/doc/lambda-broker-unproved/changelog.gz usr/share/lintian/overrides/la
 usr/share/doc/lambda-broker-unproved/CHANGELOG.md.gz usr/share/bash-completion/completions/lambda_broker
 usr/share/bash-completion/completions/lambda-broker-ctl usr/share/zsh/vendor-completions/_lambda_broker
 usr/share/zsh/vendor-completions/_lambda-broker-ctl""".split()
-PAGES = "aws clients disks machines replicated running watching".split()
+PAGES = "aws clients containers disks machines replicated running watching".split()
 FILES += [f"usr/share/man/man7/lambda_broker-{name}.7.gz" for name in PAGES if name not in ("machines", "running")]
 DOCUMENTS = ["README.md", *(f"docs/{name}.md" for name in ("OPERATING", "FORMATS", "GLOSSARY", "NOT_PROVED", "PROMISES"))]
 FILES += [f"usr/share/doc/lambda-broker/{name}" for name in (*DOCUMENTS, *(f"docs/operating/{name}.md" for name in PAGES))]

@@ -1,7 +1,6 @@
 """A probe: what it tells of a volume, that it writes to one of zeros alone, and what another attachment sees."""
 import contextlib
 import fcntl
-import os
 import re
 
 from cases.standby import devices

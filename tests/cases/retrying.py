@@ -3,7 +3,7 @@ import random
 import re
 import time
 
-from harness import EVENT, INVOKE, Asked, case, same, statuses, until
+from harness import Asked, case, same, statuses, until
 
 ACT = {"lambda-broker-act": "1"}
 ERROR = '{"errorMessage":"no"}'

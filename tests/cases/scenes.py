@@ -227,7 +227,7 @@ def an_age_of_a_minute(broker):
 
 @case()
 def records_that_nobody_collects(broker):
-    settings, now = disks.Settings(events=16, timeout=900), int(1000 * time.time())
+    settings, now, well = disks.Settings(events=16, timeout=900), int(1000 * time.time()), None
     for minutes, reasons in (5, ()), (16, ("records_not_collected",)):
         ended = now - 60_000 * minutes
         row = disks.Row(
@@ -275,7 +275,7 @@ def environments_that_are_all_busy(broker):
     same(waits.done().id, events[0])
     seen = is_seen(broker, "all_busy", "table_nearly_full")
     pictures(broker, "all_busy")
-    same(f"because all environments are busy" in found(broker)["table_nearly_full"][1], True)
+    same("because all environments are busy" in found(broker)["table_nearly_full"][1], True)
     fire_within_ten_minutes(broker, well, seen, "TableNearlyFull")
 
 

@@ -9,7 +9,7 @@ import socket
 import subprocess
 import time
 
-from harness import DEADLINE, EXAMPLES, EXTENSION, HERE, RUNTIME, Apart, Asked, case, line_of, needs, same, sends_much, until
+from harness import DEADLINE, EXAMPLES, EXTENSION, HERE, RUNTIME, Apart, Asked, Kept, case, line_of, needs, same, sends_much, until
 
 SUPERVISE = os.path.join(HERE, "..", "deploy", "supervise")
 FUNCTION = os.path.join(EXAMPLES, "function.py")
@@ -30,12 +30,12 @@ TWENTY = 20
 class Supervised:
     """A runtime under the supervisor."""
 
-    def __init__(self, broker, command=(FUNCTION,), listen=0, environment=1, by=(SUPERVISE,), options=(), env={}, **more):
+    def __init__(self, broker, command=(FUNCTION,), listen=0, environment=1, by=(SUPERVISE,), options=(), env=None, **more):
         with open(os.path.join(broker.folder, "app.py"), "w") as file:
             file.write(HANDLER)
         words = [*by, "--broker", f"127.0.0.1:{broker.port + environment}", "--listen", str(listen), *options, "--", *command]
         self.told = os.path.join(broker.folder, f"supervise.{time.monotonic_ns()}")
-        env = {**os.environ, "LAMBDA_TASK_ROOT": broker.folder, "_HANDLER": "app.main", **env}
+        env = {**os.environ, "LAMBDA_TASK_ROOT": broker.folder, "_HANDLER": "app.main", **(env or {})}
         with open(self.told, "w") as stderr:
             self.program = subprocess.Popen(words, stdout=subprocess.PIPE, stderr=stderr, bufsize=0, env=env, **more)
 
@@ -189,7 +189,7 @@ def each_end_is_told_in_the_words_of_aws(broker):
 @case({"retries": 0, "response": 16})
 def a_death_is_told_where_an_answer_has_no_room_for_its_words(broker):
     broker.serve()
-    with supervised(broker) as runtime:
+    with supervised(broker):
         event = broker.invoke('{"exit":1}').id
         same(ended(broker, event, "failure")["responsePayload"], {})
 
@@ -303,16 +303,6 @@ def its_own_death_is_over_by_the_timeout(broker):
 
 
 # The broker goes, and comes again
-
-
-class Kept:
-    """Ports that stay this case's while nothing is served on them."""
-
-    def __init__(self, ports):
-        self.first, self.ports = ports.first, ports
-
-    def close(self):
-        pass
 
 
 @case({"events": 32}, slow=True)

@@ -123,7 +123,7 @@ time.sleep(900)
 @case({"timeout": TIMEOUT}, slow=True)
 def who_answers_and_never_asks_again_is_ended(broker):
     broker.serve()
-    with supervised(broker, ["python3", "-c", WORKS_ON]) as runtime:
+    with supervised(broker, ["python3", "-c", WORKS_ON]):
         events = [broker.invoke("{}").id for _ in range(2)]
         told = [ended(broker, event) for event in events]
         same([each["requestContext"]["approximateInvokeCount"] for each in told], [1, 1])
@@ -440,7 +440,7 @@ def stop_and_leave(runtime, manager):
 def a_restart_while_it_is_idle_costs_no_attempt(broker):
     needs("bash")
     broker.serve()
-    manager, file = Manager(broker), None
+    manager, file, event = Manager(broker), None, None
     for n in range(6):
         with supervised(broker, **manager.start(file) if file else {"env": manager.env}) as runtime:
             if file:

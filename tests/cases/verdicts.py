@@ -398,3 +398,21 @@ def while_a_flush_hangs_what_needs_no_look_is_answered(broker):
     same(broker.number("flush_seconds"), 0)
     finds(broker, "nobody_polls")
     same(broker.stop(), (202, 0, ""))
+
+
+@case()
+def a_write_that_hangs_is_told_as_a_flush_is(broker):
+    watch = broker.watches_disk()
+    broker.serve()
+    watch.hold_write = watch.writes + 1
+    invoke = broker.send_invoke("{}")
+    until("a write", lambda: watch.writes == watch.hold_write)
+    # A look that came before this would wait for the write.
+    until("a line", lambda: "disk hangs: " in broker.stderr())
+    until("a long write", lambda: broker.look("/healthz?deep").body.startswith(b"bad disk_hangs: "))
+    assert f"disk hangs: a flush of {broker.disk} has been under way for 5 s\n" in broker.stderr(), broker.stderr()
+    same(invoke.is_answered(), False)
+    watch.let_go()
+    same(invoke.done().status, 202)
+    until("a disk that goes on", lambda: "disk goes on: " in broker.stderr())
+    same(broker.stop(), (202, 0, ""))

@@ -114,6 +114,16 @@ def a_stamp_has_the_commit_and_its_day_of_git(broker):
 
 
 @case()
+def without_a_checkout_a_stamp_wants_commit_date_and_kit(broker):
+    needs("git")
+    with a_root() as folder:
+        os.mkdir(os.path.join(folder, "deploy"))
+        program, tool = copied(folder), shutil.copy(STAMP, os.path.join(folder, "deploy"))
+        is_refused(run(sys.executable, tool, program, "--unproved"), "give it --commit, --date and --kit\n")
+        same(done(run(sys.executable, tool, program, "--unproved", *words_for(*NEW))), f"0.1.0+20261130.abcdef123456 {KIT} unproved\n")
+
+
+@case()
 def a_program_tells_its_stamp(broker):
     with a_root() as folder:
         program = copied(folder)

@@ -216,10 +216,12 @@ def a_broker_without_the_word_looks_at_no_claim(broker):
     broker.serve()
     same(broker.invoke("{}").status, 202)
     broker.put(CLAIM, OTHER)
-    reads = watch.reads
+    # Each look at a claim drops first what the machine keeps of it.
+    drops = watch.drops
     for _ in range(20):
         same(broker.invoke("{}").status, 202)
-    same(watch.reads, reads)
+    time.sleep(2)
+    same(watch.drops, drops)
     same(broker.stop(), (202, 0, ""))
     same(claim_of(broker), OTHER)
 
