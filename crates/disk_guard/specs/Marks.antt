@@ -1,5 +1,5 @@
 -- What is watched of a disk: sectors, with the bytes that stand there.
-use Rattle.std.specs.Prelude.{◌≡◌, ℕ, ◌*◌, ◌≤◌, Bool, true, ◌&&◌, not, List, [], ◌∷◌, length, take, drop, Option, IfSome, IsSome, nat_eq}
+use Rattle.std.specs.Prelude.{◌≡◌, ℕ, ◌*◌, ◌%◌, ◌≤◌, Bool, true, ◌&&◌, not, List, [], ◌∷◌, length, take, drop, Option, Some, None, IfSome, IsSome, nat_eq, slice_index_or}
 use Rattle.std.specs.List.{All, list_any, starts_with}
 use Rattle.sector_disk.specs.Disk.{MayDiffer}
 use Rattle.disk_guard.specs.declared.marks.Mark.{Mark}
@@ -45,9 +45,19 @@ Outlives at count mark = (old new : List ℕ) → IsRight old mark → SectorsDi
 abbrev pub AreRecentRight : List ℕ → Recent → Type 0
 AreRecentRight content recent = All (IsRight content) recent.marks
 
+-- this mark is kept in this place
+abbrev pub KeepsAt : ℕ → Recent → Mark → Type 0
+KeepsAt place recent mark = slice_index_or recent.marks place None ≡ Some mark
+
 -- what each mark says stands there
 pub record AreRight (content : List ℕ) (marks : Marks) : Type 0 where
   pub low : IsRight content marks.low
   pub high : IsRight content marks.high
   pub last : IsRight content marks.last
   pub recent : AreRecentRight content marks.recent
+
+-- what was written first behind a look, where its front tells anything, is kept beside what was written last
+abbrev pub KeepsFirst : List ℕ → Recent → Marks → Type 0
+KeepsFirst bytes before marks =
+    512 ≤ length bytes → is_telling (take 512 bytes) ≡ true → before.written ≡ 0
+    → IfSome marks.last (λ mark. KeepsAt (before.kept % 64) marks.recent mark)

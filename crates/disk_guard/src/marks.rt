@@ -1,6 +1,7 @@
 // What is watched of a disk while it is served: sectors, with the bytes that stand there.
-ghost use Rattle.std.specs.Prelude.{◌≡◌, List, ℕ, Some, None, IfSome, ◌≢◌, true, false};
-ghost use Rattle.disk_guard.specs.Marks.{AreRight, IsRight, MarksFront, SectorsDiffer, StandFrom, StandsIn, is_header, says_something, is_telling};
+ghost use Rattle.std.specs.Prelude.{◌≡◌, ◌<◌, ◌+◌, List, ℕ, Some, None, IfSome, ◌≢◌, true, false};
+ghost use Rattle.disk_guard.specs.declared.marks.Mark.{Mark};
+ghost use Rattle.disk_guard.specs.Marks.{AreRight, IsRight, KeepsAt, KeepsFirst, MarksFront, SectorsDiffer, StandFrom, StandsIn, is_header, says_something, is_telling};
 
 use crate::recent::{MOST, Recent};
 use sector_disk::SECTOR_SIZE;
@@ -156,6 +157,7 @@ impl Marks {
         ensures right { (content : List ℕ) → StandFrom content at bytes.now → IsRight content result }
         ensures same { (content : List ℕ) → AreRight content self.old → AreRight content self.new }
         ensures made { MarksFront at bytes.now result }
+        ensures recent { self.new.recent ≡ self.old.recent }
     {
         self.made = self.made.wrapping_add(1);
         Mark::within(at, self.made, bytes)
@@ -179,6 +181,7 @@ impl Marks {
     pub(crate) fn note_write(&mut self, at: u64, bytes: &[u8])
         ensures right { (content : List ℕ) → AreRight content self.old → StandFrom content at bytes.now → AreRight content self.new }
         ensures watched { MarksFront at bytes.now self.new.last }
+        ensures first { KeepsFirst bytes.now self.old.recent self.new }
     {
         let Some(mark) = self.make(at, bytes) else {
             return;
@@ -191,6 +194,8 @@ impl Marks {
     pub(crate) fn turn(&mut self)
         ensures right { (content : List ℕ) → AreRight content self.old → AreRight content self.new }
         ensures last { self.new.last ≡ self.old.last }
+        ensures same { self.new.recent.marks ≡ self.old.recent.marks }
+        ensures begins { self.new.recent.written ≡ 0 }
     {
         self.recent.turn();
     }
@@ -199,6 +204,7 @@ impl Marks {
     pub(crate) fn nth(&self, place: usize) -> Option<Mark>
         ensures right { (content : List ℕ) → AreRight content self.now → IsRight content result }
         ensures last { place ≡ 0 → result ≡ self.now.last }
+        ensures recent { (n : ℕ) (mark : Mark) → place ≡ 3 + n → n < 64 → KeepsAt n self.now.recent mark → result ≡ Some mark }
     {
         match place {
             0 => self.last,
@@ -214,6 +220,7 @@ impl Marks {
         // still does not stand there.
         ensures right { (content : List ℕ) → AreRight content self.now → StandsIn content mark.now.sector shown.now → result ≡ false }
         ensures seen { self.now.last ≡ Some mark.now → mark.now.bytes ≢ shown.now → result ≡ true }
+        ensures recent { (n : ℕ) → n < 64 → KeepsAt n self.now.recent mark.now → mark.now.bytes ≢ shown.now → result ≡ true }
     {
         shows_other(&self.low, mark, shown)
             || shows_other(&self.high, mark, shown)
