@@ -1,5 +1,5 @@
 -- What is watched of a disk: sectors, with the bytes that stand there.
-use Rattle.std.specs.Prelude.{◌≡◌, ℕ, ◌*◌, ◌%◌, ◌≤◌, Bool, true, ◌&&◌, not, List, [], ◌∷◌, length, take, drop, Option, Some, None, IfSome, IsSome, nat_eq, slice_index_or}
+use Rattle.std.specs.Prelude.{◌≡◌, ℕ, ◌+◌, ◌*◌, ◌<◌, ◌%◌, ◌≤◌, Bool, true, ◌&&◌, not, List, [], ◌∷◌, length, take, drop, Option, Some, None, IfSome, IsSome, nat_eq, slice_index_or}
 use Rattle.std.specs.List.{All, list_any, starts_with}
 use Rattle.sector_disk.specs.Disk.{MayDiffer}
 use Rattle.disk_guard.specs.declared.marks.Mark.{Mark}
@@ -40,6 +40,10 @@ SectorsDiffer at count old new = MayDiffer (512 * at) (512 * count) old new
 -- what a mark says stands there still, once these sectors may differ
 abbrev pub Outlives : ℕ → ℕ → Option Mark → Type 0
 Outlives at count mark = (old new : List ℕ) → IsRight old mark → SectorsDiffer at count old new → IsRight new mark
+
+-- this sector is one of so many from there on
+abbrev pub LiesWithin : ℕ → ℕ → ℕ → Type 0
+LiesWithin at count sector = (at ≤ sector) × (sector < at + count)
 
 -- what each of these marks says stands there
 abbrev pub AreRecentRight : List ℕ → Recent → Type 0

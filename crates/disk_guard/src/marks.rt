@@ -1,7 +1,7 @@
 // What is watched of a disk while it is served: sectors, with the bytes that stand there.
-ghost use Rattle.std.specs.Prelude.{◌≡◌, ◌<◌, ◌+◌, List, ℕ, Some, None, IfSome, ◌≢◌, true, false};
+ghost use Rattle.std.specs.Prelude.{◌≡◌, ◌<◌, ◌+◌, List, ℕ, Some, None, IfSome, IsNone, ◌≢◌, true, false};
 ghost use Rattle.disk_guard.specs.declared.marks.Mark.{Mark};
-ghost use Rattle.disk_guard.specs.Marks.{AreRight, IsRight, KeepsAt, KeepsFirst, MarksFront, SectorsDiffer, StandFrom, StandsIn, is_header, says_something, is_telling};
+ghost use Rattle.disk_guard.specs.Marks.{AreRight, IsRight, KeepsAt, KeepsFirst, LiesWithin, MarksFront, SectorsDiffer, StandFrom, StandsIn, is_header, says_something, is_telling};
 
 use crate::recent::{MOST, Recent};
 use sector_disk::SECTOR_SIZE;
@@ -95,6 +95,7 @@ impl Mark {
     pub(crate) fn outside(self, at: u64, count: u64) -> Option<Mark>
         ensures right { (old new : List ℕ) → IsRight old (Some self) → SectorsDiffer at count old new → IsRight new result }
         ensures same { IfSome result (λ mark. mark ≡ self) }
+        ensures gone { IsNone result → LiesWithin at count self.sector }
     {
         if self.sector < at {
             return Some(self);

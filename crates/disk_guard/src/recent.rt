@@ -1,8 +1,8 @@
 // What is watched of what was written a while ago.
-ghost use Rattle.std.specs.Prelude.{◌≡◌, ◌≢◌, ◌<◌, ◌%◌, List, ℕ, Some, None, slice_index_or, true, false};
+ghost use Rattle.std.specs.Prelude.{◌≡◌, ◌≢◌, ◌<◌, ◌%◌, List, ℕ, Some, None, slice_index_or, true, false, IfSome};
 ghost use Rattle.disk_guard.specs.declared.marks.Mark.{Mark};
 ghost use Rattle.std.specs.List.{All};
-ghost use Rattle.disk_guard.specs.Marks.{AreRecentRight, IsRight, KeepsAt, Outlives, SectorsDiffer, StandsIn};
+ghost use Rattle.disk_guard.specs.Marks.{AreRecentRight, IsRight, KeepsAt, LiesWithin, Outlives, SectorsDiffer, StandsIn};
 
 use crate::marks::{Mark, shows_other};
 use sector_disk::SECTOR_SIZE;
@@ -24,7 +24,8 @@ pub(crate) struct Recent {
 
 // Whether some of `count` sectors from `at` on is a mark's own.
 fn touches(own: &Option<Mark>, at: u64, count: u64) -> bool
-    ensures { result ≡ false → Outlives at count own.now }
+    ensures outlives { result ≡ false → Outlives at count own.now }
+    ensures within { result ≡ true → IfSome own.now (λ mark. LiesWithin at count mark.sector) }
 {
     match own {
         Some(mark) => mark.outside(at, count).is_none(),

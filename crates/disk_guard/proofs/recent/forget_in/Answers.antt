@@ -20,7 +20,7 @@ loop-i-preserved c =
           rw w.marks-is (
             c.loop-i.invariant.0,
             c.loop-i.invariant.1,
-            AllWithin-more (Outlives c.args.at c.args.count) c.loop-i.marks 0 c.loop-i.i c.loop-i.invariant.2 (λ d. subst (Outlives c.args.at c.args.count) (get_or_default c.loop-i.marks c.loop-i.i None d within) (c.touches.ensures w.if-touches.false)),
+            AllWithin-more (Outlives c.args.at c.args.count) c.loop-i.marks 0 c.loop-i.i c.loop-i.invariant.2 (λ d. subst (Outlives c.args.at c.args.count) (get_or_default c.loop-i.marks c.loop-i.i None d within) (c.touches.ensures.outlives w.if-touches.false)),
           )
     ]
 
