@@ -5,12 +5,10 @@ import os
 import shutil
 import signal
 import subprocess
-import sys
 import tempfile
 
-from cases.packages import DEPLOY, content_of, run
-from harness import ARN, DEADLINE, EVENT, INVOKE, RUNTIME, Apart, Asked, Built, Ports, case, line_of, matches, same
-from programs import put_program
+from cases.packages import DEPLOY, packaged, run
+from harness import ARN, DEADLINE, EVENT, INVOKE, RUNTIME, Apart, Asked, Ports, case, line_of, matches, same
 
 USER = 65534
 FORMAT = "format", "disk", "--sectors", 64, "--name", "my-function", "--handler", "app.main", "--arn", ARN, "--events", 4, "--payload", 64, "--response", 64
@@ -20,17 +18,6 @@ def needs_apart(*programs):
     for program in programs:
         if not shutil.which(program):
             raise Apart(f"there is no {program}")
-
-
-def package_in(folder):
-    """A package of the program that is tested."""
-    program = os.path.join(folder, "lambda_broker")
-    put_program(program, content_of(Built.program))
-    stamp = "--unproved", "--again", "--commit", "abcdef123456", "--date", "20261130", "--kit", "x logic y"
-    same(run(sys.executable, os.path.join(DEPLOY, "stamp"), program, *stamp)[0], 0)
-    status, told, why = run(sys.executable, os.path.join(DEPLOY, "package"), "--unproved", program, folder)
-    same((status, status and why), (0, 0))
-    return told.strip()
 
 
 def image_in(folder, package):
@@ -92,7 +79,7 @@ def containers():
     if os.getuid():
         raise Apart("this is not root, who may run containers")
     with tempfile.TemporaryDirectory(prefix="lambda_broker.") as folder:
-        image = image_in(os.path.join(folder, "image"), package_in(folder))
+        image = image_in(os.path.join(folder, "image"), packaged(folder)[1])
         made = Containers(image, folder)
         try:
             status, _, why = made.said("--version")
@@ -140,6 +127,6 @@ def an_image_runs_is_killed_and_stopped_over_its_volume_and_loses_nothing(broker
 def an_image_tells_nothing_of_when_it_was_made(broker):
     needs_apart("umoci", "dpkg-deb", "ldd")
     with tempfile.TemporaryDirectory(prefix="lambda_broker.") as folder:
-        package = package_in(folder)
+        package = packaged(folder)[1]
         made = [image_in(os.path.join(folder, name), package) for name in ("one", "two")]
         same(digest_of(made[0]), digest_of(made[1]))

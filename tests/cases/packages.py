@@ -350,18 +350,23 @@ def dead_links(root):
     return dead
 
 
+def packaged(folder):
+    """The program that is tested with a stamp, and its package."""
+    program = os.path.join(folder, "lambda_broker")
+    put_program(program, content_of(Built.program))
+    stamp = "--unproved", "--again", "--commit", "abcdef123456", "--date", "20261130", "--kit", "x logic y"
+    same(run(sys.executable, os.path.join(DEPLOY, "stamp"), program, *stamp)[0], 0)
+    status, told, why = run(sys.executable, os.path.join(DEPLOY, "package"), "--unproved", program, folder)
+    same((status, status and why), (0, 0))
+    return program, matches(f"({re.escape(folder)}/.*[.]deb)\n", told)[0]
+
+
 @case()
 def the_package_has_what_an_operator_needs(broker):
     if not shutil.which("dpkg-deb"):
         raise Apart("there is no dpkg-deb")
     with a_root() as folder, a_root() as root:
-        program = os.path.join(folder, "lambda_broker")
-        put_program(program, content_of(Built.program))
-        stamp = "--unproved", "--again", "--commit", "abcdef123456", "--date", "20261130", "--kit", "x logic y"
-        same(run(sys.executable, os.path.join(DEPLOY, "stamp"), program, *stamp)[0], 0)
-        status, told, why = run(sys.executable, os.path.join(DEPLOY, "package"), "--unproved", program, folder)
-        same((status, status and why), (0, 0))
-        made = matches(f"({re.escape(folder)}/.*[.]deb)\n", told)[0]
+        program, made = packaged(folder)
         told = dict(re.findall("^([A-Z][A-Za-z-]+): (.*)$", run("dpkg-deb", "-f", made)[1], re.M))
         matches(r"libc6 \(>= 2\.[0-9]+\), libgcc-s1, passwd, python3, systemd", told["Depends"])
         same(run("dpkg-deb", "-R", made, root)[0], 0)
