@@ -84,7 +84,7 @@ def the_numbers_of_a_broker_that_was_just_served_are_these(broker):
     settings = [name for name in told if name.startswith(("settings_info{", "build_info{"))]
     same([told.pop(name) for name in settings], [1, 1])
     same({name: value for name, value in told.items() if value}, nonzero)
-    same(len(told), 135)
+    same(len(told), 136)
 
 
 @case({"events": 2})

@@ -293,6 +293,16 @@ def a_clock_that_was_set_back(broker):
     waits.leave()
 
 
+@case({"timeout": 900, "age": 7200})
+def a_clock_that_is_held_back(broker):
+    watch = broker.watches_disk()
+    broker.serve("--clock-grace", "3600")
+    well, waits = works(broker)
+    watch.ahead = 7_200_000
+    is_told(broker, well, "clock_held_back", "ClockHeldBack", "clock_is_held_back")
+    waits.leave()
+
+
 @case({"timeout": 900, "age": 3600})
 def events_given_up_by_a_jump_of_the_clock(broker):
     watch = broker.watches_disk()

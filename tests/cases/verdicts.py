@@ -7,8 +7,8 @@ from cases.pages import VERDICTS, ruled
 from harness import OPENING, case, matches, same, statuses, until
 
 REASONS = (
-    "disk_hangs", "clock_is_behind", "events_expired_by_a_jump", "nobody_polls", "environment_hangs", "nothing_ends", "most_attempts_fail",
-    "commits_are_slow", "all_busy", "backlog_grows", "records_not_collected", "table_full", "table_nearly_full", "callers_are_refused",
+    "disk_hangs", "clock_is_behind", "clock_is_held_back", "events_expired_by_a_jump", "nobody_polls", "environment_hangs", "nothing_ends",
+    "most_attempts_fail", "commits_are_slow", "all_busy", "backlog_grows", "records_not_collected", "table_full", "table_nearly_full", "callers_are_refused",
     "events_expire",
 )
 
@@ -360,6 +360,46 @@ def events_that_a_jump_of_the_clock_gives_up_are_told(broker):
     same(broker.number("clock_step_seconds") < -7190, True)
     words = finds(broker, "clock_is_behind", "events_expired_by_a_jump", "events_expire")["events_expired_by_a_jump"]
     same("3 events were given up for their age, and the clock was set 2 times: perhaps" in words, True)
+
+
+@case({"timeout": 900, "age": 3600})
+def a_clock_that_is_held_back_is_told_with_what_is_left(broker):
+    watch = broker.watches_disk()
+    broker.serve("--clock-grace", "900")
+    waits = polled(broker, 1)
+    finds(broker)
+    watch.ahead = 2 * HOUR
+    words = finds(broker, "clock_is_held_back")["clock_is_held_back"]
+    matches(r"The system's clock was set ahead by 1(19|20) min: for 1[0-5] min yet what waits, .*, and then by it[.] .*", words)
+    # What is accepted meanwhile has the moment that is told.
+    event = broker.invoke("{}").id
+    same((waits.done().id, broker.respond(event, "1").status), (event, 202))
+    waits = polled(broker, 1)
+    watch.ahead = 0
+    finds(broker)
+    waits.leave()
+
+
+@case({"timeout": 900, "age": 3600})
+def a_clock_that_was_set_back_and_is_right_again_is_believed_at_once(broker):
+    watch = broker.watches_disk()
+    broker.serve("--clock-grace", "900")
+    waits = polled(broker, 1)
+    event = broker.invoke("{}").id
+    same((waits.done().id, broker.respond(event, "1").status), (event, 202))
+    waits = polled(broker, 1)
+    watch.back = 2 * HOUR
+    until("a step back", lambda: broker.number("clock_steps_total") == 1)
+    words = finds(broker, "clock_is_behind")["clock_is_behind"]
+    same(words.startswith("The system's clock is 1"), True)
+    watch.back = 0
+    # A step of two hours, which leads no further than to what was told before.
+    until("a step", lambda: broker.number("clock_steps_total") == 2)
+    finds(broker)
+    # From there a jump is held back as ever.
+    watch.ahead = 2 * HOUR
+    finds(broker, "clock_is_held_back")
+    waits.leave()
 
 
 # A disk that hangs

@@ -99,6 +99,7 @@ impl<L: Ledger, T: Trace> AdminContext<L, T> {
             has_fault: self.reader.bell().said_broken().is_some(),
             flush_seconds: noticed.flush_seconds,
             clock: clock_of(noticed),
+            held_back: noticed.held_back,
             lines_dropped: noticed.lines_dropped,
         }
     }

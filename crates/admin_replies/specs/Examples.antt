@@ -101,7 +101,7 @@ numbers = record {
   limits = record { retries = 48; age = 49; timeout = 50; concurrency = 51; events = 52; payload = 53; response = 54 };
   noticed = record { flush_seconds = 105; clock = record { steps = 106; is_back = true; millis = 3600007 }; lines_dropped = 107 };
   problems =
-      None ∷ None ∷ None ∷ Some (problem.NobodyPolls 1 2 3) ∷ None ∷ None ∷ None ∷ None ∷ None ∷ None ∷ None ∷ None ∷ None ∷ None ∷ None ∷ [];
+      None ∷ None ∷ None ∷ None ∷ Some (problem.NobodyPolls 1 2 3) ∷ None ∷ None ∷ None ∷ None ∷ None ∷ None ∷ None ∷ None ∷ None ∷ None ∷ None ∷ [];
 }
 
 abbrev pub usual : Settings
@@ -183,6 +183,7 @@ problems_text =
     codes "# HELP lambda_broker_problem 1 where this is wrong, else 0.\n# TYPE lambda_broker_problem gauge\n"
     ++ (codes "lambda_broker_problem{reason=\"disk_hangs\"} 0\n"
     ++ (codes "lambda_broker_problem{reason=\"clock_is_behind\"} 0\n"
+    ++ (codes "lambda_broker_problem{reason=\"clock_is_held_back\"} 0\n"
     ++ (codes "lambda_broker_problem{reason=\"events_expired_by_a_jump\"} 0\n"
     ++ (codes "lambda_broker_problem{reason=\"nobody_polls\"} 1\n"
     ++ (codes "lambda_broker_problem{reason=\"environment_hangs\"} 0\n"
@@ -194,7 +195,7 @@ problems_text =
     ++ (codes "lambda_broker_problem{reason=\"records_not_collected\"} 0\n"
     ++ (codes "lambda_broker_problem{reason=\"table_full\"} 0\n"
     ++ (codes "lambda_broker_problem{reason=\"table_nearly_full\"} 0\n"
-    ++ (codes "lambda_broker_problem{reason=\"callers_are_refused\"} 0\n" ++ codes "lambda_broker_problem{reason=\"events_expire\"} 0\n"))))))))))))))
+    ++ (codes "lambda_broker_problem{reason=\"callers_are_refused\"} 0\n" ++ codes "lambda_broker_problem{reason=\"events_expire\"} 0\n")))))))))))))))
 
 -- what was noticed of the premises
 abbrev pub premises_text : List ℕ

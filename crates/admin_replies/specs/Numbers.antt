@@ -143,6 +143,8 @@ pub record IsSight (settings : Settings) (view : View) (seen : List SeenPhase) (
   pub flush_seconds : sight.flush_seconds ≡ measures.flush_seconds
   pub last_moment : sight.last_moment ≡ view.hall.tally.last_moment
   pub set_ahead : sight.set_ahead ≡ set_ahead measures.clock
+  pub held_ahead : sight.held_ahead ≡ measures.held_back.ahead
+  pub held_left : sight.held_left ≡ measures.held_back.left
   pub environments : sight.environments ≡ length view.hall.environments.items
   pub without_poll : sight.without_poll ≡ count_by (is_in_phase Init) view.hall.environments.items
   pub busy : sight.busy ≡ count_by (is_in_phase Busy) view.hall.environments.items

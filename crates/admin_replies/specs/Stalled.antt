@@ -40,7 +40,7 @@ no_limits = record { retries = 0; age = 0; timeout = 0; concurrency = 0; events 
 abbrev pub stalled_problems : ℕ → List (Option Problem)
 stalled_problems seconds =
     Some (problem.DiskHangs seconds)
-    ∷ None ∷ None ∷ None ∷ None ∷ None ∷ None ∷ None ∷ None ∷ None ∷ None ∷ None ∷ None ∷ None ∷ None ∷ []
+    ∷ None ∷ None ∷ None ∷ None ∷ None ∷ None ∷ None ∷ None ∷ None ∷ None ∷ None ∷ None ∷ None ∷ None ∷ None ∷ []
 
 abbrev pub stalled_metrics : Measures → Metrics
 stalled_metrics measures = record {

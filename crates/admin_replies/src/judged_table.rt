@@ -16,68 +16,73 @@ pub(crate) const PROBLEMS: [Row; operator_view::PROBLEMS] = [
     },
     Row {
         head: "",
-        name: "lambda_broker_problem{reason=\"events_expired_by_a_jump\"}",
+        name: "lambda_broker_problem{reason=\"clock_is_held_back\"}",
         metric: Metric::Problem(2),
     },
     Row {
         head: "",
-        name: "lambda_broker_problem{reason=\"nobody_polls\"}",
+        name: "lambda_broker_problem{reason=\"events_expired_by_a_jump\"}",
         metric: Metric::Problem(3),
     },
     Row {
         head: "",
-        name: "lambda_broker_problem{reason=\"environment_hangs\"}",
+        name: "lambda_broker_problem{reason=\"nobody_polls\"}",
         metric: Metric::Problem(4),
     },
     Row {
         head: "",
-        name: "lambda_broker_problem{reason=\"nothing_ends\"}",
+        name: "lambda_broker_problem{reason=\"environment_hangs\"}",
         metric: Metric::Problem(5),
     },
     Row {
         head: "",
-        name: "lambda_broker_problem{reason=\"most_attempts_fail\"}",
+        name: "lambda_broker_problem{reason=\"nothing_ends\"}",
         metric: Metric::Problem(6),
     },
     Row {
         head: "",
-        name: "lambda_broker_problem{reason=\"commits_are_slow\"}",
+        name: "lambda_broker_problem{reason=\"most_attempts_fail\"}",
         metric: Metric::Problem(7),
     },
     Row {
         head: "",
-        name: "lambda_broker_problem{reason=\"all_busy\"}",
+        name: "lambda_broker_problem{reason=\"commits_are_slow\"}",
         metric: Metric::Problem(8),
     },
     Row {
         head: "",
-        name: "lambda_broker_problem{reason=\"backlog_grows\"}",
+        name: "lambda_broker_problem{reason=\"all_busy\"}",
         metric: Metric::Problem(9),
     },
     Row {
         head: "",
-        name: "lambda_broker_problem{reason=\"records_not_collected\"}",
+        name: "lambda_broker_problem{reason=\"backlog_grows\"}",
         metric: Metric::Problem(10),
     },
     Row {
         head: "",
-        name: "lambda_broker_problem{reason=\"table_full\"}",
+        name: "lambda_broker_problem{reason=\"records_not_collected\"}",
         metric: Metric::Problem(11),
     },
     Row {
         head: "",
-        name: "lambda_broker_problem{reason=\"table_nearly_full\"}",
+        name: "lambda_broker_problem{reason=\"table_full\"}",
         metric: Metric::Problem(12),
     },
     Row {
         head: "",
-        name: "lambda_broker_problem{reason=\"callers_are_refused\"}",
+        name: "lambda_broker_problem{reason=\"table_nearly_full\"}",
         metric: Metric::Problem(13),
     },
     Row {
         head: "",
-        name: "lambda_broker_problem{reason=\"events_expire\"}",
+        name: "lambda_broker_problem{reason=\"callers_are_refused\"}",
         metric: Metric::Problem(14),
+    },
+    Row {
+        head: "",
+        name: "lambda_broker_problem{reason=\"events_expire\"}",
+        metric: Metric::Problem(15),
     },
 ];
 

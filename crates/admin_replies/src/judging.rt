@@ -75,6 +75,8 @@ fn sight_of(
         flush_seconds: measures.flush_seconds,
         last_moment: tally.last_moment,
         set_ahead: set_ahead(measures.clock),
+        held_ahead: measures.held_back.ahead,
+        held_left: measures.held_back.left,
         environments: environments.len() as u64,
         without_poll: count_in_phase(environments, Phase::Init),
         busy: count_in_phase(environments, Phase::Busy),

@@ -9,7 +9,7 @@ use crate::telling::Baseline;
 use env_phase::Phase;
 use hall_core::EnvironmentStatus;
 use operator_view::{Census, Memory};
-use port_meters::{Counters, Ports};
+use port_meters::{Counters, HeldBack, Ports};
 use receipts::View;
 use retry_rules::{RetryPolicy, Settings};
 
@@ -34,6 +34,8 @@ pub struct Measures {
     /// For how many seconds a flush has been under way, once these are five; else 0.
     pub flush_seconds: u64,
     pub clock: ClockSet,
+    /// How the system's clock was held back at the last look at it.
+    pub held_back: HeldBack,
     /// How many lines standard error did not take.
     pub lines_dropped: u64,
 }

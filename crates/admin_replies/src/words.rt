@@ -21,6 +21,15 @@ fn put_behind(out: &mut String, seconds: u64) -> Result<(), AllocError> {
     )
 }
 
+fn put_held_back(out: &mut String, ahead: u64, left: u64) -> Result<(), AllocError> {
+    let (by, of) = span(ahead);
+    let (time, unit) = span(left);
+    write!(
+        out,
+        "look clock_is_held_back: The system's clock was set ahead by {by} {of}: for {time} {unit} yet what waits, runs and grows old goes on as if it had not been, and then by it. If it is wrong, set it right by then. If it is right, a restart believes it at once.\n"
+    )
+}
+
 fn put_jump(
     out: &mut String,
     expired: u64,
@@ -178,6 +187,7 @@ fn put_cause_found(out: &mut String, problem: Problem) -> Result<(), AllocError>
     match problem {
         Problem::DiskHangs { seconds } => put_hangs(out, seconds),
         Problem::ClockIsBehind { seconds } => put_behind(out, seconds),
+        Problem::ClockIsHeldBack { ahead, left } => put_held_back(out, ahead, left),
         Problem::EventsExpiredByAJump {
             expired,
             steps,

@@ -94,7 +94,12 @@ impl DiskLook {
         let mut shown = [0; SECTOR_SIZE];
         let at = mark.sector.saturating_mul(SECTOR_SIZE as u64);
         match FileExt::read_at(&self.file, &mut shown, at) {
-            Ok(count) => count == SECTOR_SIZE && self.guard.is_overwritten(rt, mark, &shown),
+            // The guard's lock, which each write takes, is taken only where the bytes differ.
+            Ok(count) => {
+                count == SECTOR_SIZE
+                    && shown != mark.bytes
+                    && self.guard.is_overwritten(rt, mark, &shown)
+            }
             Err(_) => false,
         }
     }

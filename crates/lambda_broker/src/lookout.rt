@@ -20,9 +20,6 @@ use std::{io, thread};
 /// How long is waited between two looks, in seconds.
 const PAUSE: u64 = 1;
 
-/// From how many seconds ahead on a clock is held back, where it is.
-const HELD_FROM: u64 = 3600;
-
 /// That a lookout is to end, which it sleeps for.
 #[derive(Drop)]
 struct End {
@@ -164,21 +161,30 @@ impl<R: Files<File = File> + Machine> Sights<R> {
         if let Some(earlier) = self.clock {
             if let Some(step) = now.step_since(&earlier) {
                 self.premises.note_step(step);
-                tell(rt, &self.premises, self.step_words(rt.alloc(), step));
+                tell(rt, &self.premises, self.step_words(rt, step));
             }
         }
         self.clock = Some(now);
     }
 
+    // For how many seconds the clock is held back from now on.
+    fn held_for(&self, rt: &R) -> u64 {
+        // What is noted of it is of its last look.
+        let _ = self.premises.moment(rt);
+        let left = self.premises.read().held_back.left;
+        left.saturating_add(999) / 1000
+    }
+
     // What is told of a step of the clock.
-    fn step_words(&self, alloc: Global, step: i64) -> Result<String, AllocError> {
+    fn step_words(&self, rt: &R, step: i64) -> Result<String, AllocError> {
+        let alloc = rt.alloc();
         let seconds = Duration::from_millis(step.unsigned_abs()).as_secs();
-        let grace = self.premises.grace().as_secs();
+        let grace = self.held_for(rt);
         if step < 0 {
             format!(in alloc;
                 "the clock was set back by {seconds} s: until it has caught up nothing grows older and nothing is due"
             )
-        } else if seconds < HELD_FROM || grace == 0 {
+        } else if grace == 0 {
             format!(in alloc;
                 "the clock was set ahead by {seconds} s: waits, ages and timeouts go by it"
             )

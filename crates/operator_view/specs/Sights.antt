@@ -32,6 +32,8 @@ well = record {
   flush_seconds = 0;
   last_moment = 1005000;
   set_ahead = 3000;
+  held_ahead = 0;
+  held_left = 0;
   environments = 2;
   without_poll = 0;
   busy = 1;
@@ -85,7 +87,7 @@ committed commits microseconds quick =
 
 -- nothing of each kind
 abbrev pub nothing : List (Option Problem)
-nothing = None ∷ None ∷ None ∷ None ∷ None ∷ None ∷ None ∷ None ∷ None ∷ None ∷ None ∷ None ∷ None ∷ None ∷ None ∷ []
+nothing = None ∷ None ∷ None ∷ None ∷ None ∷ None ∷ None ∷ None ∷ None ∷ None ∷ None ∷ None ∷ None ∷ None ∷ None ∷ None ∷ []
 
 -- accepted a second after 1970, to be given up a minute later
 abbrev pub short_lived : EventRow

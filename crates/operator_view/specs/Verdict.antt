@@ -12,10 +12,20 @@ use Rattle.operator_view.specs.declared.problem.Problem.TheVariants as problem
 abbrev pub disk_hangs : Sight → Option Problem
 disk_hangs s = if nat_lt 0 s.flush_seconds then Some (problem.DiskHangs s.flush_seconds) else None
 
--- the last command was of a moment that comes in more than five seconds: until then no retry is due, and nothing is too old or timed out
+-- by how many milliseconds the last command's moment is ahead of the system's clock, which may be held back
+abbrev pub ahead_of_clock : Sight → ℕ
+ahead_of_clock s = s.last_moment - s.at - s.held_ahead
+
+-- the last command was of a moment that comes in more than five seconds by the system's clock: until then no retry is due, and nothing
+-- is too old or timed out
 abbrev pub clock_is_behind : Sight → Option Problem
 clock_is_behind s =
-    if nat_lt 5000 (s.last_moment - s.at) then Some (problem.ClockIsBehind ((s.last_moment - s.at) / 1000)) else None
+    if nat_lt 5000 (ahead_of_clock s) then Some (problem.ClockIsBehind (ahead_of_clock s / 1000)) else None
+
+-- the clock was set ahead, and what waits does not go by it yet
+abbrev pub clock_is_held_back : Sight → Option Problem
+clock_is_held_back s =
+    if nat_lt 0 s.held_ahead then Some (problem.ClockIsHeldBack (s.held_ahead / 1000) (s.held_left / 1000)) else None
 
 -- lately the clock was set ahead when it was set last, or it was set more than once: ahead and back again, say
 abbrev pub has_jumped : Sight → Bool
@@ -154,6 +164,7 @@ unfoldable pub problems : Sight → List (Option Problem)
 problems s =
     disk_hangs s
     ∷ clock_is_behind s
+    ∷ clock_is_held_back s
     ∷ events_expired_by_a_jump s
     ∷ nobody_polls s
     ∷ environment_hangs s

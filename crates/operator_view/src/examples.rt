@@ -14,7 +14,7 @@ ghost use Rattle.operator_view.specs.Page.{start_behind, event_places, number_be
 ghost use Rattle.operator_view.specs.declared.problem.Problem.TheVariants as problem;
 ghost use Rattle.operator_view.specs.Memory.{none_at, looked, lately, quiet_after};
 ghost use Rattle.operator_view.specs.Sights.{usual_growth, well, holding, quiet, jumped, all_but, backlog, hanging, but_lately, tried, committed, nothing, short_lived, looks};
-ghost use Rattle.operator_view.specs.Verdict.{disk_hangs, clock_is_behind, events_expired_by_a_jump, environment_hangs, all_busy, backlog_grows, callers_are_refused, nobody_polls, nothing_ends, table_full, table_nearly_full, events_expire, most_attempts_fail, commits_are_slow, records_not_collected, problems};
+ghost use Rattle.operator_view.specs.Verdict.{disk_hangs, clock_is_behind, clock_is_held_back, events_expired_by_a_jump, environment_hangs, all_busy, backlog_grows, callers_are_refused, nobody_polls, nothing_ends, table_full, table_nearly_full, events_expire, most_attempts_fail, commits_are_slow, records_not_collected, problems};
 ghost use Rattle.operator_view.specs.Waiting.{expires_soon};
 ghost use Rattle.operator_view.specs.Examples.{event_row, rows, tallied, running_text, page_text, grown_old, grown_old_text};
 
@@ -68,6 +68,8 @@ pub fn verdicts()
     ensures well { problems well ≡ nothing }
     ensures hangs { disk_hangs (record well { flush_seconds = 5 }) ≡ Some (problem.DiskHangs 5) }
     ensures behind { clock_is_behind (record well { last_moment = 1005001 }) ≡ Some (problem.ClockIsBehind 5) }
+    ensures behind_and_held { clock_is_behind (record well { last_moment = 1005001; held_ahead = 1 }) ≡ None }
+    ensures held_back { clock_is_held_back (record well { held_ahead = 7200000; held_left = 59999 }) ≡ Some (problem.ClockIsHeldBack 7200 59) }
     ensures jumped { events_expired_by_a_jump (jumped 1 3000 4) ≡ Some (problem.EventsExpiredByAJump 4 1 3 200) }
     ensures back { events_expired_by_a_jump (jumped 1 0 4) ≡ None }
     ensures and_back { events_expired_by_a_jump (jumped 2 0 4) ≡ Some (problem.EventsExpiredByAJump 4 2 0 200) }

@@ -1,7 +1,7 @@
 // What can be wrong with a broker.
 
 /// How many kinds of problem there are.
-pub const PROBLEMS: usize = 15;
+pub const PROBLEMS: usize = 16;
 
 /// Something that is wrong with a broker, with its numbers, in the order in which it is told: causes come before what follows from
 /// them. Those of `seconds` beside counts say in how many these were counted.
@@ -11,9 +11,14 @@ pub enum Problem {
     DiskHangs {
         seconds: u64,
     },
-    /// The last command's moment is ahead of now by so much.
+    /// The last command's moment is ahead of the system's clock by so much.
     ClockIsBehind {
         seconds: u64,
+    },
+    /// The system's clock was set ahead, and is not believed for so many seconds more.
+    ClockIsHeldBack {
+        ahead: u64,
+        left: u64,
     },
     /// Events were given up, and the clock was set ahead.
     EventsExpiredByAJump {

@@ -12,6 +12,10 @@ pub struct Sight {
     pub last_moment: u64,
     /// By how many milliseconds the clock was set ahead when it was set last; 0 where it was set back.
     pub set_ahead: u64,
+    /// By how many milliseconds the system's clock is ahead of the moment, where it is held back; else 0.
+    pub held_ahead: u64,
+    /// For how many milliseconds it is held back yet.
+    pub held_left: u64,
     pub environments: u64,
     /// In how many environments a poll is missing.
     pub without_poll: u64,

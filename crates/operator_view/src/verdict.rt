@@ -1,6 +1,6 @@
 // What is wrong with a broker, by what its operator's port sees.
 ghost use Rattle.std.specs.Prelude.{◌≡◌};
-ghost use Rattle.operator_view.specs.Verdict.{disk_hangs, clock_is_behind, has_jumped, events_expired_by_a_jump, nobody_polls, unpolled_seconds, tried, are_quick, running_seconds, environment_hangs, quiet_for, nothing_ends, table_nearly_full, table_full, events_expire, most_attempts_fail, is_slow, commits_are_slow, all_busy, backlog_grows, callers_are_refused, records_not_collected, problems};
+ghost use Rattle.operator_view.specs.Verdict.{disk_hangs, ahead_of_clock, clock_is_behind, clock_is_held_back, has_jumped, events_expired_by_a_jump, nobody_polls, unpolled_seconds, tried, are_quick, running_seconds, environment_hangs, quiet_for, nothing_ends, table_nearly_full, table_full, events_expire, most_attempts_fail, is_slow, commits_are_slow, all_busy, backlog_grows, callers_are_refused, records_not_collected, problems};
 
 use crate::memory::Growth;
 use crate::problem::{PROBLEMS, Problem};
@@ -44,12 +44,31 @@ fn disk_hangs(sight: &Sight) -> Option<Problem>
     })
 }
 
+// By how many milliseconds the last command's moment is ahead of the system's clock, which may be held back.
+fn ahead_of_clock(sight: &Sight) -> u64
+    ensures { result ≡ ahead_of_clock sight.now }
+{
+    sight
+        .last_moment
+        .saturating_sub(sight.at)
+        .saturating_sub(sight.held_ahead)
+}
+
 fn clock_is_behind(sight: &Sight) -> Option<Problem>
     ensures { result ≡ clock_is_behind sight.now }
 {
-    let ahead = sight.last_moment.saturating_sub(sight.at);
+    let ahead = ahead_of_clock(sight);
     (AHEAD < ahead).then_some(Problem::ClockIsBehind {
         seconds: ahead / 1000,
+    })
+}
+
+fn clock_is_held_back(sight: &Sight) -> Option<Problem>
+    ensures { result ≡ clock_is_held_back sight.now }
+{
+    (0 < sight.held_ahead).then_some(Problem::ClockIsHeldBack {
+        ahead: sight.held_ahead / 1000,
+        left: sight.held_left / 1000,
     })
 }
 
@@ -282,6 +301,7 @@ pub fn problems(sight: &Sight) -> [Option<Problem>; PROBLEMS]
     [
         disk_hangs(sight),
         clock_is_behind(sight),
+        clock_is_held_back(sight),
         events_expired_by_a_jump(sight),
         nobody_polls(sight),
         environment_hangs(sight),

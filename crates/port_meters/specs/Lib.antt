@@ -1,4 +1,5 @@
 pub mod Counting
+pub mod Holding
 pub mod Moments
 pub mod Spreading
 pub mod Stamps

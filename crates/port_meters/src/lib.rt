@@ -22,6 +22,7 @@ mod version;
 
 pub use beside::Beside;
 pub use counters::{Counters, Refusals};
+pub use held_clock::HeldBack;
 pub use histogram::{Histogram, Spread};
 pub use lines::{Lines, Stream, takes_a_line};
 pub use machine::Machine;

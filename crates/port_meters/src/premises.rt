@@ -2,7 +2,7 @@
 ghost use Rattle.std.specs.Prelude.{IfOk};
 ghost use Rattle.std.specs.Time.{system_time_nanos, FitsClock};
 
-use crate::held_clock::HeldClock;
+use crate::held_clock::{HeldBack, HeldClock};
 use crate::lines::Lines;
 use crate::moment::{Moment, NoClock};
 use std::alloc::{AllocError, Global};
@@ -30,6 +30,8 @@ pub struct Noticed {
     pub clock_steps: u64,
     /// By how many milliseconds it was last: ahead, or back where they are negative.
     pub last_step: i64,
+    /// How the clock was held back at the last look at it.
+    pub held_back: HeldBack,
     /// How many lines standard error did not take.
     pub lines_dropped: u64,
 }
@@ -70,11 +72,6 @@ impl Premises {
         self.clock.now(rt)
     }
 
-    /// For how long a clock is held back that is set ahead by more than an hour.
-    pub fn grace(&self) -> Duration {
-        self.clock.grace()
-    }
-
     /// Standard error.
     pub fn lines(&self) -> &Arc<Lines> {
         &self.lines
@@ -86,6 +83,7 @@ impl Premises {
             flush_seconds: self.flush_seconds.load(Ordering::SeqCst),
             clock_steps: self.clock_steps.load(Ordering::SeqCst),
             last_step: self.last_step.load(Ordering::SeqCst),
+            held_back: self.clock.held_back(),
             lines_dropped: self.lines.dropped(),
         }
     }
