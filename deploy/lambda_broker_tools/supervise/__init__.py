@@ -1,0 +1,1 @@
+"""Stands between a runtime and the broker: `supervisor` starts the runtime, and `broker` hands on what it asks."""
