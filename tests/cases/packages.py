@@ -24,9 +24,9 @@ ADD = *SMALL, "--arn", ARN
 ETC, UNITS = "etc/lambda_broker", "etc/systemd/system"
 
 
-def run(*words, env=None):
+def run(*words, env=None, cwd=None):
     """Status, standard output and standard error of a command."""
-    more = {"capture_output": True, "text": True, "timeout": 4 * DEADLINE, "env": {**os.environ, **(env or {})}}
+    more = {"capture_output": True, "text": True, "timeout": 4 * DEADLINE, "env": {**os.environ, **(env or {})}, "cwd": cwd}
     done = subprocess.run([*map(str, words)], **more)
     return done.returncode, done.stdout, done.stderr
 
@@ -40,6 +40,12 @@ def done(root, *words):
     status, told, why = ctl(root, *words)
     same((status, why), (0, ""))
     return told.splitlines()
+
+
+def modules(program):
+    """The modules of a program, or of all, by their paths from `deploy/`."""
+    for at, _, names in os.walk(os.path.join(DEPLOY, "lambda_broker_tools", program)):
+        yield from (os.path.relpath(os.path.join(at, name), DEPLOY) for name in names if name.endswith(".py"))
 
 
 def text_of(*path):
@@ -279,6 +285,7 @@ usr/share/zsh/vendor-completions/_lambda-broker-ctl""".split()
 PAGES = "aws clients containers disks machines replicated running watching".split()
 FILES += [f"usr/share/man/man7/lambda_broker-{name}.7.gz" for name in PAGES if name not in ("machines", "running")]
 DOCUMENTS = ["README.md", *(f"docs/{name}.md" for name in ("OPERATING", "FORMATS", "GLOSSARY", "NOT_PROVED", "PROMISES"))]
+FILES += [f"usr/lib/lambda_broker/{name}" for name in modules("")]
 FILES += [f"usr/share/doc/lambda-broker/{name}" for name in (*DOCUMENTS, *(f"docs/operating/{name}.md" for name in PAGES))]
 
 
@@ -292,7 +299,7 @@ def completed(root, *words):
 
 def refusals():
     """What `lambda-broker-ctl` refuses with, X for each word that it takes from elsewhere."""
-    for node in ast.walk(ast.parse(text_of(CTL))):
+    for node in (node for path in modules("ctl") for node in ast.walk(ast.parse(text_of(DEPLOY, path)))):
         if isinstance(node, ast.Call) and getattr(node.func, "id", "") == "Failed":
             parts = node.args[0].values if isinstance(node.args[0], ast.JoinedStr) else [node.args[0]]
             yield "".join(part.value if isinstance(part, ast.Constant) else "X" for part in parts)
@@ -361,6 +368,17 @@ def packaged(folder):
     return program, matches(f"({re.escape(folder)}/.*[.]deb)\n", told)[0]
 
 
+PROGRAMS = "usr/bin/lambda-broker-ctl", "usr/lib/lambda_broker/supervise", "usr/lib/lambda_broker/lambda_forward"
+
+
+def helps(root, program, folder):
+    """What an installed program says of itself, found through a link and from another folder, and what that of the checkout says."""
+    name = os.path.basename(program)
+    link = os.path.join(folder, name)
+    os.symlink(os.path.join(root, program), link)
+    return {run(sys.executable, path, "--help", cwd=folder) for path in (link, os.path.join(root, program), os.path.join(DEPLOY, name))}
+
+
 @case()
 def the_package_has_what_an_operator_needs(broker):
     if not shutil.which("dpkg-deb"):
@@ -381,6 +399,9 @@ def the_package_has_what_an_operator_needs(broker):
         with gzip.open(os.path.join(root, "usr/share/man/man8/lambda_broker.8.gz"), "rt") as file:
             page = file.read().replace("\\-", "-")
         same({*re.findall("^[.]SS (.*)$", page, re.M)}, commands)
+        with a_root() as other:
+            told = [helps(root, name, other) for name in PROGRAMS]
+        same([[status for status, _, _ in of] for of in told], len(PROGRAMS) * [[0]])
         same(readings(root), [])
         same(dead_links(root), [])
         same({*completed(root, "lambda_broker", "")}, {*commands, "--help"})
